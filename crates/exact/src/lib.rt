@@ -1,0 +1,1 @@
+// The exact transform, in specs/; no code.

@@ -1,0 +1,27 @@
+-- The 9/7 call (document 01: why a strip or book comes back): the answer, and each lent slice afterwards.
+use Prim.Native.Nat.{ℕ, _*_}
+use mathlib.Core.List.{List}
+use lib.ListN.{length}
+use lib.IntN.{ℤ}
+use Rattle.numbers.specs.Lists.{over}
+use Rattle.refusals.specs.declared.Outcome.{Outcome}
+use Rattle.refusals.specs.Refusals.{_then_, answered}
+use Rattle.lines.specs.Planes.{rowByRow}
+use Rattle.width_table.specs.declared.WidthTable.{WidthTable}
+use Rattle.pictures.specs.Pictures.{sized, pixelsRight, zeroed}
+use Rattle.precision.specs.Verdict.{verdict}
+use Rattle.irreversible.specs.Transforms.{fixedPlane}
+
+module _ (t : WidthTable) (w h : ℕ) (pixels : List ℕ) (plane work : List ℤ) where
+  -- 4, 6 and 7 as one step, 8, 9, 10
+  unfoldable pub fixedAnswer : Outcome
+  fixedAnswer =
+      verdict t
+      then sized (t .levels) w h (length pixels) (length plane) (length work)
+      then pixelsRight (t .depth) w h pixels
+
+  unfoldable pub fixedPlaneAfter : List ℤ
+  fixedPlaneAfter = answered fixedAnswer (over (rowByRow w h (fixedPlane t pixels w h)) plane) plane
+
+  unfoldable pub fixedWork : List ℤ
+  fixedWork = answered fixedAnswer (zeroed (w * h) work) work

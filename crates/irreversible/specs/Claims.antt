@@ -1,0 +1,76 @@
+-- Demand 3: what holds of every accepted table and every admitted picture. Proved in Demand3.
+use Prim.Native.Nat.{ℕ, zero, suc, _+_, _*_, _-_, _^_, _<_, _≤_}
+use mathlib.Core.Bool.{true, false, _&&_}
+use mathlib.Core.List.{List}
+use lib.Dec.{ltb}
+use lib.IntN.{ℤ, pos, negℤ}
+use lib.Signed.{_≤ℤ_, _<ℤ_}
+use lib.ListN.{getD}
+use Rattle.exact.specs.Fractions.{Frac, _⊖_, neg, _<F_}
+use Rattle.width_table.specs.Nodes.{Node, G1, Pass, Rows, LowColumns, TableNode, nodeAt, columnPass, lastNode}
+use Rattle.lines.specs.Lines.{lows}
+use Rattle.irreversible.specs.Fixed.{meant, valueAt, countAt}
+use Rattle.lines.specs.Planes.{Plane, side, rows}
+use Rattle.width_table.specs.declared.WidthTable.{WidthTable}
+use Rattle.width_table.specs.Table.{constantBits, integerBits, fractionBits, inputBits}
+use Rattle.pictures.specs.Pictures.{Admitted}
+use Rattle.precision.specs.Verdict.{Accepted}
+use Rattle.exact.specs.Picture.{exactPlane}
+use Rattle.irreversible.specs.Transforms.{fixedLine, fixedAfter, fixedPlane}
+
+-- A picture of the table's depth and of admitted size.
+pub record Picture (t : WidthTable) (pixels : List ℕ) (w h : ℕ) : Type 0 where
+  pub width : Admitted (t .levels) w
+  pub height : Admitted (t .levels) h
+  pub depth : (k : ℕ) → k < w * h → getD pixels k 0 < 2 ^ t .depth
+
+-- ---- first half: less than two steps
+
+-- The kept node that gave the coefficient at row r, column c of a plane of L levels: at the last level whose part holds the
+-- place, the columns of row-low give LL above LH and the columns of row-high HL above HH. (With no level there is none.)
+unfoldable pub keptNode : ℕ → ℕ → ℕ → ℕ → ℕ → TableNode
+keptNode zero w h r c = nodeAt 0 LowColumns G1
+keptNode (suc k) w h r c =
+    elim (ltb r (side k h) && ltb c (side k w)) [
+      | true ↦ nodeAt (suc k) (columnPass (ltb c (side (suc k) w))) (lastNode (ltb r (side (suc k) h)))
+      | false ↦ keptNode k w h r c
+    ]
+
+-- the f of a coefficient: its own step is 2^-f
+unfoldable pub bitsPlane : WidthTable → ℕ → ℕ → Plane ℕ
+bitsPlane t w h r c =
+    let p = keptNode (t .levels) w h r c in
+    fractionBits t (p .level) (p .pass) (p .node)
+
+-- v / 2^f less the exact value lies above -2 times 2^-f and below 2 times 2^-f
+unfoldable pub Near : ℤ → ℕ → Frac → Type 0
+Near v f x = (neg (meant (pos 2) f) <F meant v f ⊖ x) × (meant v f ⊖ x <F meant (pos 2) f)
+
+abbrev pub TwoSteps : Type 0
+TwoSteps =
+    (t : WidthTable) (pixels : List ℕ) (w h : ℕ) → Accepted t → Picture t pixels w h
+    → (r c : ℕ) → r < h → c < w
+    → Near (fixedPlane t pixels w h r c) (bitsPlane t w h r c) (exactPlane pixels (t .depth) (t .levels) w h r c)
+
+-- ---- second half: no value on the way leaves its width
+
+-- v from -2^(IB+f-1) to 2^(IB+f-1) - 1
+unfoldable pub Holds : ℕ → ℕ → ℤ → Type 0
+Holds IB f v = (negℤ (pos (2 ^ (IB + f - 1))) ≤ℤ v) × (v <ℤ pos (2 ^ (IB + f - 1)))
+
+-- each value that a pass of level l over n samples v leaves in a node
+abbrev pub InWidth : WidthTable → ℕ → Pass → ℕ → (ℕ → ℤ) → Type 0
+InWidth t l p n v =
+    (i : Node) (k : ℕ) → k < countAt n i
+    → Holds (integerBits t l p i) (fractionBits t l p i) (valueAt (constantBits t) (inputBits t l p) (fractionBits t l p) n v i k)
+
+-- each value of level l, which is fed w columns and h rows of the plane p: in each row, and in each column of what the rows leave
+pub record LevelInWidth (t : WidthTable) (l w h : ℕ) (p : Plane ℤ) : Type 0 where
+  pub inRows : (r : ℕ) → r < h → InWidth t l Rows w (p r)
+  pub inColumns : (c : ℕ) → c < w → InWidth t l (columnPass (ltb c (lows w))) h (λ r. rows (fixedLine t l Rows) w p r c)
+
+abbrev pub Widths : Type 0
+Widths =
+    (t : WidthTable) (pixels : List ℕ) (w h : ℕ) → Accepted t → Picture t pixels w h
+    → (k : ℕ) → k < t .levels
+    → LevelInWidth t (suc k) (side k w) (side k h) (fixedAfter t k pixels w h)

@@ -1,0 +1,188 @@
+-- Demand 3: under every accepted table each coefficient lies within two of its own steps of the exact one (`two-steps`), and no
+-- value on the way leaves its width (`widths`).
+use Prim.Native.Nat.{ℕ, zero, suc, _+_, _*_, _-_, _^_, _<_, _≤_}
+use mathlib.Core.Path.{_≡_, _∙_, ap, subst}
+use mathlib.Core.Bool.{Bool, true, false}
+use mathlib.Core.List.{List}
+use native.Mathlib.Omega.{arith}
+use native.Mathlib.Decide.{decLt}
+use native.Mathlib.Nat.{mul-le-mul-right}
+use lib.Dec.{ltb}
+use lib.Pow.{pow-pos, pow-add}
+use lib.ListN.{getD}
+use lib.IntN.{pos, natAbs, _-ℤ_}
+use Rattle.numbers.specs.Dif.{difs}
+use Rattle.exact.specs.Fractions.{Frac}
+use Rattle.width_table.specs.Nodes.{Node, Pass, Rows, TableNode, columnPass}
+use Rattle.lines.specs.Lines.{lows}
+use Rattle.exact.specs.Exact.{exactPass}
+use Rattle.irreversible.specs.Fixed.{meant}
+use Rattle.lines.specs.Planes.{Plane, OnLine, rows, columns, within, level, levels, side}
+use Rattle.width_table.specs.declared.WidthTable.{WidthTable}
+use Rattle.width_table.specs.Table.{fractionBits, inputBits}
+use Rattle.precision.specs.Bounds.{entering, boundOf}
+use Rattle.precision.specs.Verdict.{AcceptPromise}
+use Rattle.exact.specs.Picture.{exactSample, exactPlane}
+use Rattle.pictures.specs.Pictures.{sample}
+use Rattle.irreversible.specs.Transforms.{fixedLine, fixedAfter, fixedPlane}
+use Rattle.irreversible.specs.Claims.{Picture, keptNode, bitsPlane, Near, TwoSteps, LevelInWidth, Widths}
+use Rattle.numbers.specs.Tests.{and-true, and-false-l, and-false-r}
+use Rattle.precision.specs.Promise.{promise}
+use Rattle.exact.specs.FracLaws.{⊕-neg, ≈-sym, within-≈, within-zero}
+use Rattle.irreversible.specs.PassBound.{Q}
+use Rattle.irreversible.specs.Pass.{Good, near}
+use Rattle.irreversible.specs.Level.{rowV, rowX, newV, newX, level-good, level-in-width}
+use Rattle.irreversible.specs.Subbands.{InPart, part-before, kept-in, kept-out, kept-LL, kept-everywhere}
+
+-- ---- an admitted side has two samples or more at each level
+
+side-above : (k j w : ℕ) → 2 ^ (k + j) < w → 2 ^ j < side k w
+unfolding side
+side-above zero j w h = subst (λ (t : ℕ). 2 ^ t < w) (omega arith) h
+side-above (suc k) j w h =
+    let e : suc k + j ≡ k + suc j = omega arith in
+    let i : 2 ^ suc j < side k w = side-above k (suc j) w (subst (λ (t : ℕ). 2 ^ t < w) e h) in
+    omega arith
+
+side-two : (k L w : ℕ) → k < L → 2 ^ (L - 1) < w → 2 ≤ side k w
+side-two k L w i h =
+    let e : L - 1 ≡ k + (L - 1 - k) = omega arith in
+    let a : 2 ^ (L - 1 - k) < side k w = side-above k (L - 1 - k) w (subst (λ (t : ℕ). 2 ^ t < w) e h) in
+    omega (arith, pow-pos (L - 1 - k))
+
+-- ---- a level changes its part and nothing else
+
+module _ {A : Type 0} (row : ℕ → OnLine A) (column : ℕ → Bool → OnLine A) (k w h : ℕ) (p : Plane A) (r c : ℕ) where
+  new : Plane A
+  new = columns (λ c. column (suc k) (ltb c (lows (side k w)))) (side k h) (rows (row (suc k)) (side k w) (levels row column k w h p))
+
+  choose : Bool → A
+  choose t = elim t [ true ↦ new r c | false ↦ levels row column k w h p r c ]
+
+  level-in : InPart k w h r c → levels row column (suc k) w h p r c ≡ columns (λ c. column (suc k) (ltb c (lows (side k w)))) (side k h) (rows (row (suc k)) (side k w) (levels row column k w h p)) r c
+  unfolding levels level within choose new
+  level-in i = ap choose (and-true r (side k h) c (side k w) (i .0) (i .1))
+
+  level-below : side k h ≤ r → levels row column (suc k) w h p r c ≡ levels row column k w h p r c
+  unfolding levels level within choose new
+  level-below i = ap choose (and-false-l r (side k h) c (side k w) i)
+
+  level-beyond : side k w ≤ c → levels row column (suc k) w h p r c ≡ levels row column k w h p r c
+  unfolding levels level within choose new
+  level-beyond i = ap choose (and-false-r r (side k h) c (side k w) i)
+
+-- ---- the pixels
+
+size-law : (a H P : ℕ) → P ≡ 2 * H → a ≤ H → a * 2 ^ 32 ≤ 2 ^ 31 * P
+size-law a H P e h = omega arith
+
+pixel-law : (p H : ℕ) → p < 2 * H → natAbs (pos p -ℤ pos H) ≤ H
+pixel-law p H h = simp difs (omega arith)
+
+module _ (t : WidthTable) (ok : AcceptPromise t) (pixels : List ℕ) (w h : ℕ) (picture : Picture t pixels w h) where
+  exactAfter : ℕ → Plane Frac
+  exactAfter k = levels (λ l. exactPass) (λ l low. exactPass) k w h (exactSample pixels (t .depth) w)
+
+  -- the value at a place is good for a node
+  GoodFor : TableNode → ℕ → ℕ → ℕ → Type 0
+  GoodFor p k r c = Good (boundOf t p) (fractionBits t (p .level) (p .pass) (p .node)) (fixedAfter t k pixels w h r c) (exactAfter k r c)
+
+  -- after k levels: low-low is good for the next level, and all else is good for its kept node
+  record After (k : ℕ) : Type 0 where
+    inside : (r c : ℕ) → InPart k w h r c → Good (entering t (suc k)) (inputBits t (suc k) Rows) (fixedAfter t k pixels w h r c) (exactAfter k r c)
+    outside : (r c : ℕ) → r < h → c < w → ¬ InPart k w h r c → GoodFor (keptNode k w h r c) k r c
+
+  pixel-good : (r c : ℕ) → r < h → c < w → Good (record { range = 2 ^ 31; error = 0 }) (t .depth) (sample pixels (t .depth) w r c) (exactSample pixels (t .depth) w r c)
+  unfolding exactSample sample meant
+  pixel-good r c i j =
+      let p = getD pixels (r * w + c) 0 in
+      let H = 2 ^ (t .depth - 1) in
+      let e : 2 ^ t .depth ≡ 2 * H = ap (λ (k : ℕ). 2 ^ k) (deeper (t .depth) (ok .depth .0)) ∙ pow-add 2 1 (t .depth - 1) in
+      let q : p < 2 ^ t .depth = picture .depth (r * w + c) (omega (arith, mul-le-mul-right w i)) in
+      let s : natAbs (pos p -ℤ pos H) ≤ H = pixel-law p H (omega arith) in
+      record {
+        range = record { most = size-law (natAbs (pos p -ℤ pos H)) H (2 ^ t .depth) e s };
+        error = within-≈ (≈-sym (⊕-neg (meant (pos p -ℤ pos H) (t .depth)))) (within-zero 0 Q);
+      }
+    where
+      deeper : (d : ℕ) → 0 < d → d ≡ 1 + (d - 1)
+      deeper d z = omega arith
+
+  start : After 0
+  unfolding exactAfter fixedAfter levels side entering
+  start = record { inside = λ r c i. pixel-good r c (i .0) (i .1); outside = λ r c i j n. absurd (n (i, j)) }
+
+  module _ (k : ℕ) (i : k < t .levels) (a : After k) where
+    big-w : 2 ≤ side k w
+    big-w = side-two k (t .levels) w i (picture .width .0)
+
+    big-h : 2 ≤ side k h
+    big-h = side-two k (t .levels) h i (picture .height .0)
+
+    fractions : (p : Pass) (n : Node) → fractionBits t (suc k) p n ≤ 20
+    fractions p n = ok .fractions (suc k) (omega arith) (omega arith) p n
+
+    good-in : (r c : ℕ) → InPart k w h r c → GoodFor (keptNode (suc k) w h r c) (suc k) r c
+    unfolding GoodFor boundOf exactAfter fixedAfter newV newX rowV rowX side
+    good-in r c p =
+        rw (kept-in w h r c k p, level-in (λ l. fixedLine t l Rows) (λ l low. fixedLine t l (columnPass low)) k w h (sample pixels (t .depth) w) r c p, level-in (λ l. exactPass) (λ l low. exactPass) k w h (exactSample pixels (t .depth) w) r c p)
+        (level-good t (suc k) fractions (side k w) (side k h) big-w big-h (entering t (suc k)) (fixedAfter t k pixels w h) (exactAfter k) (λ r c i j. a .inside r c (i, j)) r c (p .0) (p .1))
+
+    good-next : (r c : ℕ) → r < h → c < w → GoodFor (keptNode (suc k) w h r c) (suc k) r c
+    unfolding GoodFor exactAfter fixedAfter
+    good-next r c p q = go (decLt r (side k h)) (decLt c (side k w))
+      where
+        below : side k h ≤ r → ¬ InPart k w h r c → GoodFor (keptNode (suc k) w h r c) (suc k) r c
+        below z n =
+            rw (kept-out w h r c k n, level-below (λ l. fixedLine t l Rows) (λ l low. fixedLine t l (columnPass low)) k w h (sample pixels (t .depth) w) r c z, level-below (λ l. exactPass) (λ l low. exactPass) k w h (exactSample pixels (t .depth) w) r c z)
+            (a .outside r c p q n)
+
+        beyond : side k w ≤ c → ¬ InPart k w h r c → GoodFor (keptNode (suc k) w h r c) (suc k) r c
+        beyond z n =
+            rw (kept-out w h r c k n, level-beyond (λ l. fixedLine t l Rows) (λ l low. fixedLine t l (columnPass low)) k w h (sample pixels (t .depth) w) r c z, level-beyond (λ l. exactPass) (λ l low. exactPass) k w h (exactSample pixels (t .depth) w) r c z)
+            (a .outside r c p q n)
+
+        go : Dec (r < side k h) → Dec (c < side k w) → GoodFor (keptNode (suc k) w h r c) (suc k) r c
+        go (yes i') (yes j) = good-in r c (i', j)
+        go (yes i') (no j) = beyond (omega arith) (λ z. j (z .1))
+        go (no i') (yes j) = below (omega arith) (λ z. i' (z .0))
+        go (no i') (no j) = below (omega arith) (λ z. i' (z .0))
+
+    inside-next : (r c : ℕ) → InPart (suc k) w h r c → Good (entering t (suc (suc k))) (inputBits t (suc (suc k)) Rows) (fixedAfter t (suc k) pixels w h r c) (exactAfter (suc k) r c)
+    unfolding GoodFor boundOf entering
+    inside-next r c p = subst (λ (q : TableNode). GoodFor q (suc k) r c) (kept-LL w h r c (suc k) (omega arith) (p .0) (p .1)) (good-in r c (part-before k w h r c p))
+
+    next : After (suc k)
+    next = record { inside = inside-next; outside = λ r c p q n. good-next r c p q }
+
+  after : (k : ℕ) → k ≤ t .levels → After k
+  after zero i = start
+  after (suc k) i = next k i (after k (omega arith))
+
+  good-everywhere : (L : ℕ) → 1 ≤ L → L ≤ t .levels → (r c : ℕ) → r < h → c < w → GoodFor (keptNode L w h r c) L r c
+  good-everywhere zero z i r c p q = absurd (omega arith)
+  good-everywhere (suc k) z i r c p q = good-next k i (after k (omega arith)) r c p q
+
+  result : (r c : ℕ) → r < h → c < w → Near (fixedPlane t pixels w h r c) (bitsPlane t w h r c) (exactPlane pixels (t .depth) (t .levels) w h r c)
+  unfolding fixedPlane bitsPlane exactPlane exactAfter GoodFor
+  result r c p q =
+      let K = kept-everywhere (t .levels) w h r c (ok .levels .0) p q in
+      let k = keptNode (t .levels) w h r c in
+      near (boundOf t k) (fractionBits t (k .level) (k .pass) (k .node)) _ _ (omega (arith, ok .fractions (k .level) (K .least) (K .most) (k .pass) (k .node)))
+      (ok .steps (k .level) (K .least) (K .most) (k .pass) (k .node) (K .kept))
+      (good-everywhere (t .levels) (ok .levels .0) (omega arith) r c p q)
+
+  in-width : (k : ℕ) → k < t .levels → LevelInWidth t (suc k) (side k w) (side k h) (fixedAfter t k pixels w h)
+  unfolding boundOf
+  in-width k i =
+      level-in-width t (suc k) (λ p n. ok .fractions (suc k) (omega arith) i p n) (side k w) (side k h) (side-two k (t .levels) w i (picture .width .0)) (side-two k (t .levels) h i (picture .height .0)) (entering t (suc k)) (fixedAfter t k pixels w h) (exactAfter k) (λ r c a b. after k (omega arith) .inside r c (a, b))
+      (λ p n. ok .integers (suc k) (omega arith) i p n .0) (λ p n. ok .fit (suc k) (omega arith) i p n)
+
+pub two-steps : TwoSteps
+two-steps t pixels w h ok picture r c p q = result t (promise t ok) pixels w h picture r c p q
+
+pub widths : Widths
+widths t pixels w h ok picture k i = in-width t (promise t ok) pixels w h picture k i
+
+pub demand-3 : TwoSteps × Widths
+demand-3 = (two-steps, widths)

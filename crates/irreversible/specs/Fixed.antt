@@ -1,0 +1,75 @@
+-- The fixed-point 9/7 lifting of one line (document 01: the lifting). Values are whole numbers without limit: v at f fractional
+-- bits means v / 2^f.
+use Prim.Native.Nat.{ℕ, _+_, _*_, _-_, _^_, max}
+use lib.IntN.{ℤ, pos, _+ℤ_, _*ℤ_}
+use lib.Pow.{pow-pos}
+use Rattle.numbers.specs.Floor.{floorDiv}
+use Rattle.exact.specs.Fractions.{Frac}
+use Rattle.width_table.specs.Nodes.{Node, P1, U1, P2, U2, G1, G2}
+use Rattle.exact.specs.Exact.{alpha, beta, gamma, delta, zeta, zetaInverse}
+use Rattle.lines.specs.Lines.{lows, highs, onHighs, onLows, lowsFirst}
+
+-- v / 2^f
+unfoldable pub meant : ℤ → ℕ → Frac
+meant v f = record { num = v; den = 2 ^ f; above = pow-pos f }
+
+-- A constant at F bits: the nearest multiple of 2^-F, as a whole number of them (no tie arises: Constants). (floorDiv z m is the floor of z / m.)
+unfoldable pub nearest : Frac → ℕ → ℤ
+nearest c F = floorDiv (c .num *ℤ pos (2 * 2 ^ F) +ℤ pos (c .den)) (2 * c .den)
+
+-- z at `full` bits, cut once towards minus infinity to f bits
+unfoldable pub cut : ℕ → ℕ → ℤ → ℤ
+cut full f z = floorDiv (z *ℤ pos (2 ^ (f - full))) (2 ^ (full - f))
+
+-- A stage P1, U1, P2, U2: own value at fo bits, neighbours x and y at fm bits, the constant at F bits. Sum and product are formed
+-- without loss, at the larger of fo and F + fm bits, and cut once to f bits.
+unfoldable pub step : Frac → ℕ → ℕ → ℕ → ℕ → ℤ → ℤ → ℤ → ℤ
+step c F fm fo f own x y =
+    let full = max fo (F + fm) in
+    cut full f (own *ℤ pos (2 ^ (full - fo)) +ℤ nearest c F *ℤ (x +ℤ y) *ℤ pos (2 ^ (full - (F + fm))))
+
+-- A stage G1, G2: the product has F + fm bits.
+unfoldable pub scale : Frac → ℕ → ℕ → ℕ → ℤ → ℤ
+scale c F fm f x = cut (F + fm) f (nearest c F *ℤ x)
+
+-- One pass over n samples x at fi bits: F the bits of the constants, f the fractional bits of the nodes.
+module _ (F : Node → ℕ) (fi : ℕ) (f : Node → ℕ) (n : ℕ) (x : ℕ → ℤ) where
+  unfoldable pub atP1 : ℕ → ℤ
+  atP1 = onHighs (step alpha (F P1) fi fi (f P1)) n (λ i. x (2 * i)) (λ i. x (2 * i + 1))
+
+  unfoldable pub atU1 : ℕ → ℤ
+  atU1 = onLows (step beta (F U1) (f P1) fi (f U1)) n (λ i. x (2 * i)) atP1
+
+  unfoldable pub atP2 : ℕ → ℤ
+  atP2 = onHighs (step gamma (F P2) (f U1) (f P1) (f P2)) n atU1 atP1
+
+  unfoldable pub atU2 : ℕ → ℤ
+  atU2 = onLows (step delta (F U2) (f P2) (f U1) (f U2)) n atU1 atP2
+
+  unfoldable pub atG1 : ℕ → ℤ
+  atG1 i = scale zeta (F G1) (f U2) (f G1) (atU2 i)
+
+  unfoldable pub atG2 : ℕ → ℤ
+  atG2 i = scale zetaInverse (F G2) (f P2) (f G2) (atP2 i)
+
+  -- what the pass leaves: the lows first, then the highs
+  unfoldable pub fixedPass : ℕ → ℤ
+  fixedPass = lowsFirst n atG1 atG2
+
+  -- the values on the way: what the pass leaves in each node
+  abbrev pub valueAt : Node → ℕ → ℤ
+  valueAt P1 = atP1
+  valueAt U1 = atU1
+  valueAt P2 = atP2
+  valueAt U2 = atU2
+  valueAt G1 = atG1
+  valueAt G2 = atG2
+
+-- how many values a pass over n samples leaves in a node
+abbrev pub countAt : ℕ → Node → ℕ
+countAt n P1 = highs n
+countAt n U1 = lows n
+countAt n P2 = highs n
+countAt n U2 = lows n
+countAt n G1 = lows n
+countAt n G2 = highs n

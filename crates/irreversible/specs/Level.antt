@@ -1,0 +1,69 @@
+-- One level: where the plane that it is fed is good, what it leaves is good at every place, and its values stay in their widths.
+use Prim.Native.Nat.{ℕ, _+_, _*_, _-_, _^_, _<_, _≤_}
+use mathlib.Core.Bool.{Bool, true, false}
+use native.Mathlib.Omega.{arith}
+use lib.Dec.{ltb}
+use lib.IntN.{ℤ}
+use Rattle.exact.specs.Fractions.{Frac}
+use Rattle.width_table.specs.Nodes.{Node, G1, G2, Pass, Rows, LowColumns, HighColumns, columnPass, lastNode}
+use Rattle.lines.specs.Lines.{lows}
+use Rattle.exact.specs.Exact.{exactPass}
+use Rattle.lines.specs.Planes.{Plane, rows, columns}
+use Rattle.width_table.specs.declared.WidthTable.{WidthTable}
+use Rattle.width_table.specs.Table.{constantBits, integerBits, fractionBits, inputBits}
+use Rattle.precision.specs.Bounds.{Bound, rowBound, passBound}
+use Rattle.irreversible.specs.Transforms.{fixedLine}
+use Rattle.irreversible.specs.Claims.{InWidth, LevelInWidth}
+use Rattle.irreversible.specs.PassBound.{Small}
+use Rattle.irreversible.specs.Pass.{Good, pass-good, in-width}
+
+-- after the rows, and after the columns
+unfoldable pub rowV : WidthTable → ℕ → ℕ → Plane ℤ → Plane ℤ
+rowV t l w v = rows (fixedLine t l Rows) w v
+
+unfoldable pub rowX : ℕ → Plane Frac → Plane Frac
+rowX w x = rows exactPass w x
+
+unfoldable pub newV : WidthTable → ℕ → ℕ → ℕ → Plane ℤ → Plane ℤ
+unfolding rowV
+newV t l w h v = columns (λ c. fixedLine t l (columnPass (ltb c (lows w)))) h (rowV t l w v)
+
+unfoldable pub newX : ℕ → ℕ → Plane Frac → Plane Frac
+unfolding rowX
+newX w h x = columns (λ c. exactPass) h (rowX w x)
+
+module _ (t : WidthTable) (l : ℕ) (bits : (p : Pass) (n : Node) → fractionBits t l p n ≤ 20) (w h : ℕ) (wide : 2 ≤ w) (tall : 2 ≤ h) (b : Bound) (v : Plane ℤ) (x : Plane Frac) (given : (r c : ℕ) → r < h → c < w → Good b (inputBits t l Rows) (v r c) (x r c)) where
+  small : (p : Pass) → Small (fractionBits t l p)
+  small p n = omega (arith, bits p n)
+
+  row-good : (r c : ℕ) → r < h → c < w → Good (rowBound t l b (lastNode (ltb c (lows w)))) (fractionBits t l Rows (lastNode (ltb c (lows w)))) (rowV t l w v r c) (rowX w x r c)
+  unfolding rowV rowX rows fixedLine rowBound
+  row-good r c i j = pass-good (constantBits t) (inputBits t l Rows) b (fractionBits t l Rows) w (v r) (x r) wide (small Rows) (λ k q. given r k i q) c j
+
+  -- the rows are good at column c, which holds row-low values or row-high ones
+  RowsGood : Bool → ℕ → Type 0
+  RowsGood q c = (k : ℕ) → k < h → Good (rowBound t l b (lastNode q)) (fractionBits t l Rows (lastNode q)) (rowV t l w v k c) (rowX w x k c)
+
+  column-good : (q : Bool) (c : ℕ) → RowsGood q c → (r : ℕ) → r < h → Good (passBound t l b (columnPass q) (lastNode (ltb r (lows h)))) (fractionBits t l (columnPass q) (lastNode (ltb r (lows h)))) (fixedLine t l (columnPass q) h (λ k. rowV t l w v k c) r) (exactPass h (λ k. rowX w x k c) r)
+  unfolding RowsGood passBound fixedLine
+  column-good true c g r i = pass-good (constantBits t) (inputBits t l LowColumns) (rowBound t l b G1) (fractionBits t l LowColumns) h (λ k. rowV t l w v k c) (λ k. rowX w x k c) tall (small LowColumns) g r i
+  column-good false c g r i = pass-good (constantBits t) (inputBits t l HighColumns) (rowBound t l b G2) (fractionBits t l HighColumns) h (λ k. rowV t l w v k c) (λ k. rowX w x k c) tall (small HighColumns) g r i
+
+  pub level-good : (r c : ℕ) → r < h → c < w → Good (passBound t l b (columnPass (ltb c (lows w))) (lastNode (ltb r (lows h)))) (fractionBits t l (columnPass (ltb c (lows w))) (lastNode (ltb r (lows h)))) (newV t l w h v r c) (newX w h x r c)
+  unfolding newV newX columns RowsGood
+  level-good r c i j = column-good (ltb c (lows w)) c (λ k q. row-good k c q j) r i
+
+  -- each value on the way stays in its width
+  module _ (some : (p : Pass) (n : Node) → 1 ≤ integerBits t l p n) (room : (p : Pass) (n : Node) → passBound t l b p n .range + passBound t l b p n .error + 2 ^ (32 - fractionBits t l p n) ≤ 2 ^ (integerBits t l p n - 1) * 2 ^ 32) where
+    rows-in-width : (r : ℕ) → r < h → InWidth t l Rows w (v r)
+    unfolding passBound rowBound
+    rows-in-width r i = in-width (constantBits t) (inputBits t l Rows) b (fractionBits t l Rows) w (v r) (x r) wide (small Rows) (λ k q. given r k i q) (integerBits t l Rows) (some Rows) (room Rows)
+
+    column-in-width : (q : Bool) (c : ℕ) → RowsGood q c → InWidth t l (columnPass q) h (λ k. rowV t l w v k c)
+    unfolding RowsGood passBound
+    column-in-width true c g = in-width (constantBits t) (inputBits t l LowColumns) (rowBound t l b G1) (fractionBits t l LowColumns) h (λ k. rowV t l w v k c) (λ k. rowX w x k c) tall (small LowColumns) g (integerBits t l LowColumns) (some LowColumns) (room LowColumns)
+    column-in-width false c g = in-width (constantBits t) (inputBits t l HighColumns) (rowBound t l b G2) (fractionBits t l HighColumns) h (λ k. rowV t l w v k c) (λ k. rowX w x k c) tall (small HighColumns) g (integerBits t l HighColumns) (some HighColumns) (room HighColumns)
+
+    pub level-in-width : LevelInWidth t l w h v
+    unfolding rowV RowsGood
+    level-in-width = record { inRows = rows-in-width; inColumns = λ c j. column-in-width (ltb c (lows w)) c (λ k q. row-good k c q j) }

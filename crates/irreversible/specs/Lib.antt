@@ -1,0 +1,29 @@
+-- The 9/7 transform in fixed point, and demand 3.
+--
+-- Definitions (with those of lines, exact, width_table, pictures and precision, all that demand 3 rests on):
+--   Fixed        the fixed-point 9/7 lifting of one line: nearest constants, one cut towards minus infinity
+--   Transforms   the plane of a picture under a table
+--   Claims       demand 3 as two statements: TwoSteps and Widths
+--   Calls        the 9/7 call: the answer, and each lent slice afterwards
+-- Proved of them:
+--   Demand3      two-steps : TwoSteps, widths : Widths
+--   CallLaws     call-near: demand 3 of every call that is not refused
+--   Constants    no-tie, is-nearest: a constant at F bits is the nearest multiple, for F from 1 to 24
+--   Subbands     kept-LL, kept-HL, kept-LH, kept-HH: the kept node of each subband of each level
+--   Sizes        sum-size, product-size: 64 bits hold the sum of a stage
+-- Proofs: Walk, Linear, Own, PassBound, Pass, Level lead to Demand3, in this order.
+pub mod Fixed
+pub mod Transforms
+pub mod Claims
+pub mod Calls
+pub mod Walk
+pub mod Linear
+pub mod Own
+pub mod PassBound
+pub mod Pass
+pub mod Level
+pub mod Subbands
+pub mod Demand3
+pub mod Constants
+pub mod Sizes
+pub mod CallLaws

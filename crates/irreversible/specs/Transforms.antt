@@ -1,0 +1,22 @@
+-- The 9/7 transform in fixed point under a width table (document 01: the lifting; pictures and planes).
+use Prim.Native.Nat.{ℕ, _+_, _*_, _-_, _^_}
+use mathlib.Core.List.{List}
+use lib.IntN.{ℤ}
+use Rattle.lines.specs.Planes.{Plane, OnLine, levels}
+use Rattle.width_table.specs.Nodes.{Pass, Rows, columnPass}
+use Rattle.width_table.specs.declared.WidthTable.{WidthTable}
+use Rattle.width_table.specs.Table.{constantBits, fractionBits, inputBits}
+use Rattle.pictures.specs.Pictures.{sample}
+use Rattle.irreversible.specs.Fixed.{fixedPass}
+
+-- a pass of level l
+unfoldable pub fixedLine : WidthTable → ℕ → Pass → OnLine ℤ
+fixedLine t l p = fixedPass (constantBits t) (inputBits t l p) (fractionBits t l p)
+
+-- the plane after levels 1 to k; a pixel enters as an integer with B fractional bits
+unfoldable pub fixedAfter : WidthTable → ℕ → List ℕ → ℕ → ℕ → Plane ℤ
+fixedAfter t k pixels w h = levels (λ l. fixedLine t l Rows) (λ l low. fixedLine t l (columnPass low)) k w h (sample pixels (t .depth) w)
+
+-- the plane of the 9/7 call
+unfoldable pub fixedPlane : WidthTable → List ℕ → ℕ → ℕ → Plane ℤ
+fixedPlane t pixels w h = fixedAfter t (t .levels) pixels w h

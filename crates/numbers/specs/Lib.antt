@@ -1,0 +1,23 @@
+-- Whole numbers of either sign: laws, and the tactics that the proofs above use.
+--   Dif        linear facts over ℤ, as differences of naturals (`by-dif`, `difs`)
+--   Laws       ordered ring laws of ℤ
+--   Abs        magnitudes
+--   Floor      division rounded down; `>>` of a signed number
+--   Auto       overflow needs of signed code
+--   Linear     linear facts in a context (`zarith`, `parts`)
+--   Ring, Combine, Quote   identities of polynomials (`ring`, `combine-ring`)
+--   Tests      computed tests (`between`, `every`) and their laws
+--   Lists      writing over the front of a list (`over`)
+--   Examples   worked examples of each
+pub mod Dif
+pub mod Laws
+pub mod Abs
+pub mod Floor
+pub mod Auto
+pub mod Linear
+pub mod Ring
+pub mod Combine
+pub mod Quote
+pub mod Tests
+pub mod Lists
+pub mod Examples

@@ -1,0 +1,1 @@
+// Laws of whole numbers and tactics, in specs/; no code.

@@ -1,0 +1,6 @@
+-- Pictures in memory (document 01: pictures and planes).
+--   Pictures   samples of a picture, and refusals 8, 9 and 10 of the transforms' calls
+-- Proved of them:
+--   PictureLaws   what these refusals say where they are not given
+pub mod Pictures
+pub mod PictureLaws

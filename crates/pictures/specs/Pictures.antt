@@ -1,0 +1,49 @@
+-- Pictures and planes in memory (document 01: pictures and planes), and refusals 8, 9 and 10.
+use Prim.Native.Nat.{ℕ, _+_, _*_, _-_, _^_, _<_, _≤_}
+use mathlib.Core.Bool.{Bool, _&&_}
+use mathlib.Core.List.{List}
+use lib.Dec.{leb, ltb}
+use lib.ListN.{length, getD, take, replicate}
+use lib.IntN.{ℤ, pos, _-ℤ_}
+use Rattle.numbers.specs.Tests.{every}
+use Rattle.numbers.specs.Lists.{over}
+use Rattle.refusals.specs.declared.Refusal.the-variants.{SideNotAdmitted, SliceTooShort, PixelTooLarge}
+use Rattle.refusals.specs.declared.Outcome.{Outcome}
+use Rattle.refusals.specs.declared.Outcome.the-variants.{Done}
+use Rattle.refusals.specs.Refusals.{asks}
+use Rattle.lines.specs.Planes.{Plane}
+
+-- the greatest side
+abbrev pub maxSide : ℕ
+maxSide = 4096
+
+-- A side is at most 4,096 and greater than 2^(L-1).
+abbrev pub sideRight : ℕ → ℕ → Bool
+sideRight L n = ltb (2 ^ (L - 1)) n && leb n maxSide
+
+-- the same as a statement
+abbrev pub Admitted : ℕ → ℕ → Type 0
+Admitted L n = (2 ^ (L - 1) < n) × (n ≤ maxSide)
+
+-- 8, then 9: pixels, plane and work area, of a, b and c elements, need w * h each.
+unfoldable pub sized : ℕ → ℕ → ℕ → ℕ → ℕ → ℕ → Outcome
+sized L w h a b c =
+    asks (sideRight L w && sideRight L h) SideNotAdmitted
+    (asks (leb (w * h) a && leb (w * h) b && leb (w * h) c) SliceTooShort
+    Done)
+
+-- 10: the first w * h pixels are below 2^B.
+unfoldable pub pixelsRight : ℕ → ℕ → ℕ → List ℕ → Outcome
+pixelsRight B w h pixels = asks (every (λ p. ltb p (2 ^ B)) (take (w * h) pixels)) PixelTooLarge Done
+
+-- Pixels lie row by row. A pixel p enters as p - 2^(B-1).
+unfoldable pub sample : List ℕ → ℕ → ℕ → Plane ℤ
+sample pixels B w r c = pos (getD pixels (r * w + c) 0) -ℤ pos (2 ^ (B - 1))
+
+-- a plane's value at a row and a column, from its elements row by row
+abbrev pub planeOf : ℕ → List ℤ → Plane ℤ
+planeOf w plane r c = getD plane (r * w + c) (pos 0)
+
+-- a work area whose first n elements are zero
+abbrev pub zeroed : ℕ → List ℤ → List ℤ
+zeroed n work = over (replicate n (pos 0)) work

@@ -1,0 +1,77 @@
+-- The verdict on a width table (document 01: the judge, and why a book comes back).
+use Prim.Native.Nat.{ℕ, _+_, _*_, _-_, _^_, _<_, _≤_}
+use mathlib.Core.Bool.{Bool, true, false, _||_, not}
+use mathlib.Core.List.{List, [], _∷_}
+use mathlib.Core.Path.{_≡_}
+use lib.Dec.{T, leb, ltb, eqb}
+use Rattle.refusals.specs.declared.NodePlace.{NodePlace}
+use Rattle.refusals.specs.declared.Refusal.the-variants.{OutsideLimits, DoesNotFit, ErrorTooLarge}
+use Rattle.refusals.specs.declared.Outcome.{Outcome}
+use Rattle.refusals.specs.declared.Outcome.the-variants.{Done, Refused}
+use Rattle.refusals.specs.Refusals.{asks, _then_}
+use Rattle.width_table.specs.declared.WidthTable.{WidthTable}
+use Rattle.width_table.specs.Nodes.{Node, P1, U1, P2, U2, G1, G2, Pass, Rows, LowColumns, HighColumns, TableNode, nodeAt, passNumber, nodeNumber, bookOrder}
+use Rattle.width_table.specs.Table.{maxDepth, maxLevels, maxConstantBits, maxIntegerBits, maxFractionBits, integerBits, fractionBits, constantBits, formRight}
+use Rattle.precision.specs.Bounds.{Bound, boundOf}
+
+-- A node fits if range plus error is at most 2^(IB-1) - 2^-f.
+abbrev pub fits : Bound → ℕ → ℕ → Bool
+fits b IB f = leb (b .range + b .error + 2 ^ (32 - f)) (2 ^ (IB - 1) * 2 ^ 32)
+
+-- The error is below 2 times 2^-f.
+abbrev pub belowTwoSteps : Bound → ℕ → Bool
+belowTwoSteps b f = ltb (b .error) (2 * 2 ^ (32 - f))
+
+-- Kept nodes are G1 and G2 of the columns, but G1 of the columns of row-low at level L only.
+abbrev pub keptColumn : Bool → Node → Bool
+keptColumn lowLow P1 = false
+keptColumn lowLow U1 = false
+keptColumn lowLow P2 = false
+keptColumn lowLow U2 = false
+keptColumn lowLow G1 = lowLow
+keptColumn lowLow G2 = true
+
+abbrev pub keptAt : ℕ → ℕ → Pass → Node → Bool
+keptAt L l Rows n = false
+keptAt L l LowColumns n = keptColumn (eqb l L) n
+keptAt L l HighColumns n = keptColumn true n
+
+-- the level, pass (1 to 3) and node (1 to 6) that a refusal gives
+abbrev pub numbered : TableNode → NodePlace
+numbered p = record { level = p .level; pass = passNumber (p .pass); node = nodeNumber (p .node) }
+
+-- At one node fit comes first (6); a kept node also needs its error below two steps (7).
+unfoldable pub judged : WidthTable → TableNode → Outcome
+judged t p =
+    let b = boundOf t p in
+    let IB = integerBits t (p .level) (p .pass) (p .node) in
+    let f = fractionBits t (p .level) (p .pass) (p .node) in
+    asks (fits b IB f) (DoesNotFit (numbered p))
+    (asks (not (keptAt (t .levels) (p .level) (p .pass) (p .node)) || belowTwoSteps b f) (ErrorTooLarge (numbered p))
+    Done)
+
+-- the first refusal, in the order of the list
+unfoldable pub firstRefusal : WidthTable → List TableNode → Outcome
+firstRefusal t [] = Done
+firstRefusal t (p ∷ ps) = judged t p then firstRefusal t ps
+
+-- Form comes first (4), then the nodes in book order (6 and 7 as one step).
+unfoldable pub verdict : WidthTable → Outcome
+verdict t = asks (formRight t) OutsideLimits (firstRefusal t (bookOrder (t .levels)))
+
+abbrev pub Accepted : WidthTable → Type 0
+Accepted t = verdict t ≡ Done
+
+-- What acceptance promises, and all that it asks (Promise): the form is right, every node fits, every kept node's error is below
+-- two steps.
+pub record AcceptPromise (t : WidthTable) : Type 0 where
+  pub depth : (1 ≤ t .depth) × (t .depth ≤ maxDepth)
+  pub levels : (1 ≤ t .levels) × (t .levels ≤ maxLevels)
+  pub constants : (n : Node) → (1 ≤ constantBits t n) × (constantBits t n ≤ maxConstantBits)
+  pub integers : (l : ℕ) → 1 ≤ l → l ≤ t .levels → (p : Pass) (n : Node) → (1 ≤ integerBits t l p n) × (integerBits t l p n ≤ maxIntegerBits)
+  pub fractions : (l : ℕ) → 1 ≤ l → l ≤ t .levels → (p : Pass) (n : Node) → fractionBits t l p n ≤ maxFractionBits
+  pub unused : (l : ℕ) → t .levels < l → l ≤ maxLevels → (p : Pass) (n : Node) → (integerBits t l p n ≡ 0) × (fractionBits t l p n ≡ 0)
+  pub fit : (l : ℕ) → 1 ≤ l → l ≤ t .levels → (p : Pass) (n : Node)
+      → boundOf t (nodeAt l p n) .range + boundOf t (nodeAt l p n) .error + 2 ^ (32 - fractionBits t l p n) ≤ 2 ^ (integerBits t l p n - 1) * 2 ^ 32
+  pub steps : (l : ℕ) → 1 ≤ l → l ≤ t .levels → (p : Pass) (n : Node) → T (keptAt (t .levels) l p n)
+      → boundOf t (nodeAt l p n) .error < 2 * 2 ^ (32 - fractionBits t l p n)

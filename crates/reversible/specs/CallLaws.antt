@@ -1,0 +1,190 @@
+-- The 5/3 calls: there and back (`there-and-back`), back and there (`back-and-there`).
+use Prim.Native.Nat.{ℕ, zero, suc, _+_, _*_, _-_, _^_, _<_, _≤_}
+use mathlib.Core.Bool.{Bool, _&&_}
+use mathlib.Core.List.{List, map}
+use mathlib.Core.Path.{_≡_, sym, _∙_, ap, subst}
+use native.Mathlib.Omega.{arith}
+use lib.Dec.{T, ltb}
+use lib.ListN.{length, getD, take, drop, List·getD-append}
+use lib.IntN.{ℤ, pos, natAbs, _+ℤ_, _-ℤ_}
+use Rattle.numbers.specs.Tests.{every}
+use Rattle.numbers.specs.Lists.{over}
+use Rattle.refusals.specs.declared.Outcome.{Outcome}
+use Rattle.refusals.specs.declared.Outcome.the-variants.{Done}
+use Rattle.refusals.specs.Refusals.{asks, _then_}
+use Rattle.refusals.specs.RefusalLaws.{asks-done, asks-right, then-done, then-right, answered-done}
+use Rattle.lines.specs.Planes.{Plane, rowByRow}
+use Rattle.lines.specs.PlaneLaws.{Roomy, roomy, Agree}
+use Rattle.lines.specs.RowLaws.{place-in, rows-length, rows-same, rows-take, every-row, rows-map}
+use Rattle.width_table.specs.Table.{depthRight, levelsRight}
+use Rattle.pictures.specs.Pictures.{sized, pixelsRight, sample, planeOf}
+use Rattle.pictures.specs.PictureLaws.{Room, sized-done, sized-right, pixels-done, pixel-below, over-take, over-length}
+use Rattle.reversible.specs.Reversible.{forward, back}
+use Rattle.reversible.specs.ReversibleLaws.{forward-agrees}
+use Rattle.reversible.specs.PictureLaws.{Picture, planeIn, goes-back, found-picture, found-plane, pixel-is, take-add}
+use Rattle.reversible.specs.Calls.{limited, forwardAnswer, forwardPlane, pixelsBack, isPixel, hasPicture, backAllowed, backAnswer, backPixels}
+
+-- ---- there and back
+
+allowed : (B L w h a b c : ℕ) → T (depthRight B && levelsRight L) → Room L w h a b c → limited B L then sized L w h a b c ≡ Done
+allowed B L w h a b c d r = then-right (limited B L) _ (asks-right (depthRight B && levelsRight L) _ _ d) ∙ sized-right L w h a b c r
+
+-- what a done forward call tells
+record ForwardDone (B L w h : ℕ) (pixels : List ℕ) (plane work : List ℤ) : Type 0 where
+  limits : T (depthRight B && levelsRight L)
+  room : Room L w h (length pixels) (length plane) (length work)
+  right : T (every (λ p. ltb p (2 ^ B)) (take (w * h) pixels))
+
+forward-done : (B L w h : ℕ) (pixels : List ℕ) (plane work : List ℤ) → forwardAnswer B L w h pixels plane work ≡ Done → ForwardDone B L w h pixels plane work
+unfolding forwardAnswer
+forward-done B L w h pixels plane work e =
+    let a = then-done (limited B L) _ e in
+    let b = then-done (sized L w h (length pixels) (length plane) (length work)) _ (a .1) in
+    record {
+      limits = asks-done (depthRight B && levelsRight L) _ _ (a .0) .0;
+      room = sized-done L w h (length pixels) (length plane) (length work) (b .0);
+      right = pixels-done B w h pixels (b .1);
+    }
+
+module _ (B L w h : ℕ) (pixels : List ℕ) (plane work : List ℤ) (e : forwardAnswer B L w h pixels plane work ≡ Done) (pixels' : List ℕ) (work' : List ℤ) (rp : w * h ≤ length pixels') (rw' : w * h ≤ length work') where
+  abbrev made : List ℤ
+  made = forwardPlane B L w h pixels plane work
+
+  facts : ForwardDone B L w h pixels plane work
+  facts = forward-done B L w h pixels plane work e
+
+  some-w : 1 ≤ w
+  some-w = omega (arith, facts .room .wide .0)
+
+  some-h : 1 ≤ h
+  some-h = omega (arith, facts .room .tall .0)
+
+  roomy-w : Roomy L w
+  roomy-w = roomy L w (facts .room .wide .0)
+
+  roomy-h : Roomy L h
+  roomy-h = roomy L h (facts .room .tall .0)
+
+  is-over : made ≡ over (planeIn B L w h pixels) plane
+  unfolding forwardPlane
+  is-over = answered-done (over (planeIn B L w h pixels) plane) plane e
+
+  long : length (planeIn B L w h pixels) ≡ w * h
+  long = rows-length w h some-w (forward L w h (sample pixels B w))
+
+  room-made : w * h ≤ length made
+  room-made = subst (λ (l : List ℤ). w * h ≤ length l) (sym is-over) (omega (arith, long, over-length (planeIn B L w h pixels) plane))
+
+  front : planeIn B L w h pixels ≡ take (w * h) made
+  front = sym (ap (take (w * h)) is-over ∙ over-take (w * h) (planeIn B L w h pixels) plane long)
+
+  value : (r c : ℕ) → r < h → c < w → back L w h (planeOf w made) r c +ℤ pos (2 ^ (B - 1)) ≡ pos (getD pixels (r * w + c) 0)
+  unfolding sample
+  value r c i j =
+      ap (λ (z : ℤ). z +ℤ pos (2 ^ (B - 1))) (goes-back B L w h roomy-w roomy-h some-w some-h made room-made (sample pixels B w) front r c i j)
+      ∙ take-add (pos (getD pixels (r * w + c) 0)) (pos (2 ^ (B - 1)))
+
+  pixel-right : (r c : ℕ) → r < h → c < w → getD pixels (r * w + c) 0 < 2 ^ B
+  pixel-right r c i j = pixel-below B w h pixels (facts .room .first) (facts .right) (r * w + c) (place-in w h some-w r c i j)
+
+  has : T (hasPicture B L w h made)
+  unfolding hasPicture pixelsBack
+  has = every-row w h some-w (isPixel B) (λ r c. back L w h (planeOf w made) r c +ℤ pos (2 ^ (B - 1)))
+      (λ r c i j. subst (λ (z : ℤ). T (isPixel B z)) (sym (value r c i j)) (pixel-is B (getD pixels (r * w + c) 0) (pixel-right r c i j)))
+
+  same-pixels : map natAbs (pixelsBack B L w h made) ≡ take (w * h) pixels
+  unfolding pixelsBack
+  same-pixels =
+      rows-map natAbs w h (λ r c. back L w h (planeOf w made) r c +ℤ pos (2 ^ (B - 1)))
+      ∙ rows-same w h some-w _ (λ r c. getD pixels (r * w + c) 0) (λ r c i j. ap natAbs (value r c i j))
+      ∙ rows-take w h some-w pixels 0 (facts .room .first)
+
+  pub goes-back-done : backAnswer B L w h made pixels' work' ≡ Done
+  unfolding backAnswer backAllowed
+  goes-back-done =
+      let f = facts in
+      then-right (backAllowed B L w h made pixels' work') _ (allowed B L w h (length pixels') (length made) (length work') (f .limits) (record { wide = f .room .wide; tall = f .room .tall; first = rp; second = room-made; third = rw' }))
+      ∙ asks-right (hasPicture B L w h made) _ _ has
+
+  -- the exact copy goes back to the same picture
+  pub there-and-back : backPixels B L w h made pixels' work' ≡ over (take (w * h) pixels) pixels'
+  unfolding backPixels
+  there-and-back = answered-done (over (map natAbs (pixelsBack B L w h made)) pixels') pixels' goes-back-done ∙ ap (λ (l : List ℕ). over l pixels') same-pixels
+
+-- ---- back and there
+
+record BackDone (B L w h : ℕ) (plane : List ℤ) (pixels : List ℕ) (work : List ℤ) : Type 0 where
+  limits : T (depthRight B && levelsRight L)
+  room : Room L w h (length pixels) (length plane) (length work)
+  right : T (hasPicture B L w h plane)
+
+back-done : (B L w h : ℕ) (plane : List ℤ) (pixels : List ℕ) (work : List ℤ) → backAnswer B L w h plane pixels work ≡ Done → BackDone B L w h plane pixels work
+unfolding backAnswer backAllowed
+back-done B L w h plane pixels work e =
+    let a = then-done (backAllowed B L w h plane pixels work) _ e in
+    let b = then-done (limited B L) _ (a .0) in
+    record {
+      limits = asks-done (depthRight B && levelsRight L) _ _ (b .0) .0;
+      room = sized-done L w h (length pixels) (length plane) (length work) (b .1);
+      right = asks-done (hasPicture B L w h plane) _ _ (a .1) .0;
+    }
+
+module _ (B L w h : ℕ) (plane : List ℤ) (pixels : List ℕ) (work : List ℤ) (e : backAnswer B L w h plane pixels work ≡ Done) (plane' work' : List ℤ) (rp : w * h ≤ length plane') (rw' : w * h ≤ length work') where
+  abbrev picture : List ℕ
+  picture = backPixels B L w h plane pixels work
+
+  known : BackDone B L w h plane pixels work
+  known = back-done B L w h plane pixels work e
+
+  big-w : 1 ≤ w
+  big-w = omega (arith, known .room .wide .0)
+
+  big-h : 1 ≤ h
+  big-h = omega (arith, known .room .tall .0)
+
+  wide-w : Roomy L w
+  wide-w = roomy L w (known .room .wide .0)
+
+  wide-h : Roomy L h
+  wide-h = roomy L h (known .room .tall .0)
+
+  abbrev came : List ℕ
+  came = map natAbs (pixelsBack B L w h plane)
+
+  right-came : Picture B w h came
+  right-came = found-picture B L w h wide-w wide-h big-w big-h plane (known .room .second) (known .right)
+
+  over-came : picture ≡ over came pixels
+  unfolding backPixels
+  over-came = answered-done (over came pixels) pixels e
+
+  front-came : take (w * h) picture ≡ came
+  front-came = ap (take (w * h)) over-came ∙ over-take (w * h) came pixels (right-came .long)
+
+  room-picture : w * h ≤ length picture
+  room-picture = subst (λ (l : List ℕ). w * h ≤ length l) (sym over-came) (omega (arith, right-came .long, over-length came pixels))
+
+  same-samples : Agree w h (sample picture B w) (sample came B w)
+  unfolding sample
+  same-samples r c i j =
+      ap (λ (l : List ℕ). pos (getD l (r * w + c) 0) -ℤ pos (2 ^ (B - 1))) over-came
+      ∙ ap (λ (n : ℕ). pos n -ℤ pos (2 ^ (B - 1))) (List·getD-append came (drop (length came) pixels) 0 (r * w + c) (subst (λ (n : ℕ). r * w + c < n) (sym (right-came .long)) (place-in w h big-w r c i j)))
+
+  same-plane : planeIn B L w h picture ≡ take (w * h) plane
+  same-plane =
+      rows-same w h big-w (forward L w h (sample picture B w)) (forward L w h (sample came B w)) (forward-agrees w h big-w big-h L wide-w wide-h (sample picture B w) (sample came B w) same-samples)
+      ∙ found-plane B L w h wide-w wide-h big-w big-h plane (known .room .second) (known .right)
+
+  pub comes-forward-done : forwardAnswer B L w h picture plane' work' ≡ Done
+  unfolding forwardAnswer pixelsRight
+  comes-forward-done =
+      let k = known in
+      let a = then-done (limited B L) _ (allowed B L w h (length picture) (length plane') (length work') (k .limits) (record { wide = k .room .wide; tall = k .room .tall; first = room-picture; second = rp; third = rw' })) in
+      then-right (limited B L) _ (a .0)
+      ∙ then-right (sized L w h (length picture) (length plane') (length work')) _ (a .1)
+      ∙ asks-right (every (λ p. ltb p (2 ^ B)) (take (w * h) picture)) _ _ (subst (λ (l : List ℕ). T (every (λ p. ltb p (2 ^ B)) l)) (sym front-came) (right-came .right))
+
+  -- a plane that goes back comes out the same when worked forward
+  pub back-and-there : forwardPlane B L w h picture plane' work' ≡ over (take (w * h) plane) plane'
+  unfolding forwardPlane
+  back-and-there = answered-done (over (planeIn B L w h picture) plane') plane' comes-forward-done ∙ ap (λ (l : List ℤ). over l plane') same-plane

@@ -1,0 +1,66 @@
+-- The 5/3 calls (document 01: why a strip or book comes back): the answer, and each lent slice afterwards.
+use Prim.Native.Nat.{ℕ, _+_, _*_, _-_, _^_}
+use mathlib.Core.Bool.{Bool, _&&_}
+use mathlib.Core.List.{List, map}
+use lib.ListN.{length}
+use lib.IntN.{ℤ, pos, natAbs, _+ℤ_}
+use lib.Signed.{leZ, ltZ}
+use Rattle.numbers.specs.Tests.{every}
+use Rattle.numbers.specs.Lists.{over}
+use Rattle.refusals.specs.declared.Refusal.the-variants.{OutsideLimits, NoPicture}
+use Rattle.refusals.specs.declared.Outcome.{Outcome}
+use Rattle.refusals.specs.declared.Outcome.the-variants.{Done, Refused}
+use Rattle.refusals.specs.Refusals.{asks, _then_, answered}
+use Rattle.lines.specs.Planes.{Plane, rowByRow}
+use Rattle.width_table.specs.Table.{depthRight, levelsRight}
+use Rattle.pictures.specs.Pictures.{sized, pixelsRight, sample, planeOf, zeroed}
+use Rattle.reversible.specs.Reversible.{forward, back}
+
+-- 4: depth and levels are within their limits
+abbrev pub limited : ℕ → ℕ → Outcome
+limited B L = asks (depthRight B && levelsRight L) OutsideLimits Done
+
+-- ---- forward: 4, 8, 9, 10
+
+module _ (B L w h : ℕ) (pixels : List ℕ) (plane work : List ℤ) where
+  unfoldable pub forwardAnswer : Outcome
+  forwardAnswer =
+      limited B L
+      then sized L w h (length pixels) (length plane) (length work)
+      then pixelsRight B w h pixels
+
+  unfoldable pub forwardPlane : List ℤ
+  forwardPlane = answered forwardAnswer (over (rowByRow w h (forward L w h (sample pixels B w))) plane) plane
+
+  unfoldable pub forwardWork : List ℤ
+  forwardWork = answered forwardAnswer (zeroed (w * h) work) work
+
+-- ---- back: 4, 8, 9, 11
+
+-- what the way back gives where each pixel would lie
+unfoldable pub pixelsBack : ℕ → ℕ → ℕ → ℕ → List ℤ → List ℤ
+pixelsBack B L w h plane = rowByRow w h (λ r c. back L w h (planeOf w plane) r c +ℤ pos (2 ^ (B - 1)))
+
+-- from 0 to 2^B - 1
+abbrev pub isPixel : ℕ → ℤ → Bool
+isPixel B z = leZ (pos 0) z && ltZ z (pos (2 ^ B))
+
+-- The plane is the transform of a picture of that depth and size (PictureLaws: exactly then).
+unfoldable pub hasPicture : ℕ → ℕ → ℕ → ℕ → List ℤ → Bool
+hasPicture B L w h plane = every (isPixel B) (pixelsBack B L w h plane)
+
+module _ (B L w h : ℕ) (plane : List ℤ) (pixels : List ℕ) (work : List ℤ) where
+  unfoldable pub backAllowed : Outcome
+  backAllowed =
+      limited B L
+      then sized L w h (length pixels) (length plane) (length work)
+
+  unfoldable pub backAnswer : Outcome
+  backAnswer = backAllowed then asks (hasPicture B L w h plane) NoPicture Done
+
+  unfoldable pub backPixels : List ℕ
+  backPixels = answered backAnswer (over (map natAbs (pixelsBack B L w h plane)) pixels) pixels
+
+  -- 11 zeroes it too
+  unfoldable pub backWork : List ℤ
+  backWork = answered backAllowed (zeroed (w * h) work) work

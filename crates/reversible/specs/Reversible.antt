@@ -1,0 +1,60 @@
+-- The reversible 5/3 transform and its way back (document 01: the lifting; pictures and planes). Values are whole numbers without limit.
+use Prim.Native.Nat.{ℕ, zero, suc, _+_, _*_}
+use lib.IntN.{ℤ, pos, _+ℤ_, _-ℤ_}
+use Rattle.numbers.specs.Floor.{floorDiv}
+use Rattle.lines.specs.Lines.{lows, onHighs, onLows, lowsFirst, interleaved}
+use Rattle.lines.specs.Planes.{Plane, rows, columns, within, levels, side}
+
+-- ---- forward: source document 004, equations 1 and 2
+
+-- high minus the floor of half the sum of two neighbours
+unfoldable pub predict : ℤ → ℤ → ℤ → ℤ
+predict own x y = own -ℤ floorDiv (x +ℤ y) 2
+
+-- low plus the floor of (the sum of two highs plus 2) over 4
+unfoldable pub update : ℤ → ℤ → ℤ → ℤ
+update own x y = own +ℤ floorDiv (x +ℤ y +ℤ pos 2) 4
+
+-- one pass over n samples x: the highs, then the lows
+module _ (n : ℕ) (x : ℕ → ℤ) where
+  unfoldable pub high : ℕ → ℤ
+  high = onHighs predict n (λ i. x (2 * i)) (λ i. x (2 * i + 1))
+
+  unfoldable pub low : ℕ → ℤ
+  low = onLows update n (λ i. x (2 * i)) high
+
+  -- what the pass leaves: the lows first, then the highs
+  unfoldable pub reversiblePass : ℕ → ℤ
+  reversiblePass = lowsFirst n low high
+
+-- rows, then columns, of each level's low-low
+unfoldable pub forward : ℕ → ℕ → ℕ → Plane ℤ → Plane ℤ
+forward = levels (λ l. reversiblePass) (λ l low. reversiblePass)
+
+-- ---- back: the same steps taken back, in reverse
+
+unfoldable pub unpredict : ℤ → ℤ → ℤ → ℤ
+unpredict own x y = own +ℤ floorDiv (x +ℤ y) 2
+
+unfoldable pub unupdate : ℤ → ℤ → ℤ → ℤ
+unupdate own x y = own -ℤ floorDiv (x +ℤ y +ℤ pos 2) 4
+
+-- one line of n values y, lows first: the lows, then the highs, then each to its place
+module _ (n : ℕ) (y : ℕ → ℤ) where
+  unfoldable pub lowBack : ℕ → ℤ
+  lowBack = onLows unupdate n y (λ i. y (lows n + i))
+
+  unfoldable pub highBack : ℕ → ℤ
+  highBack = onHighs unpredict n lowBack (λ i. y (lows n + i))
+
+  unfoldable pub backPass : ℕ → ℤ
+  backPass = interleaved lowBack highBack
+
+-- a level taken back: the columns, then the rows
+unfoldable pub backLevel : ℕ → ℕ → Plane ℤ → Plane ℤ
+backLevel w h p = within w h (rows backPass w (columns (λ c. backPass) h p)) p
+
+-- the last level comes first
+unfoldable pub back : ℕ → ℕ → ℕ → Plane ℤ → Plane ℤ
+back zero w h p = p
+back (suc k) w h p = back k w h (backLevel (side k w) (side k h) p)

@@ -1,0 +1,1 @@
+// Definitions and theorems, in specs/; no code.

@@ -1,0 +1,86 @@
+-- A width table (document 01: book) in memory: its limits, its widths, and when its form is right (refusal 4).
+use Prim.Native.Nat.{ℕ, zero, suc, _+_, _*_, _-_}
+use mathlib.Core.Bool.{Bool, true, false, _&&_}
+use mathlib.Core.List.{List, [], _∷_}
+use lib.Dec.{leb, eqb}
+use lib.ListN.{getD}
+use Rattle.numbers.specs.Tests.{between, every}
+use Rattle.width_table.specs.declared.WidthTable.{WidthTable}
+use Rattle.width_table.specs.Nodes.{Node, P1, U1, P2, U2, G1, G2, Pass, Rows, LowColumns, HighColumns, TableNode, passNumber, nodeNumber, bookOrder}
+
+-- ---- limits
+
+abbrev pub maxDepth : ℕ
+maxDepth = 12
+
+abbrev pub maxLevels : ℕ
+maxLevels = 5
+
+abbrev pub maxConstantBits : ℕ
+maxConstantBits = 24
+
+abbrev pub maxIntegerBits : ℕ
+maxIntegerBits = 12
+
+abbrev pub maxFractionBits : ℕ
+maxFractionBits = 20
+
+abbrev pub depthRight : ℕ → Bool
+depthRight B = between 1 maxDepth B
+
+abbrev pub levelsRight : ℕ → Bool
+levelsRight L = between 1 maxLevels L
+
+-- F, the bits of a constant
+abbrev pub constantRight : ℕ → Bool
+constantRight F = between 1 maxConstantBits F
+
+-- integer bits and fractional bits of a node
+abbrev pub widthRight : ℕ → ℕ → Bool
+widthRight IB f = between 1 maxIntegerBits IB && between 0 maxFractionBits f
+
+-- ---- widths
+
+-- F, the bits of the constant of a stage
+abbrev pub constantBits : WidthTable → Node → ℕ
+constantBits t n = getD (t .constants) (nodeNumber n - 1) 0
+
+-- Where the integer bits of a node lie among the nodes' numbers, which stand in book order; its fractional bits are next.
+-- Level, pass and node count from 1.
+abbrev pub nodePlace : ℕ → ℕ → ℕ → ℕ
+nodePlace level pass node = ((level - 1) * 3 + (pass - 1)) * 12 + (node - 1) * 2
+
+-- IB, the integer bits of a node
+abbrev pub integerBits : WidthTable → ℕ → Pass → Node → ℕ
+integerBits t l p n = getD (t .nodes) (nodePlace l (passNumber p) (nodeNumber n)) 0
+
+-- f, the fractional bits of a node
+abbrev pub fractionBits : WidthTable → ℕ → Pass → Node → ℕ
+fractionBits t l p n = getD (t .nodes) (nodePlace l (passNumber p) (nodeNumber n) + 1) 0
+
+-- The fractional bits of what enters a pass: pixels have B; later rows are fed by G1 of the columns of row-low of the level
+-- before, columns of row-low by G1 of the rows, columns of row-high by G2 of the rows. (Level 0 is none.)
+abbrev pub inputBits : WidthTable → ℕ → Pass → ℕ
+inputBits t zero Rows = 0
+inputBits t (suc zero) Rows = t .depth
+inputBits t (suc (suc l)) Rows = fractionBits t (suc l) LowColumns G1
+inputBits t l LowColumns = fractionBits t l Rows G1
+inputBits t l HighColumns = fractionBits t l Rows G2
+
+-- ---- form (refusal 4): numbers within their limits, zeros at unused levels
+
+abbrev pub nodeRight : WidthTable → TableNode → Bool
+nodeRight t p =
+    let IB = integerBits t (p .level) (p .pass) (p .node) in
+    let f = fractionBits t (p .level) (p .pass) (p .node) in
+    elim (leb (p .level) (t .levels)) [
+      | true ↦ widthRight IB f
+      | false ↦ eqb IB 0 && eqb f 0
+    ]
+
+unfoldable pub formRight : WidthTable → Bool
+formRight t =
+    depthRight (t .depth)
+    && levelsRight (t .levels)
+    && every (λ n. constantRight (constantBits t n)) (P1 ∷ U1 ∷ P2 ∷ U2 ∷ G1 ∷ G2 ∷ [])
+    && every (nodeRight t) (bookOrder maxLevels)

@@ -4,8 +4,27 @@
 --   Bytes      reading (refusals 1 to 5) and writing (4, 9)
 --   Changes    changes of a width or of a constant's bits (4)
 --   Names      naming a tag (2, then 1 to 5)
+--   Steps      the form from the second, third and fourth field on
+--   Readers    widths by the numbers of level, pass and node
+--   FormLists  the form by lists
+--   BytesLaws  fields and the whole form taken apart, and the values of tags
+--   ReadLaws, FormLaws, NameLaws, WriteLaws   the rules one by one, as the code goes through them
+--   RoundTrip  read and written, written and read; what a write leaves
+--   ChangeLaws what an accepted change leaves and keeps
+--   Cases      worked cases
 pub mod Nodes
 pub mod Table
 pub mod Bytes
 pub mod Changes
 pub mod Names
+pub mod Steps
+pub mod Readers
+pub mod FormLists
+pub mod BytesLaws
+pub mod ReadLaws
+pub mod FormLaws
+pub mod NameLaws
+pub mod WriteLaws
+pub mod RoundTrip
+pub mod ChangeLaws
+pub mod Cases

@@ -1,4 +1,19 @@
 // Width tables (document 01: books). Every definition that the contracts cite is in specs/.
+use refusals::Outcome;
+use refusals::Refusal;
+ghost use mathlib.Core.Path.{_≡_};
+ghost use Prim.Native.Nat.{_+_, _*_, _-_, _<_, _≤_};
+ghost use mathlib.Core.List.{_++_};
+ghost use lib.ListN.{length, take, replicate};
+ghost use Rattle.numbers.specs.Tests.{between, every};
+ghost use Rattle.width_table.specs.Table.{widthRight, formRight, nodePlace};
+ghost use Rattle.width_table.specs.Bytes.{widthsRight, nodeBytes, headed, field, form, reading, emptyTable, tableIn, tableBytes, writing, bytesAfter};
+ghost use Rattle.width_table.specs.Steps.{fromSecond, fromThird, fromFourth};
+ghost use Rattle.width_table.specs.Names.{valueOf, naming, valueStart, valueLength};
+ghost use Rattle.width_table.specs.Changes.{hasNode, widthChanged, constantChanged};
+ghost use Rattle.width_table.specs.Readers.{constantBitsAt, integerBitsAt, fractionBitsAt};
+ghost use Rattle.numbers.specs.Lists.{over};
+ghost use lib.Seq.{paste};
 
 // A width table. Level l, pass p and node k, counted from 1, have their integer bits at place
 // ((l - 1) * 3 + (p - 1)) * 12 + (k - 1) * 2 of `nodes` and their fractional bits after them; places of unused levels hold 0.
@@ -10,6 +25,7 @@ pub struct WidthTable {
 }
 
 impl WidthTable {
+    // Limits of depth, levels, a constant's bits, and a node's integer and fractional bits.
     pub const MAX_DEPTH: u8 = 12;
 
     pub const MAX_LEVELS: u8 = 5;
@@ -19,22 +35,518 @@ impl WidthTable {
     pub const MAX_INTEGER_BITS: u8 = 12;
 
     pub const MAX_FRACTION_BITS: u8 = 20;
+
+    // Passes of a level, and nodes of a pass.
+    pub const PASSES: u8 = 3;
+
+    pub const NODES: u8 = 6;
+
+    // Bytes of the nodes of a level, and of a pass: a node has two.
+    pub const LEVEL_BYTES: usize = 36;
+
+    pub const PASS_BYTES: usize = 12;
 }
 
 // The answer of writing: how many bytes were written.
 pub enum Written {
     Bytes(usize),
-    NotWritten(refusals::Refusal),
+    NotWritten(Refusal),
 }
 
 // The answer of naming a tag: where its value lies in the caller's bytes.
 pub enum Named {
     Value { start: usize, len: usize },
-    NotNamed(refusals::Refusal),
+    NotNamed(Refusal),
 }
 
 // A table with an answer: of reading bytes (the table is the empty one on refusal) and of a change (the old one).
 pub struct TableAnswer {
-    pub outcome: refusals::Outcome,
+    pub outcome: Outcome,
     pub table: WidthTable,
+}
+
+// Two bytes, high byte first.
+fn two(high: u8, low: u8) -> usize
+    ensures { λ r. ⌜ r ≡ high * 256 + low ⌝ }
+{
+    (high as usize) * 256 + (low as usize)
+}
+
+// The head of a field: refusals 1, 2, 3.
+fn head(bytes: &[u8], tag: u8, len: usize) -> Outcome
+    ensures { λ r. ⌜ r ≡ headed tag len (now (bytes .entry)) ⌝ }
+{
+    if bytes.len() < 3 {
+        return Outcome::Refused(Refusal::CutShort);
+    }
+    let announced = two(bytes[1], bytes[2]);
+    if bytes.len() - 3 < announced {
+        return Outcome::Refused(Refusal::CutShort);
+    }
+    if bytes[0] != tag {
+        return Outcome::Refused(Refusal::WrongTag);
+    }
+    if announced != len {
+        return Outcome::Refused(Refusal::WrongLength);
+    }
+    Outcome::Done
+}
+
+// A number lies between least and most.
+fn in_between(n: u8, least: u8, most: u8) -> bool
+    ensures { λ r. ⌜ r ≡ between least most n ⌝ }
+{
+    if n < least {
+        return false;
+    }
+    n <= most
+}
+
+// The width of a node is within its limits.
+fn width_right(integer: u8, fraction: u8) -> bool
+    ensures { λ r. ⌜ r ≡ widthRight integer fraction ⌝ }
+{
+    if in_between(integer, 1, WidthTable::MAX_INTEGER_BITS) {} else {
+        return false;
+    }
+    in_between(fraction, 0, WidthTable::MAX_FRACTION_BITS)
+}
+
+// Every number lies between least and most.
+fn all_between(numbers: &[u8], least: u8, most: u8) -> bool
+    ensures { λ r. ⌜ r ≡ every (between least most) (now (numbers .entry)) ⌝ }
+{
+    for i in 0..numbers.len() {
+        if in_between(numbers[i], least, most) {} else {
+            return false;
+        }
+    }
+    true
+}
+
+// Integer bits, then fractional bits, of each node of some levels.
+fn widths_right(numbers: &[u8]) -> bool
+    ensures { λ r. ⌜ r ≡ widthsRight (now (numbers .entry)) ⌝ }
+{
+    let mut i = 0;
+    while i < numbers.len() {
+        if numbers.len() - i < 2 {
+            return false;
+        }
+        if width_right(numbers[i], numbers[i + 1]) {} else {
+            return false;
+        }
+        i = i + 2;
+    }
+    true
+}
+
+// A field of numbers between limits.
+fn field_between(bytes: &[u8], tag: u8, len: usize, least: u8, most: u8) -> Outcome
+    requires { ⌜ len < 256 ⌝ }
+    ensures { λ r. ⌜ r ≡ field tag len (every (between least most)) (now (bytes .entry)) ⌝ }
+{
+    match head(bytes, tag, len) {
+        Outcome::Refused(why) => Outcome::Refused(why),
+        Outcome::Done => {
+            if all_between(&bytes[3..3 + len], least, most) {
+                Outcome::Done
+            } else {
+                Outcome::Refused(Refusal::OutsideLimits)
+            }
+        }
+    }
+}
+
+// The field of the nodes' widths.
+fn field_widths(bytes: &[u8], len: usize) -> Outcome
+    requires { ⌜ len < 256 ⌝ }
+    ensures { λ r. ⌜ r ≡ field 4 len widthsRight (now (bytes .entry)) ⌝ }
+{
+    match head(bytes, 4, len) {
+        Outcome::Refused(why) => Outcome::Refused(why),
+        Outcome::Done => {
+            if widths_right(&bytes[3..3 + len]) {
+                Outcome::Done
+            } else {
+                Outcome::Refused(Refusal::OutsideLimits)
+            }
+        }
+    }
+}
+
+// The form from the fourth field on, for a table of so many levels.
+fn from_fourth(bytes: &[u8], levels: u8) -> Outcome
+    requires { ⌜ levels ≤ 5 ⌝ }
+    ensures { λ r. ⌜ r ≡ fromFourth levels (now (bytes .entry)) ⌝ }
+{
+    let len = WidthTable::LEVEL_BYTES * (levels as usize);
+    match field_widths(bytes, len) {
+        Outcome::Refused(why) => Outcome::Refused(why),
+        Outcome::Done => {
+            if bytes.len() == 3 + len {
+                Outcome::Done
+            } else {
+                Outcome::Refused(Refusal::TrailingBytes)
+            }
+        }
+    }
+}
+
+// From the third field on: what follows a field is read as input of its own.
+fn from_third(bytes: &[u8], levels: u8) -> Outcome
+    requires { ⌜ levels ≤ 5 ⌝ }
+    ensures { λ r. ⌜ r ≡ fromThird levels (now (bytes .entry)) ⌝ }
+{
+    match field_between(bytes, 3, 6, 1, WidthTable::MAX_CONSTANT_BITS) {
+        Outcome::Refused(why) => Outcome::Refused(why),
+        Outcome::Done => from_fourth(&bytes[9..], levels),
+    }
+}
+
+// From the second field on, which has the levels.
+fn from_second(bytes: &[u8]) -> Outcome
+    ensures { λ r. ⌜ r ≡ fromSecond (now (bytes .entry)) ⌝ }
+{
+    match field_between(bytes, 2, 1, 1, WidthTable::MAX_LEVELS) {
+        Outcome::Refused(why) => Outcome::Refused(why),
+        Outcome::Done => {
+            let levels = bytes[3];
+            from_third(&bytes[4..], levels)
+        }
+    }
+}
+
+// Whether bytes are those of a table: refusals 1 to 5.
+pub fn form_of(bytes: &[u8]) -> Outcome
+    ensures { λ r. ⌜ r ≡ form (now (bytes .entry)) ⌝ }
+{
+    match field_between(bytes, 1, 1, 1, WidthTable::MAX_DEPTH) {
+        Outcome::Refused(why) => Outcome::Refused(why),
+        Outcome::Done => from_second(&bytes[4..]),
+    }
+}
+
+// The first six bytes.
+fn six_of(bytes: &[u8]) -> [u8; 6]
+    requires { ⌜ 6 ≤ length (now bytes) ⌝ }
+    ensures { λ r. ⌜ r ≡ take 6 (now (bytes .entry)) ⌝ }
+{
+    [bytes[0], bytes[1], bytes[2], bytes[3], bytes[4], bytes[5]]
+}
+
+// The first n bytes, and zeros.
+fn nodes_of(bytes: &[u8], n: usize) -> [u8; 180]
+    requires { ⌜ (n ≤ 180) × (n ≤ length (now bytes)) ⌝ }
+    ensures { λ r. ⌜ r ≡ take n (now (bytes .entry)) ++ replicate (180 - n) 0 ⌝ }
+{
+    let mut nodes = [0u8; 180];
+    for i in 0..n {
+        nodes[i] = bytes[i];
+    }
+    nodes
+}
+
+// The table that bytes of a right form hold.
+fn table_of(bytes: &[u8]) -> WidthTable
+    requires { ⌜ form (now bytes) ≡ Outcome.Done ⌝ }
+    ensures { λ r. ⌜ r ≡ tableIn (now (bytes .entry)) ⌝ }
+{
+    let levels = bytes[7];
+    let n = WidthTable::LEVEL_BYTES * (levels as usize);
+    let constants = six_of(&bytes[11..]);
+    let nodes = nodes_of(&bytes[20..], n);
+    WidthTable::new(bytes[3], levels, constants, nodes)
+}
+
+impl WidthTable {
+    // The table of these numbers.
+    pub fn new(depth: u8, levels: u8, constants: [u8; 6], nodes: [u8; 180]) -> WidthTable
+        ensures { λ r. ⌜ r ≡ record { depth = depth; levels = levels; constants = constants; nodes = nodes } ⌝ }
+    {
+        WidthTable {
+            depth,
+            levels,
+            constants,
+            nodes,
+        }
+    }
+
+    // The table of no bytes.
+    pub fn empty() -> WidthTable
+        ensures { λ r. ⌜ r ≡ emptyTable ⌝ }
+    {
+        WidthTable::new(0, 0, [0; 6], [0; 180])
+    }
+
+    // The table that bytes hold: refusals 1 to 5.
+    pub fn read(bytes: &[u8]) -> TableAnswer
+        ensures { λ r. ⌜ r ≡ reading (now (bytes .entry)) ⌝ }
+    {
+        match form_of(bytes) {
+            Outcome::Refused(why) => TableAnswer {
+                outcome: Outcome::Refused(why),
+                table: WidthTable::empty(),
+            },
+            Outcome::Done => TableAnswer {
+                outcome: Outcome::Done,
+                table: table_of(bytes),
+            },
+        }
+    }
+}
+
+// Where a tag's value starts.
+fn value_start(tag: u8) -> usize
+    requires { ⌜ (1 ≤ tag) × (tag ≤ 4) ⌝ }
+    ensures { λ r. ⌜ r ≡ valueStart tag ⌝ }
+{
+    if tag == 1 {
+        return 3;
+    }
+    if tag == 2 {
+        return 7;
+    }
+    if tag == 3 {
+        return 11;
+    }
+    20
+}
+
+// How long a tag's value is.
+fn value_length(levels: u8, tag: u8) -> usize
+    requires { ⌜ (1 ≤ tag) × (tag ≤ 4) ⌝ }
+    ensures { λ r. ⌜ r ≡ valueLength levels tag ⌝ }
+{
+    if tag <= 2 {
+        return 1;
+    }
+    if tag == 3 {
+        return 6;
+    }
+    WidthTable::LEVEL_BYTES * (levels as usize)
+}
+
+// Where a tag's value lies in the caller's bytes.
+pub fn value_place(bytes: &[u8], tag: u8) -> Named
+    ensures { λ r. ⌜ r ≡ naming (now (bytes .entry)) tag ⌝ }
+{
+    if tag < 1 {
+        return Named::NotNamed(Refusal::WrongTag);
+    }
+    if 4 < tag {
+        return Named::NotNamed(Refusal::WrongTag);
+    }
+    match form_of(bytes) {
+        Outcome::Refused(why) => Named::NotNamed(why),
+        Outcome::Done => {
+            let start = value_start(tag);
+            let len = value_length(bytes[7], tag);
+            Named::Value { start, len }
+        }
+    }
+}
+
+// The part of the caller's bytes that holds a tag's value; empty where it is refused.
+pub fn value_of(bytes: &[u8], tag: u8) -> &[u8]
+    ensures { λ r. ⌜ now r ≡ valueOf (now (bytes .entry)) tag ⌝ }
+{
+    match value_place(bytes, tag) {
+        Named::NotNamed(_) => &bytes[..0],
+        Named::Value { start, len } => &bytes[start..start + len],
+    }
+}
+
+impl WidthTable {
+    // Whether a table in memory has a right form: else refusal 4.
+    pub fn form_right(self) -> bool
+        ensures { λ r. ⌜ r ≡ formRight self ⌝ }
+    {
+        let levels = self.levels;
+        if in_between(self.depth, 1, WidthTable::MAX_DEPTH) {} else {
+            return false;
+        }
+        if in_between(levels, 1, WidthTable::MAX_LEVELS) {} else {
+            return false;
+        }
+        let constants = self.constants;
+        if all_between(&constants, 1, WidthTable::MAX_CONSTANT_BITS) {} else {
+            return false;
+        }
+        let n = WidthTable::LEVEL_BYTES * (levels as usize);
+        let nodes = self.nodes;
+        if widths_right(&nodes[..n]) {} else {
+            return false;
+        }
+        all_between(&nodes[n..], 0, 0)
+    }
+}
+
+// A table of so many levels has this node.
+fn has_node(levels: u8, level: u8, pass: u8, node: u8) -> bool
+    ensures { λ r. ⌜ r ≡ hasNode levels level pass node ⌝ }
+{
+    if in_between(level, 1, levels) {} else {
+        return false;
+    }
+    if in_between(pass, 1, WidthTable::PASSES) {} else {
+        return false;
+    }
+    in_between(node, 1, WidthTable::NODES)
+}
+
+// Where a node's integer bits lie.
+fn node_place(level: u8, pass: u8, node: u8) -> usize
+    requires { ⌜ (1 ≤ level) × (level ≤ 5) × (1 ≤ pass) × (pass ≤ 3) × (1 ≤ node) × (node ≤ 6) ⌝ }
+    ensures { λ r. ⌜ (r ≡ nodePlace level pass node) × (r ≤ 178) ⌝ }
+{
+    (((level - 1) as usize) * (WidthTable::PASSES as usize) + ((pass - 1) as usize))
+        * WidthTable::PASS_BYTES
+        + ((node - 1) as usize) * 2
+}
+
+impl WidthTable {
+    // The table with one node's width changed; the old one where the change is refused.
+    pub fn with_width(
+        mut self,
+        level: u8,
+        pass: u8,
+        node: u8,
+        integer: u8,
+        fraction: u8,
+    ) -> TableAnswer
+        ensures { λ r. ⌜ r ≡ widthChanged self level pass node integer fraction ⌝ }
+    {
+        if self.form_right() {} else {
+            return TableAnswer {
+                outcome: Outcome::Refused(Refusal::OutsideLimits),
+                table: self,
+            };
+        }
+        let levels = self.levels;
+        if has_node(levels, level, pass, node) {} else {
+            return TableAnswer {
+                outcome: Outcome::Refused(Refusal::OutsideLimits),
+                table: self,
+            };
+        }
+        if width_right(integer, fraction) {} else {
+            return TableAnswer {
+                outcome: Outcome::Refused(Refusal::OutsideLimits),
+                table: self,
+            };
+        }
+        let at = node_place(level, pass, node);
+        self.nodes[at] = integer;
+        self.nodes[at + 1] = fraction;
+        TableAnswer {
+            outcome: Outcome::Done,
+            table: self,
+        }
+    }
+
+    // The table with one constant's bits changed; the old one where the change is refused.
+    pub fn with_constant(mut self, node: u8, bits: u8) -> TableAnswer
+        ensures { λ r. ⌜ r ≡ constantChanged self node bits ⌝ }
+    {
+        if self.form_right() {} else {
+            return TableAnswer {
+                outcome: Outcome::Refused(Refusal::OutsideLimits),
+                table: self,
+            };
+        }
+        if in_between(node, 1, WidthTable::NODES) {} else {
+            return TableAnswer {
+                outcome: Outcome::Refused(Refusal::OutsideLimits),
+                table: self,
+            };
+        }
+        if in_between(bits, 1, WidthTable::MAX_CONSTANT_BITS) {} else {
+            return TableAnswer {
+                outcome: Outcome::Refused(Refusal::OutsideLimits),
+                table: self,
+            };
+        }
+        self.constants[(node - 1) as usize] = bits;
+        TableAnswer {
+            outcome: Outcome::Done,
+            table: self,
+        }
+    }
+
+    // The bits of a stage's constant, node 1 to 6; 0 for any other.
+    pub fn constant_bits(self, node: u8) -> u8
+        ensures { λ r. ⌜ r ≡ constantBitsAt self node ⌝ }
+    {
+        if in_between(node, 1, WidthTable::NODES) {} else {
+            return 0;
+        }
+        self.constants[(node - 1) as usize]
+    }
+
+    // The integer bits of a node of levels 1 to 5; 0 for any other.
+    pub fn integer_bits(self, level: u8, pass: u8, node: u8) -> u8
+        ensures { λ r. ⌜ r ≡ integerBitsAt self level pass node ⌝ }
+    {
+        if has_node(WidthTable::MAX_LEVELS, level, pass, node) {} else {
+            return 0;
+        }
+        self.nodes[node_place(level, pass, node)]
+    }
+
+    // The fractional bits of a node of levels 1 to 5; 0 for any other.
+    pub fn fraction_bits(self, level: u8, pass: u8, node: u8) -> u8
+        ensures { λ r. ⌜ r ≡ fractionBitsAt self level pass node ⌝ }
+    {
+        if has_node(WidthTable::MAX_LEVELS, level, pass, node) {} else {
+            return 0;
+        }
+        self.nodes[node_place(level, pass, node) + 1]
+    }
+}
+
+// Copies `from` into lent bytes from a place on.
+fn put(lent: &mut [u8], start: usize, from: &[u8])
+    requires { ⌜ start + length (now from) ≤ length (now lent) ⌝ }
+    ensures { λ _. ⌜ now (lent .exit) ≡ paste (now (lent .entry)) start (now (from .entry)) (length (now (from .entry))) ⌝ }
+{
+    for i in 0..from.len() {
+        lent[start + i] = from[i];
+    }
+}
+
+// Writes the bytes of a table of right form over the front of lent bytes.
+fn put_table(table: WidthTable, lent: &mut [u8])
+    requires { ⌜ (table .levels ≤ 5) × (20 + nodeBytes (table .levels) ≤ length (now lent)) ⌝ }
+    ensures { λ _. ⌜ now (lent .exit) ≡ over (tableBytes table) (now (lent .entry)) ⌝ }
+{
+    let levels = table.levels;
+    let n = WidthTable::LEVEL_BYTES * (levels as usize);
+    let fields = [1, 0, 1, table.depth, 2, 0, 1, levels, 3, 0, 6];
+    put(lent, 0, &fields);
+    let constants = table.constants;
+    put(lent, 11, &constants);
+    let last = [4, (n / 256) as u8, (n % 256) as u8];
+    put(lent, 17, &last);
+    let nodes = table.nodes;
+    put(lent, 20, &nodes[..n]);
+}
+
+impl WidthTable {
+    // Writes the table into lent bytes: refusals 4, 9.
+    pub fn write(self, lent: &mut [u8]) -> Written
+        ensures answer { λ r. ⌜ r ≡ writing self (now (lent .entry)) ⌝ }
+        ensures bytes { λ _. ⌜ now (lent .exit) ≡ bytesAfter self (now (lent .entry)) ⌝ }
+    {
+        if self.form_right() {} else {
+            return Written::NotWritten(Refusal::OutsideLimits);
+        }
+        let levels = self.levels;
+        let n = 20 + WidthTable::LEVEL_BYTES * (levels as usize);
+        if lent.len() < n {
+            return Written::NotWritten(Refusal::SliceTooShort);
+        }
+        put_table(self, lent);
+        Written::Bytes(n)
+    }
 }

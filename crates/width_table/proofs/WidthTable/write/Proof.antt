@@ -1,0 +1,45 @@
+use mathlib.Core.Path.{sym, _∙_}
+use native.Mathlib.Omega.{arith}
+use Rattle.width_table.specs.FormLaws.{few-levels}
+use Rattle.width_table.specs.WriteLaws.{not-formed, too-short, table-written}
+use borrow.Author.Needs.{needs}
+use Rattle.width_table.proofs.WidthTable.write.Statement.{statement}
+use Rattle.width_table.proofs.WidthTable.write.Tie as tie
+
+returns : tie.Need-returns
+returns c =
+    let a = c .before .before .before .args in
+    not-formed (a .self) (a .lent .now) (sym (c .before .form-right .ensures) ∙ c .if1 .left)
+
+returns-2 : tie.Need-returns-2
+returns-2 c =
+    let i = c .before in
+    let a = i .before .before .before .args in
+    too-short (a .self) (a .lent .now) (sym (i .before .form-right .ensures) ∙ i .if1 .taken) (omega arith)
+
+put-table-requires : tie.Need-put-table-requires
+put-table-requires c κs =
+    let i = c .before .before in
+    (few-levels (i .before .before .before .args .self) (sym (i .before .form-right .ensures) ∙ i .if1 .taken), omega arith)
+
+returns-3 : tie.Need-returns-3
+returns-3 c =
+    let p = c .before .before in
+    let i = p .before .before .before in
+    let a = i .before .before .before .args in
+    let w = table-written (a .self) (a .lent .now) (sym (i .before .form-right .ensures) ∙ i .if1 .taken) (omega arith) in
+    (w .0, p .put-table .ensures ∙ w .1)
+
+pub write-spec : {M : Type 1} → statement M
+write-spec =
+    tie.close
+    (tie.spec
+    (λ c κs. search needs)
+    returns
+    (λ c. search needs)
+    (λ c. search needs)
+    (λ c. search needs)
+    returns-2
+    put-table-requires
+    (λ c. search needs)
+    returns-3)

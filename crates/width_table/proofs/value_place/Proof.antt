@@ -1,0 +1,56 @@
+use Prim.Native.Nat.{ℕ}
+use mathlib.Core.Path.{sym, _∙_, ap₂}
+use native.Mathlib.Omega.{arith}
+use Rattle.width_table.specs.declared.Named.the-variants.{Value}
+use Rattle.width_table.specs.ReadLaws.{is-between, below-least, above-most, form-long}
+use Rattle.width_table.specs.NameLaws.{name-wrong, name-refused, name-right}
+use borrow.Author.Needs.{needs}
+use Rattle.width_table.proofs.value_place.Statement.{statement}
+use Rattle.width_table.proofs.value_place.Tie as tie
+
+returns : tie.Need-returns
+returns c =
+    let a = c .before .before .args in
+    sym (name-wrong (a .bytes .now) (a .tag) (below-least 1 4 (a .tag) (c .if1 .taken)))
+
+returns-2 : tie.Need-returns-2
+returns-2 c =
+    let a = c .before .before .before .args in
+    sym (name-wrong (a .bytes .now) (a .tag) (above-most 1 4 (a .tag) (c .if2 .taken)))
+
+shared-slice-read-value-length : tie.Need-shared-slice-read-value-length
+shared-slice-read-value-length c =
+    let d = c .before .before in
+    let f = d .before .before in
+    omega (arith, form-long (f .before .before .before .before .args .bytes .now) (sym (f .form-of .ensures) ∙ d .enum-told .given .1))
+
+returns-3 : tie.Need-returns-3
+returns-3 c =
+    let w = c .before in
+    let f = w .before .before in
+    let a = f .before .before .before .before .args in
+    sym (name-refused (a .bytes .now) (a .tag) (is-between 1 4 (a .tag) (f .before .before .if1 .left) (f .before .if2 .left)) _ (sym (f .form-of .ensures) ∙ w .why .given .1))
+
+returns-4 : tie.Need-returns-4
+returns-4 c =
+    let v = c .before .before in
+    let d = v .before in
+    let f = d .before .before in
+    let a = f .before .before .before .before .args in
+    ap₂ (λ (s n : ℕ). Value s n) (v .value-start .ensures) (c .value-length .ensures)
+    ∙ sym (name-right (a .bytes .now) (a .tag) (is-between 1 4 (a .tag) (f .before .before .if1 .left) (f .before .if2 .left)) (sym (f .form-of .ensures) ∙ d .enum-told .given .1))
+
+pub value-place-spec : {M : Type 1} → statement M
+value-place-spec =
+    tie.close
+    (tie.spec
+    returns
+    returns-2
+    (λ c κs. search needs)
+    (λ c. search needs)
+    (λ c. search needs)
+    (λ c κs. search needs)
+    shared-slice-read-value-length
+    (λ c κs. search needs)
+    returns-3
+    returns-4)

@@ -1,0 +1,153 @@
+-- Worked cases: what document 01 says of tables, on tables of one width.
+use Prim.Native.Nat.{ℕ, zero, suc, _*_, _-_}
+use mathlib.Core.Path.{_≡_, refl}
+use mathlib.Core.Bool.{true, false}
+use mathlib.Core.List.{List, [], _∷_, _++_, map}
+use lib.ListN.{replicate, take, set}
+use Rattle.numbers.specs.Tests.{every}
+use Rattle.refusals.specs.Refusals.{told, number}
+use Rattle.width_table.specs.declared.WidthTable.{WidthTable}
+use Rattle.width_table.specs.declared.Written.{Written}
+use Rattle.width_table.specs.declared.Written.the-variants.{Bytes, NotWritten}
+use Rattle.width_table.specs.declared.Named.{Named}
+use Rattle.width_table.specs.declared.Named.the-variants.{Value, NotNamed}
+use Rattle.width_table.specs.Nodes.{Rows, LowColumns, P2}
+use Rattle.width_table.specs.Table.{formRight, integerBits, fractionBits, inputBits}
+use Rattle.width_table.specs.Bytes.{tableBytes, headed, field, widthsRight, form, tableIn, reading, emptyTable, writable, writing, bytesAfter}
+use Rattle.width_table.specs.Changes.{changeable, widthChanged, constantChangeable, constantChanged}
+use Rattle.width_table.specs.Names.{nameable, naming, valueOf}
+use Rattle.width_table.specs.Readers.{constantBitsAt, integerBitsAt, fractionBitsAt}
+
+-- ---- tables
+
+abbrev pairs : ℕ → ℕ → ℕ → List ℕ
+pairs zero IB f = []
+pairs (suc n) IB f = IB ∷ f ∷ pairs n IB f
+
+-- every constant F, every node (IB, f)
+abbrev pub uniform : ℕ → ℕ → ℕ → ℕ → ℕ → WidthTable
+uniform B L F IB f = record { depth = B; levels = L; constants = replicate 6 F; nodes = pairs (18 * L) IB f ++ replicate (180 - 36 * L) 0 }
+
+-- a table with one of the nodes' numbers put in
+abbrev with : WidthTable → ℕ → ℕ → WidthTable
+with t k n = record { depth = t .depth; levels = t .levels; constants = t .constants; nodes = set (t .nodes) k n }
+
+abbrev usual : WidthTable
+usual = uniform 8 1 24 12 20
+
+abbrev good : List ℕ
+good = tableBytes usual
+
+-- ---- reading
+
+-- the first: a right table; then the bytes end early, another tag, another length, numbers outside their limits, a byte too many
+pub readings :
+    map (λ b. told (form b)) (
+    good ∷ [] ∷ take 2 good ∷ set good 0 9 ∷ set good 2 0 ∷ set good 3 0 ∷ take 4 (set good 3 13) ∷ set good 7 2 ∷ set good 7 6 ∷ set good 11 25 ∷ set good 20 0 ∷ set good 21 21
+    ∷ take 55 good ∷ (good ++ (0 ∷ [])) ∷ take 20 (set good 17 5) ∷ [])
+    ≡ [] ∷ (1 ∷ []) ∷ (1 ∷ []) ∷ (2 ∷ []) ∷ (3 ∷ []) ∷ (4 ∷ []) ∷ (4 ∷ []) ∷ (3 ∷ []) ∷ (4 ∷ []) ∷ (4 ∷ []) ∷ (4 ∷ []) ∷ (4 ∷ [])
+    ∷ (1 ∷ []) ∷ (5 ∷ []) ∷ (1 ∷ []) ∷ []
+unfolding form field headed every widthsRight tableBytes
+readings = refl
+
+-- A head whose announced value is cut short is 1, whatever its tag and length; a whole one of another tag is 2; length 0 is
+-- always whole; a cut value of another length is 1, a whole one 3; a depth of 0 is 4 though all else is missing.
+pub heads :
+    map (λ b. told (form b)) (
+    (9 ∷ 0 ∷ 5 ∷ []) ∷ (9 ∷ 0 ∷ 0 ∷ []) ∷ (1 ∷ 0 ∷ 0 ∷ []) ∷ (1 ∷ 0 ∷ 2 ∷ 8 ∷ []) ∷ (1 ∷ 0 ∷ 2 ∷ 8 ∷ 8 ∷ []) ∷ (1 ∷ 1 ∷ 1 ∷ 8 ∷ []) ∷ (1 ∷ 0 ∷ 1 ∷ 0 ∷ []) ∷ (1 ∷ 0 ∷ 1 ∷ 8 ∷ []) ∷ [])
+    ≡ (1 ∷ []) ∷ (2 ∷ []) ∷ (3 ∷ []) ∷ (1 ∷ []) ∷ (3 ∷ []) ∷ (1 ∷ []) ∷ (4 ∷ []) ∷ (1 ∷ []) ∷ []
+unfolding form field headed every widthsRight
+heads = refl
+
+-- 5 comes after a right fourth field alone; fractional bits 0 are right
+pub ends : map (λ b. told (form b)) ((set good 20 0 ++ (0 ∷ [])) ∷ (take 55 good ++ []) ∷ set good 21 0 ∷ []) ≡ (4 ∷ []) ∷ (1 ∷ []) ∷ [] ∷ []
+unfolding form field headed every widthsRight tableBytes
+ends = refl
+
+pub read-back : (reading good .table ≡ usual) × (reading (take 55 good) .table ≡ emptyTable)
+unfolding reading tableIn form field headed every widthsRight tableBytes
+read-back = (refl, refl)
+
+-- book order: the columns of row-low come second, P2 third; level 2 takes what G1 of those columns leaves
+pub order :
+    let t = tableIn (set (set (set (tableBytes (uniform 8 2 24 12 20)) 36 5) 37 7) 41 9) in
+    integerBits t 1 LowColumns P2 ∷ fractionBits t 1 LowColumns P2 ∷ inputBits t 1 Rows ∷ inputBits t 1 LowColumns ∷ inputBits t 2 Rows ∷ [] ≡ 5 ∷ 7 ∷ 8 ∷ 20 ∷ 9 ∷ []
+unfolding tableIn tableBytes
+order = refl
+
+-- ---- the form in memory
+
+-- IB 0 and f 21 at a used level, a number other than 0 at an unused one, limits of depth, levels and constants
+pub forms :
+    map formRight (usual ∷ uniform 12 5 1 1 0 ∷ with usual 0 0 ∷ with usual 35 21 ∷ with usual 36 1 ∷ with usual 179 1 ∷ uniform 0 1 24 12 20 ∷ uniform 13 1 24 12 20 ∷ uniform 8 0 24 12 20 ∷ uniform 8 6 24 12 20 ∷ uniform 8 1 0 12 20 ∷ uniform 8 1 25 12 20 ∷ emptyTable ∷ [])
+    ≡ true ∷ true ∷ false ∷ false ∷ false ∷ false ∷ false ∷ false ∷ false ∷ false ∷ false ∷ false ∷ false ∷ []
+unfolding formRight every
+forms = refl
+
+-- ---- naming a tag
+
+abbrev place : Named → List ℕ
+place (Value start len) = start ∷ len ∷ []
+place (NotNamed r) = number r ∷ []
+
+pub names :
+    place (naming good 0) ∷ place (naming [] 0) ∷ place (naming good 1) ∷ place (naming good 2) ∷ place (naming good 3) ∷ place (naming good 4) ∷ place (naming good 5) ∷ place (naming [] 4) ∷ place (naming (good ++ (0 ∷ [])) 1) ∷ valueOf good 1 ∷ valueOf good 3 ∷ valueOf [] 3 ∷ []
+    ≡ (2 ∷ []) ∷ (2 ∷ []) ∷ (3 ∷ 1 ∷ []) ∷ (7 ∷ 1 ∷ []) ∷ (11 ∷ 6 ∷ []) ∷ (20 ∷ 36 ∷ []) ∷ (2 ∷ []) ∷ (1 ∷ []) ∷ (5 ∷ []) ∷ (8 ∷ []) ∷ (24 ∷ 24 ∷ 24 ∷ 24 ∷ 24 ∷ 24 ∷ []) ∷ [] ∷ []
+unfolding naming valueOf nameable form field headed every widthsRight tableBytes
+names = refl
+
+-- ---- changes
+
+abbrev change : ℕ → ℕ → ℕ → ℕ → ℕ → List ℕ
+change l p k IB f = told (widthChanged usual l p k IB f .outcome)
+
+-- two that are right; a level above L, also for a width of 0; no such level, pass or node; numbers outside their limits
+pub changes :
+    change 1 1 1 3 7 ∷ change 1 3 6 1 0 ∷ change 2 1 1 3 7 ∷ change 2 1 1 0 0 ∷ change 6 1 1 3 7 ∷ change 0 1 1 3 7 ∷ change 1 4 1 3 7 ∷ change 1 0 1 3 7 ∷ change 1 1 7 3 7 ∷ change 1 1 0 3 7 ∷ change 1 1 1 0 7 ∷ change 1 1 1 13 7 ∷ change 1 1 1 12 21 ∷ []
+    ≡ [] ∷ [] ∷ (4 ∷ []) ∷ (4 ∷ []) ∷ (4 ∷ []) ∷ (4 ∷ []) ∷ (4 ∷ []) ∷ (4 ∷ []) ∷ (4 ∷ []) ∷ (4 ∷ []) ∷ (4 ∷ []) ∷ (4 ∷ []) ∷ (4 ∷ []) ∷ []
+unfolding widthChanged changeable formRight every
+changes = refl
+
+-- the last node of the table, and the old table where the change is refused
+pub changed : (tableBytes (widthChanged usual 1 3 6 1 0 .table) ≡ set (set good 54 1) 55 0) × (widthChanged usual 2 1 1 3 7 .table ≡ usual)
+unfolding widthChanged changeable formRight every tableBytes
+changed = (refl, refl)
+
+-- a table that is not right is refused 4, though the change would mend it
+pub not-mended :
+    (told (widthChanged (with usual 0 0) 1 1 1 12 20 .outcome) ≡ 4 ∷ [])
+    × (widthChanged (with usual 0 0) 1 1 1 12 20 .table ≡ with usual 0 0)
+    × (told (constantChanged (uniform 8 1 25 12 20) 1 24 .outcome) ≡ 4 ∷ [])
+unfolding widthChanged changeable constantChanged constantChangeable formRight every
+not-mended = (refl, refl, refl)
+
+abbrev changeF : ℕ → ℕ → List ℕ
+changeF k F = told (constantChanged usual k F .outcome)
+
+pub constants :
+    changeF 1 1 ∷ changeF 6 24 ∷ changeF 0 1 ∷ changeF 7 1 ∷ changeF 1 0 ∷ changeF 1 25 ∷ constantChanged usual 6 9 .table .constants ∷ []
+    ≡ [] ∷ [] ∷ (4 ∷ []) ∷ (4 ∷ []) ∷ (4 ∷ []) ∷ (4 ∷ []) ∷ (24 ∷ 24 ∷ 24 ∷ 24 ∷ 24 ∷ 9 ∷ []) ∷ []
+unfolding constantChanged constantChangeable formRight every
+constants = refl
+
+-- ---- writing
+
+abbrev wrote : Written → List ℕ
+wrote (Bytes n) = n ∷ []
+wrote (NotWritten r) = number r ∷ []
+
+-- 4 before 9; a table that no judge would accept is written; bytes past its length stay
+pub writes :
+    wrote (writing usual (replicate 57 7)) ∷ wrote (writing usual (replicate 55 7)) ∷ wrote (writing (uniform 8 1 25 12 20) []) ∷ wrote (writing (with usual 36 1) (replicate 57 7)) ∷ wrote (writing (uniform 8 1 24 2 0) (replicate 56 7))
+    ∷ bytesAfter usual (replicate 57 7) ∷ bytesAfter usual (replicate 55 7) ∷ []
+    ≡ (56 ∷ []) ∷ (9 ∷ []) ∷ (4 ∷ []) ∷ (4 ∷ []) ∷ (56 ∷ []) ∷ (good ++ (7 ∷ [])) ∷ replicate 55 7 ∷ []
+unfolding writing bytesAfter writable formRight every tableBytes
+writes = refl
+
+-- ---- widths by number: 0 where there is no such node
+
+pub by-number :
+    constantBitsAt usual 1 ∷ constantBitsAt usual 6 ∷ constantBitsAt usual 0 ∷ constantBitsAt usual 7 ∷ integerBitsAt usual 1 3 6 ∷ fractionBitsAt usual 1 3 6 ∷ integerBitsAt usual 2 1 1 ∷ integerBitsAt usual 0 1 1 ∷ fractionBitsAt usual 1 0 1 ∷ fractionBitsAt usual 1 1 7 ∷ []
+    ≡ 24 ∷ 24 ∷ 0 ∷ 0 ∷ 12 ∷ 20 ∷ 0 ∷ 0 ∷ 0 ∷ 0 ∷ []
+unfolding constantBitsAt integerBitsAt fractionBitsAt
+by-number = refl

@@ -70,6 +70,7 @@ SafeKernel (Undo t s) n x = SafeUndo t s n x
 pub record Part (plane : List ℤ) (stride from w h : ℕ) : Type 0 where
   pub narrow : from + w ≤ stride
   pub few : h < 2 ^ 31
+  pub wide : stride < 2 ^ 31
   pub fits : (r : ℕ) → r < h → lineAt from stride r + w ≤ length plane
 
 -- row r, from column `from` on; and column j after it

@@ -17,3 +17,5 @@ pub mod LineSplit
 pub mod Merge
 pub mod Passes
 pub mod Kernels
+pub mod Tiles
+pub mod Strips

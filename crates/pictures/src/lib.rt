@@ -1,1 +1,118 @@
-// Definitions and theorems, in specs/; no code.
+// Pictures and planes in memory: refusals 8, 9 and 10, samples in, the work area cleared.
+ghost use mathlib.Core.Path.{_≡_};
+ghost use Prim.Native.Nat.{ℕ, _+_, _*_, _-_, _<_, _≤_, _^_};
+ghost use lib.ListN.{length, getD};
+ghost use lib.IntN.{ℤ, pos, _-ℤ_};
+ghost use Rattle.lifting.specs.Patch.{at, patch};
+ghost use Rattle.pictures.specs.Pictures.{sideRight, sized, pixelsRight, zeroed};
+ghost use Rattle.pictures.specs.PixelLaws.{Largest};
+use refusals::Outcome;
+use refusals::Refusal;
+
+// The greatest side of a picture.
+pub const MAX_SIDE: usize = 4096;
+
+// 2 to this is the greatest side.
+const MAX_SIDE_BITS: u8 = 12;
+
+// Whether a side is admitted for so many levels.
+pub fn side_admitted(levels: u8, side: usize) -> bool
+    ensures { λ r. ⌜ r ≡ sideRight levels side ⌝ }
+{
+    if MAX_SIDE < side {
+        return false;
+    }
+    if MAX_SIDE_BITS < levels {
+        return false;
+    }
+    if levels == 0 {
+        return 1 < side;
+    }
+    (1usize << (levels - 1)) < side
+}
+
+// Refusals 8 and 9, for slices of so many elements.
+pub fn sizes_right(
+    levels: u8,
+    w: usize,
+    h: usize,
+    first: usize,
+    second: usize,
+    third: usize,
+) -> Outcome
+    ensures { λ r. ⌜ r ≡ sized levels w h first second third ⌝ }
+{
+    if side_admitted(levels, w) {} else {
+        return Outcome::Refused(Refusal::SideNotAdmitted);
+    }
+    if side_admitted(levels, h) {} else {
+        return Outcome::Refused(Refusal::SideNotAdmitted);
+    }
+    let n = w * h;
+    if first < n {
+        return Outcome::Refused(Refusal::SliceTooShort);
+    }
+    if second < n {
+        return Outcome::Refused(Refusal::SliceTooShort);
+    }
+    if third < n {
+        return Outcome::Refused(Refusal::SliceTooShort);
+    }
+    Outcome::Done
+}
+
+// The largest of some pixels; 0 of none.
+fn largest(pixels: &[u16]) -> u16
+    ensures { λ r. ⌜ Largest (now (pixels .entry)) r ⌝ }
+{
+    let mut most: u16 = 0;
+    for i in 0..pixels.len() {
+        let p = pixels[i];
+        if most < p {
+            most = p;
+        }
+    }
+    most
+}
+
+// Refusal 10: looks at all of the first w * h pixels.
+pub fn pixels_right(depth: u8, w: usize, h: usize, pixels: &[u16]) -> Outcome
+    requires { ⌜ (depth ≤ 12) × (w ≤ 4096) × (h ≤ 4096) × (w * h ≤ length (now pixels)) ⌝ }
+    ensures { λ r. ⌜ r ≡ pixelsRight depth w h (now (pixels .entry)) ⌝ }
+{
+    let n = w * h;
+    let most = largest(&pixels[..n]);
+    if most < (1u16 << depth) {
+        Outcome::Done
+    } else {
+        Outcome::Refused(Refusal::PixelTooLarge)
+    }
+}
+
+// A pixel less the middle of its range.
+fn centred(pixel: u16, middle: u16) -> i32
+    ensures { λ r. ⌜ r ≡ pos pixel -ℤ pos middle ⌝ }
+{
+    (pixel as i32) - (middle as i32)
+}
+
+// The first n pixels go to the plane, each less 2^(depth - 1).
+pub fn load_samples(pixels: &[u16], plane: &mut [i32], n: usize, depth: u8)
+    requires { ⌜ (1 ≤ depth) × (depth ≤ 12) × (n ≤ length (now pixels)) × (n ≤ length (now plane)) ⌝ }
+    ensures { λ _. ⌜ at (now (plane .exit)) ≡ patch 0 n (λ k. pos (getD (now (pixels .entry)) k 0) -ℤ pos (2 ^ (depth - 1))) (at (now (plane .entry))) ⌝ }
+{
+    let middle = 1u16 << (depth - 1);
+    for i in 0..n {
+        plane[i] = centred(pixels[i], middle);
+    }
+}
+
+// The first n elements become 0.
+pub fn clear(work: &mut [i32], n: usize)
+    requires { ⌜ n ≤ length (now work) ⌝ }
+    ensures { λ _. ⌜ now (work .exit) ≡ zeroed n (now (work .entry)) ⌝ }
+{
+    for i in 0..n {
+        work[i] = 0;
+    }
+}

@@ -8,6 +8,10 @@
 --   Endless     the finite sum in a gain is the endless one
 --   GainTable   the gains as numbers
 --   Forms       linear forms of answers
+-- For the program:
+--   Places      nodes, passes and bounds by number
+--   PlaceLaws   these are the bounds of Bounds, and small where what enters a pass is small
+--   JudgeLaws   what the program reads, computes and answers step by step is the verdict
 pub mod Gains
 pub mod Bounds
 pub mod Verdict
@@ -16,3 +20,6 @@ pub mod Promise
 pub mod Examples
 pub mod Endless
 pub mod GainTable
+pub mod Places
+pub mod PlaceLaws
+pub mod JudgeLaws

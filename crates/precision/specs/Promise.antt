@@ -32,7 +32,7 @@ in-right : {A : Type 0} {x : A} (xs : List A) {ys : List A} → In x ys → In x
 in-right [] i = i
 in-right (y ∷ xs) i = there (in-right xs i)
 
-in-nodes : (l : ℕ) (p : Pass) (n : Node) → In (nodeAt l p n) (passNodes l p)
+pub in-nodes : (l : ℕ) (p : Pass) (n : Node) → In (nodeAt l p n) (passNodes l p)
 in-nodes l p P1 = here
 in-nodes l p U1 = there here
 in-nodes l p P2 = there (there here)
@@ -63,7 +63,7 @@ every-in test (there {y = y} {xs = ys} i) h = every-in test i (both (test y) (ev
 
 -- ---- the verdict
 
-each-accepts : (t : WidthTable) {p : TableNode} {ps : List TableNode} → In p ps → firstRefusal t ps ≡ Done → judged t p ≡ Done
+pub each-accepts : (t : WidthTable) {p : TableNode} {ps : List TableNode} → In p ps → firstRefusal t ps ≡ Done → judged t p ≡ Done
 unfolding firstRefusal
 each-accepts t {p} (here {xs = ps}) e = then-done (judged t p) (firstRefusal t ps) e .0
 each-accepts t (there {y = q} {xs = ps} i) e = each-accepts t i (then-done (judged t q) (firstRefusal t ps) e .1)
@@ -106,16 +106,16 @@ module _ (t : WidthTable) (form : T (formRight t)) where
   unfolding formRight
   parts = four (between 1 maxDepth (t .depth)) (between 1 maxLevels (t .levels)) (every (λ n. constantRight (constantBits t n)) (P1 ∷ U1 ∷ P2 ∷ U2 ∷ G1 ∷ G2 ∷ [])) (every (nodeRight t) (bookOrder maxLevels)) form
 
-  form-depth : (1 ≤ t .depth) × (t .depth ≤ 12)
+  pub form-depth : (1 ≤ t .depth) × (t .depth ≤ 12)
   form-depth = between-≤ 1 maxDepth (t .depth) (parts .0)
 
-  form-levels : (1 ≤ t .levels) × (t .levels ≤ 5)
+  pub form-levels : (1 ≤ t .levels) × (t .levels ≤ 5)
   form-levels = between-≤ 1 maxLevels (t .levels) (parts .1)
 
-  form-constants : (n : Node) → (1 ≤ constantBits t n) × (constantBits t n ≤ 24)
+  pub form-constants : (n : Node) → (1 ≤ constantBits t n) × (constantBits t n ≤ 24)
   form-constants n = between-≤ 1 maxConstantBits (constantBits t n) (every-in (λ n. constantRight (constantBits t n)) (in-nodes-list n) (parts .2))
 
-  form-widths : (l : ℕ) → 1 ≤ l → l ≤ t .levels → (p : Pass) (n : Node) → (1 ≤ integerBits t l p n) × (integerBits t l p n ≤ 12) × (fractionBits t l p n ≤ 20)
+  pub form-widths : (l : ℕ) → 1 ≤ l → l ≤ t .levels → (p : Pass) (n : Node) → (1 ≤ integerBits t l p n) × (integerBits t l p n ≤ 12) × (fractionBits t l p n ≤ 20)
   form-widths l a b p n =
       width-right (leb l (t .levels)) (integerBits t l p n) (fractionBits t l p n) (le→leb l (t .levels) b)
       (every-in (nodeRight t) (in-order 5 l a (omega (arith, form-levels .1)) p n) (parts .3))

@@ -115,31 +115,31 @@ module _ (n : ℕ) (big : 2 ≤ n) where
 
 -- ---- a level
 
-abbrev forwardLevel : ℕ → ℕ → ℕ → Plane ℤ → Plane ℤ
+abbrev pub forwardLevel : ℕ → ℕ → ℕ → Plane ℤ → Plane ℤ
 forwardLevel = level (λ l. reversiblePass) (λ l low. reversiblePass)
 
 module _ (l w h : ℕ) (wide : 2 ≤ w) (tall : 2 ≤ h) (p : Plane ℤ) where
-  level-in : (r c : ℕ) → r < h → c < w → forwardLevel l w h p r c ≡ reversiblePass h (λ k. reversiblePass w (p k) c) r
+  pub level-in : (r c : ℕ) → r < h → c < w → forwardLevel l w h p r c ≡ reversiblePass h (λ k. reversiblePass w (p k) c) r
   unfolding level columns rows
   level-in r c i j = within-in w h (λ r c. reversiblePass h (λ k. reversiblePass w (p k) c) r) p r c i j
 
-  back-in : (r c : ℕ) → r < h → c < w → backLevel w h p r c ≡ backPass w (λ k. backPass h (λ m. p m k) r) c
+  pub back-in : (r c : ℕ) → r < h → c < w → backLevel w h p r c ≡ backPass w (λ k. backPass h (λ m. p m k) r) c
   unfolding backLevel columns rows
   back-in r c i j = within-in w h (λ r c. backPass w (λ k. backPass h (λ m. p m k) r) c) p r c i j
 
-  level-below : (r c : ℕ) → h ≤ r → forwardLevel l w h p r c ≡ p r c
+  pub level-below : (r c : ℕ) → h ≤ r → forwardLevel l w h p r c ≡ p r c
   unfolding level
   level-below r c i = within-below w h _ p r c i
 
-  level-beyond : (r c : ℕ) → w ≤ c → forwardLevel l w h p r c ≡ p r c
+  pub level-beyond : (r c : ℕ) → w ≤ c → forwardLevel l w h p r c ≡ p r c
   unfolding level
   level-beyond r c i = within-beyond w h _ p r c i
 
-  back-below : (r c : ℕ) → h ≤ r → backLevel w h p r c ≡ p r c
+  pub back-below : (r c : ℕ) → h ≤ r → backLevel w h p r c ≡ p r c
   unfolding backLevel
   back-below r c i = within-below w h _ p r c i
 
-  back-beyond : (r c : ℕ) → w ≤ c → backLevel w h p r c ≡ p r c
+  pub back-beyond : (r c : ℕ) → w ≤ c → backLevel w h p r c ≡ p r c
   unfolding backLevel
   back-beyond r c i = within-beyond w h _ p r c i
 
@@ -169,8 +169,6 @@ module _ (l w h : ℕ) (wide : 2 ≤ w) (tall : 2 ≤ h) (p : Plane ℤ) where
 
   level-redone : forwardLevel l w h (backLevel w h p) ≡ p
   level-redone = fun-ext λ r. fun-ext λ c. level-redone-at r c
-
--- ---- all levels
 
 -- ---- all levels
 

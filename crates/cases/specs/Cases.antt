@@ -1,0 +1,43 @@
+-- The cases that document 01 marks P (numbers to hold it against), by computation on the definitions.
+use Prim.Native.Nat.{ℕ}
+use mathlib.Core.List.{List, [], _∷_, map}
+use mathlib.Core.Path.{_≡_, refl}
+use lib.IntN.{ℤ, pos, negsuc}
+use lib.ListN.{getD, length}
+use Rattle.lines.specs.Lines.{onHighs, onLows, lowsFirst}
+use Rattle.lines.specs.Planes.{tabulate}
+use Rattle.exact.specs.Fractions.{_⊕_, _⊗_, whole, magnitude, upDiv, wholesOf}
+use Rattle.exact.specs.Exact.{alpha, lift}
+use Rattle.width_table.specs.Nodes.{Node, P1, U1, U2, G1}
+use Rattle.precision.specs.Gains as G
+use Rattle.precision.specs.Gains.{Source, input, node, gain, exactGain, sumTo, answer, held}
+use Rattle.reversible.specs.Reversible.{predict, update, high, low, reversiblePass}
+use Rattle.irreversible.specs.Fixed.{step, cut, nearest}
+
+-- a 5/3 pass over a list: the lows, then the highs
+abbrev pub pass : List ℤ → List ℤ
+pass l = tabulate (length l) (reversiblePass (length l) (λ i. getD l i (pos 0)))
+
+-- P1 with B = 1 and F = 1: own pixel, then neighbours, as integers, and the node's f
+abbrev pub firstStage : ℤ → ℤ → ℤ → ℕ → ℤ
+firstStage own x y f = step alpha 1 1 1 f own x y
+
+pub record Table : Type 0 where
+  -- 0 0 gives 0 | 0; 1 3 gives 2 | 2; -1 0 gives 0 | 1; 0 -3 gives -1 | -3; 3 0 -2 gives 3 -2 | 0; 0 0 0 1 gives 0 0 | 0 1
+  pub passes :
+      map pass ((pos 0 ∷ pos 0 ∷ []) ∷ (pos 1 ∷ pos 3 ∷ []) ∷ (negsuc 0 ∷ pos 0 ∷ []) ∷ (pos 0 ∷ negsuc 2 ∷ []) ∷ (pos 3 ∷ pos 0 ∷ negsuc 1 ∷ []) ∷ (pos 0 ∷ pos 0 ∷ pos 0 ∷ pos 1 ∷ []) ∷ [])
+      ≡ (pos 0 ∷ pos 0 ∷ []) ∷ (pos 2 ∷ pos 2 ∷ []) ∷ (pos 0 ∷ pos 1 ∷ []) ∷ (negsuc 0 ∷ negsuc 2 ∷ []) ∷ (pos 3 ∷ negsuc 1 ∷ pos 0 ∷ []) ∷ (pos 0 ∷ pos 0 ∷ pos 0 ∷ pos 1 ∷ []) ∷ []
+  -- alpha becomes -3/2
+  pub alpha-one : nearest alpha 1 ≡ negsuc 2
+  -- -1; -1, 0 with f 0 gives 0
+  pub stage-0 : firstStage (negsuc 0) (negsuc 0) (pos 0) 0 ≡ pos 0
+  -- with f 2 gives 1
+  pub stage-2 : firstStage (negsuc 0) (negsuc 0) (pos 0) 2 ≡ pos 1
+  -- -1; 0, 0 with f 0 gives -1
+  pub stage-down : firstStage (negsuc 0) (pos 0) (pos 0) 0 ≡ negsuc 0
+  -- in 2^-16: input to P1 273434, P1 to U1 6945, U2 to G1 75341
+  pub gains : gain input P1 ∷ gain (node P1) U1 ∷ gain (node U2) G1 ∷ [] ≡ 273434 ∷ 6945 ∷ 75341 ∷ []
+
+pub table : Table
+unfolding reversiblePass low high onHighs onLows lowsFirst predict update tabulate step cut nearest gain exactGain sumTo answer held G.p1 G.u1 G.p2 G.u2 G.g1 G.g2 G.low G.high wholesOf upDiv lift _⊕_ _⊗_ whole magnitude
+table = record { passes = refl; alpha-one = refl; stage-0 = refl; stage-2 = refl; stage-down = refl; gains = refl }

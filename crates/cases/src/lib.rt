@@ -1,0 +1,1 @@
+// The proved table of cases, in specs/; no code.

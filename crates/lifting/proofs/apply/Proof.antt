@@ -1,0 +1,65 @@
+use borrow.Author.Needs.{needs}
+use mathlib.Core.Path.{_∙_}
+use Rattle.lifting.proofs.Read.{safe-back, applied-back, wide-back}
+use Rattle.lifting.proofs.apply.Statement.{statement}
+use Rattle.lifting.proofs.apply.Tie as tie
+
+predicted-requires : tie.Need-predicted-requires
+predicted-requires c κs = let a = c .before .before in safe-back (a .fits .own) (a .fits .x) (a .fits .y) (c .enum-told .given .1) (a .pre)
+
+updated-requires : tie.Need-updated-requires
+updated-requires c κs = let a = c .before .before in safe-back (a .fits .own) (a .fits .x) (a .fits .y) (c .enum-told2 .given .1) (a .pre)
+
+unpredicted-requires : tie.Need-unpredicted-requires
+unpredicted-requires c κs = let a = c .before .before in safe-back (a .fits .own) (a .fits .x) (a .fits .y) (c .enum-told3 .given .1) (a .pre)
+
+unupdated-requires : tie.Need-unupdated-requires
+unupdated-requires c κs = let a = c .before .before in safe-back (a .fits .own) (a .fits .x) (a .fits .y) (c .enum-told4 .given .1) (a .pre)
+
+wide-of-requires : tie.Need-wide-of-requires
+wide-of-requires c κs = let a = c .before .before .before in safe-back (a .fits .own) (a .fits .x) (a .fits .y) (wide-back (search needs) (search needs) (c .before .step .given .1)) (a .pre)
+
+returns : tie.Need-returns
+returns c =
+    let a = c .before .before .before in
+    applied-back (a .fits .own) (a .fits .x) (a .fits .y) (c .before .enum-told .given .1) (c .predicted .ok) (c .predicted .ensures)
+
+returns-2 : tie.Need-returns-2
+returns-2 c =
+    let a = c .before .before .before in
+    applied-back (a .fits .own) (a .fits .x) (a .fits .y) (c .before .enum-told2 .given .1) (c .updated .ok) (c .updated .ensures)
+
+returns-3 : tie.Need-returns-3
+returns-3 c =
+    let a = c .before .before .before in
+    applied-back (a .fits .own) (a .fits .x) (a .fits .y) (c .before .enum-told3 .given .1) (c .unpredicted .ok) (c .unpredicted .ensures)
+
+returns-4 : tie.Need-returns-4
+returns-4 c =
+    let a = c .before .before .before in
+    applied-back (a .fits .own) (a .fits .x) (a .fits .y) (c .before .enum-told4 .given .1) (c .unupdated .ok) (c .unupdated .ensures)
+
+returns-5 : tie.Need-returns-5
+returns-5 c =
+    let a = c .before .before .before .before in
+    applied-back (a .fits .own) (a .fits .x) (a .fits .y) (wide-back (search needs) (search needs) (c .before .before .step .given .1)) (c .wide-of .ok) (c .wide-of .ensures)
+
+pub apply-spec : {M : Type 1} → statement M
+apply-spec =
+    tie.close
+    (tie.spec
+    (λ c. search needs)
+    predicted-requires
+    (λ c. search needs)
+    updated-requires
+    (λ c. search needs)
+    unpredicted-requires
+    (λ c. search needs)
+    unupdated-requires
+    (λ c. search needs)
+    wide-of-requires
+    returns
+    returns-2
+    returns-3
+    returns-4
+    returns-5)

@@ -1,0 +1,65 @@
+-- `lifting::copy_lines` meets its contract. The loop's invariant: the first i lines are copied.
+-- Assumes nothing.
+use mathlib.Core.Path.{_≡_, refl}
+use Prim.Native.Nat.{ℕ, _+_, _-_, _≤_}
+use native.Mathlib.Omega.{arith}
+use lib.ListN.{length}
+use Rattle.lifting.specs.Patch.{at}
+use Rattle.lifting.specs.Columns.{lineAt, patchLines, lines-none, lines-more, lines-to}
+use Rattle.lifting.proofs.copy_lines.Statement.{statement}
+use Rattle.lifting.proofs.copy_lines.Tie as tie
+
+abbrev Inv-loop : tie.InvT-loop
+Inv-loop src from step dst₀ to leap n m i₀ dst i =
+    (i ≤ n) × (length dst ≡ length dst₀) × (at dst ≡ patchLines (lineAt to leap) m i (λ k j. at src (lineAt from step k + j)) (at dst₀))
+
+abbrev μ-loop : tie.MeasureT-loop
+μ-loop src from step dst₀ to leap n m i₀ dst i = n - i
+
+loop-holds : tie.Need-loop-holds Inv-loop μ-loop
+loop-holds c = (omega arith, refl, lines-none _ _ _ _)
+
+mul-copy-run : tie.Need-mul-copy-run Inv-loop μ-loop
+mul-copy-run c = omega (arith, c .before .before .pre .0 .fits (c .before .loop .i) (c .loop-test .taken))
+
+add-copy-run : tie.Need-add-copy-run Inv-loop μ-loop
+add-copy-run c = omega (arith, c .before .before .pre .0 .fits (c .before .loop .i) (c .loop-test .taken))
+
+mul-copy-run-2 : tie.Need-mul-copy-run-2 Inv-loop μ-loop
+mul-copy-run-2 c = omega (arith, c .before .before .before .pre .1 .fits (c .before .before .loop .i) (c .before .loop-test .taken))
+
+add-copy-run-2 : tie.Need-add-copy-run-2 Inv-loop μ-loop
+add-copy-run-2 c = omega (arith, c .before .before .before .pre .1 .fits (c .before .before .loop .i) (c .before .loop-test .taken))
+
+copy-run-requires : tie.Need-copy-run-requires Inv-loop μ-loop
+copy-run-requires c κs =
+    let p = c .before .before .before .pre in
+    let i = c .before .before .loop .i in
+    let h = c .before .loop-test .taken in
+    omega (arith, p .0 .fits i h, p .1 .fits i h)
+
+loop-again : tie.Need-loop-again Inv-loop μ-loop
+loop-again c =
+    let t = c .before .before .before .before .loop in
+    (omega arith, omega arith, lines-more _ _ _ _ (t .i) _ _ _ (t .inv .2) (c .before .copy-run .ensures) (λ j h. refl))
+
+returns : tie.Need-returns Inv-loop μ-loop
+returns c = lines-to _ _ _ _ _ _ _ (c .before .loop .inv .2) (omega arith)
+
+pub copy-lines-spec : {M : Type 1} → statement M
+copy-lines-spec =
+    tie.close
+    (tie.spec
+    Inv-loop
+    μ-loop
+    loop-holds
+    mul-copy-run
+    add-copy-run
+    mul-copy-run-2
+    add-copy-run-2
+    copy-run-requires
+    (λ c. omega arith)
+    (λ c. omega arith)
+    loop-again
+    (λ c. omega arith)
+    returns)

@@ -1,0 +1,66 @@
+-- `lifting::strip` meets its contract: in each arm the kernel is the one that the arm works by.
+-- Assumes nothing.
+use mathlib.Core.Path.{_≡_, sym, ap, subst, _∙_}
+use Prim.Native.Nat.{ℕ, _+_, _<_}
+use native.Mathlib.Omega.{arith}
+use borrow.Author.Needs.{needs}
+use lib.IntN.{ℤ}
+use Rattle.lifting.specs.declared.Kernel.{Kernel}
+use Rattle.lifting.specs.Patch.{at}
+use Rattle.lifting.specs.Kernels.{SafeKernel, columnOf, columnsWorked}
+use Rattle.lifting.specs.Tiles.{Strip}
+use Rattle.lifting.proofs.strip.Statement.{statement}
+use Rattle.lifting.proofs.strip.Tie as tie
+
+module _ (a : tie.Start) where
+  -- every column of the strip is safe for k
+  abbrev Safe : Kernel → Type 0
+  Safe k = (j : ℕ) → j < a .args .s → SafeKernel k (a .args .n) (columnOf (a .args .stride) (a .args .from) (at (a .args .plane .now)) j)
+
+  -- the strip worked by k
+  abbrev done : Kernel → ℕ → ℤ
+  done k = columnsWorked k (a .args .stride) (a .args .from) (a .args .s) (a .args .n) (at (a .args .plane .now))
+
+asks : (a : tie.Start) (k : Kernel) → a .args .kernel ≡ k → Strip (a .args .plane .now) (a .args .tile .now) (a .args .stride) (a .args .from) (a .args .s) (a .args .n) × Safe a k
+asks a k e = (a .pre .0, subst (Safe a) e (a .pre .1))
+
+gives : (a : tie.Start) (k : Kernel) (y : ℕ → ℤ) → a .args .kernel ≡ k → y ≡ done a k → y ≡ done a (a .args .kernel)
+gives a k y e is = is ∙ ap (done a) (sym e)
+
+strip-pair-requires : tie.Need-strip-pair-requires
+strip-pair-requires c κs = asks (c .before .before .before .before .before) _ (c .before .before .before .kernel .given .1)
+
+strip-four-requires : tie.Need-strip-four-requires
+strip-four-requires c κs = asks (c .before .before .before .before .before) _ (c .before .before .before .kernel2 .given .1)
+
+strip-undo-requires : tie.Need-strip-undo-requires
+strip-undo-requires c κs = asks (c .before .before .before .before .before) _ (c .before .before .before .kernel3 .given .1)
+
+returns : tie.Need-returns
+returns c = let f = c .before .before in gives (f .before .before .before .before .before .before) _ _ (f .before .before .before .before .kernel .given .1) (f .strip-pair .ensures)
+
+returns-2 : tie.Need-returns-2
+returns-2 c = let f = c .before .before in gives (f .before .before .before .before .before .before) _ _ (f .before .before .before .before .kernel2 .given .1) (f .strip-four .ensures)
+
+returns-3 : tie.Need-returns-3
+returns-3 c = let f = c .before .before in gives (f .before .before .before .before .before .before) _ _ (f .before .before .before .before .kernel3 .given .1) (f .strip-undo .ensures)
+
+pub strip-spec : {M : Type 1} → statement M
+strip-spec =
+    tie.close
+    (tie.spec
+    (λ c. search needs)
+    strip-pair-requires
+    (λ c. search needs)
+    strip-four-requires
+    (λ c. search needs)
+    strip-undo-requires
+    (λ c. search needs)
+    (λ c. search needs)
+    returns
+    (λ c. search needs)
+    (λ c. search needs)
+    returns-2
+    (λ c. search needs)
+    (λ c. search needs)
+    returns-3)

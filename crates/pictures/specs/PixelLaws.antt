@@ -1,0 +1,130 @@
+-- The largest of some pixels, and refusals 8 to 10 as the code finds them.
+-- Assumes nothing.
+use Prim.Native.Nat.{ℕ, suc, _+_, _*_, _-_, _%_, _^_, _<_, _≤_}
+use mathlib.Core.Bool.{Bool, true, false, _&&_}
+use mathlib.Core.List.{List, [], _∷_, _++_}
+use mathlib.Core.Path.{_≡_, refl, sym, _∙_, ap, subst}
+use native.Mathlib.Omega.{arith}
+use native.Mathlib.Nat.{mul-le-mul}
+use borrow.Author.Tests.{lt-ltb, le-ltb, le-leb, lt-leb}
+use lib.Dec.{T, leb, ltb}
+use lib.ListN.{length, getD, take}
+use lib.Pow.{pow-mono, pow-pos, shl-exact}
+use lib.Seq.{take-suc, take-all}
+use Rattle.numbers.specs.Tests.{every, by-ltb}
+use Rattle.refusals.specs.declared.Refusal.{Refusal}
+use Rattle.refusals.specs.declared.Refusal.the-variants.{SideNotAdmitted, SliceTooShort, PixelTooLarge}
+use Rattle.refusals.specs.declared.Outcome.{Outcome}
+use Rattle.refusals.specs.declared.Outcome.the-variants.{Done, Refused}
+use Rattle.refusals.specs.Refusals.{asks}
+use Rattle.pictures.specs.PictureLaws.{side-is}
+use Rattle.pictures.specs.Pictures.{sideRight, sized, pixelsRight}
+
+-- 1, shifted
+pub one-shifted : (k w : ℕ) → 1 + k ≤ w → (1 * 2 ^ k) % 2 ^ w ≡ 2 ^ k
+one-shifted k w h = shl-exact {a = 1} 1 k w (omega arith) h ∙ omega arith
+
+and-false : (t : Bool) → t && false ≡ false
+and-false true = refl
+and-false false = refl
+
+-- ---- a side
+
+module _ (L n : ℕ) where
+  pub side-long : 4096 < n → sideRight L n ≡ false
+  side-long h = ap (λ (t : Bool). ltb (2 ^ (L - 1)) n && t) (lt-leb n 4096 h) ∙ and-false (ltb (2 ^ (L - 1)) n)
+
+  pub side-deep : n ≤ 4096 → 12 < L → sideRight L n ≡ false
+  side-deep h d = ap (λ (t : Bool). t && leb n 4096) (le-ltb (2 ^ (L - 1)) n (omega (arith, pow-mono {i = 12} {j = L - 1} (omega arith))))
+
+  pub side-short : n ≤ 4096 → (b : ℕ) → b ≡ 2 ^ (L - 1) → ltb b n ≡ sideRight L n
+  side-short h b e = ap (λ (t : ℕ). ltb t n) e ∙ sym (ap (λ (t : Bool). ltb (2 ^ (L - 1)) n && t) (le-leb n 4096 h) ∙ and-true (ltb (2 ^ (L - 1)) n))
+    where
+      and-true : (t : Bool) → t && true ≡ t
+      and-true true = refl
+      and-true false = refl
+
+pub side-most : (L n : ℕ) → sideRight L n ≡ true → n ≤ 4096
+side-most L n e = side-is L n (subst T (sym e) tt) .1
+
+-- two sides make a size that fits a machine word
+pub size-fits : (w h : ℕ) → w ≤ 4096 → h ≤ 4096 → w * h ≤ 16777216
+size-fits w h a b = mul-le-mul a b
+
+-- ---- refusals 8 and 9
+
+module _ (L w h a b c : ℕ) where
+  asked : (s t u v x : Bool) → sideRight L w ≡ s → sideRight L h ≡ t → leb (w * h) a ≡ u → leb (w * h) b ≡ v → leb (w * h) c ≡ x
+      → sized L w h a b c ≡ asks (s && t) SideNotAdmitted (asks (u && v && x) SliceTooShort Done)
+  unfolding sized
+  asked s t u v x d e f g i = λ j. asks (d j && e j) SideNotAdmitted (asks (f j && g j && i j) SliceTooShort Done)
+
+  pub wide-wrong : sideRight L w ≡ false → sized L w h a b c ≡ Refused SideNotAdmitted
+  wide-wrong e = asked false (sideRight L h) _ _ _ e refl refl refl refl
+
+  pub tall-wrong : sideRight L w ≡ true → sideRight L h ≡ false → sized L w h a b c ≡ Refused SideNotAdmitted
+  tall-wrong d e = asked true false _ _ _ d e refl refl refl
+
+  module _ (d : sideRight L w ≡ true) (e : sideRight L h ≡ true) where
+    pub first-short : a < w * h → sized L w h a b c ≡ Refused SliceTooShort
+    first-short f = asked true true false (leb (w * h) b) (leb (w * h) c) d e (lt-leb _ _ f) refl refl
+
+    pub second-short : w * h ≤ a → b < w * h → sized L w h a b c ≡ Refused SliceTooShort
+    second-short f g = asked true true true false (leb (w * h) c) d e (le-leb _ _ f) (lt-leb _ _ g) refl
+
+    pub third-short : w * h ≤ a → w * h ≤ b → c < w * h → sized L w h a b c ≡ Refused SliceTooShort
+    third-short f g i = asked true true true true false d e (le-leb _ _ f) (le-leb _ _ g) (lt-leb _ _ i)
+
+    pub room-for : w * h ≤ a → w * h ≤ b → w * h ≤ c → sized L w h a b c ≡ Done
+    room-for f g i = asked true true true true true d e (le-leb _ _ f) (le-leb _ _ g) (le-leb _ _ i)
+
+-- ---- refusal 10
+
+-- r is the largest of some numbers, 0 of none: they are all below what r is below
+abbrev pub Largest : List ℕ → ℕ → Type 0
+Largest l r = (b : ℕ) → 1 ≤ b → every (λ p. ltb p b) l ≡ ltb r b
+
+every-snoc : (right : ℕ → Bool) (l : List ℕ) (a : ℕ) → every right (l ++ a ∷ []) ≡ every right l && right a
+unfolding every
+every-snoc right [] a = and-true (right a)
+  where
+    and-true : (t : Bool) → t && true ≡ t
+    and-true true = refl
+    and-true false = refl
+every-snoc right (x ∷ l) a = go (right x) (every right l) (right a) (every-snoc right l a)
+  where
+    go : (t : Bool) {u : Bool} (v w : Bool) → u ≡ v && w → t && u ≡ t && v && w
+    go true v w e = e
+    go false v w e = refl
+
+pub largest-none : (l : List ℕ) → Largest (take 0 l) 0
+unfolding every
+largest-none l b h = sym (lt-ltb 0 b h)
+
+module _ (l : List ℕ) (i m : ℕ) (h : i < length l) (is : Largest (take i l) m) where
+  -- one number more
+  both-below : (b : ℕ) → 1 ≤ b → every (λ p. ltb p b) (take (i + 1) l) ≡ ltb m b && ltb (getD l i 0) b
+  both-below b s =
+      let e : i + 1 ≡ suc i = omega arith in
+      ap (λ (n : ℕ). every (λ p. ltb p b) (take n l)) e ∙ ap (every (λ p. ltb p b)) (take-suc l i 0 h)
+      ∙ every-snoc (λ p. ltb p b) (take i l) (getD l i 0) ∙ ap (λ (t : Bool). t && ltb (getD l i 0) b) (is b s)
+
+  pub largest-keeps : getD l i 0 ≤ m → Largest (take (i + 1) l) m
+  largest-keeps q b s = both-below b s ∙ by-ltb (λ t. t && ltb (getD l i 0) b ≡ t) m b (λ j. lt-ltb _ b (omega arith)) (λ j. refl)
+
+  pub largest-grows : m < getD l i 0 → Largest (take (i + 1) l) (getD l i 0)
+  largest-grows q b s = both-below b s ∙ by-ltb (λ t. ltb m b && t ≡ t) (getD l i 0) b (λ j. ap (λ (t : Bool). t && true) (lt-ltb m b (omega arith))) (λ j. and-false (ltb m b))
+
+pub largest-all : (l : List ℕ) (i m : ℕ) → Largest (take i l) m → length l ≤ i → Largest l m
+largest-all l i m is h b s = ap (every (λ p. ltb p b)) (sym (take-all i l h)) ∙ is b s
+
+module _ (B w h m : ℕ) (pixels : List ℕ) (is : Largest (take (w * h) pixels) m) where
+  judged : (t : Bool) → ltb m (2 ^ B) ≡ t → pixelsRight B w h pixels ≡ asks t PixelTooLarge Done
+  unfolding pixelsRight
+  judged t e = ap (λ (t : Bool). asks t PixelTooLarge Done) (is (2 ^ B) (pow-pos B) ∙ e)
+
+  pub pixels-small : m < 2 ^ B → pixelsRight B w h pixels ≡ Done
+  pixels-small q = judged true (lt-ltb _ _ q)
+
+  pub pixel-large : 2 ^ B ≤ m → pixelsRight B w h pixels ≡ Refused PixelTooLarge
+  pixel-large q = judged false (le-ltb _ _ q)

@@ -1,0 +1,11 @@
+use native.Mathlib.Omega.{arith}
+use Rattle.precision.specs.Bounds.{ownLift}
+use Rattle.precision.proofs.own_lift.Statement.{statement}
+use Rattle.precision.proofs.own_lift.Tie as tie
+
+returns : tie.Need-returns
+unfolding ownLift
+returns c = cc
+
+pub own-lift-spec : {M : Type 1} → statement M
+own-lift-spec = tie.close (tie.spec (λ c. omega arith) (λ c κs. omega arith) (λ c κs. tt) (λ c κs. omega arith) (λ c. omega arith) returns)

@@ -1,0 +1,230 @@
+-- The bounds of a pass by place numbers are those of Bounds, and are small where what enters the pass is small.
+use Prim.Native.Nat.{ℕ, zero, suc, _+_, _*_, _-_, _/_, _^_, _<_, _≤_, zero-le, max}
+use mathlib.Core.Bool.{Bool, true, false}
+use mathlib.Core.List.{List, [], _∷_}
+use mathlib.Core.Path.{_≡_, refl, sym, ap}
+use native.Mathlib.Omega.{arith}
+use native.Mathlib.Nat.{div-mul-le-self, mul-le-mul-left, mul-le-mul-right, le-trans}
+use lib.Dec.{T, eqb, ltb, leb, leb→le, lit≤}
+use lib.ListN.{getD, set}
+use lib.Pow.{pow-mono}
+use Rattle.numbers.specs.Tests.{every, both, ltb-true, ltb-false}
+use Rattle.exact.specs.Fractions.{upDiv}
+use Rattle.width_table.specs.Nodes.{Node}
+use Rattle.precision.specs.Gains.{gain}
+use Rattle.precision.specs.GainTable.{gain-is}
+use Rattle.precision.specs.Bounds.{Bound, timesGain, loss, ownLift, ownScale, carried, rangeAt, errorAt, errorP1, errorU1, errorP2, errorU2, errorG1, errorG2, ownP1, ownU1, ownP2, ownU2, ownG1, ownG2}
+use Rattle.precision.specs.Places.{nodeOf, gains, gainAt, carriedTo, multiplied, other, bitsAt, ownAt, totalAt, ownFrom, ownsBelow}
+
+-- an own error is at most this: 7.5 times 2^43
+abbrev pub largest : ℕ
+largest = 15 * 2 ^ 42
+
+-- ---- the six nodes by number
+
+pub by-place : (P : ℕ → Type 0) → P 1 → P 2 → P 3 → P 4 → P 5 → P 6 → (k : ℕ) → 1 ≤ k → k ≤ 6 → P k
+by-place P a b c d e f zero i j = absurd (omega arith)
+by-place P a b c d e f (suc zero) i j = a
+by-place P a b c d e f (suc (suc zero)) i j = b
+by-place P a b c d e f (suc (suc (suc zero))) i j = c
+by-place P a b c d e f (suc (suc (suc (suc zero)))) i j = d
+by-place P a b c d e f (suc (suc (suc (suc (suc zero))))) i j = e
+by-place P a b c d e f (suc (suc (suc (suc (suc (suc zero)))))) i j = f
+by-place P a b c d e f (suc (suc (suc (suc (suc (suc (suc k))))))) i j = absurd (omega arith)
+
+pub multiplied-most : (k : ℕ) → k ≤ 6 → multiplied k ≤ 5
+multiplied-most k h = go (eqb k 6)
+  where
+    go : (t : Bool) → elim t [ true ↦ 3 | false ↦ k - 1 ] ≤ 5
+    go true = lit≤ tt
+    go false = omega arith
+
+-- ---- products by a gain
+
+times-zero : (g : ℕ) → timesGain 0 g ≡ 0
+unfolding timesGain upDiv
+times-zero g = omega arith
+
+times-none : (x : ℕ) → timesGain x 0 ≡ 0
+unfolding timesGain upDiv
+times-none x = omega arith
+
+times-one : (x : ℕ) → timesGain x 65536 ≡ x
+unfolding timesGain upDiv
+times-one x = omega arith
+
+pub times-most : (x g : ℕ) → timesGain x g * 65536 ≤ x * g + 65535
+unfolding timesGain upDiv
+times-most x g = omega arith
+
+all-most : (m : ℕ) (xs : List ℕ) → T (every (λ x. leb x m) xs) → (k : ℕ) → getD xs k 0 ≤ m
+unfolding every
+all-most m [] h k = zero-le
+all-most m (x ∷ xs) h zero = leb→le x m (both (leb x m) (every (λ y. leb y m) xs) h .0)
+all-most m (x ∷ xs) h (suc k) = all-most m xs (both (leb x m) (every (λ y. leb y m) xs) h .1) k
+
+-- no row, no gain
+rows-most : (m : ℕ) (rows : List (List ℕ)) → T (every (every (λ x. leb x m)) rows) → (i j : ℕ) → getD (getD rows i []) j 0 ≤ m
+unfolding every
+rows-most m [] h i j = zero-le
+rows-most m (r ∷ rows) h zero j = all-most m r (both (every (λ x. leb x m) r) (every (every (λ x. leb x m)) rows) h .0) j
+rows-most m (r ∷ rows) h (suc i) j = rows-most m rows (both (every (λ x. leb x m) r) (every (every (λ x. leb x m)) rows) h .1) i j
+
+pub gain-most : (i j : ℕ) → gainAt i j ≤ 273434
+unfolding every
+gain-most = rows-most 273434 gains tt
+
+-- a product by a gain fits, and stays below 2^48
+pub product-most : (x g : ℕ) → x ≤ largest → g ≤ 273434 → x * g ≤ largest * 273434
+product-most x g h k = le-trans (mul-le-mul-right g h) (mul-le-mul-left largest k)
+
+-- ---- the bounds by number
+
+module _ (F : Node → ℕ) (fi : ℕ) (b : Bound) (f : Node → ℕ) where
+  pub owns-next : (k : ℕ) → 1 ≤ k → k ≤ 6 → set (ownsBelow F fi b f k) k (ownAt F fi b f k) ≡ ownsBelow F fi b f (k + 1)
+  unfolding ownsBelow
+  owns-next = by-place _ refl refl refl refl refl refl
+
+  pub own-is : (k : ℕ) → 1 ≤ k → k ≤ 6 → ownAt F fi b f k ≡ ownFrom F fi b f k (totalAt F fi b f (multiplied k))
+  unfolding ownAt ownFrom totalAt ownP1 ownU1 ownP2 ownU2 ownG1 ownG2 errorAt
+  own-is = by-place _ refl refl refl refl refl refl
+
+  pub range-is : (k : ℕ) → 1 ≤ k → k ≤ 6 → timesGain (b .range) (gainAt 0 k) ≡ rangeAt F fi b f (nodeOf k)
+  unfolding rangeAt
+  range-is = by-place _ (simp gain-is) (simp gain-is) (simp gain-is) (simp gain-is) (simp gain-is) (simp gain-is)
+
+  pub error-is : (k : ℕ) → 1 ≤ k → k ≤ 6 → carriedTo (ownsBelow F fi b f 7) k 7 ≡ errorAt F fi b f (nodeOf k)
+  unfolding carriedTo ownsBelow ownAt errorAt errorP1 errorU1 errorP2 errorU2 errorG1 errorG2
+  error-is =
+      by-place _
+      (simp (gain-is, times-none) (omega arith))
+      (simp (gain-is, times-none) (omega arith))
+      (simp (gain-is, times-none) (omega arith))
+      (simp (gain-is, times-none) (omega arith))
+      (simp (gain-is, times-none) (omega arith))
+      (simp (gain-is, times-none) (omega arith))
+
+  -- what the places below k carry to the place that k multiplies
+  pub total-is : (k : ℕ) → 1 ≤ k → k ≤ 6 → timesGain (b .range) (gainAt 0 (multiplied k)) + carriedTo (ownsBelow F fi b f k) (multiplied k) 7 ≡ totalAt F fi b f (multiplied k)
+  unfolding carriedTo ownsBelow ownAt totalAt rangeAt errorAt errorP1 errorU1 errorP2 errorU2
+  total-is =
+      by-place _
+      (simp (gain-is, times-zero, times-none, times-one) (omega arith))
+      (simp (gain-is, times-zero, times-none) (omega arith))
+      (simp (gain-is, times-zero, times-none) (omega arith))
+      (simp (gain-is, times-zero, times-none) (omega arith))
+      (simp (gain-is, times-zero, times-none) (omega arith))
+      (simp (gain-is, times-zero, times-none) (omega arith))
+
+-- a stage's own error, from what the program reads
+module _ (F : Node → ℕ) (fi : ℕ) (b : Bound) (f : Node → ℕ) (k r : ℕ) where
+  abbrev chosen : Bool → ℕ
+  chosen t = elim t [
+    | true ↦ ownLift (F (nodeOf k)) (bitsAt F fi b f (multiplied k)) (bitsAt F fi b f (other k)) (bitsAt F fi b f k) r
+    | false ↦ ownScale (F (nodeOf k)) (bitsAt F fi b f (multiplied k)) (bitsAt F fi b f k) r
+  ]
+
+  pub own-lifts : {c m o n : ℕ} → k < 5 → c ≡ F (nodeOf k) → m ≡ bitsAt F fi b f (multiplied k) → o ≡ bitsAt F fi b f (other k) → n ≡ bitsAt F fi b f k → ownLift c m o n r ≡ ownFrom F fi b f k r
+  unfolding ownFrom
+  own-lifts h e1 e2 e3 e4 = simp (e1, e2, e3, e4) (sym (ap chosen (ltb-true k 5 h)))
+
+  pub own-scales : {c m n : ℕ} → 5 ≤ k → c ≡ F (nodeOf k) → m ≡ bitsAt F fi b f (multiplied k) → n ≡ bitsAt F fi b f k → ownScale c m n r ≡ ownFrom F fi b f k r
+  unfolding ownFrom
+  own-scales h e1 e2 e3 = simp (e1, e2, e3) (sym (ap chosen (ltb-false k 5 h)))
+
+-- ---- sizes
+
+-- a division by a power of two above 1 at least halves
+up-half : (a k : ℕ) → 1 ≤ k → 2 * upDiv a (2 ^ k) ≤ a + 1
+unfolding upDiv
+up-half a k h = law (2 ^ k) ((a + (2 ^ k - 1)) / 2 ^ k) (pow-mono h) (div-mul-le-self (a + (2 ^ k - 1)) (2 ^ k))
+  where
+    law : (m q : ℕ) → 2 ^ 1 ≤ m → q * m ≤ a + (m - 1) → 2 * q ≤ a + 1
+    law m zero i j = omega arith
+    law m (suc q) i j = omega (arith, mul-le-mul-left q i)
+
+pub loss-most : (f full : ℕ) → loss f full ≤ 2 ^ 32
+unfolding loss
+loss-most f full = go (ltb f full)
+  where
+    go : (t : Bool) → elim t [ true ↦ 2 ^ (32 - f) | false ↦ 0 ] ≤ 2 ^ 32
+    go true = pow-mono {i = 32 - f} {j = 32} (omega arith)
+    go false = lit≤ tt
+
+pub loss-below : (f full : ℕ) → f < full → loss f full ≡ 2 ^ (32 - f)
+unfolding loss
+loss-below f full h = ap (λ (t : Bool). elim t [ true ↦ 2 ^ (32 - f) | false ↦ 0 ]) (ltb-true f full h)
+
+pub loss-none : (f full : ℕ) → full ≤ f → loss f full ≡ 0
+unfolding loss
+loss-none f full h = ap (λ (t : Bool). elim t [ true ↦ 2 ^ (32 - f) | false ↦ 0 ]) (ltb-false f full h)
+
+pub own-half : (F : Node → ℕ) (fi : ℕ) (b : Bound) (f : Node → ℕ) (k r : ℕ) → 1 ≤ F (nodeOf k) → 2 * ownFrom F fi b f k r ≤ r + 1 + 2 * 2 ^ 32
+unfolding ownFrom ownLift ownScale
+own-half F fi b f k r h = go (ltb k 5)
+  where
+    go : (t : Bool) → 2 * elim t [
+      | true ↦ upDiv r (2 ^ F (nodeOf k)) + loss (bitsAt F fi b f k) (max (bitsAt F fi b f (other k)) (F (nodeOf k) + bitsAt F fi b f (multiplied k)))
+      | false ↦ upDiv r (2 ^ (F (nodeOf k) + 1)) + loss (bitsAt F fi b f k) (F (nodeOf k) + bitsAt F fi b f (multiplied k))
+    ] ≤ r + 1 + 2 * 2 ^ 32
+    go true = omega (arith, up-half r (F (nodeOf k)) h, loss-most (bitsAt F fi b f k) (max (bitsAt F fi b f (other k)) (F (nodeOf k) + bitsAt F fi b f (multiplied k))))
+    go false = omega (arith, up-half r (F (nodeOf k) + 1) (omega arith), loss-most (bitsAt F fi b f k) (F (nodeOf k) + bitsAt F fi b f (multiplied k)))
+
+-- what is carried, before its roundings
+abbrev weighted : List ℕ → ℕ → ℕ → ℕ
+weighted x j zero = 0
+weighted x j (suc n) = weighted x j n + getD x n 0 * gainAt n j
+
+carried-most : (x : List ℕ) (j n : ℕ) → carriedTo x j n * 65536 ≤ weighted x j n + n * 65535
+unfolding carriedTo
+carried-most x j zero = omega arith
+carried-most x j (suc n) = omega (arith, carried-most x j n, times-most (getD x n 0) (gainAt n j))
+
+held : (t : Bool) {x : ℕ} → x ≤ largest → elim t [ true ↦ x | false ↦ 0 ] ≤ largest
+held true h = h
+held false h = lit≤ tt
+
+module _ (F : Node → ℕ) (fi : ℕ) (b : Bound) (f : Node → ℕ) (small : b .range + b .error ≤ 2 ^ 43) (positive : (n : Node) → 1 ≤ F n) where
+  -- twice an own error, from what is carried to the place that is multiplied
+  own-most : (k : ℕ) → 1 ≤ k → k ≤ 6 → 65536 * (2 * ownAt F fi b f k) ≤ b .range * gainAt 0 (multiplied k) + weighted (ownsBelow F fi b f k) (multiplied k) 7 + 8 * 65535 + 65536 * (1 + 2 * 2 ^ 32)
+  own-most k i j =
+      omega (arith, own-is F fi b f k i j, own-half F fi b f k (totalAt F fi b f (multiplied k)) (positive (nodeOf k)), total-is F fi b f k i j, times-most (b .range) (gainAt 0 (multiplied k)), carried-most (ownsBelow F fi b f k) (multiplied k) 7)
+
+  own-0 : ownAt F fi b f 0 ≤ largest
+  unfolding ownAt
+  own-0 = omega arith
+
+  own-1 : ownAt F fi b f 1 ≤ 5 * 2 ^ 40
+  unfolding ownsBelow ownAt
+  own-1 = omega (arith, own-most 1 (lit≤ tt) (lit≤ tt))
+
+  own-2 : ownAt F fi b f 2 ≤ 77 * 2 ^ 38
+  unfolding ownsBelow ownAt
+  own-2 = omega (arith, own-1, own-most 2 (lit≤ tt) (lit≤ tt))
+
+  own-3 : ownAt F fi b f 3 ≤ 63 * 2 ^ 38
+  unfolding ownsBelow ownAt
+  own-3 = omega (arith, own-1, own-2, own-most 3 (lit≤ tt) (lit≤ tt))
+
+  own-4 : ownAt F fi b f 4 ≤ 9 * 2 ^ 42
+  unfolding ownsBelow ownAt
+  own-4 = omega (arith, own-1, own-2, own-3, own-most 4 (lit≤ tt) (lit≤ tt))
+
+  own-5 : ownAt F fi b f 5 ≤ largest
+  unfolding ownsBelow ownAt
+  own-5 = omega (arith, own-1, own-2, own-3, own-4, own-most 5 (lit≤ tt) (lit≤ tt))
+
+  own-6 : ownAt F fi b f 6 ≤ largest
+  unfolding ownsBelow ownAt
+  own-6 = omega (arith, own-1, own-2, own-3, own-4, own-most 6 (lit≤ tt) (lit≤ tt))
+
+  pub owns-most : (k i : ℕ) → getD (ownsBelow F fi b f k) i 0 ≤ largest
+  unfolding ownsBelow
+  owns-most k zero = held (ltb 0 k) own-0
+  owns-most k (suc zero) = held (ltb 1 k) (le-trans own-1 (lit≤ tt))
+  owns-most k (suc (suc zero)) = held (ltb 2 k) (le-trans own-2 (lit≤ tt))
+  owns-most k (suc (suc (suc zero))) = held (ltb 3 k) (le-trans own-3 (lit≤ tt))
+  owns-most k (suc (suc (suc (suc zero)))) = held (ltb 4 k) (le-trans own-4 (lit≤ tt))
+  owns-most k (suc (suc (suc (suc (suc zero))))) = held (ltb 5 k) own-5
+  owns-most k (suc (suc (suc (suc (suc (suc zero)))))) = held (ltb 6 k) own-6
+  owns-most k (suc (suc (suc (suc (suc (suc (suc i))))))) = lit≤ tt

@@ -1,0 +1,164 @@
+-- The places of a pass by number, as the program counts them: 0 the input, 1 to 6 the nodes.
+use Prim.Native.Nat.{ℕ, zero, suc, _+_, _*_, _-_, _^_, _≤_}
+use mathlib.Core.Bool.{Bool, true, false, not, _||_}
+use mathlib.Core.List.{List, [], _∷_}
+use lib.Dec.{T, ltb, leb, eqb}
+use mathlib.Core.Path.{_≡_}
+use lib.ListN.{getD, drop}
+use Rattle.refusals.specs.declared.NodePlace.{NodePlace}
+use Rattle.refusals.specs.declared.Refusal.the-variants.{DoesNotFit, ErrorTooLarge}
+use Rattle.refusals.specs.declared.Outcome.{Outcome}
+use Rattle.refusals.specs.declared.Outcome.the-variants.{Done}
+use Rattle.refusals.specs.Refusals.{asks}
+use Rattle.width_table.specs.Nodes.{Node, P1, U1, P2, U2, G1, G2, Pass, Rows, LowColumns, HighColumns, TableNode, nodeAt, passNodes, levelNodes}
+use Rattle.width_table.specs.declared.WidthTable.{WidthTable}
+use Rattle.width_table.specs.Table.{constantBits, fractionBits, inputBits, formRight}
+use Rattle.precision.specs.Bounds.{Bound, timesGain, ownLift, ownScale, rangeAt, errorAt, ownP1, ownU1, ownP2, ownU2, ownG1, ownG2, boundOf, entering}
+use Rattle.precision.specs.declared.Bound as Code
+use Rattle.precision.specs.declared.PassAnswer.{PassAnswer}
+use Rattle.precision.specs.declared.LevelAnswer.{LevelAnswer}
+use Rattle.precision.specs.Verdict.{firstRefusal}
+
+-- node 1 to 6, pass 1 to 3
+abbrev pub nodeOf : ℕ → Node
+nodeOf zero = P1
+nodeOf (suc zero) = P1
+nodeOf (suc (suc zero)) = U1
+nodeOf (suc (suc (suc zero))) = P2
+nodeOf (suc (suc (suc (suc zero)))) = U2
+nodeOf (suc (suc (suc (suc (suc zero))))) = G1
+nodeOf (suc (suc (suc (suc (suc (suc k)))))) = G2
+
+abbrev pub passOf : ℕ → Pass
+passOf zero = Rows
+passOf (suc zero) = Rows
+passOf (suc (suc zero)) = LowColumns
+passOf (suc (suc (suc k))) = HighColumns
+
+-- The gain from each place, in a line of its own, to each place, in whole numbers of 2^-16. The input's to itself is 1.
+abbrev pub gains : List (List ℕ)
+gains =
+    (65536 ∷ 273434 ∷ 94510 ∷ 138260 ∷ 111285 ∷ 127934 ∷ 120267 ∷ [])
+    ∷ (0 ∷ 65536 ∷ 6945 ∷ 65536 ∷ 45749 ∷ 52593 ∷ 57008 ∷ [])
+    ∷ (0 ∷ 0 ∷ 65536 ∷ 115725 ∷ 168186 ∷ 193347 ∷ 100665 ∷ [])
+    ∷ (0 ∷ 0 ∷ 0 ∷ 65536 ∷ 58132 ∷ 66829 ∷ 57008 ∷ [])
+    ∷ (0 ∷ 0 ∷ 0 ∷ 0 ∷ 65536 ∷ 75341 ∷ 0 ∷ [])
+    ∷ (0 ∷ 0 ∷ 0 ∷ 0 ∷ 0 ∷ 65536 ∷ 0 ∷ [])
+    ∷ (0 ∷ 0 ∷ 0 ∷ 0 ∷ 0 ∷ 0 ∷ 65536 ∷ [])
+    ∷ []
+
+abbrev pub gainAt : ℕ → ℕ → ℕ
+gainAt i j = getD (getD gains i []) j 0
+
+-- what the first n places carry to place j, where x has what each has of its own
+unfoldable pub carriedTo : List ℕ → ℕ → ℕ → ℕ
+carriedTo x j zero = 0
+carriedTo x j (suc n) = carriedTo x j n + timesGain (getD x n 0) (gainAt n j)
+
+-- the place whose value a stage multiplies, and that of the other operand of P1, U1, P2, U2
+abbrev pub multiplied : ℕ → ℕ
+multiplied k = elim (eqb k 6) [ true ↦ 3 | false ↦ k - 1 ]
+
+abbrev pub other : ℕ → ℕ
+other k = k - 2
+
+-- One pass, as in Bounds.
+module _ (F : Node → ℕ) (fi : ℕ) (b : Bound) (f : Node → ℕ) where
+  abbrev pub bitsAt : ℕ → ℕ
+  bitsAt zero = fi
+  bitsAt (suc k) = f (nodeOf (suc k))
+
+  -- the own error of a place; the input's error
+  unfoldable pub ownAt : ℕ → ℕ
+  ownAt zero = b .error
+  ownAt (suc zero) = ownP1 F fi b f
+  ownAt (suc (suc zero)) = ownU1 F fi b f
+  ownAt (suc (suc (suc zero))) = ownP2 F fi b f
+  ownAt (suc (suc (suc (suc zero)))) = ownU2 F fi b f
+  ownAt (suc (suc (suc (suc (suc zero))))) = ownG1 F fi b f
+  ownAt (suc (suc (suc (suc (suc (suc k)))))) = ownG2 F fi b f
+
+  -- range plus error of a place
+  unfoldable pub totalAt : ℕ → ℕ
+  totalAt zero = b .range + b .error
+  totalAt (suc k) = rangeAt F fi b f (nodeOf (suc k)) + errorAt F fi b f (nodeOf (suc k))
+
+  -- the own error of place k where r is the range plus error of the value that it multiplies
+  unfoldable pub ownFrom : ℕ → ℕ → ℕ
+  ownFrom k r = elim (ltb k 5) [
+    | true ↦ ownLift (F (nodeOf k)) (bitsAt (multiplied k)) (bitsAt (other k)) (bitsAt k) r
+    | false ↦ ownScale (F (nodeOf k)) (bitsAt (multiplied k)) (bitsAt k) r
+  ]
+
+  -- the own errors of the places below k, and zeros
+  unfoldable pub ownsBelow : ℕ → List ℕ
+  ownsBelow k = own 0 ∷ own 1 ∷ own 2 ∷ own 3 ∷ own 4 ∷ own 5 ∷ own 6 ∷ []
+    where
+      own : ℕ → ℕ
+      own i = elim (ltb i k) [ true ↦ ownAt i | false ↦ 0 ]
+
+-- ---- the same of a table
+
+-- what enters a pass
+abbrev pub fed : WidthTable → ℕ → Pass → Bound
+fed t l Rows = entering t l
+fed t l LowColumns = boundOf t (nodeAt l Rows G1)
+fed t l HighColumns = boundOf t (nodeAt l Rows G2)
+
+module _ (t : WidthTable) (l : ℕ) (p : Pass) where
+  abbrev pub bitsOf : ℕ → ℕ
+  bitsOf = bitsAt (constantBits t) (inputBits t l p) (fed t l p) (fractionBits t l p)
+
+  abbrev pub ownErrorOf : ℕ → ℕ → ℕ
+  ownErrorOf = ownFrom (constantBits t) (inputBits t l p) (fed t l p) (fractionBits t l p)
+
+  abbrev pub ownsOf : ℕ → List ℕ
+  ownsOf = ownsBelow (constantBits t) (inputBits t l p) (fed t l p) (fractionBits t l p)
+
+  -- the nodes of a pass from node k on
+  abbrev pub nodesFrom : ℕ → List TableNode
+  nodesFrom k = drop (k - 1) (passNodes l p)
+
+-- a bound as the program holds it
+abbrev pub told : Bound → Code.Bound
+told b = record { range = b .range; error = b .error }
+
+abbrev pub boundOfNode : WidthTable → ℕ → ℕ → ℕ → Code.Bound
+boundOfNode t l p n = told (boundOf t (nodeAt l (passOf p) (nodeOf n)))
+
+-- the bound at a place, from the range of what enters the pass and from what each place has of its own
+abbrev pub boundFrom : ℕ → List ℕ → ℕ → Code.Bound
+boundFrom range own place = record { range = timesGain range (gainAt 0 place); error = carriedTo own place 7 }
+
+-- the verdict on a node of given bound, widths and place
+unfoldable pub judgedAs : Code.Bound → ℕ → ℕ → Bool → NodePlace → Outcome
+judgedAs b IB f kept place =
+    asks (leb (b .range + b .error + 2 ^ (32 - f)) (2 ^ (IB - 1) * 2 ^ 32)) (DoesNotFit place)
+    (asks (not kept || ltb (b .error) (2 * 2 ^ (32 - f))) (ErrorTooLarge place)
+    Done)
+
+-- level l and pass p are ones of a table of right form
+pub record At (t : WidthTable) (l p : ℕ) : Type 0 where
+  pub form : T (formRight t)
+  pub level-from : 1 ≤ l
+  pub level-to : l ≤ t .levels
+  pub pass-from : 1 ≤ p
+  pub pass-to : p ≤ 3
+
+-- and b is what enters the pass; it is small, since the node that feeds it fits
+pub record Enters (t : WidthTable) (l p : ℕ) (b : Code.Bound) : Type 0 where
+  pub place : At t l p
+  pub is : b ≡ told (fed t l (passOf p))
+  pub small : b .range + b .error ≤ 2 ^ 43
+
+-- the verdict on a pass, with the bounds of G1 and G2
+pub record PassJudged (t : WidthTable) (l p : ℕ) (r : PassAnswer) : Type 0 where
+  pub outcome : r .outcome ≡ firstRefusal t (passNodes l (passOf p))
+  pub low : r .low ≡ boundOfNode t l p 5
+  pub high : r .high ≡ boundOfNode t l p 6
+
+-- the verdict on a level; where it is accepted, with the bound of its low-low, which is small
+pub record LevelJudged (t : WidthTable) (l : ℕ) (r : LevelAnswer) : Type 0 where
+  pub outcome : r .outcome ≡ firstRefusal t (levelNodes l)
+  pub next : r .outcome ≡ Done → r .next ≡ boundOfNode t l 2 5
+  pub small : r .outcome ≡ Done → r .next .range + r .next .error ≤ 2 ^ 43

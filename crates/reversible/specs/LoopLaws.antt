@@ -1,0 +1,100 @@
+-- The levels one after another in memory: what the loops of the code carry from level to level.
+use Prim.Native.Nat.{ℕ, zero, suc, _+_, _*_, _-_, _<_, _≤_, _^_}
+use mathlib.Core.Path.{_≡_, refl, sym, _∙_, ap, subst}
+use native.Mathlib.Numerals.{add-one}
+use native.Mathlib.Omega.{arith}
+use lib.IntN.{ℤ, natAbs}
+use Rattle.lines.specs.Lines.{lows}
+use Rattle.lines.specs.Planes.{Plane, levels, side}
+use Rattle.lines.specs.PlaneLaws.{Roomy, roomy, side-le, Agree}
+use Rattle.pictures.specs.Pictures.{Admitted}
+use Rattle.pictures.specs.MemoryLaws.{Stands}
+use Rattle.reversible.specs.Reversible.{forward, backLevel, back}
+use Rattle.reversible.specs.ReversibleLaws.{back-forward, back-agrees}
+use Rattle.reversible.specs.LevelLaws.{Sized, planeAt, levelForward, levelBack, forward-beyond, forward-stands, back-stands, forward-sized}
+
+-- 4^k for at most five levels
+four-pow : (k : ℕ) → k ≤ 5 → 4 ^ k ≤ 1024
+four-pow zero h = omega arith
+four-pow (suc zero) h = omega arith
+four-pow (suc (suc zero)) h = omega arith
+four-pow (suc (suc (suc zero))) h = omega arith
+four-pow (suc (suc (suc (suc zero)))) h = omega arith
+four-pow (suc (suc (suc (suc (suc zero))))) h = omega arith
+four-pow (suc (suc (suc (suc (suc (suc k)))))) h = absurd (omega arith)
+
+pub side-none : (n : ℕ) → side 0 n ≡ n
+unfolding side
+side-none n = refl
+
+pub side-more : (k n : ℕ) → lows (side k n) ≡ side (k + 1) n
+unfolding side
+side-more k n = ap (λ (j : ℕ). side j n) (sym (add-one k))
+
+-- what is known of the sides at level k + 1 of L
+pub record Sides (L w h k : ℕ) : Type 0 where
+  pub wide : 2 ≤ side k w
+  pub tall : 2 ≤ side k h
+  pub in-w : side k w ≤ w
+  pub in-h : side k h ≤ h
+
+-- forward: k levels of what stood in memory as x are done
+pub record ForwardDone (w h k : ℕ) (x y : ℕ → ℤ) : Type 0 where
+  pub stands : Stands w h y (forward k w h (planeAt w x))
+  pub beyond : (q : ℕ) → w * h ≤ q → y q ≡ x q
+
+-- back: of L levels of what stood in memory as x, k are left to take back
+pub record BackLeft (L w h k : ℕ) (x y : ℕ → ℤ) : Type 0 where
+  pub left : Agree w h (back k w h (planeAt w y)) (back L w h (planeAt w x))
+
+module _ (L w h : ℕ) (aw : Admitted L w) (ah : Admitted L h) where
+  pub sides : (k : ℕ) → k < L → Sides L w h k
+  sides k i = record {
+    wide = roomy L w (aw .0) k i;
+    tall = roomy L h (ah .0) k i;
+    in-w = side-le k w (omega (arith, aw .0));
+    in-h = side-le k h (omega (arith, ah .0));
+  }
+
+  pub forward-none : (x : ℕ → ℤ) → ForwardDone w h 0 x x
+  unfolding forward levels
+  forward-none x = record { stands = λ r c i j. refl; beyond = λ q i. refl }
+
+  pub forward-more : (k : ℕ) → k < L → (x y z : ℕ → ℤ) → ForwardDone w h k x y → z ≡ levelForward w (side k w) (side k h) y → ForwardDone w h (k + 1) x z
+  unfolding forward levels
+  forward-more k i x y z f e =
+      let s = sides k i in
+      subst (λ (n : ℕ). ForwardDone w h n x z) (sym (add-one k)) (subst (λ (m : ℕ → ℤ). ForwardDone w h (suc k) x m) (sym e) (record {
+        stands = forward-stands w h (side k w) (side k h) (s .wide) (s .tall) (s .in-w) (s .in-h) y (forward k w h (planeAt w x)) (f .stands) (suc k);
+        beyond = λ q far. forward-beyond w h (side k w) (side k h) (s .wide) (s .tall) (s .in-w) (s .in-h) y q far ∙ f .beyond q far;
+      }))
+
+  pub forward-part : (k : ℕ) → k < L → L ≤ 5 → (x y : ℕ → ℤ) → ForwardDone w h k x y → Sized (2 ^ 11) w h (planeAt w x) → Sized (2 ^ 21) (side k w) (side k h) (planeAt w y)
+  forward-part k i five x y f small r c a b =
+      let s = sides k i in
+      subst (λ (t : ℤ). natAbs t ≤ 2 ^ 21) (sym (f .stands r c (omega (arith, s .in-h)) (omega (arith, s .in-w))))
+      (omega (arith, four-pow k (omega arith), forward-sized w h (omega (arith, aw .0)) (omega (arith, ah .0)) k (λ j t. roomy L w (aw .0) j (omega arith)) (λ j t. roomy L h (ah .0) j (omega arith)) (planeAt w x) small r c (omega (arith, s .in-h)) (omega (arith, s .in-w))))
+
+  pub back-none : (x : ℕ → ℤ) → BackLeft L w h L x x
+  back-none x = record { left = λ r c i j. refl }
+
+  pub back-more : (k : ℕ) → k < L → (x y z : ℕ → ℤ) → BackLeft L w h (k + 1) x y → z ≡ levelBack w (side k w) (side k h) y → BackLeft L w h k x z
+  unfolding back
+  back-more k i x y z f e =
+      let s = sides k i in
+      let g = subst (λ (n : ℕ). BackLeft L w h n x y) (add-one k) f in
+      subst (λ (m : ℕ → ℤ). BackLeft L w h k x m) (sym e) (record {
+        left = λ r c a b.
+            back-agrees w h (omega (arith, aw .0)) (omega (arith, ah .0)) k (λ j t. roomy L w (aw .0) j (omega arith)) (λ j t. roomy L h (ah .0) j (omega arith)) _ (backLevel (side k w) (side k h) (planeAt w y))
+            (back-stands w h (side k w) (side k h) (s .wide) (s .tall) (s .in-w) (s .in-h) y (planeAt w y) (λ r c i j. refl)) r c a b
+            ∙ g .left r c a b;
+      })
+
+  -- where the samples that come out are those of a picture, nothing on the way is large
+  pub back-part : (k : ℕ) → k ≤ L → L ≤ 5 → (x y : ℕ → ℤ) → BackLeft L w h k x y → Sized (2 ^ 11) w h (back L w h (planeAt w x)) → Sized (2 ^ 21) w h (planeAt w y)
+  back-part k i five x y f small r c a b =
+      let wide : Roomy k w = λ j t. roomy L w (aw .0) j (omega arith) in
+      let tall : Roomy k h = λ j t. roomy L h (ah .0) j (omega arith) in
+      let found : Sized (2 ^ 11) w h (back k w h (planeAt w y)) = λ r c a b. subst (λ (t : ℤ). natAbs t ≤ 2 ^ 11) (sym (f .left r c a b)) (small r c a b) in
+      subst (λ (p : Plane ℤ). natAbs (p r c) ≤ 2 ^ 21) (back-forward k w h wide tall (planeAt w y))
+      (omega (arith, four-pow k (omega arith), forward-sized w h (omega (arith, aw .0)) (omega (arith, ah .0)) k wide tall (back k w h (planeAt w y)) found r c a b))

@@ -1,0 +1,94 @@
+-- What the functions of the code ask of their callers.
+use Prim.Native.Nat.{ℕ, _+_, _*_, _<_, _≤_, _^_}
+use mathlib.Core.List.{List}
+use mathlib.Core.Path.{_≡_, sym, subst, subst₂}
+use native.Mathlib.Omega.{arith}
+use native.Mathlib.Nat.{mul-le-mul-right, mul-comm}
+use lib.Dec.{T, ltb}
+use lib.IntN.{ℤ}
+use lib.ListN.{length, take}
+use Rattle.numbers.specs.Tests.{every}
+use Rattle.lifting.specs.Columns.{lineAt}
+use Rattle.lifting.specs.Kernels.{Part, SafeKernel, rowOf, columnOf, rowsWorked}
+use Rattle.lifting.specs.Patch.{at}
+use Rattle.pictures.specs.Pictures.{Admitted}
+use Rattle.pictures.specs.PictureLaws.{Room}
+use Rattle.lines.specs.Planes.{side}
+use Rattle.reversible.specs.LevelLaws.{Sized, planeAt, forward-rows-safe, forward-columns-safe, rows-sized}
+use Rattle.reversible.specs.Sizes.{forwardKernel}
+use Rattle.reversible.specs.LoopLaws.{Sides, sides}
+
+-- a part of w columns and h rows, with values of size b at most, and a tile for its lines
+pub record LevelRoom (b : ℕ) (plane : List ℤ) (tile W w h : ℕ) : Type 0 where
+  pub part : Part plane W 0 w h
+  pub wide : 2 ≤ w
+  pub tall : 2 ≤ h
+  pub row : w ≤ tile
+  pub column : h ≤ tile
+  pub small : Sized b w h (planeAt W (at plane))
+
+-- admitted sides, and room for w * h values in the plane and for a line in the tile
+pub record LevelsRoom (L w h plane tile : ℕ) : Type 0 where
+  pub few : L ≤ 5
+  pub across : Admitted L w
+  pub down : Admitted L h
+  pub room : w * h ≤ plane
+  pub row : w ≤ tile
+  pub column : h ≤ tile
+
+-- a call that is allowed: depth and levels within their limits, admitted sides, slices of a, b and c elements that are long enough
+pub record CallRoom (B L w h a b c : ℕ) : Type 0 where
+  pub depth : (1 ≤ B) × (B ≤ 12)
+  pub few : L ≤ 5
+  pub room : Room L w h a b c
+
+-- and the picture's pixels are below 2^B
+pub record ForwardRoom (B L w h : ℕ) (pixels : List ℕ) (plane work : ℕ) : Type 0 where
+  pub call : CallRoom B L w h (length pixels) plane work
+  pub right : T (every (λ p. ltb p (2 ^ B)) (take (w * h) pixels))
+
+-- a line fits where the whole plane does
+pub lines-fit : (w h : ℕ) → 1 ≤ w → 1 ≤ h → (w ≤ w * h) × (h ≤ w * h)
+lines-fit w h a b = (omega (arith, mul-le-mul-right w b, mul-comm w h), omega (arith, mul-le-mul-right h a))
+
+pub levels-room : {B L w h a b c : ℕ} → CallRoom B L w h a b c → (plane tile : ℕ) → w * h ≤ plane → w * h ≤ tile → LevelsRoom L w h plane tile
+levels-room {w} {h} p plane tile e f =
+    let l = lines-fit w h (omega (arith, p .room .wide .0)) (omega (arith, p .room .tall .0)) in
+    record { few = p .few; across = p .room .wide; down = p .room .tall; room = e; row = omega arith; column = omega arith }
+
+-- the part that level k + 1 works lies in the plane
+pub part-of : (L W H k : ℕ) (plane : List ℤ) → Sides L W H k → W ≤ 4096 → H ≤ 4096 → W * H ≤ length plane → Part plane W 0 (side k W) (side k H)
+part-of L W H k plane s across few room = record {
+  narrow = omega (arith, s .in-w);
+  few = omega (arith, s .in-h);
+  wide = omega arith;
+  fits = λ r i. omega (arith, s .in-w, mul-le-mul-right {m = r + 1} {n = H} W (omega (arith, s .in-h)), mul-comm W H);
+}
+
+-- a part lies in any slice of the same length
+pub part-as : {W from w h : ℕ} (old new : List ℤ) → length new ≡ length old → Part old W from w h → Part new W from w h
+part-as old new e p = record { narrow = p .narrow; few = p .few; wide = p .wide; fits = λ r i. omega (arith, p .fits r i) }
+
+-- level k + 1 has what it asks
+pub level-room : (b L w h : ℕ) {plane₀ tile₀ : ℕ} → LevelsRoom L w h plane₀ tile₀ → (k : ℕ) → k < L → (plane : List ℤ) (tile across down : ℕ) → length plane ≡ plane₀ → tile ≡ tile₀ → across ≡ side k w → down ≡ side k h
+    → Sized b (side k w) (side k h) (planeAt w (at plane)) → LevelRoom b plane tile w across down
+level-room b L w h r k i plane tile across down el et ea ed small =
+    let s = sides L w h (r .across) (r .down) k i in
+    subst₂ (λ (v u : ℕ). LevelRoom b plane tile w v u) (sym ea) (sym ed) (record {
+      part = part-of L w h k plane s (r .across .1) (r .down .1) (omega (arith, r .room));
+      wide = s .wide;
+      tall = s .tall;
+      row = omega (arith, s .in-w, r .row);
+      column = omega (arith, s .in-h, r .column);
+      small = small;
+    })
+
+-- ---- the steps of a level fit
+
+module _ {plane : List ℤ} {tile W w h : ℕ} where
+  pub forward-rows : LevelRoom (2 ^ 21) plane tile W w h → (r : ℕ) → r < h → SafeKernel forwardKernel w (rowOf W 0 (at plane) r)
+  forward-rows p = forward-rows-safe W w h (2 ^ 21) (p .wide) (p .tall) (omega (arith, p .part .narrow)) (at plane) (p .small) (omega arith)
+
+  pub forward-columns : LevelRoom (2 ^ 21) plane tile W w h → (x : ℕ → ℤ) → x ≡ rowsWorked forwardKernel W w h (at plane) → (c : ℕ) → c < w → SafeKernel forwardKernel h (columnOf W 0 x c)
+  forward-columns p x e = subst (λ (y : ℕ → ℤ). (c : ℕ) → c < w → SafeKernel forwardKernel h (columnOf W 0 y c)) (sym e)
+      (forward-columns-safe W w h (2 * 2 ^ 21) (p .wide) (p .tall) (omega (arith, p .part .narrow)) (rowsWorked forwardKernel W w h (at plane)) (rows-sized W w h (2 ^ 21) (p .wide) (p .tall) (omega (arith, p .part .narrow)) (at plane) (p .small)) (omega arith))

@@ -1,0 +1,147 @@
+-- How large the values of the 5/3 passes become, and that the machine's steps therefore fit.
+-- A pass forward at most doubles the size of a line's values; a pass back makes it at most three times as large.
+use Prim.Native.Nat.{ℕ, zero, suc, _+_, _*_, _-_, _/_, _<_, _≤_, _^_}
+use mathlib.Core.Path.{_≡_, refl, sym, ap, subst}
+use native.Mathlib.Omega.{arith}
+use lib.IntN.{ℤ, pos, negsuc, natAbs, _+ℤ_, _-ℤ_}
+use lib.Signed.{shrZ}
+use mir.Syntax.{w32}
+use mir.Val.{SFits}
+use Rattle.numbers.specs.Abs.{abs-add, abs-sub, mag-of-abs}
+use Rattle.numbers.specs.Dif.{plus, minus, is-self, is-pos, is-add, is-abs}
+use Rattle.lines.specs.Lines.{lows, highs, lowAfter, highBefore, highAfter, onHighs, onLows, lowsFirst, interleaved}
+use Rattle.lines.specs.LineLaws.{first-low, first-high, even-place, odd-place, by-parity, by-half}
+use Rattle.lifting.specs.declared.Step.{Step}
+use Rattle.lifting.specs.declared.Step.the-variants.{Predict, Update, Unpredict, Unupdate}
+use Rattle.lifting.specs.declared.Kernel.{Kernel}
+use Rattle.lifting.specs.declared.Kernel.the-variants.{Pair, Undo}
+use Rattle.lifting.specs.Steps.{applied, Safe, half, quarter}
+use Rattle.lifting.specs.Passes.{evens, odds, lifted, SafePass}
+use Rattle.lifting.specs.Kernels.{worked, SafeKernel, SafeUndo, lowsUndone, highsUndone}
+use Rattle.reversible.specs.Reversible.{predict, update, unpredict, unupdate, high, low, reversiblePass, lowBack, highBack, backPass}
+
+-- ---- the kernels of the code are the passes
+
+abbrev pub forwardKernel : Kernel
+forwardKernel = Pair Predict Update
+
+abbrev pub backKernel : Kernel
+backKernel = Undo Unupdate Unpredict
+
+pub forward-kernel : (n : ℕ) (x : ℕ → ℤ) → worked forwardKernel n x ≡ reversiblePass n x
+unfolding worked reversiblePass low high predict update
+forward-kernel n x = refl
+
+pub back-kernel : (n : ℕ) (y : ℕ → ℤ) → worked backKernel n y ≡ backPass n y
+unfolding worked backPass lowBack highBack unpredict unupdate
+back-kernel n y = refl
+
+-- ---- steps
+
+half-small : (z : ℤ) (c : ℕ) → natAbs z ≤ 2 * c → natAbs (half z) ≤ c
+half-small (pos a) c h = omega arith
+half-small (negsuc a) c h = omega arith
+
+quarter-small : (z : ℤ) (c : ℕ) → natAbs z ≤ 4 * c → natAbs (quarter z) ≤ c
+quarter-small z c h = go (z +ℤ pos 2) (is-add (is-self z) (is-pos 2) .eq) (is-abs (is-self z) .0 h)
+  where
+    go : (y : ℤ) → plus y + (minus z + 0) ≡ minus y + (plus z + 2) → (plus z ≤ minus z + 4 * c) × (minus z ≤ plus z + 4 * c) → natAbs (shrZ y 4) ≤ c
+    go (pos a) e k = omega arith
+    go (negsuc a) e k = omega arith
+
+small : (z : ℤ) → natAbs z < 2 ^ 31 → SFits w32 z
+small z h = record { sfits = mag-of-abs z h }
+
+module _ (own x y : ℤ) (a b : ℕ) (ho : natAbs own ≤ a) where
+  module _ (hx : natAbs x ≤ b) (hy : natAbs y ≤ b) where
+    halved : natAbs (half (x +ℤ y)) ≤ b
+    halved = half-small (x +ℤ y) b (omega (arith, abs-add x y))
+
+    predict-size : natAbs (applied Predict own x y) ≤ a + b
+    predict-size = omega (arith, abs-sub own (half (x +ℤ y)), halved)
+
+    unpredict-size : natAbs (applied Unpredict own x y) ≤ a + b
+    unpredict-size = omega (arith, abs-add own (half (x +ℤ y)), halved)
+
+    module _ (fits : a + 2 * b < 2 ^ 31) where
+      predict-safe : Safe Predict own x y
+      predict-safe = record { sides = small _ (omega (arith, abs-add x y)); result = small _ (omega (arith, predict-size)) }
+
+      unpredict-safe : Safe Unpredict own x y
+      unpredict-safe = record { sides = small _ (omega (arith, abs-add x y)); result = small _ (omega (arith, unpredict-size)) }
+
+  module _ (hx : natAbs x ≤ 2 * b) (hy : natAbs y ≤ 2 * b) where
+    quartered : natAbs (quarter (x +ℤ y)) ≤ b
+    quartered = quarter-small (x +ℤ y) b (omega (arith, abs-add x y))
+
+    update-size : natAbs (applied Update own x y) ≤ a + b
+    update-size = omega (arith, abs-add own (quarter (x +ℤ y)), quartered)
+
+    unupdate-size : natAbs (applied Unupdate own x y) ≤ a + b
+    unupdate-size = omega (arith, abs-sub own (quarter (x +ℤ y)), quartered)
+
+    module _ (fits : a + 4 * b + 2 < 2 ^ 31) where
+      sums : SFits w32 (x +ℤ y) × SFits w32 (x +ℤ y +ℤ pos 2)
+      sums = (small _ (omega (arith, abs-add x y)), small _ (omega (arith, abs-add x y, abs-add (x +ℤ y) (pos 2))))
+
+      update-safe : Safe Update own x y
+      update-safe = record { sides = sums .0; more = sums .1; result = small _ (omega (arith, update-size)) }
+
+      unupdate-safe : Safe Unupdate own x y
+      unupdate-safe = record { sides = sums .0; more = sums .1; result = small _ (omega (arith, unupdate-size)) }
+
+-- ---- lines of n values of size b at most
+
+module _ (n b : ℕ) (x : ℕ → ℤ) (two : 2 ≤ n) (le : (k : ℕ) → k < n → natAbs (x k) ≤ b) where
+  -- forward
+  abbrev highIn : ℕ → ℤ
+  highIn = onHighs (applied Predict) n (evens x) (odds x)
+
+  high-size : (i : ℕ) → i < highs n → natAbs (highIn i) ≤ 2 * b
+  unfolding onHighs
+  high-size i h = omega (arith, predict-size (odds x i) (evens x i) (evens x (lowAfter n i)) b b (le (2 * i + 1) (omega arith)) (le (2 * i) (omega arith)) (le (2 * lowAfter n i) (omega arith)))
+
+  low-size : (i : ℕ) → i < lows n → natAbs (onLows (applied Update) n (evens x) highIn i) ≤ 2 * b
+  unfolding onLows
+  low-size i h = omega (arith, update-size (evens x i) (highIn (highBefore i)) (highIn (highAfter n i)) b b (le (2 * i) (omega arith)) (high-size (highBefore i) (omega arith)) (high-size (highAfter n i) (omega arith)))
+
+  pub forward-size : (k : ℕ) → k < n → natAbs (worked forwardKernel n x k) ≤ 2 * b
+  unfolding worked
+  forward-size = by-half (λ k. natAbs (worked forwardKernel n x k) ≤ 2 * b) n
+      (λ i h. subst (λ (z : ℤ). natAbs z ≤ 2 * b) (sym (first-low n (onLows (applied Update) n (evens x) highIn) highIn i h)) (low-size i h))
+      (λ i h. subst (λ (z : ℤ). natAbs z ≤ 2 * b) (sym (first-high n (onLows (applied Update) n (evens x) highIn) highIn i)) (high-size i h))
+
+  pub forward-safe : 5 * b + 2 < 2 ^ 31 → SafeKernel forwardKernel n x
+  unfolding onHighs onLows
+  forward-safe fits = record {
+    on-highs = λ i h. predict-safe (odds x i) (evens x i) (evens x (lowAfter n i)) b b (le (2 * i + 1) (omega arith)) (le (2 * i) (omega arith)) (le (2 * lowAfter n i) (omega arith)) (omega arith);
+    on-lows = λ i h. update-safe (evens x i) (highIn (highBefore i)) (highIn (highAfter n i)) b b (le (2 * i) (omega arith)) (high-size (highBefore i) (omega arith)) (high-size (highAfter n i) (omega arith)) (omega arith);
+  }
+
+  -- back
+  abbrev lowIn : ℕ → ℤ
+  lowIn = lowsUndone Unupdate Unpredict n x
+
+  abbrev highOut : ℕ → ℤ
+  highOut = highsUndone Unupdate Unpredict n x
+
+  lowBack-size : (i : ℕ) → i < lows n → natAbs (lowIn i) ≤ 2 * b
+  unfolding onLows
+  lowBack-size i h = omega (arith, unupdate-size (x i) (x (lows n + highBefore i)) (x (lows n + highAfter n i)) b b (le i (omega arith)) (omega (arith, le (lows n + highBefore i) (omega arith))) (omega (arith, le (lows n + highAfter n i) (omega arith))))
+
+  highBack-size : (i : ℕ) → i < highs n → natAbs (highOut i) ≤ 3 * b
+  unfolding onHighs
+  highBack-size i h = omega (arith, unpredict-size (x (lows n + i)) (lowIn i) (lowIn (lowAfter n i)) b (2 * b) (le (lows n + i) (omega arith)) (lowBack-size i (omega arith)) (lowBack-size (lowAfter n i) (omega arith)))
+
+  pub back-size : (k : ℕ) → k < n → natAbs (worked backKernel n x k) ≤ 3 * b
+  unfolding worked
+  back-size = by-parity (λ k. natAbs (worked backKernel n x k) ≤ 3 * b) n
+      (λ i h. subst (λ (z : ℤ). natAbs z ≤ 3 * b) (sym (even-place lowIn highOut i)) (omega (arith, lowBack-size i h)))
+      (λ i h. subst (λ (z : ℤ). natAbs z ≤ 3 * b) (sym (odd-place lowIn highOut i)) (highBack-size i h))
+
+  pub back-safe : 5 * b + 2 < 2 ^ 31 → SafeKernel backKernel n x
+  unfolding onHighs onLows
+  back-safe fits = record {
+    on-lows = λ i h. unupdate-safe (x i) (x (lows n + highBefore i)) (x (lows n + highAfter n i)) b b (le i (omega arith)) (omega (arith, le (lows n + highBefore i) (omega arith))) (omega (arith, le (lows n + highAfter n i) (omega arith))) (omega arith);
+    on-highs = λ i h. unpredict-safe (x (lows n + i)) (lowIn i) (lowIn (lowAfter n i)) b (2 * b) (le (lows n + i) (omega arith)) (lowBack-size i (omega arith)) (lowBack-size (lowAfter n i) (omega arith)) (omega arith);
+  }

@@ -1,0 +1,203 @@
+/*
+ * suzdrepa.h - fixed-point wavelet engine for roll pictures
+ *
+ * Link with libengine.a. Every function is total: it takes any pointers to
+ * memory of the stated lengths (a length may be 0) and any numbers, needs no
+ * setup, keeps no state between calls, and ends.
+ *
+ * Lengths count elements, not bytes: `pixels_len` of a uint16_t array of
+ * 640 * 512 pixels is 640 * 512.
+ *
+ * Memory that a call writes must not overlap what it reads or the other
+ * memory it writes. What is declared const is read and never written.
+ *
+ * THE ANSWER of every call is 0 where the call was done, else the number of
+ * the refusal, and with refusals 6 and 7 also the node they hold of:
+ *
+ *   bits  0 to  7   refusal number             SUZ_NUMBER(answer)
+ *   bits  8 to 15   level, from 1              SUZ_LEVEL(answer)
+ *   bits 16 to 23   pass, 1 to 3               SUZ_PASS(answer)
+ *   bits 24 to 31   node, 1 to 6               SUZ_NODE(answer)
+ *
+ * Level, pass and node are 0 with every other number.
+ *
+ *   pass 1 rows, 2 columns of row-low, 3 columns of row-high
+ *   node 1 P1, 2 U1, 3 P2, 4 U2, 5 G1 (low values), 6 G2 (high values)
+ *
+ *   number  meaning
+ *    0      done
+ *    1      the bytes end before a field's tag, length or announced value is whole
+ *    2      the tag is not the next one due, or a caller names one outside 1 to 4
+ *    3      the length is not that tag's
+ *    4      a number is outside its limits, or an unused level is not zero
+ *    5      bytes follow the fourth field
+ *    6      a node does not fit
+ *    7      a kept node's error is not below two steps
+ *    8      a side is not admitted
+ *    9      a lent slice is too short
+ *   10      a pixel is 2^B or more
+ *   11      the 5/3 plane is the transform of no picture of that depth and size
+ *
+ * PICTURES. Depth B is 1 to 12 bits, levels L 1 to 5. A side is at most 4,096
+ * and greater than 2 to the power (L - 1). Pixels are 16-bit, row by row,
+ * without gaps between rows, each below 2 to the power B.
+ *
+ * PLANES are 32-bit signed, row by row, as large as the picture. Each level
+ * puts the low values of every row and column first: the part that level 1
+ * leaves as low-low is the upper left (width + 1) / 2 by (height + 1) / 2, and
+ * level 2 works that part in place, and so on. Row-high, column-low stands
+ * upper right; row-low, column-high lower left.
+ *
+ * LENT MEMORY. Each transform takes pixels, plane and a work area. All three
+ * need width * height elements. Elements past that count are never written.
+ * The work area may hold anything before the call.
+ *
+ *   done         the output (plane, or pixels for the way back) has its first
+ *                width * height elements written; the work area's first
+ *                width * height elements are 0
+ *   refused 11   the work area's first width * height elements are 0, the
+ *                output is untouched
+ *   refused by   nothing is touched
+ *   another
+ *
+ * WIDTH TABLES are bytes: four fields in order, each a tag (one byte), a
+ * length (two bytes, high byte first) and a value. The table is 20 + 36 * L
+ * bytes long.
+ *
+ *   tag  length  value
+ *   1    1       depth B, 1 to 12
+ *   2    1       levels L, 1 to 5
+ *   3    6       fractional bits F, 1 to 24, of the constants of P1, U1, P2,
+ *                U2, G1, G2
+ *   4    36 * L  per level the six nodes of pass 1, of pass 2, of pass 3, each
+ *                integer bits (1 to 12), then fractional bits f (0 to 20)
+ *
+ * A node holds an integer v that means v / 2^f, with v from -2^(IB+f-1) to
+ * 2^(IB+f-1) - 1. A coefficient of the 9/7 plane has the f of the node that
+ * gave it: pass 2 left of the middle, pass 3 right of it, G1 above, G2 below,
+ * of its level.
+ */
+#ifndef SUZDREPA_H
+#define SUZDREPA_H
+
+#include <stddef.h>
+#include <stdint.h>
+
+#ifdef __cplusplus
+extern "C" {
+#endif
+
+/* The parts of an answer. */
+#define SUZ_NUMBER(answer) ((unsigned)((uint32_t)(answer) & 0xFFu))
+#define SUZ_LEVEL(answer)  ((unsigned)(((uint32_t)(answer) >> 8) & 0xFFu))
+#define SUZ_PASS(answer)   ((unsigned)(((uint32_t)(answer) >> 16) & 0xFFu))
+#define SUZ_NODE(answer)   ((unsigned)(((uint32_t)(answer) >> 24) & 0xFFu))
+
+/* Limits. */
+#define SUZ_MOST_DEPTH 12
+#define SUZ_MOST_LEVELS 5
+#define SUZ_MOST_SIDE 4096
+#define SUZ_MOST_INTEGER_BITS 12
+#define SUZ_MOST_FRACTION_BITS 20
+#define SUZ_MOST_CONSTANT_BITS 24
+
+/* The length in bytes of a width table of so many levels. */
+#define SUZ_TABLE_LENGTH(levels) (20 + 36 * (size_t)(levels))
+
+/* A short text for the number of an answer. */
+static inline const char *suz_refusal_text(uint32_t answer)
+{
+    switch (SUZ_NUMBER(answer)) {
+    case 0: return "done";
+    case 1: return "the bytes end before a field's tag, length or announced value is whole";
+    case 2: return "the tag is not the next one due, or a caller names one outside 1 to 4";
+    case 3: return "the length is not that tag's";
+    case 4: return "a number is outside its limits, or an unused level is not zero";
+    case 5: return "bytes follow the fourth field";
+    case 6: return "a node does not fit";
+    case 7: return "a kept node's error is not below two steps";
+    case 8: return "a side is not admitted";
+    case 9: return "a lent slice is too short";
+    case 10: return "a pixel is 2^B or more";
+    case 11: return "the 5/3 plane is the transform of no picture of that depth and size";
+    default: return "unknown";
+    }
+}
+
+/*
+ * Reads a width table and judges it.
+ * 0: under this table no picture of its depth drives any value out of its
+ *    width, and every coefficient is less than two of its own steps from the
+ *    exact one.
+ * Refused 1 to 5, field by field, then 6 and 7 in node order (at one node 6
+ * first). Reads the table, writes nothing.
+ */
+uint32_t suz_table_check(const uint8_t *table, size_t table_len);
+
+/*
+ * Reads a width table and does not judge it: 0 or 1 to 5.
+ * Reads the table, writes nothing.
+ */
+uint32_t suz_table_form(const uint8_t *table, size_t table_len);
+
+/*
+ * Where the value of a tag stands in the table's bytes.
+ * 0: *start and *length are written; the value is table[*start] up to, not
+ *    including, table[*start + *length].
+ * Refused 2 for a tag outside 1 to 4, then 1 to 5 of the whole table; *start
+ * and *length are untouched.
+ */
+uint32_t suz_table_value(const uint8_t *table, size_t table_len, uint8_t tag,
+                         uint32_t *start, uint32_t *length);
+
+/*
+ * Writes a new table, equal to the old but for the width of one node, to the
+ * start of `out`. The new table is as long as the old one; `out` past it is
+ * untouched. The new table is not judged.
+ * Refused 1 to 5 of the old table, 4 where the table lacks the level, pass or
+ * node or where a number is outside its limits, 9 where `out` is shorter than
+ * the table; `out` is untouched.
+ */
+uint32_t suz_table_change(const uint8_t *table, size_t table_len,
+                          uint8_t level, uint8_t pass, uint8_t node,
+                          uint8_t integer_bits, uint8_t fraction_bits,
+                          uint8_t *out, size_t out_len);
+
+/*
+ * 9/7 forward under a width table; depth and levels are the table's.
+ * Reads table and pixels, writes plane and work (see LENT MEMORY).
+ * Refused 1 to 5 of the table's bytes, then 6 and 7, 8, 9, 10.
+ */
+uint32_t suz_forward97(const uint8_t *table, size_t table_len,
+                       const uint16_t *pixels, size_t pixels_len,
+                       size_t width, size_t height,
+                       int32_t *plane, size_t plane_len,
+                       int32_t *work, size_t work_len);
+
+/*
+ * 5/3 forward: the exact copy of a picture.
+ * Reads pixels, writes plane and work (see LENT MEMORY).
+ * Refused 4 (depth or levels), 8, 9, 10.
+ */
+uint32_t suz_forward53(uint8_t depth, uint8_t levels,
+                       const uint16_t *pixels, size_t pixels_len,
+                       size_t width, size_t height,
+                       int32_t *plane, size_t plane_len,
+                       int32_t *work, size_t work_len);
+
+/*
+ * 5/3 back: the picture of an exact copy.
+ * Reads plane, writes pixels and work (see LENT MEMORY).
+ * Refused 4 (depth or levels), 8, 9, 11.
+ */
+uint32_t suz_inverse53(uint8_t depth, uint8_t levels,
+                       const int32_t *plane, size_t plane_len,
+                       size_t width, size_t height,
+                       uint16_t *pixels, size_t pixels_len,
+                       int32_t *work, size_t work_len);
+
+#ifdef __cplusplus
+}
+#endif
+
+#endif

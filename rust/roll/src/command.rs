@@ -1,0 +1,426 @@
+//! The commands.
+
+use crate::container::Plane;
+use crate::pgm::Picture;
+use crate::progress::Progress;
+use crate::table::{kept_place, Table};
+use crate::{png, sample, show, suggest, Failure};
+use std::ffi::{OsStr, OsString};
+use std::io::Write;
+use std::path::Path;
+use suzdrepa::Refusal;
+
+const HELP: &str = "\
+roll - works scanned pictures of punched rolls
+
+  roll check TABLE                      is this width table accepted?
+  roll show TABLE                       its widths, bounds and head-room
+  roll suggest DEPTH LEVELS [OUT]       a tight table that is accepted; written
+                                        to OUT, or shown
+  roll forward97 TABLE IN.pgm OUT       9/7 coefficients under a width table
+  roll copy [--levels N] IN.pgm OUT     exact copy as 5/3 coefficients; without
+                                        --levels as many as the sides admit
+  roll restore IN OUT.pgm               the picture of an exact copy
+  roll picture PLANE OUT.png            coefficients as a grey picture
+  roll sample DIR                       a drawn roll and some tables to try
+  roll --help
+
+TABLE is a width table as bytes: 20 + 36 * levels. Depth is 1 to 12 bits,
+levels 1 to 5; a side is at most 4096 and greater than 2^(levels - 1).
+
+Pictures are PGM files (P5) with a largest value up to 4095; the depth is the
+bits of the largest value. `restore` writes 2^depth - 1 as largest value.
+
+Files of coefficients have two lines of text, `suzdrepa-53` or `suzdrepa-97`
+and then depth, levels, width and height; with 97 the width table follows;
+then the coefficients, 32-bit signed, low byte first, row by row. A 9/7
+coefficient v means v / 2^f with the fractional bits f of its node.
+
+Exit status: 0 done, 1 refused (number and reason are told), 2 a wrong command
+line or a file that cannot be read, written or understood.
+";
+
+/// Runs the tool and gives its exit status.
+pub fn run(arguments: &[OsString], out: &mut dyn Write, err: &mut dyn Write) -> u8 {
+    match command(arguments, out) {
+        Ok(()) => 0,
+        Err(failure) => {
+            // Where even this cannot be written, the status tells it.
+            let _ = writeln!(err, "roll: {failure}");
+            failure.status()
+        }
+    }
+}
+
+fn command(arguments: &[OsString], out: &mut dyn Write) -> Result<(), Failure> {
+    let (options, words) = sort(arguments)?;
+    let Some((name, files)) = words.split_first() else {
+        if options.help {
+            return tell(out, HELP);
+        }
+        return Err(Failure::Usage("no command is given".into()));
+    };
+    if options.help || *name == "help" {
+        return tell(out, HELP);
+    }
+    let name = name.to_str().unwrap_or("");
+    if options.levels.is_some() && name != "copy" {
+        return Err(Failure::Usage("--levels goes with `copy` alone".into()));
+    }
+    match (name, files) {
+        ("check", [table]) => check(table, out),
+        ("show", [table]) => show_table(table, out),
+        ("suggest", [depth, levels]) => suggest_table(depth, levels, None, out),
+        ("suggest", [depth, levels, to]) => suggest_table(depth, levels, Some(to), out),
+        ("forward97", [table, from, to]) => forward97(table, from, to, out),
+        ("copy", [from, to]) => copy(options.levels, from, to, out),
+        ("restore", [from, to]) => restore(from, to, out),
+        ("picture", [from, to]) => picture(from, to, out),
+        ("sample", [folder]) => write_sample(folder, out),
+        (
+            "check" | "show" | "suggest" | "forward97" | "copy" | "restore" | "picture" | "sample",
+            _,
+        ) => Err(Failure::Usage(format!(
+            "`{name}` takes other arguments than these"
+        ))),
+        _ => Err(Failure::Usage(format!("there is no command `{name}`"))),
+    }
+}
+
+#[derive(Default)]
+struct Options {
+    help: bool,
+    levels: Option<u8>,
+}
+
+/// Takes the options out of the arguments; after `--` there are none.
+fn sort(arguments: &[OsString]) -> Result<(Options, Vec<&OsStr>), Failure> {
+    let mut options = Options::default();
+    let mut words = Vec::new();
+    let mut rest = arguments.iter();
+    while let Some(argument) = rest.next() {
+        let text = argument.to_str().unwrap_or("");
+        if text == "--" {
+            words.extend(rest.by_ref().map(OsString::as_os_str));
+        } else if text == "--help" || text == "-h" {
+            options.help = true;
+        } else if text == "--levels" {
+            let number = rest
+                .next()
+                .ok_or_else(|| Failure::Usage("--levels needs a number".into()))?;
+            options.levels = Some(small_number("--levels", number)?);
+        } else if let Some(number) = text.strip_prefix("--levels=") {
+            options.levels = Some(small_number("--levels", OsStr::new(number))?);
+        } else if text.starts_with('-') && text.len() > 1 {
+            return Err(Failure::Usage(format!("there is no option `{text}`")));
+        } else {
+            words.push(argument.as_os_str());
+        }
+    }
+    Ok((options, words))
+}
+
+fn small_number(name: &str, text: &OsStr) -> Result<u8, Failure> {
+    let number = text.to_str().and_then(|t| t.parse().ok());
+    number.ok_or_else(|| {
+        Failure::Usage(format!(
+            "{name} is a number from 0 to 255, not `{}`",
+            text.to_string_lossy()
+        ))
+    })
+}
+
+fn tell(out: &mut dyn Write, text: &str) -> Result<(), Failure> {
+    match out.write_all(text.as_bytes()).and_then(|()| out.flush()) {
+        // The reader has seen enough.
+        Err(error) if error.kind() == std::io::ErrorKind::BrokenPipe => Ok(()),
+        Err(error) => Err(Failure::File(format!("standard output: {error}"))),
+        Ok(()) => Ok(()),
+    }
+}
+
+fn shown(path: &OsStr) -> String {
+    path.to_string_lossy().into_owned()
+}
+
+fn read(path: &OsStr) -> Result<Vec<u8>, Failure> {
+    std::fs::read(path).map_err(|error| Failure::File(format!("{}: {error}", shown(path))))
+}
+
+fn write(path: &OsStr, bytes: &[u8]) -> Result<(), Failure> {
+    std::fs::write(path, bytes).map_err(|error| Failure::File(format!("{}: {error}", shown(path))))
+}
+
+fn not_understood(path: &OsStr) -> impl Fn(String) -> Failure + '_ {
+    move |text| Failure::File(format!("{}: {text}", shown(path)))
+}
+
+fn refused(path: &OsStr) -> impl Fn(Refusal) -> Failure + '_ {
+    move |refusal| Failure::Refused(format!("{}: {refusal}", shown(path)))
+}
+
+fn check(path: &OsStr, out: &mut dyn Write) -> Result<(), Failure> {
+    suzdrepa::check_table(&read(path)?).map_err(refused(path))?;
+    tell(out, &format!("{}: accepted\n", shown(path)))
+}
+
+fn show_table(path: &OsStr, out: &mut dyn Write) -> Result<(), Failure> {
+    let bytes = read(path)?;
+    let table = Table::read(&bytes).map_err(refused(path))?;
+    tell(out, &show::text(&table))?;
+    match suzdrepa::check_table(&bytes) {
+        Ok(()) => tell(out, "accepted\n"),
+        Err(refusal) => tell(out, &format!("{refusal}\n")),
+    }
+}
+
+fn suggest_table(
+    depth: &OsStr,
+    levels: &OsStr,
+    to: Option<&OsStr>,
+    out: &mut dyn Write,
+) -> Result<(), Failure> {
+    let depth = small_number("DEPTH", depth)?;
+    let levels = small_number("LEVELS", levels)?;
+    if !(1..=12).contains(&depth) {
+        return Err(Failure::Usage("DEPTH is 1 to 12".into()));
+    }
+    if !(1..=5).contains(&levels) {
+        return Err(Failure::Usage("LEVELS is 1 to 5".into()));
+    }
+    let table = suggest::suggest(depth, levels, &Progress::new());
+    match to {
+        None => tell(out, &show::text(&table)),
+        Some(path) => {
+            write(path, &table.write())?;
+            let bits: usize = table
+                .widths
+                .iter()
+                .map(|w| usize::from(w.integer_bits + w.fraction_bits))
+                .sum();
+            let nodes = table.widths.len();
+            tell(
+                out,
+                &format!(
+                    "{}: {depth} bits, {levels} levels, {:.1} bits a node on average\n",
+                    shown(path),
+                    bits as f64 / nodes as f64
+                ),
+            )
+        }
+    }
+}
+
+fn forward97(
+    table_path: &OsStr,
+    from: &OsStr,
+    to: &OsStr,
+    out: &mut dyn Write,
+) -> Result<(), Failure> {
+    let bytes = read(table_path)?;
+    suzdrepa::check_table(&bytes).map_err(refused(table_path))?;
+    let table = Table::read(&bytes).map_err(refused(table_path))?;
+    let picture = Picture::read(&read(from)?).map_err(not_understood(from))?;
+    let progress = Progress::new();
+    progress.tell(&format!("working {} x {}", picture.width, picture.height));
+    let values = suzdrepa::forward97_to_vec(&bytes, &picture.pixels, picture.width, picture.height)
+        .map_err(refused(from))?;
+    let plane = Plane {
+        depth: table.depth,
+        levels: table.levels,
+        width: picture.width,
+        height: picture.height,
+        table: Some(bytes),
+        values,
+    };
+    progress.tell("writing");
+    write(to, &plane.write())?;
+    drop(progress);
+    tell(
+        out,
+        &format!(
+            "{}: 9/7 coefficients, {} x {}, {} levels\n",
+            shown(to),
+            plane.width,
+            plane.height,
+            plane.levels
+        ),
+    )
+}
+
+/// The most levels, up to 5, for which both sides are greater than
+/// 2^(levels - 1); 1 where none is.
+fn most_levels(width: usize, height: usize) -> u8 {
+    let side = width.min(height);
+    (2..=5)
+        .rev()
+        .find(|levels| side > 1 << (levels - 1))
+        .unwrap_or(1)
+}
+
+fn copy(levels: Option<u8>, from: &OsStr, to: &OsStr, out: &mut dyn Write) -> Result<(), Failure> {
+    let picture = Picture::read(&read(from)?).map_err(not_understood(from))?;
+    let (width, height) = (picture.width, picture.height);
+    let levels = levels.unwrap_or_else(|| most_levels(width, height));
+    let progress = Progress::new();
+    progress.tell(&format!("copying {width} x {height}"));
+    let values = suzdrepa::forward53_to_vec(picture.depth, levels, &picture.pixels, width, height)
+        .map_err(refused(from))?;
+    let plane = Plane {
+        depth: picture.depth,
+        levels,
+        width,
+        height,
+        table: None,
+        values,
+    };
+    progress.tell("writing");
+    write(to, &plane.write())?;
+    drop(progress);
+    tell(
+        out,
+        &format!(
+            "{}: exact copy, {width} x {height}, {} bits, {levels} levels\n",
+            shown(to),
+            picture.depth
+        ),
+    )
+}
+
+fn restore(from: &OsStr, to: &OsStr, out: &mut dyn Write) -> Result<(), Failure> {
+    let plane = Plane::read(&read(from)?).map_err(not_understood(from))?;
+    if plane.table.is_some() {
+        return Err(Failure::File(format!(
+            "{}: 9/7 coefficients; an exact copy (suzdrepa-53) is restored",
+            shown(from)
+        )));
+    }
+    let progress = Progress::new();
+    progress.tell(&format!("restoring {} x {}", plane.width, plane.height));
+    let pixels = suzdrepa::inverse53_to_vec(
+        plane.depth,
+        plane.levels,
+        &plane.values,
+        plane.width,
+        plane.height,
+    )
+    .map_err(refused(from))?;
+    let picture = Picture {
+        width: plane.width,
+        height: plane.height,
+        depth: plane.depth,
+        pixels,
+    };
+    progress.tell("writing");
+    write(to, &picture.write())?;
+    drop(progress);
+    tell(
+        out,
+        &format!(
+            "{}: {} x {}, {} bits\n",
+            shown(to),
+            picture.width,
+            picture.height,
+            picture.depth
+        ),
+    )
+}
+
+/// The grey values of a plane. Each band has its own scale: the coarsest
+/// picture from its darkest to its lightest, the others about middle grey.
+fn greys(plane: &Plane) -> Vec<u8> {
+    let size = (plane.width, plane.height);
+    let band = |i: usize| {
+        let (level, pass, node) = kept_place(plane.levels, size, i % size.0, i / size.0);
+        let number = 4 * usize::from(level - 1) + 2 * usize::from(pass - 2) + usize::from(node - 5);
+        (number, pass == 2 && node == 5)
+    };
+    let mut ends = [(i32::MAX, i32::MIN); 20];
+    for (i, &value) in plane.values.iter().enumerate() {
+        let (least, most) = &mut ends[band(i).0];
+        (*least, *most) = ((*least).min(value), (*most).max(value));
+    }
+    plane
+        .values
+        .iter()
+        .enumerate()
+        .map(|(i, &value)| {
+            let (number, coarsest) = band(i);
+            let (least, most) = (i64::from(ends[number].0), i64::from(ends[number].1));
+            let value = i64::from(value);
+            if coarsest {
+                (255 * (value - least) / (most - least).max(1)) as u8
+            } else {
+                let reach = least.abs().max(most.abs()).max(1);
+                (128 + 127 * value / reach) as u8
+            }
+        })
+        .collect()
+}
+
+fn picture(from: &OsStr, to: &OsStr, out: &mut dyn Write) -> Result<(), Failure> {
+    let plane = Plane::read(&read(from)?).map_err(not_understood(from))?;
+    let least = 1usize << plane.levels.clamp(1, 5).saturating_sub(1);
+    let drawn = (1..=5).contains(&plane.levels)
+        && [plane.width, plane.height]
+            .iter()
+            .all(|&side| side > least && side <= suzdrepa::MOST_SIDE);
+    if !drawn {
+        return Err(Failure::File(format!(
+            "{}: no plane has {} levels and {} x {} coefficients",
+            shown(from),
+            plane.levels,
+            plane.width,
+            plane.height
+        )));
+    }
+    let progress = Progress::new();
+    progress.tell(&format!("drawing {} x {}", plane.width, plane.height));
+    write(to, &png::grey(plane.width, plane.height, &greys(&plane)))?;
+    drop(progress);
+    tell(
+        out,
+        &format!("{}: {} x {}\n", shown(to), plane.width, plane.height),
+    )
+}
+
+fn write_sample(folder: &OsStr, out: &mut dyn Write) -> Result<(), Failure> {
+    std::fs::create_dir_all(folder)
+        .map_err(|error| Failure::File(format!("{}: {error}", shown(folder))))?;
+    for (name, bytes) in sample::files(&Progress::new()) {
+        let path = Path::new(folder).join(name);
+        write(path.as_os_str(), &bytes)?;
+        tell(out, &format!("{}: {} bytes\n", path.display(), bytes.len()))?;
+    }
+    Ok(())
+}
+
+#[cfg(test)]
+mod tests {
+    use super::*;
+
+    #[test]
+    fn most_levels_of_a_picture() {
+        assert_eq!(most_levels(640, 512), 5);
+        assert_eq!(most_levels(17, 4096), 5);
+        assert_eq!(most_levels(16, 4096), 4);
+        assert_eq!(most_levels(9, 9), 4);
+        assert_eq!(most_levels(8, 9), 3);
+        assert_eq!(most_levels(3, 9), 2);
+        assert_eq!(most_levels(2, 9), 1);
+        assert_eq!(most_levels(0, 0), 1);
+    }
+
+    #[test]
+    fn greys_of_a_plane() {
+        let plane = Plane {
+            depth: 8,
+            levels: 1,
+            width: 4,
+            height: 2,
+            table: None,
+            values: vec![-100, 100, 7, -14, 0, 0, i32::MIN, i32::MAX],
+        };
+        assert_eq!(greys(&plane), [0, 255, 191, 1, 128, 128, 1, 254]);
+    }
+}

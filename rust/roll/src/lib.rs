@@ -1,0 +1,50 @@
+//! The tool `roll`: width tables, 9/7 coefficients and exact 5/3 copies of
+//! scanned roll pictures, from the command line.
+//!
+//! Exit status: 0 done, 1 refused by the engine, 2 a wrong command line or a
+//! file that cannot be read, written or understood.
+
+pub mod bounds;
+pub mod container;
+pub mod pgm;
+pub mod png;
+pub mod progress;
+pub mod sample;
+pub mod show;
+pub mod suggest;
+pub mod table;
+
+mod command;
+
+pub use command::run;
+
+use std::fmt;
+
+/// Why a command was not done.
+#[derive(Debug, PartialEq, Eq)]
+pub enum Failure {
+    /// The engine refused; the text names file and refusal.
+    Refused(String),
+    /// A file cannot be read, written or understood.
+    File(String),
+    /// The command line is wrong.
+    Usage(String),
+}
+
+impl Failure {
+    pub fn status(&self) -> u8 {
+        match self {
+            Failure::Refused(_) => 1,
+            Failure::File(_) | Failure::Usage(_) => 2,
+        }
+    }
+}
+
+impl fmt::Display for Failure {
+    fn fmt(&self, f: &mut fmt::Formatter<'_>) -> fmt::Result {
+        match self {
+            Failure::Refused(text) | Failure::File(text) => write!(f, "{text}"),
+            Failure::Usage(text) => write!(f, "{text} (`roll --help` tells more)"),
+        }
+    }
+}

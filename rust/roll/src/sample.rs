@@ -1,0 +1,115 @@
+//! A drawn picture of a punched roll and some width tables to try.
+
+use crate::pgm::Picture;
+use crate::progress::Progress;
+use crate::suggest::suggest;
+use crate::table::{number_of, Table, Width};
+
+/// The files of the sample, by name.
+pub fn files(progress: &Progress) -> Vec<(&'static str, Vec<u8>)> {
+    let church = church();
+    let museum = suggest(8, 5, progress);
+    let mut narrow = museum.clone();
+    // As in a table that was cut too close at the third level.
+    narrow.widths[number_of(3, 1, 1)].integer_bits -= 1;
+    let mut rough = church.clone();
+    for (number, width) in rough.widths.iter_mut().enumerate() {
+        // The inner nodes of the rows of level 1.
+        if number < 4 {
+            width.fraction_bits = 6;
+        }
+    }
+    vec![
+        ("roll.pgm", roll(640, 512).write()),
+        ("church.table", church.write()),
+        ("museum.table", museum.write()),
+        ("refused6.table", narrow.write()),
+        ("refused7.table", rough.write()),
+    ]
+}
+
+/// Generous: widths as they come, and steps finer than a pixel's.
+fn church() -> Table {
+    let kept = Width {
+        integer_bits: 12,
+        fraction_bits: 10,
+    };
+    let others = Width {
+        integer_bits: 12,
+        fraction_bits: 20,
+    };
+    Table::of_two_widths(8, 3, 24, kept, others)
+}
+
+/// Paper with rows of round holes, dense in the second half, and some grain.
+pub fn roll(width: usize, height: usize) -> Picture {
+    let mut state = 0x1234_5678_9ABC_DEF1u64;
+    let mut pixels = Vec::with_capacity(width * height);
+    for y in 0..height {
+        for x in 0..width {
+            state ^= state << 13;
+            state ^= state >> 7;
+            state ^= state << 17;
+            let grain = (state >> 40) as i32 % 9 - 4;
+            let paper = 214 + (x * 18 / width) as i32 - (y * 12 / height) as i32;
+            let value = if in_hole(x as i32, y as i32, height as i32) {
+                16 + grain / 2
+            } else {
+                paper + grain
+            };
+            pixels.push(value.clamp(0, 255) as u16);
+        }
+    }
+    Picture {
+        width,
+        height,
+        depth: 8,
+        pixels,
+    }
+}
+
+/// Tracks run down the roll; whether a place of a track is punched is settled
+/// by a small sum, so that the sample is the same everywhere.
+fn in_hole(x: i32, y: i32, height: i32) -> bool {
+    let dense = y > height / 2;
+    let (pitch, radius) = if dense { (8, 3) } else { (16, 5) };
+    let (track, row) = (x / pitch, y / pitch);
+    let punched = if dense {
+        (track * 5 + row * 3) % 7 < 5
+    } else {
+        (track * 7 + row * row * 3) % 11 < 3
+    };
+    let (dx, dy) = (x - track * pitch - pitch / 2, y - row * pitch - pitch / 2);
+    punched && dx * dx + dy * dy <= radius * radius
+}
+
+#[cfg(test)]
+mod tests {
+    use super::*;
+
+    #[test]
+    fn the_tables_do_what_their_names_say() {
+        let files = files(&Progress::silent());
+        let number = |name: &str| {
+            let (_, bytes) = files.iter().find(|(n, _)| *n == name).unwrap();
+            match suzdrepa::check_table(bytes) {
+                Ok(()) => 0,
+                Err(refusal) => refusal.number(),
+            }
+        };
+        assert_eq!(number("church.table"), 0);
+        assert_eq!(number("museum.table"), 0);
+        assert_eq!(number("refused6.table"), 6);
+        assert_eq!(number("refused7.table"), 7);
+    }
+
+    #[test]
+    fn the_picture_has_paper_and_holes() {
+        let picture = roll(640, 512);
+        assert_eq!(picture.pixels.len(), 640 * 512);
+        let dark = picture.pixels.iter().filter(|&&p| p < 30).count();
+        let light = picture.pixels.iter().filter(|&&p| p > 190).count();
+        assert_eq!(dark + light, picture.pixels.len());
+        assert!(dark > picture.pixels.len() / 20 && light > picture.pixels.len() / 2);
+    }
+}

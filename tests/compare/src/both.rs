@@ -1,0 +1,136 @@
+//! One call to the engine and one to the reference, with equal lent memory;
+//! answers and memory are compared in whole.
+
+use reference::{calls, Width};
+
+/// The answer that both gave.
+pub type Answer = Result<(), reference::Refusal>;
+
+/// Asserts that the engine's result says what the reference's says.
+pub fn same(ours: Result<(), suzdrepa::Refusal>, due: Answer) -> Answer {
+    let ours_plain = ours.map_err(|refusal| {
+        let place = refusal.place().map(|p| (p.level, p.pass, p.node));
+        (refusal.number(), place)
+    });
+    let due_plain = due.map_err(|refusal| {
+        let place = refusal.place.map(|p| (p.level, p.pass, p.node));
+        (refusal.number, place)
+    });
+    assert_eq!(ours_plain, due_plain, "engine left, reference right");
+    due
+}
+
+pub fn table_check(table: &[u8]) -> Answer {
+    same(suzdrepa::check_table(table), calls::table_check(table))
+}
+
+pub fn table_form(table: &[u8]) -> Answer {
+    same(suzdrepa::table_form(table), calls::table_form(table))
+}
+
+pub fn table_value(table: &[u8], tag: u8) -> Answer {
+    let ours = suzdrepa::table_value(table, tag);
+    let due = calls::table_value(table, tag);
+    if let (Ok(value), Ok(stretch)) = (ours, &due) {
+        assert_eq!(value.as_ptr_range(), table[stretch.clone()].as_ptr_range());
+    }
+    same(ours.map(|_| ()), due.map(|_| ()))
+}
+
+/// `place` is level, pass and node. `out` is lent memory before the call.
+pub fn table_change(table: &[u8], place: [u8; 3], width: Width, out: &[u8]) -> Answer {
+    let [level, pass, node] = place;
+    let (mut ours_out, mut due_out) = (out.to_vec(), out.to_vec());
+    let ours = suzdrepa::change_width_into(
+        table,
+        level,
+        pass,
+        node,
+        width.integer_bits,
+        width.fraction_bits,
+        &mut ours_out,
+    );
+    let due = calls::table_change(table, level, pass, node, width, &mut due_out);
+    let answer = same(ours, due);
+    assert_eq!(ours_out, due_out, "out after a change");
+    answer
+}
+
+/// What is lent to a transform: input, output and work area, as they stand
+/// before the call.
+pub struct Lent<'a, In, Out> {
+    pub input: &'a [In],
+    pub output: &'a [Out],
+    pub work: &'a [i32],
+}
+
+/// What a transform answered, and the output afterwards.
+pub struct Done<Out> {
+    pub answer: Answer,
+    pub output: Vec<Out>,
+}
+
+/// Calls both and compares answers, output, work area and input.
+fn transform<In, Out>(
+    lent: Lent<In, Out>,
+    ours: impl FnOnce(&[In], &mut [Out], &mut [i32]) -> Result<(), suzdrepa::Refusal>,
+    due: impl FnOnce(&[In], &mut [Out], &mut [i32]) -> Answer,
+) -> Done<Out>
+where
+    In: Clone + PartialEq,
+    Out: Clone + PartialEq + std::fmt::Debug,
+{
+    let input = lent.input.to_vec();
+    let (mut ours_out, mut ours_work) = (lent.output.to_vec(), lent.work.to_vec());
+    let (mut due_out, mut due_work) = (lent.output.to_vec(), lent.work.to_vec());
+    let ours = ours(&input, &mut ours_out, &mut ours_work);
+    let due = due(lent.input, &mut due_out, &mut due_work);
+    let answer = same(ours, due);
+    assert!(ours_out == due_out, "output differs after {answer:?}");
+    assert!(ours_work == due_work, "work area differs after {answer:?}");
+    assert!(input == lent.input, "input changed");
+    Done {
+        answer,
+        output: ours_out,
+    }
+}
+
+pub fn forward97(table: &[u8], width: usize, height: usize, lent: Lent<u16, i32>) -> Done<i32> {
+    transform(
+        lent,
+        |pixels, plane, work| suzdrepa::forward97(table, pixels, width, height, plane, work),
+        |pixels, plane, work| calls::forward97(table, pixels, width, height, plane, work),
+    )
+}
+
+pub fn forward53(
+    depth: u8,
+    levels: u8,
+    width: usize,
+    height: usize,
+    lent: Lent<u16, i32>,
+) -> Done<i32> {
+    transform(
+        lent,
+        |pixels, plane, work| {
+            suzdrepa::forward53(depth, levels, pixels, width, height, plane, work)
+        },
+        |pixels, plane, work| calls::forward53(depth, levels, pixels, width, height, plane, work),
+    )
+}
+
+pub fn inverse53(
+    depth: u8,
+    levels: u8,
+    width: usize,
+    height: usize,
+    lent: Lent<i32, u16>,
+) -> Done<u16> {
+    transform(
+        lent,
+        |plane, pixels, work| {
+            suzdrepa::inverse53(depth, levels, plane, width, height, pixels, work)
+        },
+        |plane, pixels, work| calls::inverse53(depth, levels, plane, width, height, pixels, work),
+    )
+}

@@ -1,0 +1,219 @@
+//! Pictures that drive a chosen value as far as it goes: every pixel is the
+//! lightest or the darkest, by the sign with which it counts in that value.
+
+use crate::chance::Chance;
+use reference::places::{low_count, side_at};
+use reference::Place;
+
+/// The constants of a filter bank as doubles; signs are all that is asked.
+pub struct Filter {
+    stages: &'static [f64],
+}
+
+/// P1, U1, P2, U2; scaling changes no sign.
+pub const NINE_SEVEN: Filter = Filter {
+    stages: &[-1.586134342, -0.05298011854, 0.8829110762, 0.4435068522],
+};
+
+/// The two stages without their floors.
+pub const FIVE_THREE: Filter = Filter {
+    stages: &[-0.5, 0.25],
+};
+
+/// A value of one line, before a level or within its pass.
+#[derive(Clone, Copy)]
+enum Target {
+    /// What enters the level.
+    Entering,
+    /// What the stage (from 0) of this level's pass leaves.
+    Stage(usize),
+}
+
+impl Filter {
+    /// One pass, up to and including `last`; lows at even places.
+    fn pass(&self, line: &mut [f64], last: usize) {
+        let n = line.len();
+        for (stage, constant) in self.stages.iter().enumerate().take(last + 1) {
+            for i in (1 - stage % 2..n).step_by(2) {
+                let before = if i == 0 { 1 } else { i - 1 };
+                let after = if i + 1 == n { n - 2 } else { i + 1 };
+                line[i] += constant * (line[before] + line[after]);
+            }
+        }
+    }
+
+    /// How each of `n` samples counts in a value at `index`.
+    fn weights(&self, n: usize, level: u8, target: Target, index: usize) -> Vec<f64> {
+        (0..n)
+            .map(|place| {
+                let mut line = vec![0.0; n];
+                line[place] = 1.0;
+                for _ in 1..level {
+                    self.pass(&mut line, self.stages.len() - 1);
+                    line = line.into_iter().step_by(2).collect();
+                }
+                match target {
+                    Target::Entering => line[index],
+                    Target::Stage(stage) => {
+                        self.pass(&mut line, stage);
+                        line[2 * index + 1 - stage % 2]
+                    }
+                }
+            })
+            .collect()
+    }
+
+    /// The stage whose sign a node has: G1 is the last low, G2 the last high.
+    fn stage_of(&self, node: u8) -> usize {
+        match node {
+            5 => self.stages.len() - 1,
+            6 => self.stages.len() - 2,
+            stage => usize::from(stage) - 1,
+        }
+    }
+
+    /// The picture that makes the value of a node at column `x` and row `y`
+    /// of its part as large as it gets, or as small.
+    pub fn picture(
+        &self,
+        shape: Shape,
+        place: Place,
+        x: usize,
+        y: usize,
+        largest: bool,
+    ) -> Vec<u16> {
+        let node = Target::Stage(self.stage_of(place.node));
+        let (across, down) = match place.pass {
+            1 => (node, Target::Entering),
+            2 => (Target::Stage(self.stage_of(5)), node),
+            _ => (Target::Stage(self.stage_of(6)), node),
+        };
+        let across = self.weights(shape.width, place.level, across, x);
+        let down = self.weights(shape.height, place.level, down, y);
+        let lightest = (1u16 << shape.depth) - 1;
+        let mut picture = Vec::with_capacity(across.len() * down.len());
+        for d in &down {
+            for a in &across {
+                let light = (a * d > 0.0) == largest;
+                picture.push(if light { lightest } else { 0 });
+            }
+        }
+        picture
+    }
+}
+
+#[derive(Clone, Copy, Debug)]
+pub struct Shape {
+    pub depth: u8,
+    pub levels: u8,
+    pub width: usize,
+    pub height: usize,
+}
+
+impl Shape {
+    /// A shape with small sides, odd or even, often the smallest admitted.
+    pub fn small(chance: &mut Chance, depth: u8, levels: u8, spread: usize) -> Shape {
+        let least = (1 << (levels - 1)) + 1;
+        let mut side = || {
+            if chance.one_in(4) {
+                least
+            } else {
+                least + chance.below(spread)
+            }
+        };
+        Shape {
+            depth,
+            levels,
+            width: side(),
+            height: side(),
+        }
+    }
+
+    pub fn count(&self) -> usize {
+        self.width * self.height
+    }
+
+    /// Columns and rows of the values of a node.
+    pub fn values_of(&self, place: Place) -> (usize, usize) {
+        let (w, h) = (
+            side_at(self.width, place.level),
+            side_at(self.height, place.level),
+        );
+        let part = |n: usize, node: u8| match node {
+            1 | 3 | 6 => n / 2,
+            _ => low_count(n),
+        };
+        match place.pass {
+            1 => (part(w, place.node), h),
+            2 => (low_count(w), part(h, place.node)),
+            _ => (w / 2, part(h, place.node)),
+        }
+    }
+}
+
+/// A picture against a node at a place drawn by chance.
+pub fn against(filter: &Filter, chance: &mut Chance, shape: Shape, place: Place) -> Vec<u16> {
+    let (columns, rows) = shape.values_of(place);
+    let (x, y) = (chance.below(columns), chance.below(rows));
+    let largest = chance.one_in(2);
+    let mut picture = filter.picture(shape, place, x, y, largest);
+    // Some are roughened: errors of the cuts depend on low bits.
+    if chance.one_in(3) {
+        let top = (1u16 << shape.depth) - 1;
+        for pixel in &mut picture {
+            let off = chance.below(4) as u16;
+            *pixel = if *pixel == 0 {
+                off.min(top)
+            } else {
+                top - off.min(top)
+            };
+        }
+    }
+    picture
+}
+
+#[cfg(test)]
+mod tests {
+    use super::*;
+    use reference::{fixed97, Width, WidthTable};
+
+    /// The chosen value of the hostile picture is the largest among many.
+    #[test]
+    fn no_other_picture_goes_farther() {
+        let shape = Shape {
+            depth: 8,
+            levels: 2,
+            width: 7,
+            height: 6,
+        };
+        let table = WidthTable::uniform(8, 2, 24, Width::new(12, 18));
+        // HL of level 2, at column 1 of its part: place 3 across, 0 down.
+        let place = Place {
+            level: 2,
+            pass: 3,
+            node: 5,
+        };
+        assert_eq!(shape.values_of(place), (2, 2));
+        let value = |pixels: &[u16]| fixed97::transform(&table, pixels, 7, 6).plane[3];
+        let most = value(&NINE_SEVEN.picture(shape, place, 1, 0, true));
+        let least = value(&NINE_SEVEN.picture(shape, place, 1, 0, false));
+        let mut chance = Chance::new(1);
+        for _ in 0..2000 {
+            let mut pixels = chance.picture(8, shape.count());
+            if chance.one_in(2) {
+                for p in &mut pixels {
+                    *p = if *p > 127 { 255 } else { 0 };
+                }
+            }
+            let v = value(&pixels);
+            assert!(least < v && v < most);
+        }
+        // One pixel turned round takes away from it.
+        let picture = NINE_SEVEN.picture(shape, place, 1, 0, true);
+        for i in 0..picture.len() {
+            let mut other = picture.clone();
+            other[i] = 255 - other[i];
+            assert!(value(&other) <= most + 1);
+        }
+    }
+}

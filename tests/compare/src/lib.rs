@@ -1,0 +1,19 @@
+//! The engine's static library held against the second implementation.
+//!
+//! Every comparison calls both with the same bytes, pictures and lent memory
+//! and asserts that the answers and every lent element afterwards are equal.
+//! All chance comes from fixed seeds. With SUZDREPA_LONG=1 in the environment
+//! the tests run about twenty times as many rounds.
+
+pub mod both;
+pub mod chance;
+pub mod hostile;
+pub mod tables;
+
+/// The number of rounds: as given, or twenty times as many in a long run.
+pub fn rounds(usual: usize) -> usize {
+    match std::env::var_os("SUZDREPA_LONG") {
+        Some(value) if value == "1" => 20 * usual,
+        _ => usual,
+    }
+}

@@ -1,0 +1,78 @@
+//! The C example compiles without a warning against the header, links the
+//! static library and runs.
+
+use std::path::{Path, PathBuf};
+use std::process::Command;
+
+fn root() -> PathBuf {
+    Path::new(env!("CARGO_MANIFEST_DIR")).join("../..")
+}
+
+fn archive() -> PathBuf {
+    let folder = match std::env::var_os("SUZDREPA_LIB_DIR") {
+        Some(folder) => PathBuf::from(folder),
+        None => root().join("target/staticlib"),
+    };
+    folder.join("libengine.a")
+}
+
+fn compile(name: &str, source: &Path) -> PathBuf {
+    let program = Path::new(env!("CARGO_TARGET_TMPDIR")).join(name);
+    let output = Command::new("cc")
+        .args(["-std=c99", "-Wall", "-Wextra", "-pedantic", "-Werror", "-I"])
+        .arg(root().join("include"))
+        .arg(source)
+        .arg(archive())
+        .arg("-o")
+        .arg(&program)
+        .output()
+        .expect("cc starts");
+    assert!(
+        output.status.success(),
+        "{}",
+        String::from_utf8_lossy(&output.stderr)
+    );
+    program
+}
+
+#[test]
+fn the_example_runs() {
+    let program = compile("copy", &root().join("examples/copy.c"));
+    let output = Command::new(program).output().expect("it starts");
+    let text = String::from_utf8(output.stdout).unwrap();
+    assert!(output.status.success(), "{text}");
+    for line in [
+        "the picture came back the same",
+        "inverse53 of a damaged copy: refused 11: the 5/3 plane is the transform of no picture of that depth and size",
+        "check of a wide table: done",
+        "check of the narrow table: refused 6: a node does not fit (level 1, pass 1, node 1)",
+    ] {
+        assert!(text.lines().any(|l| l == line), "{line}\n---\n{text}");
+    }
+}
+
+#[test]
+fn the_macros_take_an_answer_apart() {
+    let source = Path::new(env!("CARGO_TARGET_TMPDIR")).join("macros.c");
+    std::fs::write(
+        &source,
+        "#include <stdio.h>\n\
+         #include \"suzdrepa.h\"\n\
+         int main(void)\n\
+         {\n\
+         uint32_t a = 0x06030507u;\n\
+         printf(\"%u %u %u %u %lu\\n\", SUZ_NUMBER(a), SUZ_LEVEL(a), SUZ_PASS(a), SUZ_NODE(a),\n\
+         (unsigned long)SUZ_TABLE_LENGTH(5));\n\
+         for (uint32_t n = 0; n <= 12; n++) printf(\"%s\\n\", suz_refusal_text(n));\n\
+         return 0;\n\
+         }\n",
+    )
+    .unwrap();
+    let output = Command::new(compile("macros", &source)).output().unwrap();
+    let text = String::from_utf8(output.stdout).unwrap();
+    let lines: Vec<&str> = text.lines().collect();
+    assert_eq!(lines[0], "7 5 3 6 200");
+    assert_eq!(lines[1], "done");
+    assert_eq!(lines[8], "a kept node's error is not below two steps");
+    assert_eq!(lines[13], "unknown");
+}

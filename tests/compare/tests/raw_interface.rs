@@ -1,0 +1,274 @@
+//! The bare C interface: whole answers, and what the safe wrapper does not
+//! show.
+
+use compare::chance::Chance;
+use compare::tables::{any, damaged, generous};
+use reference::refusal::answer;
+use reference::{calls, Width};
+// Brings the static library to the linker.
+use suzdrepa as _;
+
+extern "C" {
+    fn suz_table_check(table: *const u8, table_len: usize) -> u32;
+    fn suz_table_form(table: *const u8, table_len: usize) -> u32;
+    fn suz_table_value(
+        table: *const u8,
+        table_len: usize,
+        tag: u8,
+        start: *mut u32,
+        length: *mut u32,
+    ) -> u32;
+    fn suz_table_change(
+        table: *const u8,
+        table_len: usize,
+        level: u8,
+        pass: u8,
+        node: u8,
+        integer_bits: u8,
+        fraction_bits: u8,
+        out: *mut u8,
+        out_len: usize,
+    ) -> u32;
+    fn suz_forward97(
+        table: *const u8,
+        table_len: usize,
+        pixels: *const u16,
+        pixels_len: usize,
+        width: usize,
+        height: usize,
+        plane: *mut i32,
+        plane_len: usize,
+        work: *mut i32,
+        work_len: usize,
+    ) -> u32;
+    fn suz_forward53(
+        depth: u8,
+        levels: u8,
+        pixels: *const u16,
+        pixels_len: usize,
+        width: usize,
+        height: usize,
+        plane: *mut i32,
+        plane_len: usize,
+        work: *mut i32,
+        work_len: usize,
+    ) -> u32;
+    fn suz_inverse53(
+        depth: u8,
+        levels: u8,
+        plane: *const i32,
+        plane_len: usize,
+        width: usize,
+        height: usize,
+        pixels: *mut u16,
+        pixels_len: usize,
+        work: *mut i32,
+        work_len: usize,
+    ) -> u32;
+}
+
+fn some_table(chance: &mut Chance) -> Vec<u8> {
+    let table = match chance.below(2) {
+        0 => any(chance),
+        _ => generous(chance.within(1, 12) as u8, chance.within(1, 5) as u8),
+    };
+    let bytes = table.bytes().unwrap();
+    match chance.below(3) {
+        0 => damaged(chance, &bytes),
+        _ => bytes,
+    }
+}
+
+#[test]
+fn table_answers_in_whole() {
+    let mut chance = Chance::new(21);
+    for _ in 0..20_000 {
+        let table = some_table(&mut chance);
+        // SAFETY: pointer and length are those of a vector.
+        let (check, form) = unsafe {
+            (
+                suz_table_check(table.as_ptr(), table.len()),
+                suz_table_form(table.as_ptr(), table.len()),
+            )
+        };
+        assert_eq!(check, answer(calls::table_check(&table)));
+        assert_eq!(form, answer(calls::table_form(&table)));
+    }
+}
+
+#[test]
+fn start_and_length_are_untouched_on_refusal() {
+    let mut chance = Chance::new(22);
+    let (mut done, mut refused) = (0, 0);
+    for _ in 0..20_000 {
+        let table = some_table(&mut chance);
+        let tag = chance.within(0, 6) as u8;
+        let before = (chance.bits() as u32, chance.bits() as u32);
+        let (mut start, mut length) = before;
+        // SAFETY: pointer and length are those of a vector; the two places
+        // are its own.
+        let ours =
+            unsafe { suz_table_value(table.as_ptr(), table.len(), tag, &mut start, &mut length) };
+        match calls::table_value(&table, tag) {
+            Ok(stretch) => {
+                assert_eq!(ours, 0);
+                let due = (stretch.start as u32, stretch.len() as u32);
+                assert_eq!((start, length), due);
+                done += 1;
+            }
+            Err(refusal) => {
+                assert_eq!(ours, refusal.code());
+                assert_eq!((start, length), before);
+                refused += 1;
+            }
+        }
+    }
+    assert!(done > 1000 && refused > 1000);
+}
+
+#[test]
+fn change_answers_in_whole() {
+    let mut chance = Chance::new(23);
+    for _ in 0..10_000 {
+        let table = some_table(&mut chance);
+        let mut out = vec![0u8; chance.within(0, 210)];
+        let mut due_out = out.clone();
+        let [level, pass, node] = [6, 4, 7].map(|most| chance.within(0, most) as u8);
+        let [integer_bits, fraction_bits] = [13, 21].map(|most| chance.within(0, most) as u8);
+        // SAFETY: pointers and lengths are those of two vectors.
+        let ours = unsafe {
+            suz_table_change(
+                table.as_ptr(),
+                table.len(),
+                level,
+                pass,
+                node,
+                integer_bits,
+                fraction_bits,
+                out.as_mut_ptr(),
+                out.len(),
+            )
+        };
+        let width = Width::new(integer_bits, fraction_bits);
+        let due = calls::table_change(&table, level, pass, node, width, &mut due_out);
+        assert_eq!(ours, answer(due));
+        assert_eq!(out, due_out);
+    }
+}
+
+#[test]
+fn transform_answers_in_whole() {
+    let mut chance = Chance::new(24);
+    let mut seen = std::collections::BTreeSet::new();
+    for _ in 0..20_000 {
+        let table = some_table(&mut chance);
+        let (depth, levels) = (chance.within(0, 13) as u8, chance.within(0, 6) as u8);
+        let (width, height) = (chance.within(0, 20), chance.within(0, 20));
+        let mut length = || chance.within(0, 420);
+        let lengths = [length(), length(), length()];
+        let deepest = chance.within(1, 13) as u8;
+        let pixels = chance.picture(deepest, lengths[0]);
+        let (plane, work) = (chance.plane(lengths[1]), chance.plane(lengths[2]));
+
+        let (mut our_plane, mut our_work) = (plane.clone(), work.clone());
+        let (mut due_plane, mut due_work) = (plane.clone(), work.clone());
+        // SAFETY: pointers and lengths are those of vectors.
+        let ours = unsafe {
+            suz_forward97(
+                table.as_ptr(),
+                table.len(),
+                pixels.as_ptr(),
+                pixels.len(),
+                width,
+                height,
+                our_plane.as_mut_ptr(),
+                our_plane.len(),
+                our_work.as_mut_ptr(),
+                our_work.len(),
+            )
+        };
+        let due = calls::forward97(
+            &table,
+            &pixels,
+            width,
+            height,
+            &mut due_plane,
+            &mut due_work,
+        );
+        assert_eq!(ours, answer(due));
+        assert_eq!((our_plane, our_work), (due_plane, due_work));
+        seen.insert((97, ours & 255));
+
+        let (mut our_plane, mut our_work) = (plane.clone(), work.clone());
+        let (mut due_plane, mut due_work) = (plane.clone(), work.clone());
+        // SAFETY: pointers and lengths are those of vectors.
+        let ours = unsafe {
+            suz_forward53(
+                depth,
+                levels,
+                pixels.as_ptr(),
+                pixels.len(),
+                width,
+                height,
+                our_plane.as_mut_ptr(),
+                our_plane.len(),
+                our_work.as_mut_ptr(),
+                our_work.len(),
+            )
+        };
+        let due = calls::forward53(
+            depth,
+            levels,
+            &pixels,
+            width,
+            height,
+            &mut due_plane,
+            &mut due_work,
+        );
+        assert_eq!(ours, answer(due));
+        assert_eq!((&our_plane, &our_work), (&due_plane, &due_work));
+        seen.insert((53, ours & 255));
+
+        // Back from what that left in the plane: a copy or anything.
+        let (mut our_pixels, mut due_pixels) = (pixels.clone(), pixels.clone());
+        let (mut our_work, mut due_work) = (work.clone(), work.clone());
+        // SAFETY: pointers and lengths are those of vectors.
+        let ours = unsafe {
+            suz_inverse53(
+                depth,
+                levels,
+                our_plane.as_ptr(),
+                our_plane.len(),
+                width,
+                height,
+                our_pixels.as_mut_ptr(),
+                our_pixels.len(),
+                our_work.as_mut_ptr(),
+                our_work.len(),
+            )
+        };
+        let due = calls::inverse53(
+            depth,
+            levels,
+            &due_plane,
+            width,
+            height,
+            &mut due_pixels,
+            &mut due_work,
+        );
+        assert_eq!(ours, answer(due));
+        assert_eq!((our_pixels, our_work), (due_pixels, due_work));
+        seen.insert((35, ours & 255));
+    }
+    // Every number that the three calls have was seen, and no other.
+    let due = [
+        (35, &[0, 4, 8, 9, 11][..]),
+        (53, &[0, 4, 8, 9, 10][..]),
+        (97, &[0, 1, 2, 3, 4, 5, 6, 7, 8, 9, 10][..]),
+    ];
+    let due: Vec<(i32, u32)> = due
+        .iter()
+        .flat_map(|(call, numbers)| numbers.iter().map(|&n| (*call, n)))
+        .collect();
+    assert_eq!(seen.into_iter().collect::<Vec<_>>(), due);
+}

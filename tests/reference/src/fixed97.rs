@@ -1,0 +1,237 @@
+//! The 9/7 transform in fixed point, over whole numbers without limit.
+
+use crate::constants::BY_NODE;
+use crate::places::low_count;
+use crate::refusal::Place;
+use crate::table::{Width, WidthTable};
+
+/// A value on the way that its node cannot hold.
+#[derive(Clone, Copy, Debug, PartialEq, Eq)]
+pub struct Departure {
+    pub place: Place,
+    pub value: i128,
+}
+
+/// A worked picture.
+#[derive(Clone, Debug, PartialEq, Eq)]
+pub struct Worked {
+    pub plane: Vec<i128>,
+    /// The first value that left its width, if any did.
+    pub left: Option<Departure>,
+}
+
+/// A whole number with its fractional bits.
+#[derive(Clone, Copy)]
+struct Fixed {
+    value: i128,
+    bits: u8,
+}
+
+/// The largest whole number of 2^-f that is not above own + constant * sum,
+/// all three being taken without loss. This is the only cut of a stage.
+fn cut(own: Fixed, constant: Fixed, sum: Fixed, f: u8) -> i128 {
+    let product_bits = constant.bits + sum.bits;
+    let bits = own.bits.max(product_bits);
+    let total =
+        (own.value << (bits - own.bits)) + ((constant.value * sum.value) << (bits - product_bits));
+    if f >= bits {
+        total << (f - bits)
+    } else {
+        total >> (bits - f) // towards minus infinity
+    }
+}
+
+/// One stage on the own values of a line. `others` are the values whose
+/// neighbours are added; `neighbours` names the two of place k.
+fn stage(
+    own: &[i128],
+    own_bits: u8,
+    others: &[i128],
+    other_bits: u8,
+    constant: Fixed,
+    f: u8,
+    neighbours: impl Fn(usize) -> (usize, usize),
+) -> Vec<i128> {
+    let one = |k: usize| {
+        let (a, b) = neighbours(k);
+        let own = Fixed {
+            value: own[k],
+            bits: own_bits,
+        };
+        let sum = Fixed {
+            value: others[a] + others[b],
+            bits: other_bits,
+        };
+        cut(own, constant, sum, f)
+    };
+    (0..own.len()).map(one).collect()
+}
+
+/// The scaling at the end: constant times value, cut once.
+fn scale(values: &[i128], bits: u8, constant: Fixed, f: u8) -> Vec<i128> {
+    let one = |&value: &i128| {
+        let nothing = Fixed { value: 0, bits: 0 };
+        cut(nothing, constant, Fixed { value, bits }, f)
+    };
+    values.iter().map(one).collect()
+}
+
+/// One pass over a line of at least two values: what each node holds, P1 to
+/// G2. G1 are the low values and G2 the high ones.
+pub fn pass(
+    line: &[i128],
+    bits: u8,
+    constant_bits: &[u8; 6],
+    widths: &[Width; 6],
+) -> [Vec<i128>; 6] {
+    let n = line.len();
+    let lows: Vec<i128> = line.iter().step_by(2).copied().collect();
+    let highs: Vec<i128> = line.iter().skip(1).step_by(2).copied().collect();
+    assert_eq!((lows.len(), highs.len()), (low_count(n), n / 2));
+    let constant = |node: usize| Fixed {
+        value: BY_NODE[node].rounded(constant_bits[node]),
+        bits: constant_bits[node],
+    };
+    let f = |node: usize| widths[node].fraction_bits;
+    // The low value past the last is the last; the high value before the
+    // first is the first, the one past the last is the last.
+    let lows_beside = |k: usize| (k, (k + 1).min(low_count(n) - 1));
+    let highs_beside = |k: usize| (k.max(1) - 1, k.min(n / 2 - 1));
+
+    let p1 = stage(&highs, bits, &lows, bits, constant(0), f(0), lows_beside);
+    let u1 = stage(&lows, bits, &p1, f(0), constant(1), f(1), highs_beside);
+    let p2 = stage(&p1, f(0), &u1, f(1), constant(2), f(2), lows_beside);
+    let u2 = stage(&u1, f(1), &p2, f(2), constant(3), f(3), highs_beside);
+    let g1 = scale(&u2, f(3), constant(4), f(4));
+    let g2 = scale(&p2, f(2), constant(5), f(5));
+    [p1, u1, p2, u2, g1, g2]
+}
+
+/// The transform of a picture under a sound table; the picture must be of the
+/// table's depth and of admitted sides.
+pub fn transform(table: &WidthTable, pixels: &[u16], width: usize, height: usize) -> Worked {
+    let middle = 1i128 << (table.depth - 1);
+    let mut worked = Worked {
+        plane: pixels.iter().map(|&p| i128::from(p) - middle).collect(),
+        left: None,
+    };
+    let (mut part_w, mut part_h) = (width, height);
+    let mut bits = table.depth;
+    for level in 1..=table.levels {
+        let widths = &table.widths[level as usize - 1];
+        for y in 0..part_h {
+            let places = (0..part_w).map(|x| y * width + x).collect();
+            worked.line(
+                table,
+                Place {
+                    level,
+                    pass: 1,
+                    node: 1,
+                },
+                bits,
+                places,
+            );
+        }
+        for x in 0..part_w {
+            let row_low = x < low_count(part_w);
+            let (pass, row_node) = if row_low { (2, 4) } else { (3, 5) };
+            let places = (0..part_h).map(|y| y * width + x).collect();
+            let bits = widths[0][row_node].fraction_bits;
+            worked.line(
+                table,
+                Place {
+                    level,
+                    pass,
+                    node: 1,
+                },
+                bits,
+                places,
+            );
+        }
+        bits = widths[1][4].fraction_bits;
+        part_w = low_count(part_w);
+        part_h = low_count(part_h);
+    }
+    worked
+}
+
+impl Worked {
+    /// Works the line that stands at the given elements of the plane.
+    fn line(&mut self, table: &WidthTable, first: Place, bits: u8, elements: Vec<usize>) {
+        let line: Vec<i128> = elements.iter().map(|&e| self.plane[e]).collect();
+        let widths = &table.widths[first.level as usize - 1][first.pass as usize - 1];
+        let nodes = pass(&line, bits, &table.constant_bits, widths);
+        for (node, values) in (1u8..).zip(&nodes) {
+            let width = widths[node as usize - 1];
+            let outside = values.iter().find(|&&v| !width.holds(v));
+            if let (None, Some(&value)) = (self.left, outside) {
+                let place = Place { node, ..first };
+                self.left = Some(Departure { place, value });
+            }
+        }
+        let out = nodes[4].iter().chain(&nodes[5]);
+        for (&element, &value) in elements.iter().zip(out) {
+            self.plane[element] = value;
+        }
+    }
+}
+
+#[cfg(test)]
+mod tests {
+    use super::*;
+
+    /// P1 with B = 1 and F = 1, on a line low, own, low.
+    fn p1(own: i128, left: i128, right: i128, f: u8) -> i128 {
+        let widths = [Width::new(12, f); 6];
+        pass(&[left, own, right], 1, &[1; 6], &widths)[0][0]
+    }
+
+    #[test]
+    fn the_numbers_of_the_document() {
+        assert_eq!(p1(-1, -1, 0, 0), 0);
+        assert_eq!(p1(-1, -1, 0, 2), 1);
+        assert_eq!(p1(-1, 0, 0, 0), -1);
+    }
+
+    #[test]
+    fn cuts_go_towards_minus_infinity() {
+        let minus_half = Fixed { value: -1, bits: 1 };
+        let nothing = Fixed { value: 0, bits: 0 };
+        assert_eq!(cut(minus_half, nothing, nothing, 0), -1);
+        assert_eq!(cut(minus_half, nothing, nothing, 3), -4);
+        let one = Fixed { value: 1, bits: 0 };
+        assert_eq!(cut(nothing, one, minus_half, 0), -1);
+    }
+
+    #[test]
+    fn edges_are_mirrored() {
+        // Wide nodes with many bits: a constant line has no high values left
+        // but the rounding of the constants, at every length.
+        let widths = [Width::new(12, 20); 6];
+        for n in 2..12 {
+            let nodes = pass(&vec![1000; n], 12, &[24; 6], &widths);
+            // 1000 * (1 + 2 alpha)
+            let p1 = (1000.0 / 4096.0) * (1.0 - 2.0 * 1.586134342);
+            for v in &nodes[0] {
+                assert!((*v as f64 / (1 << 20) as f64 - p1).abs() < 1e-4);
+            }
+            assert!(nodes[2].iter().all(|v| v.abs() < 16));
+        }
+    }
+
+    #[test]
+    fn a_value_that_leaves_its_width_is_told() {
+        let mut table = WidthTable::uniform(8, 1, 24, Width::new(12, 12));
+        let pixels = [0, 255, 0, 255];
+        let worked = transform(&table, &pixels, 2, 2);
+        assert_eq!(worked.left, None);
+        // P1 of the row 0 255: 127/256 + 2 * 1.586 / 2 = 2.08 needs three bits.
+        table.widths[0][0][0] = Width::new(2, 12);
+        let left = transform(&table, &pixels, 2, 2).left.unwrap();
+        assert_eq!(
+            (left.place.level, left.place.pass, left.place.node),
+            (1, 1, 1)
+        );
+        assert_eq!(left.value, (2.08224 * 4096.0) as i128);
+    }
+}

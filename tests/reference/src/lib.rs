@@ -1,0 +1,34 @@
+//! A second implementation of the engine, written from document 01 alone.
+//!
+//! It is kept plain: every rule stands where it can be read beside the
+//! document, whole numbers have no limit that a picture could reach, and
+//! fractions are exact. Nothing here is made for speed.
+//!
+//! * [`refusal`]: the numbers 1 to 11
+//! * [`table`]: width tables (document 01: books) and their bytes
+//! * [`constants`], [`gains`], [`precision`]: the precision analysis and its
+//!   verdict (document 01: the judge)
+//! * [`fixed97`], [`exact97`]: the 9/7 transform in fixed point and in fractions
+//! * [`reversible53`]: the 5/3 transform forward and back
+//! * [`places`]: sides, low and high parts, kept nodes
+//! * [`calls`]: every call with its order of refusals and what it leaves in
+//!   lent memory
+//! * [`exact_copy`]: the exact-copy program, bytes to text
+//! * [`big`], [`fraction`]: the arithmetic underneath
+
+pub mod big;
+pub mod calls;
+pub mod constants;
+pub mod exact97;
+pub mod exact_copy;
+pub mod fixed97;
+pub mod fraction;
+pub mod gains;
+pub mod places;
+pub mod precision;
+pub mod refusal;
+pub mod reversible53;
+pub mod table;
+
+pub use refusal::{Place, Refusal};
+pub use table::{Width, WidthTable};

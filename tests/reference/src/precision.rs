@@ -1,0 +1,243 @@
+//! The precision analysis and its verdict (document 01: the judge). All
+//! bounds are whole numbers of 2^-32.
+
+use crate::gains::gains;
+use crate::refusal::{Place, Refusal};
+use crate::table::{Width, WidthTable};
+
+/// Range and error of a value, in whole numbers of 2^-32.
+#[derive(Clone, Copy, Debug, PartialEq, Eq)]
+pub struct Bound {
+    pub range: u128,
+    pub error: u128,
+}
+
+/// One in units of 2^-32.
+const ONE: u128 = 1 << 32;
+
+/// A bound times a gain in 2^-16, rounded up.
+fn times_gain(bound: u128, gain: u64) -> u128 {
+    (bound * u128::from(gain)).div_ceil(1 << 16)
+}
+
+/// A bound times 2^-bits, rounded up.
+fn halved(bound: u128, bits: u8) -> u128 {
+    bound.div_ceil(1 << bits)
+}
+
+/// 2^-f in units of 2^-32.
+fn step(fraction_bits: u8) -> u128 {
+    ONE >> fraction_bits
+}
+
+/// Bounds of the six nodes of one pass.
+pub fn pass_bounds(
+    input: Bound,
+    input_bits: u8,
+    constant_bits: &[u8; 6],
+    widths: &[Width; 6],
+) -> [Bound; 6] {
+    let gains = gains();
+    let f = |node: usize| widths[node].fraction_bits;
+    let mut own = [0u128; 6];
+    let mut bounds = [Bound { range: 0, error: 0 }; 6];
+    for node in 0..6 {
+        // The value that the stage multiplies, its bits, and the bits of the
+        // other operand.
+        let (multiplied, multiplied_bits, other_bits) = match node {
+            0 => (input, input_bits, Some(input_bits)),
+            1 => (bounds[0], f(0), Some(input_bits)),
+            2 => (bounds[1], f(1), Some(f(0))),
+            3 => (bounds[2], f(2), Some(f(1))),
+            4 => (bounds[3], f(3), None),
+            _ => (bounds[2], f(2), None),
+        };
+        let constant = constant_bits[node];
+        let constant_error_bits = if node < 4 { constant } else { constant + 1 };
+        let full = (constant + multiplied_bits).max(other_bits.unwrap_or(0));
+        own[node] = halved(multiplied.range + multiplied.error, constant_error_bits);
+        if f(node) < full {
+            own[node] += step(f(node));
+        }
+        let mut error = times_gain(input.error, gains.input[node]);
+        for (stage, &own_error) in own[..=node].iter().enumerate() {
+            error += times_gain(own_error, gains.stage[stage][node]);
+        }
+        bounds[node] = Bound {
+            range: times_gain(input.range, gains.input[node]),
+            error,
+        };
+    }
+    bounds
+}
+
+/// A node fits if range plus error is at most 2^(IB-1) - 2^-f.
+pub fn fits(bound: Bound, width: Width) -> bool {
+    let most = (ONE << (width.integer_bits - 1)) - step(width.fraction_bits);
+    bound.range + bound.error <= most
+}
+
+/// Whether the error is below two of the node's steps.
+pub fn below_two_steps(bound: Bound, width: Width) -> bool {
+    bound.error < 2 * step(width.fraction_bits)
+}
+
+/// Bounds of every node of a sound table, in table order, refused or not.
+pub fn bounds(table: &WidthTable) -> Vec<(Place, Bound)> {
+    let mut all = Vec::new();
+    let mut input = Bound {
+        range: ONE / 2,
+        error: 0,
+    };
+    let mut input_bits = table.depth;
+    for level in 1..=table.levels {
+        let widths = &table.widths[level as usize - 1];
+        let mut take = |pass: u8, input: Bound, input_bits: u8| {
+            let nodes = pass_bounds(
+                input,
+                input_bits,
+                &table.constant_bits,
+                &widths[pass as usize - 1],
+            );
+            for (node, bound) in (1u8..).zip(nodes) {
+                all.push((Place { level, pass, node }, bound));
+            }
+            nodes
+        };
+        let rows = take(1, input, input_bits);
+        let low = take(2, rows[4], widths[0][4].fraction_bits);
+        take(3, rows[5], widths[0][5].fraction_bits);
+        input = low[4];
+        input_bits = widths[1][4].fraction_bits;
+    }
+    all
+}
+
+/// Accepted, or 4, or the first 6 or 7 in table order; at one node 6 first.
+pub fn verdict(table: &WidthTable) -> Result<(), Refusal> {
+    table.sound()?;
+    for (place, bound) in bounds(table) {
+        let width = table.width(place);
+        if !fits(bound, width) {
+            return Err(Refusal::at(6, place));
+        }
+        if table.is_kept(place) && !below_two_steps(bound, width) {
+            return Err(Refusal::at(7, place));
+        }
+    }
+    Ok(())
+}
+
+#[cfg(test)]
+mod tests {
+    use super::*;
+
+    fn place(level: u8, pass: u8, node: u8) -> Place {
+        Place { level, pass, node }
+    }
+
+    fn generous(depth: u8, levels: u8) -> WidthTable {
+        WidthTable::kept_and_others(depth, levels, 24, Width::new(12, 2), Width::new(12, 20))
+    }
+
+    #[test]
+    fn generous_tables_are_accepted() {
+        for depth in 1..=12 {
+            for levels in 1..=5 {
+                assert_eq!(verdict(&generous(depth, levels)), Ok(()));
+            }
+        }
+    }
+
+    #[test]
+    fn first_node_with_two_integer_bits_does_not_fit() {
+        for levels in 1..=5 {
+            let (table, _) = generous(8, levels).changed(1, 1, 1, Width::new(2, 20));
+            assert_eq!(verdict(&table), Err(Refusal::at(6, place(1, 1, 1))));
+            let (table, _) = generous(8, levels).changed(1, 1, 1, Width::new(3, 20));
+            assert_eq!(verdict(&table), Ok(()));
+        }
+    }
+
+    #[test]
+    fn rough_inner_nodes_are_refused_at_low_low() {
+        let table = WidthTable::kept_and_others(8, 1, 24, Width::new(12, 20), Width::new(12, 0));
+        assert_eq!(verdict(&table), Err(Refusal::at(7, place(1, 2, 5))));
+    }
+
+    #[test]
+    fn low_low_that_is_worked_further_is_not_asked_for_two_steps() {
+        // LL of level 1 with 20 fractional bits has an error above two steps.
+        let mut table = generous(8, 2);
+        assert_eq!(table.width(place(1, 2, 5)), Width::new(12, 20));
+        let all = bounds(&table);
+        let low_low = all.iter().find(|(p, _)| *p == place(1, 2, 5)).unwrap().1;
+        assert!(!below_two_steps(low_low, Width::new(12, 20)));
+        assert_eq!(verdict(&table), Ok(()));
+        // At the last level it is asked.
+        *table.width_mut(place(2, 2, 5)) = Width::new(12, 20);
+        assert_eq!(verdict(&table), Err(Refusal::at(7, place(2, 2, 5))));
+    }
+
+    #[test]
+    fn at_one_node_fit_comes_first_and_nodes_go_in_order() {
+        let mut table = generous(8, 1);
+        *table.width_mut(place(1, 2, 5)) = Width::new(1, 20);
+        assert_eq!(verdict(&table), Err(Refusal::at(6, place(1, 2, 5))));
+        // An earlier node's 7 beats a later node's 6.
+        *table.width_mut(place(1, 2, 5)) = Width::new(12, 20);
+        *table.width_mut(place(1, 2, 6)) = Width::new(1, 2);
+        assert_eq!(verdict(&table), Err(Refusal::at(7, place(1, 2, 5))));
+        *table.width_mut(place(1, 2, 4)) = Width::new(1, 20);
+        assert_eq!(verdict(&table), Err(Refusal::at(6, place(1, 2, 4))));
+    }
+
+    #[test]
+    fn bounds_of_the_first_nodes_by_hand() {
+        // B = 8, F = 24, f = 20: R = 2^31, E = 0.
+        let all = bounds(&generous(8, 1));
+        let bound = |n: usize| all[n].1;
+        // P1: 2^31 * 273434 / 2^16; own error 2^31 / 2^24 + 2^12.
+        assert_eq!(bound(0).range, 273_434 << 15);
+        assert_eq!(bound(0).error, 128 + 4096);
+        // U1: own error ceil((range + error of P1) / 2^24) + 2^12.
+        let own: u128 = ((273_434u128 << 15) + 4224).div_ceil(1 << 24) + 4096;
+        assert_eq!(own, 535 + 4096);
+        assert_eq!(bound(1).error, (4224 * 6_945u128).div_ceil(65_536) + own);
+    }
+
+    #[test]
+    fn no_cut_costs_nothing() {
+        // B = 1, F = 1: P1 at f 2 is at full precision, at f 1 it is cut.
+        let exact = |f: u8| {
+            let mut table = generous(1, 1);
+            table.constant_bits = [1; 6];
+            *table.width_mut(place(1, 1, 1)) = Width::new(12, f);
+            bounds(&table)[0].1.error
+        };
+        assert_eq!(exact(2), 1 << 30);
+        assert_eq!(exact(3), 1 << 30);
+        assert_eq!(exact(1), (1 << 30) + (1 << 31));
+    }
+
+    #[test]
+    fn fit_is_at_most_and_two_steps_is_below() {
+        let width = Width::new(1, 4);
+        let most = ONE - step(4);
+        let bound = |range, error| Bound { range, error };
+        assert!(fits(bound(most, 0), width) && fits(bound(0, most), width));
+        assert!(!fits(bound(most, 1), width));
+        assert!(below_two_steps(bound(0, 2 * step(4) - 1), width));
+        assert!(!below_two_steps(bound(0, 2 * step(4)), width));
+    }
+
+    #[test]
+    fn columns_start_with_the_error_fed_to_them() {
+        let mut table = generous(8, 1);
+        let before = bounds(&table)[6].1;
+        *table.width_mut(place(1, 1, 5)) = Width::new(12, 4);
+        let after = bounds(&table)[6].1;
+        assert_eq!(before.range, after.range);
+        assert!(after.error > before.error + step(4));
+    }
+}

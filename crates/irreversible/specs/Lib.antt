@@ -12,6 +12,14 @@
 --   Subbands     kept-LL, kept-HL, kept-LH, kept-HH: the kept node of each subband of each level
 --   Sizes        sum-size, product-size: 64 bits hold the sum of a stage
 -- Proofs: Walk, Linear, Own, PassBound, Pass, Level lead to Demand3, in this order.
+-- For the code, which works lines by the kernels of the lifting crate:
+--   StepLaws     a stage as a step or a scaling of that crate
+--   KernelLaws   a pass as a kernel: worked-fixed
+--   SafeLaws     kernel-safe: no number on the way leaves its machine type where the values are in their widths
+--   Numbered, ConstantTable, LevelBits   nodes and passes by number; the table of constants; the bits of a level
+--   LevelLaws    a level in memory: level-stands, level-safe
+--   LevelsLaws   all levels under an accepted table: after-none, after-more, safe-next, after-all
+--   CallSteps    what the steps of the call ask of each other, and what they leave
 pub mod Fixed
 pub mod Transforms
 pub mod Claims
@@ -27,3 +35,12 @@ pub mod Demand3
 pub mod Constants
 pub mod Sizes
 pub mod CallLaws
+pub mod StepLaws
+pub mod KernelLaws
+pub mod SafeLaws
+pub mod Numbered
+pub mod ConstantTable
+pub mod LevelLaws
+pub mod LevelsLaws
+pub mod LevelBits
+pub mod CallSteps

@@ -1,1 +1,405 @@
-// Definitions and theorems, in specs/; no code.
+// The 9/7 transform in fixed point under a width table.
+ghost use mathlib.Core.Path.{_≡_};
+ghost use Prim.Native.Nat.{_+_, _*_, _-_, _<_, _≤_, _^_, max};
+ghost use lib.IntN.{pos, _*ℤ_};
+ghost use mir.Syntax.{w64};
+ghost use mir.Val.{SFits};
+ghost use Rattle.lifting.specs.Patch.{at};
+ghost use Rattle.width_table.specs.Table.{constantBits, fractionBits, inputBits};
+ghost use Rattle.lines.specs.Planes.{rowByRow};
+ghost use Rattle.numbers.specs.Lists.{over};
+ghost use Rattle.precision.specs.Verdict.{Accepted};
+ghost use Rattle.irreversible.specs.Fixed.{nearest};
+ghost use Rattle.irreversible.specs.Constants.{constantOf};
+ghost use Rattle.irreversible.specs.Transforms.{fixedPlane};
+ghost use Rattle.irreversible.specs.Calls.{fixedAnswer, fixedPlaneAfter, fixedWork};
+ghost use Rattle.irreversible.specs.Numbered.{nodeOf, passOf, IsNode, IsPass};
+ghost use Rattle.irreversible.specs.StepLaws.{stepTop, stepOf, factorOf};
+ghost use Rattle.irreversible.specs.KernelLaws.{stageOf, scalingOf, kernelOf};
+ghost use Rattle.irreversible.specs.SafeLaws.{ConstantBits};
+ghost use Rattle.irreversible.specs.LevelLaws.{levelWorked};
+ghost use Rattle.irreversible.specs.LevelBits.{IsLevel};
+ghost use Rattle.irreversible.specs.CallSteps.{LevelReady, Ready, answerOf};
+use lifting::Factor;
+use lifting::Kernel;
+use lifting::Step;
+use refusals::Outcome;
+use width_table::WidthTable;
+
+// The constants of P1, U1, P2, U2, G1 and G2, each at 1 to 24 bits.
+const NEAREST: [i64; 144] = [
+    -3,
+    -6,
+    -13,
+    -25,
+    -51,
+    -102,
+    -203,
+    -406,
+    -812,
+    -1624,
+    -3248,
+    -6497,
+    -12994,
+    -25987,
+    -51974,
+    -103949,
+    -207898,
+    -415796,
+    -831591,
+    -1663182,
+    -3326365,
+    -6652730,
+    -13305459,
+    -26610918,
+    0,
+    0,
+    0,
+    -1,
+    -2,
+    -3,
+    -7,
+    -14,
+    -27,
+    -54,
+    -109,
+    -217,
+    -434,
+    -868,
+    -1736,
+    -3472,
+    -6944,
+    -13888,
+    -27777,
+    -55554,
+    -111107,
+    -222215,
+    -444429,
+    -888859,
+    2,
+    4,
+    7,
+    14,
+    28,
+    57,
+    113,
+    226,
+    452,
+    904,
+    1808,
+    3616,
+    7233,
+    14466,
+    28931,
+    57862,
+    115725,
+    231450,
+    462900,
+    925799,
+    1851599,
+    3703197,
+    7406395,
+    14812790,
+    1,
+    2,
+    4,
+    7,
+    14,
+    28,
+    57,
+    114,
+    227,
+    454,
+    908,
+    1817,
+    3633,
+    7266,
+    14533,
+    29066,
+    58131,
+    116263,
+    232525,
+    465051,
+    930101,
+    1860203,
+    3720405,
+    7440810,
+    2,
+    5,
+    9,
+    18,
+    37,
+    74,
+    147,
+    294,
+    589,
+    1177,
+    2354,
+    4709,
+    9418,
+    18835,
+    37670,
+    75340,
+    150681,
+    301362,
+    602724,
+    1205448,
+    2410895,
+    4821790,
+    9643581,
+    19287161,
+    2,
+    3,
+    7,
+    14,
+    28,
+    56,
+    111,
+    223,
+    445,
+    891,
+    1781,
+    3563,
+    7126,
+    14252,
+    28504,
+    57007,
+    114015,
+    228030,
+    456059,
+    912119,
+    1824238,
+    3648476,
+    7296952,
+    14593904,
+];
+
+// The constant of a stage, 1 to 6, at so many bits.
+fn nearest_at(node: u8, bits: u8) -> i64
+    requires { ⌜ IsNode node × ConstantBits bits ⌝ }
+    ensures { λ r. ⌜ r ≡ nearest (constantOf (nodeOf node)) bits ⌝ }
+{
+    NEAREST[(node as usize - 1) * 24 + (bits as usize - 1)]
+}
+
+// 2 to a power.
+fn power(bits: u8) -> i64
+    requires { ⌜ bits < 63 ⌝ }
+    ensures { λ r. ⌜ r ≡ pos (2 ^ bits) ⌝ }
+{
+    (1u64 << bits) as i64
+}
+
+// The larger of two.
+fn larger(a: u8, b: u8) -> u8
+    ensures { λ r. ⌜ r ≡ max a b ⌝ }
+{
+    if a < b { b } else { a }
+}
+
+// A product that fits.
+fn times(a: i64, b: i64) -> i64
+    requires { ⌜ SFits w64 (a *ℤ b) ⌝ }
+    ensures { λ r. ⌜ r ≡ a *ℤ b ⌝ }
+{
+    a * b
+}
+
+// A step by a constant of so many bits: the bits of the neighbours, of the own value and of the node.
+fn step_of(constant: i64, bits: u8, sides: u8, own: u8, kept: u8) -> Step
+    requires { ⌜ ConstantBits bits × (sides ≤ 20) × (own ≤ 20) × (kept ≤ 20) ⌝ }
+    requires { ⌜ SFits w64 (constant *ℤ pos (2 ^ (stepTop bits sides own kept - (bits + sides)))) ⌝ }
+    ensures { λ r. ⌜ r ≡ stepOf constant bits sides own kept ⌝ }
+{
+    let product = bits + sides;
+    let top = larger(larger(own, product), kept);
+    Step::Wide {
+        m: power(top - own),
+        c: times(constant, power(top - product)),
+        cut: (top - kept) as u32,
+    }
+}
+
+// A scaling by a constant of so many bits: the bits of the value and of the node.
+fn factor_of(constant: i64, bits: u8, value: u8, kept: u8) -> Factor
+    requires { ⌜ ConstantBits bits × (value ≤ 20) × (kept ≤ 20) ⌝ }
+    requires { ⌜ SFits w64 (constant *ℤ pos (2 ^ (max (bits + value) kept - (bits + value)))) ⌝ }
+    ensures { λ r. ⌜ r ≡ factorOf constant bits value kept ⌝ }
+{
+    let product = bits + value;
+    let top = larger(product, kept);
+    Factor {
+        c: times(constant, power(top - product)),
+        cut: (top - kept) as u32,
+    }
+}
+
+// F of a stage's constant.
+fn constant_at(table: WidthTable, node: u8) -> u8
+    requires { ⌜ Accepted table × IsNode node ⌝ }
+    ensures { λ r. ⌜ (r ≡ constantBits table (nodeOf node)) × ConstantBits r ⌝ }
+{
+    table.constant_bits(node)
+}
+
+// A stage P1, U1, P2, U2, by its number: the bits of the neighbours, of the own value and of the node.
+fn stage(table: WidthTable, node: u8, sides: u8, own: u8, kept: u8) -> Step
+    requires { ⌜ Accepted table × IsNode node × (sides ≤ 20) × (own ≤ 20) × (kept ≤ 20) ⌝ }
+    ensures { λ r. ⌜ r ≡ stageOf (constantOf (nodeOf node)) (constantBits table (nodeOf node)) sides own kept ⌝ }
+{
+    let bits = constant_at(table, node);
+    step_of(nearest_at(node, bits), bits, sides, own, kept)
+}
+
+// A stage G1, G2, by its number: the bits of the value and of the node.
+fn scaling(table: WidthTable, node: u8, value: u8, kept: u8) -> Factor
+    requires { ⌜ Accepted table × IsNode node × (value ≤ 20) × (kept ≤ 20) ⌝ }
+    ensures { λ r. ⌜ r ≡ scalingOf (constantOf (nodeOf node)) (constantBits table (nodeOf node)) value kept ⌝ }
+{
+    let bits = constant_at(table, node);
+    factor_of(nearest_at(node, bits), bits, value, kept)
+}
+
+// f of a node.
+fn fraction_at(table: WidthTable, level: u8, pass: u8, node: u8) -> u8
+    requires { ⌜ IsLevel table level × IsPass pass × IsNode node ⌝ }
+    ensures { λ r. ⌜ (r ≡ fractionBits table level (passOf pass) (nodeOf node)) × (r ≤ 20) ⌝ }
+{
+    table.fraction_bits(level, pass, node)
+}
+
+// The fractional bits of what enters a pass.
+fn input_bits(table: WidthTable, level: u8, pass: u8) -> u8
+    requires { ⌜ IsLevel table level × IsPass pass ⌝ }
+    ensures { λ r. ⌜ (r ≡ inputBits table level (passOf pass)) × (r ≤ 20) ⌝ }
+{
+    if pass == 2 {
+        return fraction_at(table, level, 1, 5);
+    }
+    if pass == 3 {
+        return fraction_at(table, level, 1, 6);
+    }
+    if level == 1 {
+        return table.depth;
+    }
+    fraction_at(table, level - 1, 2, 5)
+}
+
+// The kernel of a pass.
+fn kernel_of(table: WidthTable, level: u8, pass: u8) -> Kernel
+    requires { ⌜ IsLevel table level × IsPass pass ⌝ }
+    ensures { λ r. ⌜ r ≡ kernelOf table level (passOf pass) ⌝ }
+{
+    let enters = input_bits(table, level, pass);
+    let p1 = fraction_at(table, level, pass, 1);
+    let u1 = fraction_at(table, level, pass, 2);
+    let p2 = fraction_at(table, level, pass, 3);
+    let u2 = fraction_at(table, level, pass, 4);
+    let g1 = fraction_at(table, level, pass, 5);
+    let g2 = fraction_at(table, level, pass, 6);
+    Kernel::Four {
+        p1: stage(table, 1, enters, enters, p1),
+        u1: stage(table, 2, p1, enters, u1),
+        p2: stage(table, 3, u1, p1, p2),
+        u2: stage(table, 4, p2, u1, u2),
+        g1: scaling(table, 5, u2, g1),
+        g2: scaling(table, 6, p2, g2),
+    }
+}
+
+// One level of the w columns and h rows at the front of a plane whose rows are `stride` long.
+fn work_level(
+    table: WidthTable,
+    level: u8,
+    plane: &mut [i32],
+    tile: &mut [i32],
+    stride: usize,
+    w: usize,
+    h: usize,
+)
+    requires { ⌜ LevelReady table level (now plane) (now tile) stride w h ⌝ }
+    ensures { λ _. ⌜ at (now (plane .exit)) ≡ levelWorked table level stride w h (at (now (plane .entry))) ⌝ }
+{
+    let low = (w + 1) / 2;
+    lifting::rows(plane, tile, stride, w, h, kernel_of(table, level, 1));
+    lifting::columns(plane, tile, stride, 0, low, h, kernel_of(table, level, 2));
+    lifting::columns(
+        plane,
+        tile,
+        stride,
+        low,
+        w / 2,
+        h,
+        kernel_of(table, level, 3),
+    );
+}
+
+// The plane of a picture.
+fn transform(
+    table: WidthTable,
+    pixels: &[u16],
+    plane: &mut [i32],
+    tile: &mut [i32],
+    w: usize,
+    h: usize,
+)
+    requires { ⌜ Ready table (now pixels) (now plane) (now tile) w h ⌝ }
+    ensures { λ _. ⌜ now (plane .exit) ≡ over (rowByRow w h (fixedPlane table (now (pixels .entry)) w h)) (now (plane .entry)) ⌝ }
+{
+    let levels = table.levels;
+    pictures::load_samples(pixels, plane, w * h, table.depth);
+    let mut across = w;
+    let mut down = h;
+    for k in 0..levels {
+        work_level(table, k + 1, plane, tile, w, across, down);
+        across = (across + 1) / 2;
+        down = (down + 1) / 2;
+    }
+}
+
+// The answer of the call, for a plane and a work area of so many elements.
+fn answer(
+    table: WidthTable,
+    pixels: &[u16],
+    w: usize,
+    h: usize,
+    second: usize,
+    third: usize,
+) -> Outcome
+    ensures { λ r. ⌜ r ≡ answerOf table w h (now (pixels .entry)) second third ⌝ }
+{
+    match precision::judge(table) {
+        Outcome::Refused(why) => Outcome::Refused(why),
+        Outcome::Done => {
+            match pictures::sizes_right(table.levels, w, h, pixels.len(), second, third) {
+                Outcome::Refused(why) => Outcome::Refused(why),
+                Outcome::Done => pictures::pixels_right(table.depth, w, h, pixels),
+            }
+        }
+    }
+}
+
+// The 9/7 transform of a picture. Success leaves the coefficients in the plane, row by row, and zeros in the work area;
+// a refusal leaves both as they were.
+pub fn forward(
+    table: WidthTable,
+    pixels: &[u16],
+    w: usize,
+    h: usize,
+    plane: &mut [i32],
+    work: &mut [i32],
+) -> Outcome
+    ensures answer { λ r. ⌜ r ≡ fixedAnswer table w h (now (pixels .entry)) (now (plane .entry)) (now (work .entry)) ⌝ }
+    ensures plane { λ _. ⌜ now (plane .exit) ≡ fixedPlaneAfter table w h (now (pixels .entry)) (now (plane .entry)) (now (work .entry)) ⌝ }
+    ensures work { λ _. ⌜ now (work .exit) ≡ fixedWork table w h (now (pixels .entry)) (now (plane .entry)) (now (work .entry)) ⌝ }
+{
+    match answer(table, pixels, w, h, plane.len(), work.len()) {
+        Outcome::Refused(why) => Outcome::Refused(why),
+        Outcome::Done => {
+            let n = w * h;
+            transform(table, pixels, plane, &mut work[..n], w, h);
+            pictures::clear(work, n);
+            Outcome::Done
+        }
+    }
+}

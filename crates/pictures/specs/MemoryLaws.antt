@@ -2,8 +2,8 @@
 -- Assumes nothing.
 use Prim.Native.Nat.{ℕ, _+_, _*_, _-_, _/_, _%_, _<_, _≤_}
 use mathlib.Core.Bool.{Bool, true, false, _&&_}
-use mathlib.Core.List.{List, _++_}
-use mathlib.Core.Path.{_≡_, refl, sym, _∙_, ap, subst}
+use mathlib.Core.List.{List}
+use mathlib.Core.Path.{_≡_, sym, _∙_, ap, subst}
 use native.Mathlib.Omega.{arith}
 use native.Mathlib.Decide.{decLt, ℕ-discrete}
 use native.Mathlib.Nat.{mul-comm, mod-lt, div-add-mod', div-lt-iff-lt-mul}
@@ -21,8 +21,8 @@ use Rattle.lines.specs.RowLaws.{place-in, rows-length, rows-at}
 use Rattle.lifting.specs.declared.Kernel.{Kernel}
 use Rattle.lifting.specs.declared.Kernel.the-variants.{Pair, Four, Undo}
 use Rattle.lifting.specs.Steps.{applied, scaledBy}
-use Rattle.lifting.specs.Patch.{at, patch, patch-in, patch-above, patch-set}
-use Rattle.lifting.specs.Columns.{lineAt, patchLines, lines-apart, lines-out}
+use Rattle.lifting.specs.Patch.{at, patch, patch-in, patch-above, patch-ext, patch-set}
+use Rattle.lifting.specs.Columns.{lineAt, lines-apart, lines-out}
 use Rattle.lifting.specs.LineSplit.{lines-in}
 use Rattle.lifting.specs.Passes.{evens, odds}
 use Rattle.pictures.specs.Pictures.{zeroed}
@@ -165,11 +165,15 @@ patch-next {A} n new x l d is fits v same =
     let e : n ≡ 0 + n = omega arith in
     ap {B = ℕ → A} (λ m k. getD (set l m v) k d) e ∙ patch-set 0 n new x l d is (omega arith) v same
 
+-- a list written to the front, element by element
+pub patch-over : {A : Type 0} (d : A) (i : ℕ) (new old l : List A) → (λ k. getD l k d) ≡ patch 0 i (λ k. getD new k d) (λ k. getD old k d) → length l ≡ length old → i ≡ length new → length new ≤ length old → l ≡ over new old
+patch-over {A} d i new old l is same all fits =
+    over-is d new old l same fits
+    (λ k h. ap (λ (y : ℕ → A). y k) is ∙ ap (patch 0 i (λ k. getD new k d) (λ k. getD old k d)) (omega arith) ∙ patch-in 0 i (λ k. getD new k d) (λ k. getD old k d) k (omega arith))
+    (λ q h. ap (λ (y : ℕ → A). y q) is ∙ patch-above 0 i _ (λ k. getD old k d) q (omega arith))
+
 -- zeros at the front
 pub patch-zeroed : (i n : ℕ) (l l′ : List ℤ) → at l′ ≡ patch 0 i (λ k. pos 0) (at l) → length l′ ≡ length l → n ≤ length l → i ≡ n → l′ ≡ zeroed n l
 patch-zeroed i n l l′ is same room e =
-    over-is (pos 0) (replicate n (pos 0)) l l′ same (omega (arith, length-replicate n (pos 0))) (λ k h. front k (omega (arith, length-replicate n (pos 0))))
-    (λ q h. ap (λ (y : ℕ → ℤ). y q) is ∙ patch-above 0 i _ (at l) q (omega (arith, length-replicate n (pos 0))))
-  where
-    front : (k : ℕ) → k < n → at l′ k ≡ at (replicate n (pos 0)) k
-    front k h = ap (λ (y : ℕ → ℤ). y k) is ∙ ap (patch 0 i (λ k. pos 0) (at l)) (omega arith) ∙ patch-in 0 i (λ k. pos 0) (at l) k (omega arith) ∙ sym (getD-replicate n k (pos 0) (pos 0) h)
+    patch-over (pos 0) i (replicate n (pos 0)) l l′ (is ∙ patch-ext 0 i _ _ (at l) (λ k h. sym (getD-replicate n k (pos 0) (pos 0) (omega arith)))) same
+    (omega (arith, length-replicate n (pos 0))) (omega (arith, length-replicate n (pos 0)))

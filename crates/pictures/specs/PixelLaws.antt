@@ -12,11 +12,10 @@ use lib.ListN.{length, getD, take}
 use lib.Pow.{pow-mono, pow-pos, shl-exact}
 use lib.Seq.{take-suc, take-all}
 use Rattle.numbers.specs.Tests.{every, by-ltb}
-use Rattle.refusals.specs.declared.Refusal.{Refusal}
 use Rattle.refusals.specs.declared.Refusal.the-variants.{SideNotAdmitted, SliceTooShort, PixelTooLarge}
-use Rattle.refusals.specs.declared.Outcome.{Outcome}
 use Rattle.refusals.specs.declared.Outcome.the-variants.{Done, Refused}
 use Rattle.refusals.specs.Refusals.{asks}
+use Rattle.width_table.specs.Table.{depthRight, levelsRight}
 use Rattle.pictures.specs.PictureLaws.{side-is}
 use Rattle.pictures.specs.Pictures.{sideRight, sized, pixelsRight}
 
@@ -27,6 +26,11 @@ one-shifted k w h = shl-exact {a = 1} 1 k w (omega arith) h ∙ omega arith
 and-false : (t : Bool) → t && false ≡ false
 and-false true = refl
 and-false false = refl
+
+-- ---- depth and levels
+
+pub limits-are : (B L : ℕ) (s t u v : Bool) → leb 1 B ≡ s → leb B 12 ≡ t → leb 1 L ≡ u → leb L 5 ≡ v → (depthRight B && levelsRight L) ≡ ((s && t) && (u && v))
+limits-are B L s t u v d e f g = λ j. (d j && e j) && (f j && g j)
 
 -- ---- a side
 

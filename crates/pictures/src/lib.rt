@@ -1,19 +1,38 @@
 // Pictures and planes in memory: refusals 8, 9 and 10, samples in, the work area cleared.
 ghost use mathlib.Core.Path.{_≡_};
-ghost use Prim.Native.Nat.{ℕ, _+_, _*_, _-_, _<_, _≤_, _^_};
+ghost use mathlib.Core.Bool.{_&&_};
+ghost use Prim.Native.Nat.{_*_, _-_, _<_, _≤_, _^_};
 ghost use lib.ListN.{length, getD};
-ghost use lib.IntN.{ℤ, pos, _-ℤ_};
+ghost use lib.IntN.{pos, _-ℤ_};
 ghost use Rattle.lifting.specs.Patch.{at, patch};
+ghost use Rattle.width_table.specs.Table.{depthRight, levelsRight};
 ghost use Rattle.pictures.specs.Pictures.{sideRight, sized, pixelsRight, zeroed};
 ghost use Rattle.pictures.specs.PixelLaws.{Largest};
 use refusals::Outcome;
 use refusals::Refusal;
+use width_table::WidthTable;
 
 // The greatest side of a picture.
 pub const MAX_SIDE: usize = 4096;
 
 // 2 to this is the greatest side.
 const MAX_SIDE_BITS: u8 = 12;
+
+// Whether depth and levels are within their limits, the width table's.
+pub fn limits_right(depth: u8, levels: u8) -> bool
+    ensures { λ r. ⌜ r ≡ (depthRight depth && levelsRight levels) ⌝ }
+{
+    if depth < 1 {
+        return false;
+    }
+    if WidthTable::MAX_DEPTH < depth {
+        return false;
+    }
+    if levels < 1 {
+        return false;
+    }
+    levels <= WidthTable::MAX_LEVELS
+}
 
 // Whether a side is admitted for so many levels.
 pub fn side_admitted(levels: u8, side: usize) -> bool

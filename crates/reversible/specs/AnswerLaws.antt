@@ -2,12 +2,11 @@
 use mathlib.Core.List.{List}
 use lib.IntN.{ℤ}
 use lib.ListN.{length}
-use Prim.Native.Nat.{ℕ, _+_, _*_, _-_, _^_, _<_, _≤_}
-use mathlib.Core.Bool.{Bool, true, false, _&&_}
-use mathlib.Core.Path.{_≡_, refl, sym, _∙_, ap}
-use native.Mathlib.Omega.{arith}
+use Prim.Native.Nat.{ℕ, _*_, _-_, _≤_}
+use mathlib.Core.Bool.{Bool, true, false, not, _&&_}
+use mathlib.Core.Path.{_≡_, refl, sym, _∙_, ap, subst}
 use lib.Dec.{T}
-use Rattle.numbers.specs.Tests.{both, and-intro, between, between-≤, to-between}
+use Rattle.numbers.specs.Tests.{both, and-intro, between-≤, to-between}
 use Rattle.refusals.specs.declared.Refusal.{Refusal}
 use Rattle.refusals.specs.declared.Refusal.the-variants.{OutsideLimits, NoPicture}
 use Rattle.refusals.specs.declared.Outcome.{Outcome}
@@ -20,7 +19,8 @@ use Rattle.lines.specs.Planes.{rowByRow}
 use Rattle.pictures.specs.Pictures.{sized, pixelsRight, sample, zeroed}
 use Rattle.pictures.specs.PictureLaws.{sized-done, pixels-done}
 use Rattle.reversible.specs.Reversible.{forward}
-use Rattle.reversible.specs.Calls.{limited, forwardAnswer, forwardPlane, forwardWork}
+use Rattle.reversible.specs.Calls.{limited, forwardAnswer, forwardPlane, forwardWork, hasPicture, backAllowed, backAnswer, backPixels, backWork}
+use Rattle.reversible.specs.FoundLaws.{TakenBack}
 use Rattle.reversible.specs.Needs.{CallRoom, ForwardRoom}
 
 -- depth and levels are within their limits, or 4 is the answer
@@ -87,3 +87,40 @@ module _ (B L w h : ℕ) (pixels : List ℕ) (plane work : List ℤ) where
 
   pub forward-room : allowed ≡ Done → pixelsRight B w h pixels ≡ Done → ForwardRoom B L w h pixels (length plane) (length work)
   forward-room e f = record { call = allowed-room B L w h _ _ _ e; right = pixels-done B w h pixels f }
+
+-- ---- back
+
+module _ (B L w h : ℕ) (plane : List ℤ) (pixels : List ℕ) (work : List ℤ) where
+  abbrev may : Outcome
+  may = limited B L then sized L w h (length pixels) (length plane) (length work)
+
+  -- the call's answer, and what it leaves in the pixels and in the work area
+  abbrev pub Backed : Outcome → List ℕ → List ℤ → Type 0
+  Backed o p q = (o ≡ backAnswer B L w h plane pixels work) × ((p ≡ backPixels B L w h plane pixels work) × (q ≡ backWork B L w h plane pixels work))
+
+  pub back-not-allowed : (r : Refusal) → may ≡ Refused r → Backed (Refused r) pixels work
+  unfolding backAnswer backPixels backWork backAllowed
+  back-not-allowed r e =
+      let d : backAnswer B L w h plane pixels work ≡ Refused r = then-refused may _ r e in
+      (sym d, (sym (answered-refused _ pixels d), sym (answered-refused _ work e)))
+
+  module _ (e : may ≡ Done) (p : List ℕ) (q : List ℤ) (cleared : q ≡ zeroed (w * h) work) where
+    last : backAnswer B L w h plane pixels work ≡ asks (hasPicture B L w h plane) NoPicture Done
+    unfolding backAnswer backAllowed
+    last = then-right may _ e
+
+    zero-work : q ≡ backWork B L w h plane pixels work
+    unfolding backWork backAllowed
+    zero-work = cleared ∙ sym (answered-done _ work e)
+
+    pub back-done : (r : Bool) → TakenBack B L w h plane pixels p r → r ≡ true → Backed Done p q
+    unfolding backPixels
+    back-done r b t =
+        let d = last ∙ ap (λ (t : Bool). asks t NoPicture Done) (sym (b .answer) ∙ t) in
+        (sym d, (b .written (subst T (sym t) tt) ∙ sym (answered-done _ pixels d), zero-work))
+
+    pub back-none : (r : Bool) → TakenBack B L w h plane pixels p r → r ≡ false → Backed (Refused NoPicture) p q
+    unfolding backPixels
+    back-none r b t =
+        let d = last ∙ ap (λ (t : Bool). asks t NoPicture Done) (sym (b .answer) ∙ t) in
+        (sym d, (b .kept (subst (λ (t : Bool). T (not t)) (sym t) tt) ∙ sym (answered-refused _ pixels d), zero-work))

@@ -1,20 +1,21 @@
 -- The way back in memory: what the code's looks tell, and when the answer is 11.
-use Prim.Native.Nat.{ℕ, zero, suc, _+_, _*_, _-_, _<_, _≤_, _^_}
+use Prim.Native.Nat.{ℕ, _+_, _-_, _<_, _≤_, _^_}
 use mathlib.Core.Bool.{Bool, true, false, _&&_}
-use mathlib.Core.List.{List}
-use mathlib.Core.Path.{_≡_, refl, sym, _∙_, ap, subst}
-use native.Mathlib.Decide.{decLt, ℕ-discrete}
+use mathlib.Core.Path.{_≡_, refl, sym, subst}
+use native.Mathlib.Decide.{ℕ-discrete}
 use native.Mathlib.Omega.{arith}
 use lib.Dec.{T}
-use lib.IntN.{ℤ, pos, natAbs, negℤ, _+ℤ_}
-use lib.ListN.{length, getD}
+use lib.IntN.{ℤ, pos, natAbs, negℤ, _-ℤ_}
 use lib.Signed.{_≤ℤ_}
 use Rattle.numbers.specs.Abs.{abs-≤}
+use Rattle.numbers.specs.Dif.{by-dif, difs}
 use Rattle.numbers.specs.Tests.{both, and-intro}
-use Rattle.lines.specs.Planes.{Plane}
+use Rattle.lines.specs.Planes.{side}
 use Rattle.lines.specs.PlaneLaws.{Agree}
 use Rattle.reversible.specs.Reversible.{back}
 use Rattle.reversible.specs.LevelLaws.{Sized, planeAt}
+use Rattle.reversible.specs.LoopLaws.{BackLeft, sides, back-part}
+use Rattle.reversible.specs.Needs.{LevelsRoom}
 
 -- an answer tells whether P holds
 pub record Tells (P : Type 0) (r : Bool) : Type 0 where
@@ -49,10 +50,6 @@ module _ (P : ℕ → Type 0) where
       go k j h (yes e) = subst P (sym e) (u .holds (k .1))
       go k j h (no f) = t .holds (k .0) j (omega arith)
 
--- the same of another statement
-pub tells-as : {P Q : Type 0} {r : Bool} → (P → Q) → (Q → P) → Tells P r → Tells Q r
-tells-as f g t = record { holds = λ k. f (t .holds k); told = λ q. t .told (g q) }
-
 -- ---- the answer of all levels back
 
 pub record BackDone (L w h : ℕ) (x y : ℕ → ℤ) (r : Bool) : Type 0 where
@@ -65,3 +62,27 @@ sized-between n z h = abs-≤ n z .0 h
 
 pub between-sized : (n : ℕ) (z : ℤ) → Between (negℤ (pos n)) (pos n) z → natAbs z ≤ n
 between-sized n z h = abs-≤ n z .1 h
+
+pub zero-less : (z : ℤ) → pos 0 -ℤ z ≡ negℤ z
+zero-less = by-dif _ λ a b. simp difs (omega arith)
+
+-- ---- the look before a level
+
+abbrev pub largest : ℕ
+largest = 2 ^ 22
+
+module _ {L w h n m : ℕ} (p : LevelsRoom L w h n m) (k : ℕ) (i : k < L) (x y : ℕ → ℤ) (left : BackLeft L w h (k + 1) x y) (across down : ℕ) (ea : across ≡ side k w) (ed : down ≡ side k h)
+    (r : Bool) (look : Tells ((i : ℕ) → i < down → (j : ℕ) → j < across → Between (negℤ (pos largest)) (pos largest) (planeAt w y i j)) r) where
+  pub look-small : T r → Sized largest (side k w) (side k h) (planeAt w y)
+  look-small t a b e f = between-sized largest (planeAt w y a b) (look .holds t a (omega arith) b (omega arith))
+
+  pub look-large : r ≡ false → BackDone L w h x y false
+  look-large e = record {
+    done = λ t. absurd t;
+    none = λ small. subst T e (look .told (λ a u b v. let s = sides L w h (p .across) (p .down) k i in
+        sized-between largest (planeAt w y a b) (omega (arith, back-part L w h (p .across) (p .down) (k + 1) (omega arith) (p .few) x y left small a b (omega (arith, s .in-h)) (omega (arith, s .in-w))))));
+  }
+
+pub back-all : (L w h : ℕ) (x y : ℕ → ℤ) → BackLeft L w h 0 x y → BackDone L w h x y true
+unfolding back
+back-all L w h x y f = record { done = λ t. f .left; none = λ s. tt }

@@ -7,13 +7,12 @@ use lib.Dec.{leb, ltb, le→leb}
 use lib.IntN.{ℤ, natAbs}
 use Rattle.numbers.specs.Tests.{is-true, and-true, and-false-l, and-false-r}
 use Rattle.lines.specs.Planes.{Plane, rows, within, levels, side}
-use Rattle.lines.specs.PlaneLaws.{within-in, within-below, within-beyond, by-part, Roomy, side-le, Agree}
+use Rattle.lines.specs.PlaneLaws.{within-in, within-below, within-beyond, by-part, Roomy, side-le}
 use Rattle.lifting.specs.declared.Kernel.{Kernel}
-use Rattle.lifting.specs.Columns.{lineAt}
 use Rattle.lifting.specs.Kernels.{worked, SafeKernel, rowOf, columnOf, rowsWorked, columnsWorked}
 use Rattle.pictures.specs.MemoryLaws.{Stands, rows-stand, columns-stand, rows-beyond, columns-beyond, columnsPlane, worked-same}
-use Rattle.reversible.specs.Reversible.{reversiblePass, backPass, forward, backLevel, back}
-use Rattle.reversible.specs.ReversibleLaws.{forwardLevel, level-in, level-below, level-beyond, back-in, back-below, back-beyond, back-forward, forward-agrees, back-agrees}
+use Rattle.reversible.specs.Reversible.{reversiblePass, backPass, forward, backLevel}
+use Rattle.reversible.specs.ReversibleLaws.{forwardLevel, level-in, level-below, level-beyond, back-in, back-below, back-beyond}
 use Rattle.reversible.specs.Sizes.{forwardKernel, backKernel, forward-kernel, back-kernel, forward-size, back-size, forward-safe, back-safe}
 
 -- values of size b at most within w columns and h rows

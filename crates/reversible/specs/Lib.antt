@@ -5,14 +5,16 @@
 --   ReversibleLaws   forward-back, back-forward: each undoes the other
 --   PictureLaws      has-picture: refusal 11 comes exactly where no picture has the plane
 --   CallLaws         there-and-back, back-and-there
+--   OneToOne         same-picture: two pictures with the same plane are one
 -- For the proofs of the code:
 --   Sizes            the kernels of the code are the passes; how large their values become
 --   LevelLaws        a level in memory, forward and back
 --   LoopLaws         levels one after another in memory
 --   Needs            what the functions ask of their callers
---   AnswerLaws       the order of refusals, step by step
 --   StepLaws         samples in, levels, the work area cleared
 --   BackLaws         what the looks of the way back tell
+--   FoundLaws        its end: whether pixels came out, and what is written
+--   AnswerLaws       the order of refusals, step by step
 pub mod Reversible
 pub mod Calls
 pub mod ReversibleLaws
@@ -22,6 +24,8 @@ pub mod Sizes
 pub mod LevelLaws
 pub mod LoopLaws
 pub mod Needs
-pub mod AnswerLaws
 pub mod StepLaws
 pub mod BackLaws
+pub mod FoundLaws
+pub mod AnswerLaws
+pub mod OneToOne

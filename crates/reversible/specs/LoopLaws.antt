@@ -47,6 +47,9 @@ pub record ForwardDone (w h k : ℕ) (x y : ℕ → ℤ) : Type 0 where
 pub record BackLeft (L w h k : ℕ) (x y : ℕ → ℤ) : Type 0 where
   pub left : Agree w h (back k w h (planeAt w y)) (back L w h (planeAt w x))
 
+pub one-more : {L w h j : ℕ} {x y : ℕ → ℤ} (k : ℕ) → j ≡ k + 1 → BackLeft L w h j x y → BackLeft L w h (k + 1) x y
+one-more {L} {w} {h} {x} {y} k e f = subst (λ (n : ℕ). BackLeft L w h n x y) e f
+
 module _ (L w h : ℕ) (aw : Admitted L w) (ah : Admitted L h) where
   pub sides : (k : ℕ) → k < L → Sides L w h k
   sides k i = record {

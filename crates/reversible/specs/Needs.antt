@@ -8,14 +8,13 @@ use lib.Dec.{T, ltb}
 use lib.IntN.{ℤ}
 use lib.ListN.{length, take}
 use Rattle.numbers.specs.Tests.{every}
-use Rattle.lifting.specs.Columns.{lineAt}
-use Rattle.lifting.specs.Kernels.{Part, SafeKernel, rowOf, columnOf, rowsWorked}
+use Rattle.lifting.specs.Kernels.{Part, SafeKernel, rowOf, columnOf, rowsWorked, columnsWorked}
 use Rattle.lifting.specs.Patch.{at}
 use Rattle.pictures.specs.Pictures.{Admitted}
 use Rattle.pictures.specs.PictureLaws.{Room}
 use Rattle.lines.specs.Planes.{side}
-use Rattle.reversible.specs.LevelLaws.{Sized, planeAt, forward-rows-safe, forward-columns-safe, rows-sized}
-use Rattle.reversible.specs.Sizes.{forwardKernel}
+use Rattle.reversible.specs.LevelLaws.{Sized, planeAt, forward-rows-safe, forward-columns-safe, rows-sized, back-rows-safe, back-columns-safe, columns-sized}
+use Rattle.reversible.specs.Sizes.{forwardKernel, backKernel}
 use Rattle.reversible.specs.LoopLaws.{Sides, sides}
 
 -- a part of w columns and h rows, with values of size b at most, and a tile for its lines
@@ -83,6 +82,11 @@ level-room b L w h r k i plane tile across down el et ea ed small =
       small = small;
     })
 
+-- the part of level k + 1, its sides written otherwise
+pub part-here : {L w h n m : ℕ} → LevelsRoom L w h n m → (k : ℕ) → k < L → (plane : List ℤ) (across down : ℕ) → length plane ≡ n → across ≡ side k w → down ≡ side k h → Part plane w 0 across down
+part-here {L} {w} {h} r k i plane across down e ea ed =
+    subst₂ (λ (v u : ℕ). Part plane w 0 v u) (sym ea) (sym ed) (part-of L w h k plane (sides L w h (r .across) (r .down) k i) (r .across .1) (r .down .1) (omega (arith, r .room)))
+
 -- ---- the steps of a level fit
 
 module _ {plane : List ℤ} {tile W w h : ℕ} where
@@ -92,3 +96,10 @@ module _ {plane : List ℤ} {tile W w h : ℕ} where
   pub forward-columns : LevelRoom (2 ^ 21) plane tile W w h → (x : ℕ → ℤ) → x ≡ rowsWorked forwardKernel W w h (at plane) → (c : ℕ) → c < w → SafeKernel forwardKernel h (columnOf W 0 x c)
   forward-columns p x e = subst (λ (y : ℕ → ℤ). (c : ℕ) → c < w → SafeKernel forwardKernel h (columnOf W 0 y c)) (sym e)
       (forward-columns-safe W w h (2 * 2 ^ 21) (p .wide) (p .tall) (omega (arith, p .part .narrow)) (rowsWorked forwardKernel W w h (at plane)) (rows-sized W w h (2 ^ 21) (p .wide) (p .tall) (omega (arith, p .part .narrow)) (at plane) (p .small)) (omega arith))
+
+  pub back-columns : LevelRoom (2 ^ 22) plane tile W w h → (c : ℕ) → c < w → SafeKernel backKernel h (columnOf W 0 (at plane) c)
+  back-columns p = back-columns-safe W w h (2 ^ 22) (p .wide) (p .tall) (omega (arith, p .part .narrow)) (at plane) (p .small) (omega arith)
+
+  pub back-rows : LevelRoom (2 ^ 22) plane tile W w h → (x : ℕ → ℤ) → x ≡ columnsWorked backKernel W 0 w h (at plane) → (r : ℕ) → r < h → SafeKernel backKernel w (rowOf W 0 x r)
+  back-rows p x e = subst (λ (y : ℕ → ℤ). (r : ℕ) → r < h → SafeKernel backKernel w (rowOf W 0 y r)) (sym e)
+      (back-rows-safe W w h (3 * 2 ^ 22) (p .wide) (p .tall) (omega (arith, p .part .narrow)) (columnsWorked backKernel W 0 w h (at plane)) (columns-sized W w h (2 ^ 22) (p .wide) (p .tall) (omega (arith, p .part .narrow)) (at plane) (p .small)) (omega arith))

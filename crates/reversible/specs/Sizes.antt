@@ -1,23 +1,22 @@
 -- How large the values of the 5/3 passes become, and that the machine's steps therefore fit.
 -- A pass forward at most doubles the size of a line's values; a pass back makes it at most three times as large.
-use Prim.Native.Nat.{ℕ, zero, suc, _+_, _*_, _-_, _/_, _<_, _≤_, _^_}
-use mathlib.Core.Path.{_≡_, refl, sym, ap, subst}
+use Prim.Native.Nat.{ℕ, _+_, _*_, _-_, _/_, _<_, _≤_, _^_}
+use mathlib.Core.Path.{_≡_, refl, sym, subst}
 use native.Mathlib.Omega.{arith}
-use lib.IntN.{ℤ, pos, negsuc, natAbs, _+ℤ_, _-ℤ_}
+use lib.IntN.{ℤ, pos, negsuc, natAbs, _+ℤ_}
 use lib.Signed.{shrZ}
 use mir.Syntax.{w32}
 use mir.Val.{SFits}
 use Rattle.numbers.specs.Abs.{abs-add, abs-sub, mag-of-abs}
 use Rattle.numbers.specs.Dif.{plus, minus, is-self, is-pos, is-add, is-abs}
-use Rattle.lines.specs.Lines.{lows, highs, lowAfter, highBefore, highAfter, onHighs, onLows, lowsFirst, interleaved}
+use Rattle.lines.specs.Lines.{lows, highs, lowAfter, highBefore, highAfter, onHighs, onLows}
 use Rattle.lines.specs.LineLaws.{first-low, first-high, even-place, odd-place, by-parity, by-half}
-use Rattle.lifting.specs.declared.Step.{Step}
 use Rattle.lifting.specs.declared.Step.the-variants.{Predict, Update, Unpredict, Unupdate}
 use Rattle.lifting.specs.declared.Kernel.{Kernel}
 use Rattle.lifting.specs.declared.Kernel.the-variants.{Pair, Undo}
 use Rattle.lifting.specs.Steps.{applied, Safe, half, quarter}
-use Rattle.lifting.specs.Passes.{evens, odds, lifted, SafePass}
-use Rattle.lifting.specs.Kernels.{worked, SafeKernel, SafeUndo, lowsUndone, highsUndone}
+use Rattle.lifting.specs.Passes.{evens, odds}
+use Rattle.lifting.specs.Kernels.{worked, SafeKernel, lowsUndone, highsUndone}
 use Rattle.reversible.specs.Reversible.{predict, update, unpredict, unupdate, high, low, reversiblePass, lowBack, highBack, backPass}
 
 -- ---- the kernels of the code are the passes

@@ -1,7 +1,7 @@
 -- What the steps of the forward call leave: samples in, levels, the work area cleared.
 use Prim.Native.Nat.{ℕ, zero, suc, _+_, _*_, _-_, _<_, _≤_, _^_}
 use mathlib.Core.List.{List, _++_}
-use mathlib.Core.Path.{_≡_, refl, sym, _∙_, ap, subst}
+use mathlib.Core.Path.{_≡_, sym, _∙_, ap, subst}
 use native.Mathlib.Omega.{arith}
 use lib.Pow.{pow-mono}
 use lib.IntN.{ℤ, pos, natAbs, _-ℤ_}
@@ -9,13 +9,13 @@ use lib.ListN.{length, getD, drop, replicate, length-replicate}
 use lib.Seq.{drop-at}
 use Rattle.numbers.specs.Dif.{difs}
 use Rattle.numbers.specs.Lists.{over}
-use Rattle.lines.specs.Planes.{Plane, rowByRow}
-use Rattle.lines.specs.PlaneLaws.{Roomy, roomy, Agree}
+use Rattle.lines.specs.Planes.{rowByRow}
+use Rattle.lines.specs.PlaneLaws.{roomy, Agree}
 use Rattle.lines.specs.RowLaws.{place-in}
 use Rattle.lifting.specs.Patch.{at, patch, patch-in, patch-above}
 use Rattle.pictures.specs.Pictures.{sample, zeroed}
 use Rattle.pictures.specs.PictureLaws.{pixel-below}
-use Rattle.pictures.specs.MemoryLaws.{Stands, stands-over}
+use Rattle.pictures.specs.MemoryLaws.{stands-over}
 use Rattle.reversible.specs.Reversible.{forward}
 use Rattle.reversible.specs.ReversibleLaws.{forward-agrees}
 use Rattle.reversible.specs.LevelLaws.{Sized, planeAt}
@@ -26,7 +26,7 @@ use Rattle.reversible.specs.Needs.{ForwardRoom}
 sample-small : (p q : ℕ) → p ≤ 2 * q → natAbs (pos p -ℤ pos q) ≤ q
 sample-small p q = simp difs (omega arith)
 
-middle : (B : ℕ) → 1 ≤ B → B ≤ 12 → (2 ^ B ≡ 2 * 2 ^ (B - 1)) × (2 ^ (B - 1) ≤ 2 ^ 11)
+pub middle : (B : ℕ) → 1 ≤ B → B ≤ 12 → (2 ^ B ≡ 2 * 2 ^ (B - 1)) × (2 ^ (B - 1) ≤ 2 ^ 11)
 middle zero h k = absurd (omega arith)
 middle (suc B) h k = let e : suc B - 1 ≡ B = omega arith in (omega (arith, ap (λ (t : ℕ). 2 ^ t) e), subst (λ (t : ℕ). 2 ^ t ≤ 2 ^ 11) (sym e) (pow-mono {i = B} {j = 11} (omega arith)))
 

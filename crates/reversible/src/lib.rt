@@ -1,17 +1,21 @@
 // The reversible 5/3 transform of a picture, and its way back (document 01: the lifting; why a strip or book comes back).
 ghost use mathlib.Core.Path.{_≡_};
 ghost use Prim.Native.Nat.{ℕ, _+_, _*_, _-_, _<_, _≤_, _^_};
-ghost use lib.ListN.{length};
+ghost use lib.ListN.{length, getD};
+ghost use lib.IntN.{pos, natAbs, negℤ, _+ℤ_, _-ℤ_};
 ghost use Rattle.numbers.specs.Lists.{over};
 ghost use Rattle.refusals.specs.Refusals.{_then_};
-ghost use Rattle.lines.specs.Planes.{rowByRow};
-ghost use Rattle.lifting.specs.Patch.{at};
+ghost use Rattle.lines.specs.Planes.{rowByRow, side};
+ghost use Rattle.lifting.specs.Patch.{at, patch};
+ghost use Rattle.lifting.specs.Kernels.{Part};
 ghost use Rattle.pictures.specs.Pictures.{sized, sample, zeroed};
 ghost use Rattle.reversible.specs.Reversible.{forward};
-ghost use Rattle.reversible.specs.Calls.{limited, forwardAnswer, forwardPlane, forwardWork};
-ghost use Rattle.reversible.specs.LevelLaws.{Sized, planeAt, levelForward};
+ghost use Rattle.reversible.specs.Calls.{limited, forwardAnswer, forwardPlane, forwardWork, backAnswer, backPixels, backWork};
+ghost use Rattle.reversible.specs.LevelLaws.{Sized, planeAt, levelForward, levelBack};
 ghost use Rattle.reversible.specs.LoopLaws.{ForwardDone};
-ghost use Rattle.reversible.specs.Needs.{LevelRoom, ForwardRoom, LevelsRoom};
+ghost use Rattle.reversible.specs.Needs.{LevelRoom, ForwardRoom, LevelsRoom, CallRoom};
+ghost use Rattle.reversible.specs.BackLaws.{Tells, Between, BackDone};
+ghost use Rattle.reversible.specs.FoundLaws.{IsSample, Found, TakenBack};
 use lifting::Kernel;
 use lifting::Step;
 use refusals::Outcome;
@@ -98,10 +102,10 @@ fn transform(
     ensures plane { λ _. ⌜ now (plane .exit) ≡ over (rowByRow w h (forward levels w h (sample (now (pixels .entry)) depth w))) (now (plane .entry)) ⌝ }
     ensures work { λ _. ⌜ now (work .exit) ≡ zeroed (w * h) (now (work .entry)) ⌝ }
 {
-    let n = w * h;
-    pictures::load_samples(pixels, plane, n, depth);
-    levels_forward(plane, &mut work[..n], w, h, levels);
-    pictures::clear(work, n);
+    let size = w * h;
+    pictures::load_samples(pixels, plane, size, depth);
+    levels_forward(plane, &mut work[..size], w, h, levels);
+    pictures::clear(work, size);
 }
 
 // The 5/3 transform of a picture: refusals 4, 8, 9 and 10; the plane, and a work area of which the first w * h elements become 0.
@@ -127,5 +131,219 @@ pub fn forward(
                 Outcome::Done
             }
         },
+    }
+}
+
+// The side that k levels leave of a side of n.
+fn side_after(n: usize, k: u8) -> usize
+    requires { ⌜ (1 ≤ n) × (n ≤ 4096) ⌝ }
+    ensures { λ r. ⌜ r ≡ side k n ⌝ }
+{
+    let mut m = n;
+    for i in 0..k {
+        m = (m + 1) / 2;
+    }
+    m
+}
+
+// Whether a value lies between two others.
+fn in_range(v: i32, least: i32, most: i32) -> bool
+    ensures { λ r. ⌜ Tells (Between least most v) r ⌝ }
+{
+    if v < least {
+        return false;
+    }
+    if most < v {
+        return false;
+    }
+    true
+}
+
+// Whether n values from a place on lie between two numbers.
+fn all_between(values: &[i32], from: usize, n: usize, least: i32, most: i32) -> bool
+    requires { ⌜ from + n ≤ length (now values) ⌝ }
+    ensures { λ r. ⌜ Tells ((j : ℕ) → j < n → Between least most (at (now (values .entry)) (from + j))) r ⌝ }
+{
+    let mut fits = true;
+    for j in 0..n {
+        fits = fits & in_range(values[from + j], least, most);
+    }
+    fits
+}
+
+// Whether the values of a part of w columns and h rows lie between two numbers.
+fn part_between(values: &[i32], stride: usize, w: usize, h: usize, least: i32, most: i32) -> bool
+    requires { ⌜ Part (now values) stride 0 w h ⌝ }
+    ensures { λ r. ⌜ Tells ((i : ℕ) → i < h → (j : ℕ) → j < w → Between least most (planeAt stride (at (now (values .entry))) i j)) r ⌝ }
+{
+    let mut fits = true;
+    for i in 0..h {
+        fits = fits & all_between(values, i * stride, w, least, most);
+    }
+    fits
+}
+
+// One level back, of a part of w columns and h rows: the columns, then the rows.
+fn level_back(values: &mut [i32], tile: &mut [i32], stride: usize, w: usize, h: usize)
+    requires { ⌜ LevelRoom (2 ^ 22) (now values) (length (now tile)) stride w h ⌝ }
+    ensures { λ _. ⌜ at (now (values .exit)) ≡ levelBack stride w h (at (now (values .entry))) ⌝ }
+{
+    lifting::columns(
+        values,
+        tile,
+        stride,
+        0,
+        w,
+        h,
+        Kernel::Undo(Step::Unupdate, Step::Unpredict),
+    );
+    lifting::rows(
+        values,
+        tile,
+        stride,
+        w,
+        h,
+        Kernel::Undo(Step::Unupdate, Step::Unpredict),
+    );
+}
+
+// All levels back, the last one first; false where a value lies beyond 2^22 (4194304), which no picture gives.
+fn levels_back(values: &mut [i32], tile: &mut [i32], w: usize, h: usize, levels: u8) -> bool
+    requires { ⌜ LevelsRoom levels w h (length (now values)) (length (now tile)) ⌝ }
+    ensures { λ r. ⌜ BackDone levels w h (at (now (values .entry))) (at (now (values .exit))) r ⌝ }
+{
+    let mut k = levels;
+    while 0 < k {
+        k -= 1;
+        let across = side_after(w, k);
+        let down = side_after(h, k);
+        if part_between(values, w, across, down, -4194304, 4194304) {
+            level_back(values, tile, w, across, down);
+        } else {
+            return false;
+        }
+    }
+    true
+}
+
+// The first n values go to another slice.
+fn copy_front(from: &[i32], to: &mut [i32], n: usize)
+    requires { ⌜ (n ≤ length (now from)) × (n ≤ length (now to)) ⌝ }
+    ensures { λ _. ⌜ at (now (to .exit)) ≡ patch 0 n (at (now (from .entry))) (at (now (to .entry))) ⌝ }
+{
+    for i in 0..n {
+        to[i] = from[i];
+    }
+}
+
+// The middle of the pixels' range.
+fn middle(depth: u8) -> i32
+    requires { ⌜ (1 ≤ depth) × (depth ≤ 12) ⌝ }
+    ensures { λ r. ⌜ r ≡ pos (2 ^ (depth - 1)) ⌝ }
+{
+    (1u16 << (depth - 1)) as i32
+}
+
+// Whether n samples are those of pixels of that depth.
+fn samples_right(values: &[i32], n: usize, depth: u8) -> bool
+    requires { ⌜ (1 ≤ depth) × (depth ≤ 12) × (n ≤ length (now values)) ⌝ }
+    ensures { λ r. ⌜ Tells ((j : ℕ) → j < n → IsSample depth (at (now (values .entry)) j)) r ⌝ }
+{
+    let half = middle(depth);
+    all_between(values, 0, n, -half, half - 1)
+}
+
+// Takes a plane back in lent values: whether it is the transform of a picture.
+fn found(
+    depth: u8,
+    levels: u8,
+    plane: &[i32],
+    w: usize,
+    h: usize,
+    values: &mut [i32],
+    tile: &mut [i32; 65536],
+) -> bool
+    requires { ⌜ CallRoom depth levels w h (length (now values)) (length (now plane)) (length (now values)) ⌝ }
+    ensures { λ r. ⌜ Found depth levels w h (now (plane .entry)) (at (now (values .exit))) r ⌝ }
+{
+    let n = w * h;
+    copy_front(plane, values, n);
+    if levels_back(values, tile, w, h, levels) {
+        samples_right(values, n, depth)
+    } else {
+        false
+    }
+}
+
+// A sample as a pixel.
+fn pixel_of(v: i32, half: i32) -> u16
+    requires { ⌜ (natAbs half ≤ 2 ^ 11) × Between (negℤ half) (half -ℤ pos 1) v ⌝ }
+    ensures { λ r. ⌜ r ≡ natAbs (v +ℤ half) ⌝ }
+{
+    (v + half) as u16
+}
+
+// The first n samples go to the pixels.
+fn write_pixels(values: &[i32], pixels: &mut [u16], n: usize, depth: u8)
+    requires { ⌜ (1 ≤ depth) × (depth ≤ 12) × (n ≤ length (now values)) × (n ≤ length (now pixels)) ⌝ }
+    requires { ⌜ ((j : ℕ) → j < n → IsSample depth (at (now values) j)) ⌝ }
+    ensures { λ _. ⌜ (λ k. getD (now (pixels .exit)) k 0) ≡ patch 0 n (λ k. natAbs (at (now (values .entry)) k +ℤ pos (2 ^ (depth - 1)))) (λ k. getD (now (pixels .entry)) k 0) ⌝ }
+{
+    let half = middle(depth);
+    for i in 0..n {
+        pixels[i] = pixel_of(values[i], half);
+    }
+}
+
+// What a call back does that is allowed: whether there is a picture, its pixels, and the work area cleared.
+fn take_back(
+    depth: u8,
+    levels: u8,
+    plane: &[i32],
+    w: usize,
+    h: usize,
+    pixels: &mut [u16],
+    work: &mut [i32],
+    tile: &mut [i32; 65536],
+) -> bool
+    requires { ⌜ CallRoom depth levels w h (length (now pixels)) (length (now plane)) (length (now work)) ⌝ }
+    ensures { λ r. ⌜ TakenBack depth levels w h (now (plane .entry)) (now (pixels .entry)) (now (pixels .exit)) r ⌝ }
+    ensures { λ _. ⌜ now (work .exit) ≡ zeroed (w * h) (now (work .entry)) ⌝ }
+{
+    let n = w * h;
+    if found(depth, levels, plane, w, h, &mut work[..n], tile) {
+        write_pixels(work, pixels, n, depth);
+        pictures::clear(work, n);
+        true
+    } else {
+        pictures::clear(work, n);
+        false
+    }
+}
+
+// The picture of a 5/3 plane (the tile is made before anything is judged: docs/DECISIONS.md, back end): refusals 4, 8, 9 and 11; a work area of which the first w * h elements become 0, with 11 too.
+pub fn back(
+    depth: u8,
+    levels: u8,
+    plane: &[i32],
+    w: usize,
+    h: usize,
+    pixels: &mut [u16],
+    work: &mut [i32],
+) -> Outcome
+    ensures answer { λ r. ⌜ r ≡ backAnswer depth levels w h (now (plane .entry)) (now (pixels .entry)) (now (work .entry)) ⌝ }
+    ensures pixels { λ _. ⌜ now (pixels .exit) ≡ backPixels depth levels w h (now (plane .entry)) (now (pixels .entry)) (now (work .entry)) ⌝ }
+    ensures work { λ _. ⌜ now (work .exit) ≡ backWork depth levels w h (now (plane .entry)) (now (pixels .entry)) (now (work .entry)) ⌝ }
+{
+    let mut tile = [0i32; 65536];
+    match allowed(depth, levels, w, h, pixels.len(), plane.len(), work.len()) {
+        Outcome::Refused(why) => Outcome::Refused(why),
+        Outcome::Done => {
+            if take_back(depth, levels, plane, w, h, pixels, work, &mut tile) {
+                Outcome::Done
+            } else {
+                Outcome::Refused(Refusal::NoPicture)
+            }
+        }
     }
 }

@@ -1,11 +1,11 @@
-use mathlib.Core.Path.{_≡_, refl, ap, sym, _∙_}
-use Prim.Native.Nat.{ℕ, _+_, _-_, _≤_, _<_}
+-- `pictures::clear` meets its contract: the first i elements are 0.
+-- Assumes nothing.
+use mathlib.Core.Path.{_≡_, refl}
+use Prim.Native.Nat.{_-_, _≤_}
 use native.Mathlib.Omega.{arith}
-use mathlib.Core.List.{List}
-use lib.IntN.{ℤ, pos}
-use lib.ListN.{length, length-set, getD, replicate, length-replicate, getD-replicate}
+use lib.IntN.{pos}
+use lib.ListN.{length, length-set}
 use Rattle.lifting.specs.Patch.{at, patch, patch-none}
-use Rattle.pictures.specs.Pictures.{zeroed}
 use Rattle.pictures.specs.MemoryLaws.{patch-next, patch-zeroed}
 use Rattle.pictures.proofs.clear.Statement.{statement}
 use Rattle.pictures.proofs.clear.Tie as tie

@@ -1,4 +1,6 @@
-use mathlib.Core.Path.{_≡_, refl, ap, sym, _∙_}
+-- `pictures::side_admitted` meets its contract: 2^12 is the greatest side, so thirteen levels or more admit none.
+-- Assumes nothing.
+use mathlib.Core.Path.{_≡_, ap, sym}
 use native.Mathlib.Omega.{arith}
 use Prim.Native.Nat.{ℕ, _-_, _^_}
 use borrow.Author.Needs.{needs}

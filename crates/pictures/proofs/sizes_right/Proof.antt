@@ -1,6 +1,7 @@
+-- `pictures::sizes_right` meets its contract: each way out is one rule; admitted sides make a size that fits.
+-- Assumes nothing.
 use mathlib.Core.Path.{_≡_, sym, _∙_}
-use mathlib.Core.Bool.{Bool, true}
-use Prim.Native.Nat.{ℕ, _*_, _≤_}
+use mathlib.Core.Bool.{true}
 use native.Mathlib.Omega.{arith}
 use borrow.Author.Needs.{needs}
 use Rattle.pictures.specs.Pictures.{sideRight}

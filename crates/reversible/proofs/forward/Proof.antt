@@ -1,7 +1,6 @@
 -- `reversible::forward` meets its contract: the refusals in their order, then the transform.
 -- Assumes nothing.
-use mathlib.Core.Path.{sym, _∙_, ap}
-use native.Mathlib.Omega.{arith}
+use mathlib.Core.Path.{sym, _∙_}
 use borrow.Author.Needs.{needs}
 use lib.ListN.{length}
 use Rattle.reversible.specs.AnswerLaws.{allowed-room, forward-not-allowed, forward-pixel, forward-done, forward-room}

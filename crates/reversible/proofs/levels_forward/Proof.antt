@@ -1,16 +1,15 @@
 -- `reversible::levels_forward` meets its contract. The loop's invariant: so many levels are done, and the sides are those of the next.
 -- Assumes nothing.
 use mathlib.Core.Path.{_≡_, refl, sym, ap, _∙_, subst}
-use Prim.Native.Nat.{ℕ, _+_, _*_, _-_, _≤_, _^_}
+use Prim.Native.Nat.{ℕ, _-_, _≤_, _^_}
 use native.Mathlib.Omega.{arith}
-use lib.IntN.{ℤ}
 use lib.ListN.{length}
 use Rattle.lines.specs.Lines.{lows}
 use Rattle.lines.specs.Planes.{side}
 use Rattle.lifting.specs.Patch.{at}
-use Rattle.reversible.specs.LevelLaws.{Sized, planeAt, levelForward}
+use Rattle.reversible.specs.LevelLaws.{levelForward}
 use Rattle.reversible.specs.LoopLaws.{ForwardDone, Sides, sides, side-none, side-more, forward-none, forward-more, forward-part}
-use Rattle.reversible.specs.Needs.{LevelRoom, level-room}
+use Rattle.reversible.specs.Needs.{level-room}
 use Rattle.reversible.proofs.levels_forward.Statement.{statement}
 use Rattle.reversible.proofs.levels_forward.Tie as tie
 

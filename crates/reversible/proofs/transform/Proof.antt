@@ -1,6 +1,6 @@
 -- `reversible::transform` meets its contract: samples in, the levels, and the work area cleared whatever the levels left in its front.
 -- Assumes nothing.
-use mathlib.Core.Path.{sym, _∙_, ap}
+use mathlib.Core.Path.{sym, _∙_}
 use Prim.Native.Nat.{_*_}
 use native.Mathlib.Omega.{arith}
 use borrow.Author.Needs.{needs}

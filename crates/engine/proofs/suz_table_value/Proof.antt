@@ -1,0 +1,70 @@
+use mathlib.Core.Path.{sym, _∙_, ap}
+use native.Mathlib.Omega.{arith}
+use Rattle.refusals.specs.declared.Outcome.{Outcome}
+use Rattle.refusals.specs.declared.Outcome.the-variants.{Refused}
+use Rattle.width_table.specs.NameLaws.{valued}
+use Rattle.engine.specs.Answers.{code}
+use Rattle.engine.specs.AnswerLaws.{name-refused, name-found, start-kept, length-kept, start-written, length-written}
+use borrow.Author.Needs.{needs}
+use Rattle.engine.proofs.suz_table_value.Statement.{statement}
+use Rattle.engine.proofs.suz_table_value.Tie as tie
+use Rattle.engine.proofs.suz_table_value.Reads as reads
+use Rattle.engine.proofs.suz_table_value.Lts as lts
+use Rattle.engine.proofs.refusal_code.Reads as refusal-code-reads
+use Rattle.width_table.proofs.value_place.Reads as value-place-reads
+
+-- src/lib.rt:60:11
+value-place-requires : tie.Need-value-place-requires
+value-place-requires c κs = search needs
+
+-- src/lib.rt:61:25
+enum-known-why : tie.Need-enum-known-why
+enum-known-why c = search needs
+
+-- src/lib.rt:61:33
+refusal-code-requires : tie.Need-refusal-code-requires
+refusal-code-requires c κs = search needs
+
+-- src/lib.rt:62:31
+enum-known-s : tie.Need-enum-known-s
+enum-known-s c = search needs
+
+cast-start : tie.Need-cast-start
+cast-start c =
+    let v = c .before .before .before in
+    let a = v .before .before .args in
+    omega (arith, valued (a .table .now) (a .tag) _ _ (sym (v .value-place .ensures) ∙ c .before .s .given .1) .small)
+
+cast-length : tie.Need-cast-length
+cast-length c =
+    let v = c .before .before .before in
+    let a = v .before .before .args in
+    omega (arith, valued (a .table .now) (a .tag) _ _ (sym (v .value-place .ensures) ∙ c .before .s .given .1) .small)
+
+returns : tie.Need-returns
+returns c =
+    let v = c .before .before .before .before in
+    let a = v .before .before .args in
+    let r = c .before .before .why .given .0 .0 in
+    let e = name-refused (a .table .now) (a .tag) r (sym (v .value-place .ensures) ∙ c .before .before .why .given .1) in
+    (c .refusal-code .ensures ∙ sym (ap code e), (start-kept (a .table .now) (a .tag) r _ e, length-kept (a .table .now) (a .tag) r _ e))
+
+returns-2 : tie.Need-returns-2
+returns-2 c =
+    let v = c .before .before .before in
+    let a = v .before .before .args in
+    let f = name-found (a .table .now) (a .tag) _ _ (sym (v .value-place .ensures) ∙ c .before .s .given .1) in
+    (sym (ap code (f .done)), (f .starts ∙ start-written (a .table .now) (a .tag) _ (f .done), f .long ∙ length-written (a .table .now) (a .tag) _ (f .done)))
+
+pub suz-table-value-spec : {M : Type 1} → statement M
+suz-table-value-spec =
+    tie.close
+    (tie.spec
+    value-place-requires
+    enum-known-why
+    refusal-code-requires
+    enum-known-s
+    cast-start
+    cast-length
+    returns
+    returns-2)

@@ -1,0 +1,191 @@
+// The C interface (include/suzdrepa.h): thin functions over the layers below. Every definition that the contracts cite is in specs/.
+ghost use mathlib.Core.Path.{_≡_};
+ghost use Rattle.width_table.specs.Bytes.{form, writable, bytesAfter};
+ghost use Rattle.width_table.specs.Names.{nameable};
+ghost use Rattle.reversible.specs.Calls.{forwardAnswer, forwardPlane, forwardWork, backAnswer, backPixels, backWork};
+ghost use Rattle.engine.specs.Answers.{placeCode, refusalCode, code, checked, startAfter, lengthAfter, changeAnswer, changeOut, answer97, plane97, work97};
+use refusals::NodePlace;
+use refusals::Outcome;
+use refusals::Refusal;
+use width_table::Named;
+use width_table::WidthTable;
+use width_table::Written;
+
+fn place_code(place: NodePlace) -> u32
+    ensures { λ r. ⌜ r ≡ placeCode place ⌝ }
+{
+    256 * (place.level as u32) + 65536 * (place.pass as u32) + 16777216 * (place.node as u32)
+}
+
+fn refusal_code(refusal: Refusal) -> u32
+    ensures { λ r. ⌜ r ≡ refusalCode refusal ⌝ }
+{
+    match refusal {
+        Refusal::CutShort => 1,
+        Refusal::WrongTag => 2,
+        Refusal::WrongLength => 3,
+        Refusal::OutsideLimits => 4,
+        Refusal::TrailingBytes => 5,
+        Refusal::DoesNotFit(place) => 6 + place_code(place),
+        Refusal::ErrorTooLarge(place) => 7 + place_code(place),
+        Refusal::SideNotAdmitted => 8,
+        Refusal::SliceTooShort => 9,
+        Refusal::PixelTooLarge => 10,
+        Refusal::NoPicture => 11,
+    }
+}
+
+fn code_of(outcome: Outcome) -> u32
+    ensures { λ r. ⌜ r ≡ code outcome ⌝ }
+{
+    match outcome {
+        Outcome::Done => 0,
+        Outcome::Refused(why) => refusal_code(why),
+    }
+}
+
+// Whether bytes are those of a width table: 0, or 1 to 5.
+#[no_mangle]
+pub extern "C" fn suz_table_form(table: &[u8]) -> u32
+    ensures { λ r. ⌜ r ≡ code (form (now (table .entry))) ⌝ }
+{
+    code_of(width_table::form_of(table))
+}
+
+// Where the value of a tag stands in the table's bytes; start and length are written where the answer is 0.
+#[no_mangle]
+pub extern "C" fn suz_table_value(table: &[u8], tag: u8, start: &mut u32, length: &mut u32) -> u32
+    ensures answer { λ r. ⌜ r ≡ code (nameable (now (table .entry)) tag) ⌝ }
+    ensures start { λ _. ⌜ now (start .exit) ≡ startAfter (now (table .entry)) tag (now (start .entry)) ⌝ }
+    ensures length { λ _. ⌜ now (length .exit) ≡ lengthAfter (now (table .entry)) tag (now (length .entry)) ⌝ }
+{
+    match width_table::value_place(table, tag) {
+        Named::NotNamed(why) => refusal_code(why),
+        Named::Value { start: s, len } => {
+            *start = s as u32;
+            *length = len as u32;
+            0
+        }
+    }
+}
+
+// Reads a width table and judges it: 1 to 5 by fields, then 6 and 7 in node order.
+#[no_mangle]
+pub extern "C" fn suz_table_check(table: &[u8]) -> u32
+    ensures { λ r. ⌜ r ≡ code (checked (now (table .entry))) ⌝ }
+{
+    let read = WidthTable::read(table);
+    let outcome = read.outcome;
+    match outcome {
+        Outcome::Refused(why) => refusal_code(why),
+        Outcome::Done => {
+            let held = read.table;
+            code_of(precision::judge(held))
+        }
+    }
+}
+
+// The width of one node set in a table, which goes to out.
+fn change_written(table: WidthTable, out: &mut [u8]) -> u32
+    ensures answer { λ r. ⌜ r ≡ code (writable table (now (out .entry))) ⌝ }
+    ensures out { λ _. ⌜ now (out .exit) ≡ bytesAfter table (now (out .entry)) ⌝ }
+{
+    match table.write(out) {
+        Written::Bytes(_) => 0,
+        Written::NotWritten(why) => refusal_code(why),
+    }
+}
+
+// Reads a table, sets the width of one node, and writes the new table to out: 1 to 5, 4, 9.
+#[no_mangle]
+pub extern "C" fn suz_table_change(
+    table: &[u8],
+    level: u8,
+    pass: u8,
+    node: u8,
+    integer: u8,
+    fraction: u8,
+    out: &mut [u8],
+) -> u32
+    ensures answer { λ r. ⌜ r ≡ code (changeAnswer (now (table .entry)) level pass node integer fraction (now (out .entry))) ⌝ }
+    ensures out { λ _. ⌜ now (out .exit) ≡ changeOut (now (table .entry)) level pass node integer fraction (now (out .entry)) ⌝ }
+{
+    let read = WidthTable::read(table);
+    let outcome = read.outcome;
+    match outcome {
+        Outcome::Refused(why) => refusal_code(why),
+        Outcome::Done => {
+            let old = read.table;
+            let change = old.with_width(level, pass, node, integer, fraction);
+            let answer = change.outcome;
+            match answer {
+                Outcome::Refused(why) => refusal_code(why),
+                Outcome::Done => {
+                    let new = change.table;
+                    change_written(new, out)
+                }
+            }
+        }
+    }
+}
+
+// 5/3 forward: 4, 8, 9, 10.
+#[no_mangle]
+pub extern "C" fn suz_forward53(
+    depth: u8,
+    levels: u8,
+    pixels: &[u16],
+    width: usize,
+    height: usize,
+    plane: &mut [i32],
+    work: &mut [i32],
+) -> u32
+    ensures answer { λ r. ⌜ r ≡ code (forwardAnswer depth levels width height (now (pixels .entry)) (now (plane .entry)) (now (work .entry))) ⌝ }
+    ensures plane { λ _. ⌜ now (plane .exit) ≡ forwardPlane depth levels width height (now (pixels .entry)) (now (plane .entry)) (now (work .entry)) ⌝ }
+    ensures work { λ _. ⌜ now (work .exit) ≡ forwardWork depth levels width height (now (pixels .entry)) (now (plane .entry)) (now (work .entry)) ⌝ }
+{
+    code_of(reversible::forward(depth, levels, pixels, width, height, plane, work))
+}
+
+// 5/3 back: 4, 8, 9, 11.
+#[no_mangle]
+pub extern "C" fn suz_inverse53(
+    depth: u8,
+    levels: u8,
+    plane: &[i32],
+    width: usize,
+    height: usize,
+    pixels: &mut [u16],
+    work: &mut [i32],
+) -> u32
+    ensures answer { λ r. ⌜ r ≡ code (backAnswer depth levels width height (now (plane .entry)) (now (pixels .entry)) (now (work .entry))) ⌝ }
+    ensures pixels { λ _. ⌜ now (pixels .exit) ≡ backPixels depth levels width height (now (plane .entry)) (now (pixels .entry)) (now (work .entry)) ⌝ }
+    ensures work { λ _. ⌜ now (work .exit) ≡ backWork depth levels width height (now (plane .entry)) (now (pixels .entry)) (now (work .entry)) ⌝ }
+{
+    code_of(reversible::back(depth, levels, plane, width, height, pixels, work))
+}
+
+// 9/7 forward: 1 to 5 of the bytes, then 6, 7, 8, 9, 10.
+#[no_mangle]
+pub extern "C" fn suz_forward97(
+    table: &[u8],
+    pixels: &[u16],
+    width: usize,
+    height: usize,
+    plane: &mut [i32],
+    work: &mut [i32],
+) -> u32
+    ensures answer { λ r. ⌜ r ≡ code (answer97 (now (table .entry)) width height (now (pixels .entry)) (now (plane .entry)) (now (work .entry))) ⌝ }
+    ensures plane { λ _. ⌜ now (plane .exit) ≡ plane97 (now (table .entry)) width height (now (pixels .entry)) (now (plane .entry)) (now (work .entry)) ⌝ }
+    ensures work { λ _. ⌜ now (work .exit) ≡ work97 (now (table .entry)) width height (now (pixels .entry)) (now (plane .entry)) (now (work .entry)) ⌝ }
+{
+    let read = WidthTable::read(table);
+    let outcome = read.outcome;
+    match outcome {
+        Outcome::Refused(why) => refusal_code(why),
+        Outcome::Done => {
+            let held = read.table;
+            code_of(irreversible::forward(held, pixels, width, height, plane, work))
+        }
+    }
+}

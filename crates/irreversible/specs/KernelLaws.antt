@@ -1,0 +1,89 @@
+-- A pass as a kernel of the lifting crate, and what it makes of a line (`worked-fixed`).
+use Prim.Native.Nat.{ℕ}
+use mathlib.Core.Path.{_≡_, fun-ext}
+use lib.IntN.{ℤ}
+use Rattle.exact.specs.Fractions.{Frac}
+use Rattle.exact.specs.Exact.{alpha, beta, gamma, delta, zeta, zetaInverse}
+use Rattle.lines.specs.Lines.{onHighs, onLows, lowsFirst}
+use Rattle.width_table.specs.Nodes.{Node, P1, U1, P2, U2, G1, G2, Pass}
+use Rattle.width_table.specs.declared.WidthTable.{WidthTable}
+use Rattle.width_table.specs.Table.{constantBits, fractionBits, inputBits}
+use Rattle.lifting.specs.declared.Step.{Step}
+use Rattle.lifting.specs.declared.Factor.{Factor}
+use Rattle.lifting.specs.declared.Kernel.{Kernel}
+use Rattle.lifting.specs.declared.Kernel.the-variants.{Four}
+use Rattle.lifting.specs.Steps.{applied, scaledBy}
+use Rattle.lifting.specs.Passes.{evens, odds}
+use Rattle.lifting.specs.Kernels.{worked, firstHighs, firstLows, secondHighs, secondLows}
+use Rattle.irreversible.specs.Fixed.{nearest, step, scale, atP1, atU1, atP2, atU2, atG1, atG2, fixedPass}
+use Rattle.irreversible.specs.Transforms.{fixedLine}
+use Rattle.irreversible.specs.StepLaws.{stepOf, factorOf, step-applied, scale-applied}
+
+-- a stage with its constant at F bits
+abbrev pub stageOf : Frac → ℕ → ℕ → ℕ → ℕ → Step
+stageOf c F fm fo f = stepOf (nearest c F) F fm fo f
+
+abbrev pub scalingOf : Frac → ℕ → ℕ → ℕ → Factor
+scalingOf c F fm f = factorOf (nearest c F) F fm f
+
+-- the steps as functions
+applied-is : (c : Frac) (F fm fo f : ℕ) → applied (stageOf c F fm fo f) ≡ step c F fm fo f
+applied-is c F fm fo f = fun-ext λ own. fun-ext λ x. fun-ext λ y. step-applied c F fm fo f own x y
+
+scaled-is : (c : Frac) (F fm f : ℕ) → scaledBy (scalingOf c F fm f) ≡ scale c F fm f
+scaled-is c F fm f = fun-ext λ x. scale-applied c F fm f x
+
+-- One pass: F the bits of the constants, fi those of the input, f those of the nodes.
+module _ (F : Node → ℕ) (fi : ℕ) (f : Node → ℕ) where
+  -- its stages
+  abbrev pub sP1 : Step
+  sP1 = stageOf alpha (F P1) fi fi (f P1)
+
+  abbrev pub sU1 : Step
+  sU1 = stageOf beta (F U1) (f P1) fi (f U1)
+
+  abbrev pub sP2 : Step
+  sP2 = stageOf gamma (F P2) (f U1) (f P1) (f P2)
+
+  abbrev pub sU2 : Step
+  sU2 = stageOf delta (F U2) (f P2) (f U1) (f U2)
+
+  abbrev pub sG1 : Factor
+  sG1 = scalingOf zeta (F G1) (f U2) (f G1)
+
+  abbrev pub sG2 : Factor
+  sG2 = scalingOf zetaInverse (F G2) (f P2) (f G2)
+
+  abbrev pub kernelFrom : Kernel
+  kernelFrom = Four sP1 sU1 sP2 sU2 sG1 sG2
+
+  -- what the kernel leaves on its way in the line, and at last
+  module _ (n : ℕ) (x : ℕ → ℤ) where
+    pub first-highs : firstHighs sP1 sU1 sP2 sU2 n x ≡ atP1 F fi f n x
+    unfolding atP1
+    first-highs = λ u. onHighs (applied-is alpha (F P1) fi fi (f P1) u) n (evens x) (odds x)
+
+    pub first-lows : firstLows sP1 sU1 sP2 sU2 n x ≡ atU1 F fi f n x
+    unfolding atU1
+    first-lows = λ u. onLows (applied-is beta (F U1) (f P1) fi (f U1) u) n (evens x) (first-highs u)
+
+    pub second-highs : secondHighs sP1 sU1 sP2 sU2 n x ≡ atP2 F fi f n x
+    unfolding atP2
+    second-highs = λ u. onHighs (applied-is gamma (F P2) (f U1) (f P1) (f P2) u) n (first-lows u) (first-highs u)
+
+    pub second-lows : secondLows sP1 sU1 sP2 sU2 n x ≡ atU2 F fi f n x
+    unfolding atU2
+    second-lows = λ u. onLows (applied-is delta (F U2) (f P2) (f U1) (f U2) u) n (first-lows u) (second-highs u)
+
+    pub worked-pass : worked kernelFrom n x ≡ fixedPass F fi f n x
+    unfolding worked fixedPass atG1 atG2
+    worked-pass = λ u. lowsFirst n (λ i. scaled-is zeta (F G1) (f U2) (f G1) u (second-lows u i)) (λ i. scaled-is zetaInverse (F G2) (f P2) (f G2) u (second-highs u i))
+
+-- the kernel of a pass of level l
+unfoldable pub kernelOf : WidthTable → ℕ → Pass → Kernel
+kernelOf t l p = kernelFrom (constantBits t) (inputBits t l p) (fractionBits t l p)
+
+-- What the kernel makes of a line is the pass.
+pub worked-fixed : (t : WidthTable) (l : ℕ) (p : Pass) → worked (kernelOf t l p) ≡ fixedLine t l p
+unfolding kernelOf fixedLine
+worked-fixed t l p = fun-ext λ n. fun-ext λ x. worked-pass (constantBits t) (inputBits t l p) (fractionBits t l p) n x

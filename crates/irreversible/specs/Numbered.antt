@@ -1,0 +1,44 @@
+-- Nodes and passes by their numbers.
+use Prim.Native.Nat.{ℕ, zero, suc, _≤_}
+use mathlib.Core.Path.{_≡_, refl}
+use native.Mathlib.Omega.{arith}
+use Rattle.width_table.specs.Nodes.{Node, P1, U1, P2, U2, G1, G2, nodeNumber, Pass, Rows, LowColumns, HighColumns, passNumber}
+
+-- node 1 to 6, pass 1 to 3
+abbrev pub nodeOf : ℕ → Node
+nodeOf zero = P1
+nodeOf (suc zero) = P1
+nodeOf (suc (suc zero)) = U1
+nodeOf (suc (suc (suc zero))) = P2
+nodeOf (suc (suc (suc (suc zero)))) = U2
+nodeOf (suc (suc (suc (suc (suc zero))))) = G1
+nodeOf (suc (suc (suc (suc (suc (suc k)))))) = G2
+
+abbrev pub passOf : ℕ → Pass
+passOf zero = Rows
+passOf (suc zero) = Rows
+passOf (suc (suc zero)) = LowColumns
+passOf (suc (suc (suc k))) = HighColumns
+
+-- a number of a node, and of a pass
+abbrev pub IsNode : ℕ → Type 0
+IsNode k = (1 ≤ k) × (k ≤ 6)
+
+abbrev pub IsPass : ℕ → Type 0
+IsPass k = (1 ≤ k) × (k ≤ 3)
+
+-- they are numbered so
+pub node-number : (k : ℕ) → IsNode k → nodeNumber (nodeOf k) ≡ k
+node-number zero h = absurd (omega arith)
+node-number (suc zero) h = refl
+node-number (suc (suc zero)) h = refl
+node-number (suc (suc (suc zero))) h = refl
+node-number (suc (suc (suc (suc zero)))) h = refl
+node-number (suc (suc (suc (suc (suc zero))))) h = refl
+node-number (suc (suc (suc (suc (suc (suc k)))))) h = omega arith
+
+pub pass-number : (k : ℕ) → IsPass k → passNumber (passOf k) ≡ k
+pass-number zero h = absurd (omega arith)
+pass-number (suc zero) h = refl
+pass-number (suc (suc zero)) h = refl
+pass-number (suc (suc (suc k))) h = omega arith

@@ -1,0 +1,158 @@
+-- The pixels of the input; the rules that the code finds one by one; what its answer says; and how much of the input decides.
+-- Assumes nothing.
+use Prim.Native.Nat.{ℕ, zero, suc, _+_, _*_, _-_, _/_, _<_, _≤_}
+use mathlib.Core.Bool.{Bool, true, false, _&&_}
+use mathlib.Core.List.{List, [], _∷_}
+use mathlib.Core.Path.{_≡_, refl, sym, _∙_, ap}
+use native.Mathlib.Omega.{arith}
+use borrow.Author.Tests.{le-leb, lt-leb}
+use lib.Dec.{T, leb, leb→le}
+use lib.ListN.{length, getD, take, drop, length-drop}
+use lib.Seq.{getD-drop, getD-take}
+use Rattle.refusals.specs.declared.Refusal.{Refusal}
+use Rattle.refusals.specs.declared.Refusal.the-variants.{CutShort, OutsideLimits, TrailingBytes, SideNotAdmitted, SliceTooShort}
+use Rattle.refusals.specs.declared.Outcome.{Outcome}
+use Rattle.refusals.specs.declared.Outcome.the-variants.{Done, Refused}
+use Rattle.refusals.specs.Refusals.{asks, _then_}
+use Rattle.refusals.specs.RefusalLaws.{asks-done, then-done}
+use Rattle.width_table.specs.Table.{depthRight, levelsRight}
+use Rattle.pictures.specs.Pictures.{sideRight, sized}
+use Rattle.pictures.specs.PictureLaws.{Room, sized-done}
+use Rattle.listing.specs.Listing.{pairs, maxPixels, copyDepth, copyLevels, copyWidth, copyHeight, copySize, copyPixels, copyForm}
+
+-- ---- pixels
+
+pairs-length : (l : List ℕ) → length (pairs l) ≡ length l / 2
+unfolding pairs
+pairs-length [] = refl
+pairs-length (a ∷ []) = refl
+pairs-length (a ∷ b ∷ l) = omega (arith, pairs-length l)
+
+pairs-at : (l : List ℕ) (k : ℕ) → 2 * k + 1 < length l → getD (pairs l) k 0 ≡ getD l (2 * k) 0 * 256 + getD l (2 * k + 1) 0
+unfolding pairs
+pairs-at [] k h = absurd (omega arith)
+pairs-at (a ∷ []) k h = absurd (omega arith)
+pairs-at (a ∷ b ∷ l) zero h = refl
+pairs-at (a ∷ b ∷ l) (suc k) h =
+    let e : 2 * suc k ≡ suc (suc (2 * k)) = omega arith in
+    let f : 2 * suc k + 1 ≡ suc (suc (2 * k + 1)) = omega arith in
+    pairs-at l k (omega arith) ∙ sym (λ i. getD (a ∷ b ∷ l) (e i) 0 * 256 + getD (a ∷ b ∷ l) (f i) 0)
+
+module _ (bytes : List ℕ) where
+  pub pixels-length : length (copyPixels bytes) ≡ (length bytes - 6) / 2
+  unfolding copyPixels
+  pixels-length = pairs-length (drop 6 bytes) ∙ ap (λ (n : ℕ). n / 2) (length-drop 6 bytes)
+
+  pub pixel-at : (k : ℕ) → 6 + 2 * k + 1 < length bytes → getD (copyPixels bytes) k 0 ≡ getD bytes (6 + 2 * k) 0 * 256 + getD bytes (6 + 2 * k + 1) 0
+  unfolding copyPixels
+  pixel-at k h =
+      let e : 6 + (2 * k + 1) ≡ 6 + 2 * k + 1 = omega arith in
+      pairs-at (drop 6 bytes) k (omega (arith, length-drop 6 bytes))
+      ∙ (λ i. getD-drop 6 bytes (2 * k) 0 i * 256 + getD-drop 6 bytes (2 * k + 1) 0 i) ∙ ap (λ (n : ℕ). getD bytes (6 + 2 * k) 0 * 256 + getD bytes n 0) e
+
+-- ---- the form
+
+-- 8 and 9 for three slices of as many elements
+alike : (s t : Bool) (o : Outcome) → asks s SideNotAdmitted (asks t SliceTooShort o) ≡ asks s SideNotAdmitted (asks (t && t && t) SliceTooShort Done) then o
+alike true true o = refl
+alike true false o = refl
+alike false t o = refl
+
+abbrev limits : List ℕ → Bool
+limits bytes = depthRight (copyDepth bytes) && levelsRight (copyLevels bytes)
+
+abbrev sizes : List ℕ → Outcome
+sizes bytes = sized (copyLevels bytes) (copyWidth bytes) (copyHeight bytes) maxPixels maxPixels maxPixels
+
+-- what is left when the sizes are right
+abbrev body : List ℕ → Outcome
+body bytes = asks (leb (2 * copySize bytes) (length bytes - 6)) CutShort (asks (leb (length bytes - 6) (2 * copySize bytes)) TrailingBytes Done)
+
+module _ (bytes : List ℕ) where
+  in-parts : copyForm bytes ≡ asks (leb 6 (length bytes)) CutShort (asks (limits bytes) OutsideLimits (sizes bytes then body bytes))
+  unfolding copyForm sized
+  in-parts = ap (λ (o : Outcome). asks (leb 6 (length bytes)) CutShort (asks (limits bytes) OutsideLimits o))
+      (alike (sideRight (copyLevels bytes) (copyWidth bytes) && sideRight (copyLevels bytes) (copyHeight bytes)) (leb (copySize bytes) maxPixels) (body bytes))
+
+  pub form-short : length bytes < 6 → copyForm bytes ≡ Refused CutShort
+  form-short h = in-parts ∙ ap (λ (t : Bool). asks t CutShort (asks (limits bytes) OutsideLimits (sizes bytes then body bytes))) (lt-leb 6 (length bytes) h)
+
+  module _ (whole : 6 ≤ length bytes) where
+    past-head : copyForm bytes ≡ asks (limits bytes) OutsideLimits (sizes bytes then body bytes)
+    past-head = in-parts ∙ ap (λ (t : Bool). asks t CutShort (asks (limits bytes) OutsideLimits (sizes bytes then body bytes))) (le-leb 6 (length bytes) whole)
+
+    pub form-limits : limits bytes ≡ false → copyForm bytes ≡ Refused OutsideLimits
+    form-limits e = past-head ∙ ap (λ (t : Bool). asks t OutsideLimits (sizes bytes then body bytes)) e
+
+    module _ (limited : limits bytes ≡ true) where
+      past-limits : copyForm bytes ≡ sizes bytes then body bytes
+      past-limits = past-head ∙ ap (λ (t : Bool). asks t OutsideLimits (sizes bytes then body bytes)) limited
+
+      pub form-size : (r : Refusal) → sizes bytes ≡ Refused r → copyForm bytes ≡ Refused r
+      form-size r e = past-limits ∙ ap (λ (o : Outcome). o then body bytes) e
+
+      module _ (room : sizes bytes ≡ Done) where
+        at-body : (s t : Bool) → leb (2 * copySize bytes) (length bytes - 6) ≡ s → leb (length bytes - 6) (2 * copySize bytes) ≡ t → copyForm bytes ≡ asks s CutShort (asks t TrailingBytes Done)
+        at-body s t e f = past-limits ∙ ap (λ (o : Outcome). o then body bytes) room ∙ (λ i. asks (e i) CutShort (asks (f i) TrailingBytes Done))
+
+        pub form-cut : length bytes - 6 < 2 * copySize bytes → copyForm bytes ≡ Refused CutShort
+        form-cut h = at-body false _ (lt-leb (2 * copySize bytes) (length bytes - 6) h) refl
+
+        pub form-long : 2 * copySize bytes < length bytes - 6 → copyForm bytes ≡ Refused TrailingBytes
+        form-long h = at-body true false (le-leb (2 * copySize bytes) (length bytes - 6) (omega arith)) (lt-leb (length bytes - 6) (2 * copySize bytes) h)
+
+        pub form-right : length bytes - 6 ≡ 2 * copySize bytes → copyForm bytes ≡ Done
+        form-right h = at-body true true (le-leb (2 * copySize bytes) (length bytes - 6) (omega arith)) (le-leb (length bytes - 6) (2 * copySize bytes) (omega arith))
+
+-- what a right form says
+pub record Formed (bytes : List ℕ) : Type 0 where
+  pub limited : T (limits bytes)
+  pub room : Room (copyLevels bytes) (copyWidth bytes) (copyHeight bytes) maxPixels maxPixels maxPixels
+  pub exact : length bytes ≡ 6 + 2 * copySize bytes
+
+pub form-done : (bytes : List ℕ) → copyForm bytes ≡ Done → Formed bytes
+form-done bytes e =
+    let a = asks-done (leb 6 (length bytes)) _ _ (sym (in-parts bytes) ∙ e) in
+    let b = asks-done (limits bytes) _ _ (a .1) in
+    let c = then-done (sizes bytes) _ (b .1) in
+    let d = asks-done (leb (2 * copySize bytes) (length bytes - 6)) _ _ (c .1) in
+    let f = asks-done (leb (length bytes - 6) (2 * copySize bytes)) _ _ (d .1) in
+    record {
+      limited = b .0;
+      room = sized-done _ _ _ _ _ _ (c .0);
+      exact = omega (arith, leb→le 6 (length bytes) (a .0), leb→le (2 * copySize bytes) (length bytes - 6) (d .0), leb→le (length bytes - 6) (2 * copySize bytes) (f .0));
+    }
+
+-- ---- an input that is too long
+
+-- as many bytes as decide: the head, the pixels, and one byte more
+abbrev pub maxInput : ℕ
+maxInput = 6 + 2 * maxPixels + 1
+
+-- why an input of so many bytes or more is refused, by its limits and its sizes
+abbrev refusalOf : Bool → Outcome → Refusal
+refusalOf false o = OutsideLimits
+refusalOf true Done = TrailingBytes
+refusalOf true (Refused r) = r
+
+abbrev pub whyLong : List ℕ → Refusal
+whyLong bytes = refusalOf (limits bytes) (sizes bytes)
+
+pub form-too-long : (bytes : List ℕ) → maxInput ≤ length bytes → copyForm bytes ≡ Refused (whyLong bytes)
+form-too-long bytes h = past-head bytes (omega arith) ∙ go (limits bytes) (sizes bytes) (body bytes) (λ e. past (sized-done _ _ _ _ _ _ e .first))
+  where
+    past : copySize bytes ≤ maxPixels → body bytes ≡ Refused TrailingBytes
+    past m = λ i. asks (le-leb (2 * copySize bytes) (length bytes - 6) (omega arith) i) CutShort (asks (lt-leb (length bytes - 6) (2 * copySize bytes) (omega arith) i) TrailingBytes Done)
+
+    go : (l : Bool) (s b : Outcome) → (s ≡ Done → b ≡ Refused TrailingBytes) → asks l OutsideLimits (s then b) ≡ Refused (refusalOf l s)
+    go false s b e = refl
+    go true Done b e = e refl
+    go true (Refused r) b e = refl
+
+-- the first of them have the same head
+pub why-same : (bytes : List ℕ) (n : ℕ) → 6 ≤ n → whyLong (take n bytes) ≡ whyLong bytes
+why-same bytes n h = λ i. refusalOf (depthRight (same 0 (omega arith) i) && levelsRight (same 1 (omega arith) i))
+    (sized (same 1 (omega arith) i) (same 2 (omega arith) i * 256 + same 3 (omega arith) i) (same 4 (omega arith) i * 256 + same 5 (omega arith) i) maxPixels maxPixels maxPixels)
+  where
+    same : (k : ℕ) → k < 6 → getD (take n bytes) k 0 ≡ getD bytes k 0
+    same k g = getD-take n bytes k 0 (omega arith)

@@ -1,0 +1,39 @@
+-- `reversible::samples_right` meets its contract: the two limits are computed without overflow.
+-- Assumes nothing.
+use mathlib.Core.Path.{_≡_, ap, sym, _∙_, subst}
+use Prim.Native.Nat.{ℕ, _+_, _-_, _<_, _≤_, _^_}
+use native.Mathlib.Omega.{arith}
+use borrow.Author.Needs.{needs}
+use lib.IntN.{ℤ, pos, natAbs, negℤ, _-ℤ_}
+use lib.Pow.{pow-mono}
+use Rattle.numbers.specs.Auto.{values, v-arg, auto-fits, auto-exact}
+use Rattle.lifting.specs.Patch.{at}
+use Rattle.lifting.specs.Runs.{as-type}
+use Rattle.reversible.proofs.Read.{rd}
+use Rattle.reversible.specs.BackLaws.{Tells, Between, zero-less}
+use Rattle.reversible.proofs.samples_right.Statement.{statement}
+use Rattle.reversible.proofs.samples_right.Tie as tie
+
+half-small : (c : tie.After-middle) → natAbs (c .middle .result) ≤ 2048
+half-small c = subst (λ (z : ℤ). natAbs z ≤ 2048) (sym (c .middle .ensures)) (pow-mono {i = c .before .args .depth - 1} {j = 11} (omega arith))
+
+returns : tie.Need-returns
+returns c =
+    let a = c .before .before .args in
+    let half = c .before .middle .result in
+    let is = c .before .middle .ensures in
+    let v = v-arg half 2048 (half-small (c .before)) in
+    let least : rd (pos 0 -ℤ rd half) ≡ negℤ (pos (2 ^ (a .depth - 1))) = auto-exact (search (values, v) depth 40) tt ∙ ap (λ (z : ℤ). pos 0 -ℤ z) is ∙ zero-less (pos (2 ^ (a .depth - 1))) in
+    let most : rd (rd half -ℤ pos 1) ≡ pos (2 ^ (a .depth - 1)) -ℤ pos 1 = auto-exact (search (values, v) depth 40) tt ∙ ap (λ (z : ℤ). z -ℤ pos 1) is in
+    let front : (j : ℕ) → 0 + j ≡ j = λ j. omega arith in
+    as-type (λ u. Tells ((j : ℕ) → j < a .n → Between (least u) (most u) (at (a .values .now) (front j u))) (c .all-between .result)) (c .all-between .ensures)
+
+pub samples-right-spec : {M : Type 1} → statement M
+samples-right-spec =
+    tie.close
+    (tie.spec
+    (λ c κs. search needs)
+    (λ c. auto-fits (search (values, v-arg (c .middle .result) 2048 (half-small c)) depth 40) tt)
+    (λ c. auto-fits (search (values, v-arg (c .middle .result) 2048 (half-small c)) depth 40) tt)
+    (λ c κs. search needs)
+    returns)

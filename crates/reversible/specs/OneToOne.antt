@@ -1,0 +1,35 @@
+-- Two pictures of one depth and size that have the same 5/3 plane are the same picture.
+use Prim.Native.Nat.{ℕ, _+_, _*_, _-_, _^_, _<_, _≤_}
+use mathlib.Core.List.{List}
+use mathlib.Core.Path.{_≡_, refl, sym, _∙_, ap, subst}
+use native.Mathlib.Omega.{arith}
+use lib.IntN.{ℤ, pos, natAbs, _+ℤ_}
+use lib.ListN.{length, getD}
+use lib.Seq.{take-all, ext-getD}
+use Rattle.lines.specs.PlaneLaws.{roomy, Agree}
+use Rattle.lines.specs.RowLaws.{rows-length}
+use Rattle.pictures.specs.Pictures.{Admitted, sample, planeOf}
+use Rattle.reversible.specs.Reversible.{forward, back}
+use Rattle.reversible.specs.PictureLaws.{Picture, planeIn, goes-back, take-add}
+use Rattle.reversible.specs.FoundLaws.{by-place}
+
+module _ (B L w h : ℕ) (aw : Admitted L w) (ah : Admitted L h) (p q : List ℕ) (same : planeIn B L w h p ≡ planeIn B L w h q) where
+  some : 1 ≤ w
+  some = omega (arith, aw .0)
+
+  long : length (planeIn B L w h q) ≡ w * h
+  long = rows-length w h some (forward L w h (sample q B w))
+
+  -- the plane goes back to the samples of either
+  from : (s : List ℕ) → planeIn B L w h s ≡ planeIn B L w h q → Agree w h (back L w h (planeOf w (planeIn B L w h q))) (sample s B w)
+  from s e = goes-back B L w h (roomy L w (aw .0)) (roomy L h (ah .0)) some (omega (arith, ah .0)) (planeIn B L w h q) (omega (arith, long)) (sample s B w)
+      (e ∙ sym (take-all (w * h) (planeIn B L w h q) (omega (arith, long))))
+
+  pixel : (r c : ℕ) → r < h → c < w → getD p (r * w + c) 0 ≡ getD q (r * w + c) 0
+  unfolding sample
+  pixel r c i j =
+      let m : ℤ = pos (2 ^ (B - 1)) in
+      ap natAbs (sym (take-add (pos (getD p (r * w + c) 0)) m) ∙ ap (λ (z : ℤ). z +ℤ m) (sym (from p same r c i j) ∙ from q refl r c i j) ∙ take-add (pos (getD q (r * w + c) 0)) m)
+
+  pub same-picture : Picture B w h p → Picture B w h q → p ≡ q
+  same-picture a b = ext-getD 0 p q (a .long ∙ sym (b .long)) (λ k i. by-place (λ k. getD p k 0 ≡ getD q k 0) w h some pixel k (subst (λ (n : ℕ). k < n) (a .long) i))

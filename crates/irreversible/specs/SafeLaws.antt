@@ -1,19 +1,22 @@
 -- Where the values of a pass are in their widths, every number on the way fits its machine type (`kernel-safe`).
 use Prim.Native.Nat.{ℕ, _+_, _*_, _-_, _^_, _<_, _≤_, max}
+use mathlib.Core.Bool.{true, false}
 use mathlib.Core.Path.{_≡_, sym, subst}
 use native.Mathlib.Omega.{arith}
 use native.Mathlib.Nat.{pow-le-pow-right, le-refl, le-trans, lt-of-le-of-lt, lt-of-lt-of-le}
 use lib.Pow.{pow-add}
-use lib.IntN.{ℤ, pos, negℤ, natAbs, _+ℤ_, _*ℤ_, +ℤ-idr}
+use lib.IntN.{ℤ, pos, negℤ, natAbs, _+ℤ_, _-ℤ_, _*ℤ_, +ℤ-idr}
 use lib.Signed.{mag, _≤ℤ_, _<ℤ_}
 use mir.Syntax.{w32, w64}
 use mir.Val.{SFits}
 use Rattle.numbers.specs.Dif.{by-dif, difs}
 use Rattle.numbers.specs.Abs.{abs-add-≤, abs-mul, abs-mul-≤, mag-of-abs}
 use Rattle.numbers.specs.Laws.{*ℤ-one-r}
+use Rattle.numbers.specs.Tests.{by-leb}
 use Rattle.lines.specs.Lines.{onHighs, onLows}
 use Rattle.width_table.specs.Nodes.{Node, P1, U1, P2, U2, G1, G2}
-use Rattle.lifting.specs.Steps.{Safe, FactorSafe}
+use Rattle.lifting.specs.declared.Step.the-variants.{Short, Wide}
+use Rattle.lifting.specs.Steps.{Safe, ScaledSafe, FactorSafe}
 use Rattle.lifting.specs.Runs.{as-type}
 use Rattle.lifting.specs.Passes.{evens}
 use Rattle.lifting.specs.Kernels.{SafeKernel}
@@ -21,7 +24,7 @@ use Rattle.irreversible.specs.Fixed.{nearest, step, scale, valueAt, coun
 use Rattle.irreversible.specs.Constants.{constantOf}
 use Rattle.irreversible.specs.Sizes.{product-size}
 use Rattle.irreversible.specs.Claims.{Holds}
-use Rattle.irreversible.specs.StepLaws.{stepTop, stepOf, factorOf, step-applied, scale-applied}
+use Rattle.irreversible.specs.StepLaws.{stepTop, stepOf, factorOf, wide-applied, step-applied, scale-applied}
 use Rattle.irreversible.specs.KernelLaws.{stageOf, scalingOf, kernelFrom, sU1, sP2, sU2, sG1, sG2, first-highs, first-lows, second-highs, second-lows}
 
 -- a larger power
@@ -59,6 +62,10 @@ times-size i j s x y h k l = le-trans (abs-mul-≤ x y h k) (subst (λ (t : ℕ)
 swap : (k P s : ℤ) → k *ℤ s *ℤ P ≡ k *ℤ P *ℤ s
 swap = by-dif _ λ a b. by-dif _ λ c d. by-dif _ λ e f. simp difs (omega arith)
 
+-- the negative of a number is as large
+turned-size : (b : ℕ) (z : ℤ) → natAbs z ≤ b → natAbs (pos 0 -ℤ z) ≤ b
+turned-size b = by-dif _ λ a a'. simp difs (omega arith)
+
 -- ---- one stage
 
 -- the limits of a constant's bits
@@ -95,17 +102,30 @@ module _ (n : Node) (F fm : ℕ) (const : ConstantBits F) (small : fm ≤ 20) wh
         let B : ℤ = nearest (constantOf n) F *ℤ pos (2 ^ (top - (F + fm))) *ℤ (x +ℤ y) in
         let a : natAbs A ≤ 2 ^ 55 = times-size (top - fo) (11 + fo) 55 (pos (2 ^ (top - fo))) own (le-refl _) ho (omega arith) in
         let b : natAbs B ≤ 2 ^ 57 = sum-size top (omega arith) (omega arith) x y hx hy in
-        record {
+        let wide : ScaledSafe (pos (2 ^ (top - fo))) (nearest (constantOf n) F *ℤ pos (2 ^ (top - (F + fm)))) (top - f) own x y = record {
           short = omega arith;
           sides = fits-64 32 (x +ℤ y) (omega arith) (le-trans (abs-add-≤ x y hx hy) (twice (11 + fm) (omega arith)));
           left = fits-64 55 A (omega arith) a;
           right = fits-64 57 B (omega arith) b;
           both = fits-64 58 (A +ℤ B) (omega arith) (le-trans (abs-add-≤ A B a b) (omega arith));
-          result = subst (λ (z : ℤ). SFits w32 z) (sym (step-applied (constantOf n) F fm fo f own x y)) (holds-fits IB f _ few less h);
-        }
+          result = subst (λ (z : ℤ). SFits w32 z) (sym (wide-applied (constantOf n) F fm fo f own x y)) (holds-fits IB f _ few less h);
+        } in
+        by-leb (λ t. Safe (elim t [ true ↦ Short (pos (2 ^ (top - fo))) (nearest (constantOf n) F *ℤ pos (2 ^ (top - (F + fm)))) (top - f) | false ↦ Wide (pos (2 ^ (top - fo))) (nearest (constantOf n) F *ℤ pos (2 ^ (top - (F + fm)))) (top - f) ]) own x y) fm 18
+        (λ i. record { wide = wide; sum = sum-32 i; turned = turned-32 i })
+        (λ i. wide)
       where
         twice : (i : ℕ) → i ≤ 31 → 2 ^ i + 2 ^ i ≤ 2 ^ 32
         twice i h = omega (arith, pow-up i 31 h)
+
+        -- the neighbours' sum where they have few bits
+        sum-small : fm ≤ 18 → natAbs (x +ℤ y) ≤ 2 ^ 30
+        sum-small i = le-trans (abs-add-≤ x y hx hy) (omega (arith, pow-up (11 + fm) 29 (omega arith)))
+
+        sum-32 : fm ≤ 18 → SFits w32 (x +ℤ y)
+        sum-32 i = record { sfits = mag-of-abs (x +ℤ y) (lt-of-le-of-lt (sum-small i) (omega arith)) }
+
+        turned-32 : fm ≤ 18 → SFits w32 (pos 0 -ℤ (x +ℤ y))
+        turned-32 i = record { sfits = mag-of-abs (pos 0 -ℤ (x +ℤ y)) (lt-of-le-of-lt (turned-size (2 ^ 30) (x +ℤ y) (sum-small i)) (omega arith)) }
 
     -- a scaling likewise
     pub scale-safe : (x : ℤ) → Sized fm x → Holds IB f (scale (constantOf n) F fm f x) → FactorSafe (scalingOf (constantOf n) F fm f) x

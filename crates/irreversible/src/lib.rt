@@ -205,7 +205,8 @@ fn times(a: i64, b: i64) -> i64
     a * b
 }
 
-// A step by a constant of so many bits: the bits of the neighbours, of the own value and of the node.
+// A step by a constant of so many bits: the bits of the neighbours, of the own value and of the node. Where the neighbours have at
+// most 18 fractional bits their sum fits 32 bits, and the short step serves.
 fn step_of(constant: i64, bits: u8, sides: u8, own: u8, kept: u8) -> Step
     requires { ⌜ ConstantBits bits × (sides ≤ 20) × (own ≤ 20) × (kept ≤ 20) ⌝ }
     requires { ⌜ SFits w64 (constant *ℤ pos (2 ^ (stepTop bits sides own kept - (bits + sides)))) ⌝ }
@@ -213,10 +214,13 @@ fn step_of(constant: i64, bits: u8, sides: u8, own: u8, kept: u8) -> Step
 {
     let product = bits + sides;
     let top = larger(larger(own, product), kept);
-    Step::Wide {
-        m: power(top - own),
-        c: times(constant, power(top - product)),
-        cut: (top - kept) as u32,
+    let m = power(top - own);
+    let c = times(constant, power(top - product));
+    let cut = (top - kept) as u32;
+    if sides <= 18 {
+        Step::Short { m, c, cut }
+    } else {
+        Step::Wide { m, c, cut }
     }
 }
 

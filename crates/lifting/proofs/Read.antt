@@ -1,15 +1,17 @@
 -- A signed local holds bits. What a step asks and gives of numbers that are read back from their bits is what it asks and gives of the numbers.
 -- Assumes nothing.
 use Prim.Native.Nat.{ℕ, _<_, _^_}
-use mathlib.Core.Path.{_≡_, sym, subst, ap, _∙_}
-use lib.IntN.{ℤ}
+use mathlib.Core.Path.{_≡_, sym, subst, ap, ap₂, _∙_}
+use lib.IntN.{ℤ, pos, _+ℤ_, _-ℤ_}
 use lib.Signed.{mag}
 use mir.Syntax.{Width, w32, w64}
 use mir.Val.{SFits, toZ, ofZ}
 use mir.Facts.{toZ-ofZ}
 use borrow.Author.Needs.{sfits-of}
 use Rattle.lifting.specs.declared.Step.{Step}
-use Rattle.lifting.specs.declared.Step.the-variants.{Wide}
+use Rattle.lifting.specs.declared.Step.the-variants.{Wide, Short}
+use Rattle.lifting.specs.declared.Form.{Form}
+use Rattle.lifting.specs.declared.Form.the-variants.{Slow}
 use Rattle.lifting.specs.Steps.{applied, Safe}
 
 abbrev pub back : ℤ → ℤ
@@ -30,6 +32,19 @@ module _ {s s′ : Step} {own x y : ℤ} (fo : SFits w32 own) (fx : SFits w32 x)
 
 pub wide-back : {s : Step} {m c : ℤ} {cut : ℕ} → SFits w64 m → SFits w64 c → s ≡ Wide m c cut → s ≡ Wide (back64 m) (back64 c) cut
 wide-back {cut} fm fc e = e ∙ (λ k. Wide (sym (toZ-ofZ fm) k) (sym (toZ-ofZ fc) k) cut)
+
+pub short-back : {s : Step} {m c : ℤ} {cut : ℕ} → SFits w64 m → SFits w64 c → s ≡ Short m c cut → s ≡ Short (back64 m) (back64 c) cut
+short-back {cut} fm fc e = e ∙ (λ k. Short (sym (toZ-ofZ fm) k) (sym (toZ-ofZ fc) k) cut)
+
+pub slow-back : {s : Form} {m c : ℤ} {cut : ℕ} → SFits w64 m → SFits w64 c → s ≡ Slow m c cut → s ≡ Slow (back64 m) (back64 c) cut
+slow-back {cut} fm fc e = e ∙ (λ k. Slow (sym (toZ-ofZ fm) k) (sym (toZ-ofZ fc) k) cut)
+
+-- the sum of two arguments
+pub sum-back : {x y : ℤ} → SFits w32 x → SFits w32 y → SFits w32 (x +ℤ y) → back (back x +ℤ back y) ≡ x +ℤ y
+sum-back fx fy fs = ap back (ap₂ _+ℤ_ (toZ-ofZ fx) (toZ-ofZ fy)) ∙ toZ-ofZ fs
+
+pub turned-back : {x y : ℤ} → SFits w32 x → SFits w32 y → SFits w32 (x +ℤ y) → SFits w32 (pos 0 -ℤ (x +ℤ y)) → back (pos 0 -ℤ back (back x +ℤ back y)) ≡ pos 0 -ℤ (x +ℤ y)
+turned-back fx fy fs ft = ap (λ (z : ℤ). back (pos 0 -ℤ z)) (sum-back fx fy fs) ∙ toZ-ofZ ft
 
 -- what was read back of a call's result
 pub got : {r z : ℤ} → mag r < 2 ^ 63 → r ≡ z → back64 r ≡ z

@@ -1,12 +1,9 @@
 -- A line split: its lows first, then its highs; and what the passes make of a line that is split.
 -- Assumes nothing.
-use mathlib.Core.Path.{_≡_, refl, sym, ap, _∙_}
-use mathlib.Core.Bool.{Bool, true, false, cond}
-use Prim.Native.Nat.{ℕ, _+_, _*_, _-_, _<_, _≤_}
+use mathlib.Core.Path.{_≡_, sym, ap, _∙_}
+use Prim.Native.Nat.{ℕ, _+_, _-_, _<_, _≤_}
 use native.Mathlib.Omega.{arith}
 use native.Mathlib.Decide.{decLt}
-use borrow.Author.Tests.{lt-ltb, le-ltb}
-use lib.Dec.{ltb}
 use Rattle.lines.specs.Lines.{lows, highs, lowAfter, highBefore, highAfter, onHighs, onLows, lowsFirst}
 use Rattle.lines.specs.LineLaws.{first-low, first-high}
 use Rattle.lifting.specs.Patch.{patch, patch-in, patch-below, patch-above, patch-is}

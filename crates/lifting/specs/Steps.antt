@@ -6,7 +6,7 @@ use mir.Syntax.{w32, w64}
 use mir.Val.{SFits}
 use Rattle.lifting.specs.declared.Step.{Step}
 use Rattle.lifting.specs.declared.Factor.{Factor}
-use Rattle.lifting.specs.declared.Step.the-variants.{Predict, Update, Unpredict, Unupdate, Wide}
+use Rattle.lifting.specs.declared.Step.the-variants.{Predict, Update, Unpredict, Unupdate, Wide, Short}
 
 -- ⌊z / 2⌋ and ⌊(z + 2) / 4⌋
 abbrev pub half : ℤ → ℤ
@@ -24,8 +24,9 @@ applied Update own x y = own +ℤ quarter (x +ℤ y)
 applied Unpredict own x y = own +ℤ half (x +ℤ y)
 applied Unupdate own x y = own -ℤ quarter (x +ℤ y)
 applied (Wide m c cut) own x y = scaled m c cut own x y
+applied (Short m c cut) own x y = scaled m c cut own x y
 
--- every number on the way fits: i64 for the scaled steps, i32 for the others
+-- every number on the way fits: i64 for the scaled steps, i32 for the others; the neighbours' sum of a short step, and its negative, fit an i32 too
 pub record ScaledSafe (m c : ℤ) (cut : ℕ) (own x y : ℤ) : Type 0 where
   pub short : cut < 64
   pub sides : SFits w64 (x +ℤ y)
@@ -33,6 +34,11 @@ pub record ScaledSafe (m c : ℤ) (cut : ℕ) (own x y : ℤ) : Type 0 where
   pub right : SFits w64 (c *ℤ (x +ℤ y))
   pub both : SFits w64 (m *ℤ own +ℤ c *ℤ (x +ℤ y))
   pub result : SFits w32 (scaled m c cut own x y)
+
+pub record ShortSafe (m c : ℤ) (cut : ℕ) (own x y : ℤ) : Type 0 where
+  pub wide : ScaledSafe m c cut own x y
+  pub sum : SFits w32 (x +ℤ y)
+  pub turned : SFits w32 (pos 0 -ℤ (x +ℤ y))
 
 pub record HalfSafe (x y r : ℤ) : Type 0 where
   pub sides : SFits w32 (x +ℤ y)
@@ -49,6 +55,7 @@ Safe Update own x y = QuarterSafe x y (own +ℤ quarter (x +ℤ y))
 Safe Unpredict own x y = HalfSafe x y (own +ℤ half (x +ℤ y))
 Safe Unupdate own x y = QuarterSafe x y (own -ℤ quarter (x +ℤ y))
 Safe (Wide m c cut) own x y = ScaledSafe m c cut own x y
+Safe (Short m c cut) own x y = ShortSafe m c cut own x y
 
 -- a value times a constant, cut once
 abbrev pub scaledBy : Factor → ℤ → ℤ

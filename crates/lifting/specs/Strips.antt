@@ -1,8 +1,8 @@
 -- A strip's lines in the plane and in the tile, and a plane that is worked row by row or strip by strip.
 -- Assumes nothing.
-use mathlib.Core.Path.{_≡_, refl, sym, ap, subst, _∙_, fun-ext}
+use mathlib.Core.Path.{_≡_, refl, sym, ap, _∙_, fun-ext}
 use mathlib.Core.List.{List}
-use Prim.Native.Nat.{ℕ, zero, suc, _+_, _*_, _-_, _/_, _<_, _≤_}
+use Prim.Native.Nat.{ℕ, suc, _+_, _*_, _-_, _/_, _<_, _≤_}
 use native.Mathlib.Nat.{mul-le-mul-left, mul-le-mul-right, mul-assoc, mul-comm, mul-left-comm, add-mul, one-mul, div-mul-le-self, le-div-iff-mul-le}
 use native.Mathlib.Omega.{arith}
 use native.Mathlib.Decide.{decLt, ℕ-discrete}
@@ -12,9 +12,9 @@ use Rattle.lines.specs.Lines.{lows, highs, interleaved}
 use Rattle.lines.specs.LineLaws.{even-place, odd-place, by-parity}
 use Rattle.lifting.specs.declared.Kernel.{Kernel}
 use Rattle.lifting.specs.Patch.{patch}
-use Rattle.lifting.specs.Columns.{lineAt, Lying, patchLines, lines-apart, lines-ext, lines-out, lines-more}
-use Rattle.lifting.specs.LineSplit.{Off, lines-in, lines-is}
-use Rattle.lifting.specs.Kernels.{worked, Part, rowOf, columnOf, columnsWorked}
+use Rattle.lifting.specs.Columns.{lineAt, Lying, patchLines, lines-apart, lines-out, lines-more}
+use Rattle.lifting.specs.LineSplit.{lines-in, lines-is}
+use Rattle.lifting.specs.Kernels.{worked, rowOf, columnOf, columnsWorked}
 use Rattle.lifting.specs.Tiles.{Strip, rowWorked}
 
 -- ---- lines by other numbers

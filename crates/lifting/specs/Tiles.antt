@@ -1,11 +1,10 @@
 -- A row or a strip of a plane and the tile that it is worked in; and a split line or split lines, as the steps go over them.
 -- Assumes nothing.
-use mathlib.Core.Path.{_≡_, refl, sym, ap, subst, _∙_, fun-ext}
+use mathlib.Core.Path.{_≡_, sym, ap, subst, _∙_}
 use mathlib.Core.List.{List}
-use Prim.Native.Nat.{ℕ, zero, suc, _+_, _*_, _-_, _<_, _≤_, _^_}
-use native.Mathlib.Nat.{mul-le-mul-right, zero-add}
+use Prim.Native.Nat.{ℕ, _+_, _*_, _<_, _≤_}
+use native.Mathlib.Nat.{zero-add}
 use native.Mathlib.Omega.{arith}
-use native.Mathlib.Decide.{decLt}
 use lib.IntN.{ℤ}
 use lib.ListN.{length}
 use Rattle.lines.specs.Lines.{lows, highs, onHighs, onLows, lowsFirst, interleaved}
@@ -14,10 +13,10 @@ use Rattle.lifting.specs.declared.Kernel.{Kernel}
 use Rattle.lifting.specs.Patch.{patch, patch-in, patch-ext}
 use Rattle.lifting.specs.Runs.{as-type}
 use Rattle.lifting.specs.Rows.{highsDone, lowsDone, AtHighs, AtLows}
-use Rattle.lifting.specs.Columns.{lineAt, Lying, patchLines, highLinesDone, lowLinesDone, AtHighLines, AtLowLines, lines-apart, lines-ext, lines-out}
+use Rattle.lifting.specs.Columns.{lineAt, patchLines, highLinesDone, lowLinesDone, AtHighLines, AtLowLines, lines-apart, lines-ext}
 use Rattle.lifting.specs.Split.{split, split-low, split-high, split-at-high, split-at-low, split-highs, split-lows}
-use Rattle.lifting.specs.LineSplit.{Off, splitLines, line-low, line-high, lines-in, lines-is, lines-at-high, lines-at-low, lines-highs, lines-lows}
-use Rattle.lifting.specs.Kernels.{worked, Part, rowOf, columnsWorked}
+use Rattle.lifting.specs.LineSplit.{splitLines, line-low, line-high, lines-in, lines-at-high, lines-at-low, lines-highs, lines-lows}
+use Rattle.lifting.specs.Kernels.{worked, Part}
 
 -- n values of the plane from place `from` on, and a tile with room for them
 pub record Row (plane tile : List ℤ) (from n : ℕ) : Type 0 where

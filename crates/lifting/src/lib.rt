@@ -1,15 +1,16 @@
 // Lifting on tiles of a plane. A tile is n lines of s values, one after the other: the lines of the lows first, then those of the highs.
 ghost use mathlib.Core.Path.{_≡_};
-ghost use Prim.Native.Nat.{ℕ, _+_, _*_, _-_, _<_, _≤_, _^_, min};
+ghost use Prim.Native.Nat.{ℕ, _+_, _*_, _-_, _/_, _<_, _≤_, _^_, min};
 ghost use lib.ListN.{length};
 ghost use lib.Signed.{shrZ};
-ghost use lib.IntN.{pos, _+ℤ_, _*ℤ_};
+ghost use lib.IntN.{pos, negℤ, natAbs, _+ℤ_, _-ℤ_, _*ℤ_};
 ghost use mir.Syntax.{w32, w64};
 ghost use mir.Val.{SFits};
 ghost use Rattle.lines.specs.Lines.{lows, interleaved};
 ghost use Rattle.lifting.specs.Steps.{applied, Safe, scaledBy, FactorSafe};
+ghost use Rattle.lifting.specs.Raise.{raised, formed, Formed, Raises, Quicker};
 ghost use Rattle.lifting.specs.Patch.{at, patch};
-ghost use Rattle.lifting.specs.Runs.{ran, Runs, SafeRun};
+ghost use Rattle.lifting.specs.Runs.{ran, Runs, SafeBy, SafeRun};
 ghost use Rattle.lifting.specs.Rows.{highsDone, lowsDone, AtHighs, AtLows};
 ghost use Rattle.lifting.specs.Columns.{lineAt, patchLines, Lying, AtHighLines, AtLowLines, highLinesDone, lowLinesDone};
 ghost use Rattle.lifting.specs.Split.{split};
@@ -18,13 +19,24 @@ ghost use Rattle.lifting.specs.Passes.{evens, odds};
 ghost use Rattle.lifting.specs.Kernels.{SafeKernel, Part, rowOf, columnOf, rowsWorked, columnsWorked};
 ghost use Rattle.lifting.specs.Tiles.{Row, Strip, rowWorked};
 
-// A lifting step: what it makes of a value and two neighbours is `applied` of specs/Steps.
+// A lifting step: what it makes of a value and two neighbours is `applied` of specs/Steps. `Short` is `Wide` where the neighbours' sum
+// fits an i32.
 pub enum Step {
     Predict,
     Update,
     Unpredict,
     Unupdate,
     Wide { m: i64, c: i64, cut: u32 },
+    Short { m: i64, c: i64, cut: u32 },
+}
+
+// The forms that a short step is run in: `formed` of specs/Raise.
+enum Form {
+    Slow { m: i64, c: i64, cut: u32 },
+    Up { m: u32, c: u32, base: u64, cut: u32 },
+    Down { m: u32, c: u32, base: u64, cut: u32 },
+    Plus { c: u32, base: u64, cut: u32 },
+    Minus { c: u32, base: u64, cut: u32 },
 }
 
 // A scaling by a constant: `scaledBy` of specs/Steps.
@@ -49,6 +61,7 @@ pub enum Kernel {
 
 // ---- one value
 
+// One value less half of its neighbours' sum, rounded down.
 fn predicted(own: i32, x: i32, y: i32) -> i32
     requires { ⌜ Safe Step.Predict own x y ⌝ }
     ensures { λ r. ⌜ r ≡ applied Step.Predict own x y ⌝ }
@@ -56,6 +69,7 @@ fn predicted(own: i32, x: i32, y: i32) -> i32
     own - ((x + y) >> 1)
 }
 
+// One value and a quarter of its neighbours' sum, rounded to the nearest.
 fn updated(own: i32, x: i32, y: i32) -> i32
     requires { ⌜ Safe Step.Update own x y ⌝ }
     ensures { λ r. ⌜ r ≡ applied Step.Update own x y ⌝ }
@@ -63,6 +77,7 @@ fn updated(own: i32, x: i32, y: i32) -> i32
     own + ((x + y + 2) >> 2)
 }
 
+// What undoes `predicted`.
 fn unpredicted(own: i32, x: i32, y: i32) -> i32
     requires { ⌜ Safe Step.Unpredict own x y ⌝ }
     ensures { λ r. ⌜ r ≡ applied Step.Unpredict own x y ⌝ }
@@ -70,6 +85,7 @@ fn unpredicted(own: i32, x: i32, y: i32) -> i32
     own + ((x + y) >> 1)
 }
 
+// What undoes `updated`.
 fn unupdated(own: i32, x: i32, y: i32) -> i32
     requires { ⌜ Safe Step.Unupdate own x y ⌝ }
     ensures { λ r. ⌜ r ≡ applied Step.Unupdate own x y ⌝ }
@@ -77,12 +93,14 @@ fn unupdated(own: i32, x: i32, y: i32) -> i32
     own - ((x + y + 2) >> 2)
 }
 
+// A value as an i64.
 fn wide(x: i32) -> i64
     ensures { λ r. ⌜ r ≡ x ⌝ }
 {
     x as i64
 }
 
+// A sum that fits.
 fn plus(x: i64, y: i64) -> i64
     requires { ⌜ SFits w64 (x +ℤ y) ⌝ }
     ensures { λ r. ⌜ r ≡ x +ℤ y ⌝ }
@@ -90,6 +108,7 @@ fn plus(x: i64, y: i64) -> i64
     x + y
 }
 
+// A product that fits.
 fn times(x: i64, y: i64) -> i64
     requires { ⌜ SFits w64 (x *ℤ y) ⌝ }
     ensures { λ r. ⌜ r ≡ x *ℤ y ⌝ }
@@ -97,6 +116,7 @@ fn times(x: i64, y: i64) -> i64
     x * y
 }
 
+// z shifted to the right, where that fits an i32.
 fn narrowed(z: i64, cut: u32) -> i32
     requires { ⌜ cut < 64 ⌝ }
     requires { ⌜ SFits w32 (shrZ z (2 ^ cut)) ⌝ }
@@ -105,6 +125,7 @@ fn narrowed(z: i64, cut: u32) -> i32
     (z >> cut) as i32
 }
 
+// The step `Wide`, in i64.
 fn wide_of(m: i64, c: i64, cut: u32, own: i32, x: i32, y: i32) -> i32
     requires { ⌜ Safe (Step.Wide m c cut) own x y ⌝ }
     ensures { λ r. ⌜ r ≡ applied (Step.Wide m c cut) own x y ⌝ }
@@ -112,6 +133,81 @@ fn wide_of(m: i64, c: i64, cut: u32, own: i32, x: i32, y: i32) -> i32
     let left = times(m, wide(own));
     let right = times(c, plus(wide(x), wide(y)));
     narrowed(plus(left, right), cut)
+}
+
+// z + 2 ^ 31
+fn raise(z: i32) -> u32
+    ensures { λ r. ⌜ r ≡ raised z ⌝ }
+{
+    ((z as i64) + 2147483648) as u32
+}
+
+// A product of 32-bit numbers, and pad more.
+fn fused(c: u32, s: u32, pad: u64) -> u64
+    requires { ⌜ c * s + pad < 18446744073709551616 ⌝ }
+    ensures { λ r. ⌜ r ≡ c * s + pad ⌝ }
+{
+    (c as u64) * (s as u64) + pad
+}
+
+// t shifted to the right, less base.
+fn settled(t: u64, cut: u32, base: u64) -> i64
+    requires { ⌜ (1 ≤ cut) × (cut < 64) × (base < 9223372036854775808) ⌝ }
+    ensures { λ r. ⌜ r ≡ pos (t / 2 ^ cut) -ℤ pos base ⌝ }
+{
+    ((t >> cut) as i64) - (base as i64)
+}
+
+// A number that fits an i32.
+fn narrow(z: i64) -> i32
+    requires { ⌜ SFits w32 z ⌝ }
+    ensures { λ r. ⌜ r ≡ z ⌝ }
+{
+    z as i32
+}
+
+// A value and z more.
+fn moved(own: i32, z: i64) -> i32
+    requires { ⌜ SFits w32 (own +ℤ z) ⌝ }
+    ensures { λ r. ⌜ r ≡ own +ℤ z ⌝ }
+{
+    ((own as i64) + z) as i32
+}
+
+// The step `Up`: raised values, so that each product is one of unsigned 32-bit numbers.
+fn up_of(m: u32, c: u32, base: u64, cut: u32, own: i32, x: i32, y: i32) -> i32
+    requires { ⌜ Formed (Form.Up m c base cut) own x y ⌝ }
+    ensures { λ r. ⌜ r ≡ formed (Form.Up m c base cut) own x y ⌝ }
+{
+    let part = fused(c, raise(x + y), 0);
+    narrow(settled(fused(m, raise(own), part), cut, base))
+}
+
+// The step `Down`: the neighbours' sum is turned before it is raised.
+fn down_of(m: u32, c: u32, base: u64, cut: u32, own: i32, x: i32, y: i32) -> i32
+    requires { ⌜ Formed (Form.Down m c base cut) own x y ⌝ }
+    ensures { λ r. ⌜ r ≡ formed (Form.Down m c base cut) own x y ⌝ }
+{
+    let part = fused(c, raise(0 - (x + y)), 0);
+    narrow(settled(fused(m, raise(own), part), cut, base))
+}
+
+// The step `Plus`.
+fn plus_of(c: u32, base: u64, cut: u32, own: i32, x: i32, y: i32) -> i32
+    requires { ⌜ Formed (Form.Plus c base cut) own x y ⌝ }
+    ensures { λ r. ⌜ r ≡ formed (Form.Plus c base cut) own x y ⌝ }
+{
+    let part = fused(c, raise(x + y), 0);
+    moved(own, settled(part, cut, base))
+}
+
+// The step `Minus`.
+fn minus_of(c: u32, base: u64, cut: u32, own: i32, x: i32, y: i32) -> i32
+    requires { ⌜ Formed (Form.Minus c base cut) own x y ⌝ }
+    ensures { λ r. ⌜ r ≡ formed (Form.Minus c base cut) own x y ⌝ }
+{
+    let part = fused(c, raise(0 - (x + y)), 0);
+    moved(own, settled(part, cut, base))
 }
 
 // One step of one value.
@@ -125,6 +221,7 @@ fn apply(step: Step, own: i32, x: i32, y: i32) -> i32
         Step::Unpredict => unpredicted(own, x, y),
         Step::Unupdate => unupdated(own, x, y),
         Step::Wide { m, c, cut } => wide_of(m, c, cut, own, x, y),
+        Step::Short { m, c, cut } => wide_of(m, c, cut, own, x, y),
     }
 }
 
@@ -134,6 +231,14 @@ fn scaled_by(g: Factor, x: i32) -> i32
     ensures { λ r. ⌜ r ≡ scaledBy g x ⌝ }
 {
     narrowed(times(g.c, wide(x)), g.cut)
+}
+
+// The same of raised values.
+fn raised_by(c: u32, base: u64, cut: u32, x: i32) -> i32
+    requires { ⌜ Raises c base cut × SFits w32 (shrZ (pos c *ℤ x) (2 ^ cut)) ⌝ }
+    ensures { λ r. ⌜ r ≡ shrZ (pos c *ℤ x) (2 ^ cut) ⌝ }
+{
+    narrow(settled(fused(c, raise(x), 0), cut, base))
 }
 
 // ---- one run
@@ -150,7 +255,191 @@ fn run(buf: &mut [i32], t: usize, a: usize, b: usize, n: usize, step: Step)
     }
 }
 
-// The same, dispatched once: each arm's loop is compiled for its own step.
+// What k raised values are too large by, once cut.
+fn base_of(k: u64, cut: u32) -> u64
+    requires { ⌜ (cut ≤ 31) × (k < 4294967296) ⌝ }
+    ensures { λ r. ⌜ k * 2147483648 ≡ r * 2 ^ cut ⌝ }
+{
+    k * (2147483648 >> cut)
+}
+
+// A short step of positive numbers in the form that is fastest.
+fn rising(m: u32, c: u32, cut: u32) -> Form
+    requires { ⌜ (1 ≤ cut) × (cut ≤ 31) × (m < 2147483648) × (c < 2147483648) ⌝ }
+    ensures { λ r. ⌜ Quicker (pos m) (pos c) cut r ⌝ }
+{
+    if (m as u64) == (1u64 << cut) {
+        Form::Plus {
+            c,
+            base: base_of(c as u64, cut),
+            cut,
+        }
+    } else {
+        Form::Up {
+            m,
+            c,
+            base: base_of((m as u64) + (c as u64), cut),
+            cut,
+        }
+    }
+}
+
+// The same, of a negative c.
+fn falling(m: u32, c: u32, cut: u32) -> Form
+    requires { ⌜ (1 ≤ cut) × (cut ≤ 31) × (m < 2147483648) × (c < 2147483648) ⌝ }
+    ensures { λ r. ⌜ Quicker (pos m) (negℤ (pos c)) cut r ⌝ }
+{
+    if (m as u64) == (1u64 << cut) {
+        Form::Minus {
+            c,
+            base: base_of(c as u64, cut),
+            cut,
+        }
+    } else {
+        Form::Down {
+            m,
+            c,
+            base: base_of((m as u64) + (c as u64), cut),
+            cut,
+        }
+    }
+}
+
+// The size of a number, where it is below 2 ^ 31.
+fn size(z: i64) -> u32
+    ensures { λ r. ⌜ (r < 2147483648 → r ≡ natAbs z) ⌝ }
+{
+    if z < -2147483647 {
+        return 2147483648;
+    }
+    if 2147483647 < z {
+        return 2147483648;
+    }
+    if z < 0 { (0 - z) as u32 } else { z as u32 }
+}
+
+// A short step in the form that is fastest.
+fn quick(m: i64, c: i64, cut: u32) -> Form
+    ensures { λ r. ⌜ Quicker m c cut r ⌝ }
+{
+    let k = size(m);
+    let f = size(c);
+    if cut == 0 {
+        return Form::Slow { m, c, cut };
+    }
+    if 31 < cut {
+        return Form::Slow { m, c, cut };
+    }
+    if m < 0 {
+        return Form::Slow { m, c, cut };
+    }
+    if 2147483647 < k {
+        return Form::Slow { m, c, cut };
+    }
+    if 2147483647 < f {
+        return Form::Slow { m, c, cut };
+    }
+    if c < 0 {
+        falling(k, f, cut)
+    } else {
+        rising(k, f, cut)
+    }
+}
+
+// A run of the step `Up`.
+fn up_run(
+    buf: &mut [i32],
+    t: usize,
+    a: usize,
+    b: usize,
+    n: usize,
+    m: u32,
+    c: u32,
+    base: u64,
+    cut: u32,
+)
+    requires { ⌜ Runs (now buf) t a b n ⌝ }
+    requires { ⌜ SafeBy (Formed (Form.Up m c base cut)) t a b n (at (now buf)) ⌝ }
+    ensures { λ _. ⌜ at (now (buf .exit)) ≡ ran (formed (Form.Up m c base cut)) t a b n (at (now (buf .entry))) ⌝ }
+{
+    for j in 0..n {
+        let v = up_of(m, c, base, cut, buf[t + j], buf[a + j], buf[b + j]);
+        buf[t + j] = v;
+    }
+}
+
+// A run of the step `Down`.
+fn down_run(
+    buf: &mut [i32],
+    t: usize,
+    a: usize,
+    b: usize,
+    n: usize,
+    m: u32,
+    c: u32,
+    base: u64,
+    cut: u32,
+)
+    requires { ⌜ Runs (now buf) t a b n ⌝ }
+    requires { ⌜ SafeBy (Formed (Form.Down m c base cut)) t a b n (at (now buf)) ⌝ }
+    ensures { λ _. ⌜ at (now (buf .exit)) ≡ ran (formed (Form.Down m c base cut)) t a b n (at (now (buf .entry))) ⌝ }
+{
+    for j in 0..n {
+        let v = down_of(m, c, base, cut, buf[t + j], buf[a + j], buf[b + j]);
+        buf[t + j] = v;
+    }
+}
+
+// A run of the step `Plus`.
+fn plus_run(buf: &mut [i32], t: usize, a: usize, b: usize, n: usize, c: u32, base: u64, cut: u32)
+    requires { ⌜ Runs (now buf) t a b n ⌝ }
+    requires { ⌜ SafeBy (Formed (Form.Plus c base cut)) t a b n (at (now buf)) ⌝ }
+    ensures { λ _. ⌜ at (now (buf .exit)) ≡ ran (formed (Form.Plus c base cut)) t a b n (at (now (buf .entry))) ⌝ }
+{
+    for j in 0..n {
+        let v = plus_of(c, base, cut, buf[t + j], buf[a + j], buf[b + j]);
+        buf[t + j] = v;
+    }
+}
+
+// A run of the step `Minus`.
+fn minus_run(buf: &mut [i32], t: usize, a: usize, b: usize, n: usize, c: u32, base: u64, cut: u32)
+    requires { ⌜ Runs (now buf) t a b n ⌝ }
+    requires { ⌜ SafeBy (Formed (Form.Minus c base cut)) t a b n (at (now buf)) ⌝ }
+    ensures { λ _. ⌜ at (now (buf .exit)) ≡ ran (formed (Form.Minus c base cut)) t a b n (at (now (buf .entry))) ⌝ }
+{
+    for j in 0..n {
+        let v = minus_of(c, base, cut, buf[t + j], buf[a + j], buf[b + j]);
+        buf[t + j] = v;
+    }
+}
+
+// A run of a short step in one of its forms.
+fn form_run(buf: &mut [i32], t: usize, a: usize, b: usize, n: usize, form: Form)
+    requires { ⌜ Runs (now buf) t a b n ⌝ }
+    requires { ⌜ SafeBy (Formed form) t a b n (at (now buf)) ⌝ }
+    ensures { λ _. ⌜ at (now (buf .exit)) ≡ ran (formed form) t a b n (at (now (buf .entry))) ⌝ }
+{
+    match form {
+        Form::Slow { m, c, cut } => run(buf, t, a, b, n, Step::Wide { m, c, cut }),
+        Form::Up { m, c, base, cut } => up_run(buf, t, a, b, n, m, c, base, cut),
+        Form::Down { m, c, base, cut } => down_run(buf, t, a, b, n, m, c, base, cut),
+        Form::Plus { c, base, cut } => plus_run(buf, t, a, b, n, c, base, cut),
+        Form::Minus { c, base, cut } => minus_run(buf, t, a, b, n, c, base, cut),
+    }
+}
+
+// A run of a short step in the form that is fastest.
+fn short_run(buf: &mut [i32], t: usize, a: usize, b: usize, n: usize, m: i64, c: i64, cut: u32)
+    requires { ⌜ Runs (now buf) t a b n ⌝ }
+    requires { ⌜ SafeRun (Step.Short m c cut) t a b n (at (now buf)) ⌝ }
+    ensures { λ _. ⌜ at (now (buf .exit)) ≡ ran (applied (Step.Short m c cut)) t a b n (at (now (buf .entry))) ⌝ }
+{
+    let form = quick(m, c, cut);
+    form_run(buf, t, a, b, n, form);
+}
+
+// A step at each place of a run, dispatched once: each arm's loop is compiled for its own step.
 fn lift_run(buf: &mut [i32], t: usize, a: usize, b: usize, n: usize, step: Step)
     requires { ⌜ Runs (now buf) t a b n ⌝ }
     requires { ⌜ SafeRun step t a b n (at (now buf)) ⌝ }
@@ -162,6 +451,7 @@ fn lift_run(buf: &mut [i32], t: usize, a: usize, b: usize, n: usize, step: Step)
         Step::Unpredict => run(buf, t, a, b, n, Step::Unpredict),
         Step::Unupdate => run(buf, t, a, b, n, Step::Unupdate),
         Step::Wide { m, c, cut } => run(buf, t, a, b, n, Step::Wide { m, c, cut }),
+        Step::Short { m, c, cut } => short_run(buf, t, a, b, n, m, c, cut),
     }
 }
 
@@ -177,7 +467,7 @@ fn copy_run(src: &[i32], from: usize, dst: &mut [i32], to: usize, n: usize)
 }
 
 // The same, each value scaled on the way.
-fn scale_run(src: &[i32], from: usize, dst: &mut [i32], to: usize, n: usize, g: Factor)
+fn wide_run(src: &[i32], from: usize, dst: &mut [i32], to: usize, n: usize, g: Factor)
     requires { ⌜ (from + n ≤ length (now src)) × (to + n ≤ length (now dst)) ⌝ }
     requires { ⌜ ((j : ℕ) → j < n → FactorSafe g (at (now src) (from + j))) ⌝ }
     ensures { λ _. ⌜ at (now (dst .exit)) ≡ patch to n (λ j. scaledBy g (at (now (src .entry)) (from + j))) (at (now (dst .entry))) ⌝ }
@@ -185,6 +475,56 @@ fn scale_run(src: &[i32], from: usize, dst: &mut [i32], to: usize, n: usize, g: 
     for j in 0..n {
         let v = scaled_by(g, src[from + j]);
         dst[to + j] = v;
+    }
+}
+
+// The same by raised values.
+fn raised_run(
+    src: &[i32],
+    from: usize,
+    dst: &mut [i32],
+    to: usize,
+    n: usize,
+    c: u32,
+    base: u64,
+    cut: u32,
+)
+    requires { ⌜ (from + n ≤ length (now src)) × (to + n ≤ length (now dst)) ⌝ }
+    requires { ⌜ Raises c base cut ⌝ }
+    requires { ⌜ ((j : ℕ) → j < n → SFits w32 (shrZ (pos c *ℤ at (now src) (from + j)) (2 ^ cut))) ⌝ }
+    ensures { λ _. ⌜ at (now (dst .exit)) ≡ patch to n (λ j. shrZ (pos c *ℤ at (now (src .entry)) (from + j)) (2 ^ cut)) (at (now (dst .entry))) ⌝ }
+{
+    for j in 0..n {
+        let v = raised_by(c, base, cut, src[from + j]);
+        dst[to + j] = v;
+    }
+}
+
+// What a factor's values may be raised by: its constant, or 2 ^ 31 where they may not.
+fn raisable(g: Factor) -> u32
+    ensures { λ r. ⌜ (r < 2147483648 → (1 ≤ g .cut) × (g .cut ≤ 31) × (g .c ≡ pos r)) ⌝ }
+{
+    let k = size(g.c);
+    if g.cut == 0 {
+        return 2147483648;
+    }
+    if 31 < g.cut {
+        return 2147483648;
+    }
+    if g.c < 0 { 2147483648 } else { k }
+}
+
+// The n values of src from place `from` on, scaled, go to dst from place `to` on.
+fn scale_run(src: &[i32], from: usize, dst: &mut [i32], to: usize, n: usize, g: Factor)
+    requires { ⌜ (from + n ≤ length (now src)) × (to + n ≤ length (now dst)) ⌝ }
+    requires { ⌜ ((j : ℕ) → j < n → FactorSafe g (at (now src) (from + j))) ⌝ }
+    ensures { λ _. ⌜ at (now (dst .exit)) ≡ patch to n (λ j. scaledBy g (at (now (src .entry)) (from + j))) (at (now (dst .entry))) ⌝ }
+{
+    let c = raisable(g);
+    if c < 2147483648 {
+        raised_run(src, from, dst, to, n, c, base_of(c as u64, g.cut), g.cut);
+    } else {
+        wide_run(src, from, dst, to, n, g);
     }
 }
 
@@ -360,12 +700,14 @@ pub fn rows(plane: &mut [i32], tile: &mut [i32], stride: usize, w: usize, h: usi
 
 // ---- lines
 
+// The smaller of two numbers.
 fn smaller(a: usize, b: usize) -> usize
     ensures { λ r. ⌜ r ≡ min a b ⌝ }
 {
     if a < b { a } else { b }
 }
 
+// One less, down to 0.
 fn one_less(a: usize) -> usize
     ensures { λ r. ⌜ r ≡ a - 1 ⌝ }
 {

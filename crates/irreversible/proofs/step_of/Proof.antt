@@ -1,10 +1,11 @@
-use mathlib.Core.Path.{_≡_, ap, ap₂, _∙_}
+use mathlib.Core.Path.{_≡_, sym, ap, ap₂, _∙_}
 use Prim.Native.Nat.{ℕ, _+_, _-_, _^_, max}
 use native.Mathlib.Omega.{arith}
 use lib.IntN.{ℤ, pos, _*ℤ_}
+use borrow.Author.Tests.{le-leb, lt-leb}
 use mir.Facts.{toZ-ofZ}
-use Rattle.lifting.specs.declared.Step.the-variants.{Wide}
-use Rattle.irreversible.specs.StepLaws.{stepTop, stepOf}
+use Rattle.lifting.specs.declared.Step.the-variants.{Short, Wide}
+use Rattle.irreversible.specs.StepLaws.{stepTop, step-short, step-wide}
 use Rattle.irreversible.proofs.Read.{back, got, fits-at}
 use Rattle.irreversible.proofs.step_of.Statement.{statement}
 use Rattle.irreversible.proofs.step_of.Tie as tie
@@ -23,13 +24,22 @@ times-requires : tie.Need-times-requires
 times-requires c κs = fits-at (raised c) (c .before .before .before .before .pre .1)
 
 returns : tie.Need-returns
-unfolding stepOf
 returns c =
-    let p = c .before .before in
+    let t = c .before in
+    let p = t .before .before in
     let s = p .before .before .before in
     let m = got (p .power .ok) (p .power .ensures ∙ ap (λ (k : ℕ). pos (2 ^ (k - s .args .own))) (top (p .before))) in
-    let d = got (c .times .ok) (c .times .ensures ∙ raised (c .before)) in
-    λ u. Wide (m u) (d u) (top (p .before) u - s .args .kept)
+    let d = got (t .times .ok) (t .times .ensures ∙ raised (t .before)) in
+    (λ u. Short (m u) (d u) (top (p .before) u - s .args .kept)) ∙ sym (step-short (s .args .constant) (s .args .bits) (s .args .sides) (s .args .own) (s .args .kept) (le-leb (s .args .sides) 18 (omega arith)))
+
+returns-2 : tie.Need-returns-2
+returns-2 c =
+    let t = c .before in
+    let p = t .before .before in
+    let s = p .before .before .before in
+    let m = got (p .power .ok) (p .power .ensures ∙ ap (λ (k : ℕ). pos (2 ^ (k - s .args .own))) (top (p .before))) in
+    let d = got (t .times .ok) (t .times .ensures ∙ raised (t .before)) in
+    (λ u. Wide (m u) (d u) (top (p .before) u - s .args .kept)) ∙ sym (step-wide (s .args .constant) (s .args .bits) (s .args .sides) (s .args .own) (s .args .kept) (lt-leb (s .args .sides) 18 (omega arith)))
 
 pub step-of-spec : {M : Type 1} → statement M
 step-of-spec =
@@ -45,4 +55,5 @@ step-of-spec =
     times-requires
     (λ c. omega arith)
     (λ c. omega arith)
-    returns)
+    returns
+    returns-2)

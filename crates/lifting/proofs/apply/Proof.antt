@@ -1,6 +1,7 @@
+-- `lifting::apply` meets its contract: in each arm the step is the one that the arm takes.
+-- Assumes nothing.
 use borrow.Author.Needs.{needs}
-use mathlib.Core.Path.{_∙_}
-use Rattle.lifting.proofs.Read.{safe-back, applied-back, wide-back}
+use Rattle.lifting.proofs.Read.{safe-back, applied-back, wide-back, short-back}
 use Rattle.lifting.proofs.apply.Statement.{statement}
 use Rattle.lifting.proofs.apply.Tie as tie
 
@@ -18,6 +19,9 @@ unupdated-requires c κs = let a = c .before .before in safe-back (a .fits .own)
 
 wide-of-requires : tie.Need-wide-of-requires
 wide-of-requires c κs = let a = c .before .before .before in safe-back (a .fits .own) (a .fits .x) (a .fits .y) (wide-back (search needs) (search needs) (c .before .step .given .1)) (a .pre)
+
+wide-of-requires-2 : tie.Need-wide-of-requires-2
+wide-of-requires-2 c κs = let a = c .before .before .before in safe-back (a .fits .own) (a .fits .x) (a .fits .y) (short-back (search needs) (search needs) (c .before .step2 .given .1)) (a .pre) .wide
 
 returns : tie.Need-returns
 returns c =
@@ -44,6 +48,11 @@ returns-5 c =
     let a = c .before .before .before .before in
     applied-back (a .fits .own) (a .fits .x) (a .fits .y) (wide-back (search needs) (search needs) (c .before .before .step .given .1)) (c .wide-of .ok) (c .wide-of .ensures)
 
+returns-6 : tie.Need-returns-6
+returns-6 c =
+    let a = c .before .before .before .before in
+    applied-back (a .fits .own) (a .fits .x) (a .fits .y) (short-back (search needs) (search needs) (c .before .before .step2 .given .1)) (c .wide-of2 .ok) (c .wide-of2 .ensures)
+
 pub apply-spec : {M : Type 1} → statement M
 apply-spec =
     tie.close
@@ -58,8 +67,11 @@ apply-spec =
     unupdated-requires
     (λ c. search needs)
     wide-of-requires
+    (λ c. search needs)
+    wide-of-requires-2
     returns
     returns-2
     returns-3
     returns-4
-    returns-5)
+    returns-5
+    returns-6)

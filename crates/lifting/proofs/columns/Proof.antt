@@ -1,9 +1,8 @@
 -- `lifting::columns` meets its contract. The loop's invariant: the first `done` columns are worked.
 -- Assumes nothing.
-use mathlib.Core.Path.{_≡_, refl, sym, ap, subst, _∙_}
-use Prim.Native.Nat.{ℕ, _+_, _*_, _-_, _/_, _≤_, _<_}
+use mathlib.Core.Path.{_≡_, refl, sym, subst}
+use Prim.Native.Nat.{_+_, _*_, _-_, _≤_}
 use native.Mathlib.Omega.{arith}
-use lib.IntN.{ℤ}
 use lib.ListN.{length}
 use Rattle.lifting.specs.Patch.{at}
 use Rattle.lifting.specs.Kernels.{SafeKernel, columnsWorked}

@@ -1,7 +1,7 @@
 -- `lifting::copy_lines` meets its contract. The loop's invariant: the first i lines are copied.
 -- Assumes nothing.
 use mathlib.Core.Path.{_≡_, refl}
-use Prim.Native.Nat.{ℕ, _+_, _-_, _≤_}
+use Prim.Native.Nat.{_+_, _-_, _≤_}
 use native.Mathlib.Omega.{arith}
 use lib.ListN.{length}
 use Rattle.lifting.specs.Patch.{at}

@@ -8,7 +8,7 @@ use Rattle.lifting.specs.declared.Step.{Step}
 use Rattle.lifting.specs.Steps.{applied}
 use Rattle.lifting.specs.Patch.{at}
 use Rattle.lifting.specs.Runs.{ran, Runs, SafeRun}
-use Rattle.lifting.proofs.Read.{wide-back}
+use Rattle.lifting.proofs.Read.{wide-back, short-back}
 use Rattle.lifting.proofs.lift_run.Statement.{statement}
 use Rattle.lifting.proofs.lift_run.Tie as tie
 
@@ -19,27 +19,67 @@ gives : (a : tie.Start) (s : Step) (y : ℕ → ℤ) → a .args .step ≡ s →
     → y ≡ ran (applied (a .args .step)) (a .args .t) (a .args .a) (a .args .b) (a .args .n) (at (a .args .buf .now))
 gives a s y e is = is ∙ ap (λ (s : Step). ran (applied s) (a .args .t) (a .args .a) (a .args .b) (a .args .n) (at (a .args .buf .now))) (sym e)
 
+run-requires : tie.Need-run-requires
+run-requires c κs = asks (c .before .before .before) _ (c .before .enum-told .given .1)
+
+returns : tie.Need-returns
+returns c = gives (c .before .before .before .before .before) _ _ (c .before .before .before .enum-told .given .1) (c .before .run .ensures)
+
+run-requires-2 : tie.Need-run-requires-2
+run-requires-2 c κs = asks (c .before .before .before) _ (c .before .enum-told2 .given .1)
+
+returns-2 : tie.Need-returns-2
+returns-2 c = gives (c .before .before .before .before .before) _ _ (c .before .before .before .enum-told2 .given .1) (c .before .run2 .ensures)
+
+run-requires-3 : tie.Need-run-requires-3
+run-requires-3 c κs = asks (c .before .before .before) _ (c .before .enum-told3 .given .1)
+
+returns-3 : tie.Need-returns-3
+returns-3 c = gives (c .before .before .before .before .before) _ _ (c .before .before .before .enum-told3 .given .1) (c .before .run3 .ensures)
+
+run-requires-4 : tie.Need-run-requires-4
+run-requires-4 c κs = asks (c .before .before .before) _ (c .before .enum-told4 .given .1)
+
+returns-4 : tie.Need-returns-4
+returns-4 c = gives (c .before .before .before .before .before) _ _ (c .before .before .before .enum-told4 .given .1) (c .before .run4 .ensures)
+
+run-requires-5 : tie.Need-run-requires-5
+run-requires-5 c κs = asks (c .before .before .before .before) _ (wide-back (search needs) (search needs) (c .before .before .step .given .1))
+
+returns-5 : tie.Need-returns-5
+returns-5 c = gives (c .before .before .before .before .before .before) _ _ (wide-back (search needs) (search needs) (c .before .before .before .before .step .given .1)) (c .before .run5 .ensures)
+
+short-run-requires : tie.Need-short-run-requires
+short-run-requires c κs = asks (c .before .before .before .before) _ (short-back (search needs) (search needs) (c .before .before .step2 .given .1))
+
+returns-6 : tie.Need-returns-6
+returns-6 c = gives (c .before .before .before .before .before .before) _ _ (short-back (search needs) (search needs) (c .before .before .before .before .step2 .given .1)) (c .before .short-run .ensures)
+
 pub lift-run-spec : {M : Type 1} → statement M
 lift-run-spec =
     tie.close
     (tie.spec
     (λ c. search needs)
-    (λ c κs. asks (c .before .before .before) _ (c .before .enum-told .given .1))
+    run-requires
     (λ c. search needs)
-    (λ c κs. asks (c .before .before .before) _ (c .before .enum-told2 .given .1))
+    run-requires-2
     (λ c. search needs)
-    (λ c κs. asks (c .before .before .before) _ (c .before .enum-told3 .given .1))
+    run-requires-3
     (λ c. search needs)
-    (λ c κs. asks (c .before .before .before) _ (c .before .enum-told4 .given .1))
+    run-requires-4
     (λ c. search needs)
-    (λ c κs. asks (c .before .before .before .before) _ (wide-back (search needs) (search needs) (c .before .before .step .given .1)))
+    run-requires-5
     (λ c. search needs)
-    (λ c. gives (c .before .before .before .before .before) _ _ (c .before .before .before .enum-told .given .1) (c .before .run .ensures))
+    short-run-requires
     (λ c. search needs)
-    (λ c. gives (c .before .before .before .before .before) _ _ (c .before .before .before .enum-told2 .given .1) (c .before .run2 .ensures))
+    returns
     (λ c. search needs)
-    (λ c. gives (c .before .before .before .before .before) _ _ (c .before .before .before .enum-told3 .given .1) (c .before .run3 .ensures))
+    returns-2
     (λ c. search needs)
-    (λ c. gives (c .before .before .before .before .before) _ _ (c .before .before .before .enum-told4 .given .1) (c .before .run4 .ensures))
+    returns-3
     (λ c. search needs)
-    (λ c. gives (c .before .before .before .before .before .before) _ _ (wide-back (search needs) (search needs) (c .before .before .before .before .step .given .1)) (c .before .run5 .ensures)))
+    returns-4
+    (λ c. search needs)
+    returns-5
+    (λ c. search needs)
+    returns-6)

@@ -1,7 +1,7 @@
 -- `lifting::merge_row` meets its contract: the pairs, and the last low where there is one over.
 -- Assumes nothing.
-use mathlib.Core.Path.{_≡_, sym, _∙_}
-use Prim.Native.Nat.{ℕ, _+_, _*_}
+use mathlib.Core.Path.{sym, _∙_}
+use Prim.Native.Nat.{_+_, _*_}
 use native.Mathlib.Omega.{arith}
 use borrow.Author.Needs.{sfits-of}
 use lib.IntN.{pos}
@@ -9,7 +9,7 @@ use lib.ListN.{length-set}
 use mir.Facts.{toZ-ofZ}
 use Rattle.lines.specs.Lines.{highs}
 use Rattle.lines.specs.LineLaws.{even-place}
-use Rattle.lifting.specs.Patch.{at, patch, patch-set, patch-to}
+use Rattle.lifting.specs.Patch.{patch-set, patch-to}
 use Rattle.lifting.proofs.merge_row.Statement.{statement}
 use Rattle.lifting.proofs.merge_row.Tie as tie
 

@@ -1,11 +1,13 @@
+-- `lifting::on_highs` meets its contract.
+-- Assumes nothing.
 use mathlib.Core.Path.{_≡_, sym, _∙_}
-use Prim.Native.Nat.{ℕ, _+_, _-_, _/_, _<_}
+use Prim.Native.Nat.{_+_, _-_}
 use native.Mathlib.Omega.{arith}
 use Rattle.lifting.specs.Steps.{applied, Safe}
 use Rattle.lifting.specs.Patch.{at, patch, patch-ext}
 use Rattle.lines.specs.Lines.{lows, highs, onHighs}
 use Rattle.lifting.specs.Rows.{low, high, highs-middle, highs-last}
-use Rattle.lifting.specs.Runs.{ran, as-type, next-safe, next-run}
+use Rattle.lifting.specs.Runs.{as-type, next-safe, next-run}
 use borrow.Author.Needs.{needs}
 use Rattle.lifting.proofs.on_highs.Statement.{statement}
 use Rattle.lifting.proofs.on_highs.Tie as tie

@@ -1,7 +1,7 @@
 -- `lifting::on_lows` meets its contract: the first low, the middle ones, and the last where n is odd.
 -- Assumes nothing.
 use mathlib.Core.Path.{_≡_, sym, _∙_}
-use Prim.Native.Nat.{ℕ, _+_, _-_, _<_}
+use Prim.Native.Nat.{ℕ, _+_, _-_}
 use native.Mathlib.Omega.{arith}
 use lib.IntN.{ℤ}
 use Rattle.lifting.specs.Steps.{applied, Safe}

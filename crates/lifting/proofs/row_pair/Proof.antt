@@ -1,10 +1,10 @@
 -- `lifting::row_pair` meets its contract: the line is split, its highs are done, then its lows.
 -- Assumes nothing.
-use mathlib.Core.Path.{_≡_, _∙_}
+use mathlib.Core.Path.{_∙_}
 use Prim.Native.Nat.{ℕ, _+_}
 use native.Mathlib.Omega.{arith}
 use lib.IntN.{ℤ}
-use Rattle.lines.specs.Lines.{onHighs, onLows}
+use Rattle.lines.specs.Lines.{onHighs}
 use Rattle.lifting.specs.Steps.{applied, Safe}
 use Rattle.lifting.specs.Patch.{at, patch-ext}
 use Rattle.lifting.specs.Passes.{evens, odds}

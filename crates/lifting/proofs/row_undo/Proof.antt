@@ -1,11 +1,10 @@
 -- `lifting::row_undo` meets its contract: the lows are undone, then the highs, and each goes to its place.
 -- Assumes nothing.
-use mathlib.Core.Path.{_≡_, ap, _∙_}
-use Prim.Native.Nat.{ℕ, _+_, _*_, _<_}
+use mathlib.Core.Path.{_∙_}
+use Prim.Native.Nat.{ℕ, _+_}
 use native.Mathlib.Omega.{arith}
-use native.Mathlib.Nat.{zero-add}
 use lib.IntN.{ℤ}
-use Rattle.lines.specs.Lines.{lows, onHighs, onLows}
+use Rattle.lines.specs.Lines.{lows}
 use Rattle.lifting.specs.Steps.{applied, Safe}
 use Rattle.lifting.specs.Patch.{at, patch-ext}
 use Rattle.lifting.specs.Kernels.{worked, lowsUndone}

@@ -1,12 +1,11 @@
 -- `lifting::rows` meets its contract. The loop's invariant: the first r rows are done.
 -- Assumes nothing.
 use mathlib.Core.Path.{_≡_, refl, sym, subst}
-use Prim.Native.Nat.{ℕ, _+_, _*_, _-_, _≤_}
+use Prim.Native.Nat.{_*_, _-_, _≤_}
 use native.Mathlib.Omega.{arith}
-use lib.IntN.{ℤ}
 use lib.ListN.{length}
 use Rattle.lifting.specs.Patch.{at}
-use Rattle.lifting.specs.Columns.{lineAt, lines-none, lines-to}
+use Rattle.lifting.specs.Columns.{lines-none, lines-to}
 use Rattle.lifting.specs.Kernels.{SafeKernel, rowsWorked}
 use Rattle.lifting.specs.Strips.{row-as-was, row-done}
 use Rattle.lifting.proofs.rows.Statement.{statement}

@@ -1,60 +1,51 @@
--- `lifting::scale_run` meets its contract. The loop's invariant: the run's first j places are done.
+-- `lifting::scale_run` meets its contract: the raised constant is the factor's.
 -- Assumes nothing.
-use mathlib.Core.Path.{_≡_, refl, sym, ap, subst, _∙_}
-use Prim.Native.Nat.{ℕ, _+_, _-_, _≤_}
+use mathlib.Core.Path.{sym, subst, _∙_, ap}
+use Prim.Native.Nat.{_+_, _^_}
 use native.Mathlib.Omega.{arith}
-use borrow.Author.Needs.{sfits-of}
-use lib.IntN.{pos}
-use lib.ListN.{length, length-set}
-use mir.Facts.{toZ-ofZ}
-use Rattle.lifting.specs.Steps.{scaledBy, FactorSafe}
-use Rattle.lifting.specs.Patch.{at, patch, patch-none, patch-set, patch-to}
+use borrow.Author.Needs.{needs}
+use lib.IntN.{ℤ, _*ℤ_}
+use lib.Signed.{shrZ}
+use mir.Syntax.{w32}
+use mir.Val.{SFits}
+use Rattle.lifting.specs.Patch.{at, patch}
 use Rattle.lifting.proofs.scale_run.Statement.{statement}
 use Rattle.lifting.proofs.scale_run.Tie as tie
 
-abbrev Inv-loop : tie.InvT-loop
-Inv-loop src from dst₀ to n g j₀ dst j = (j ≤ n) × (length dst ≡ length dst₀) × (at dst ≡ patch to j (λ i. scaledBy g (at src (from + i))) (at dst₀))
+base-of-requires : tie.Need-base-of-requires
+base-of-requires c κs =
+    let e = c .before .before .raisable .ensures (c .before .if1 .taken) in
+    omega arith
 
-abbrev μ-loop : tie.MeasureT-loop
-μ-loop src from dst₀ to n g j₀ dst j = n - j
-
-loop-holds : tie.Need-loop-holds Inv-loop μ-loop
-loop-holds c = (omega arith, refl, patch-none _ 0 _ _ refl)
-
-scaled-by-requires : tie.Need-scaled-by-requires Inv-loop μ-loop
-scaled-by-requires c κs =
-    let a = c .before .before .before in
-    subst (FactorSafe (a .args .g)) (sym (toZ-ofZ (sfits-of (c .scaled-by-arg .given)))) (a .pre .1 (c .before .before .loop .j) (c .before .loop-test .taken))
-
-loop-again : tie.Need-loop-again Inv-loop μ-loop
-loop-again c =
-    let t = c .before .before .before .loop in
-    let a = c .before .before .before .before .args in (
-      omega arith,
-      simp length-set (t .inv .1),
-      patch-set _ (t .j) _ _ (t .dst) (pos 0) (t .inv .2) (omega arith) _
-          (toZ-ofZ (sfits-of (c .scaled-by .ok)) ∙ c .scaled-by .ensures ∙ ap (scaledBy (a .g)) (toZ-ofZ (sfits-of (c .before .scaled-by-arg .given)))),
+raised-run-requires : tie.Need-raised-run-requires
+raised-run-requires c κs =
+    let i = c .before .before in
+    let a = i .before .before in
+    let e = i .before .raisable .ensures (i .if1 .taken) in (
+      a .pre .0,
+      (
+        record { some = e .0; short = omega arith; room = omega arith; tied = c .base-of .ensures },
+        λ j h. subst (λ (z : ℤ). SFits w32 (shrZ (z *ℤ at (a .args .src .now) (a .args .from + j)) (2 ^ a .args .g .cut))) (e .2) (a .pre .1 j h .result),
+      ),
     )
 
-returns : tie.Need-returns Inv-loop μ-loop
-returns c = patch-to _ _ _ _ _ _ (c .before .loop .inv .2) (omega arith)
+returns : tie.Need-returns
+returns c =
+    let i = c .before .before .before .before in
+    let a = i .before .before in
+    let e = i .before .raisable .ensures (i .if1 .taken) in
+    c .before .raised-run .ensures ∙ ap (λ (z : ℤ). patch (a .args .to) (a .args .n) (λ j. shrZ (z *ℤ at (a .args .src .now) (a .args .from + j)) (2 ^ a .args .g .cut)) (at (a .args .dst .now))) (sym (e .2))
 
 pub scale-run-spec : {M : Type 1} → statement M
 scale-run-spec =
     tie.close
     (tie.spec
-    Inv-loop
-    μ-loop
-    loop-holds
-    (λ c. omega arith)
-    (λ c. omega arith)
-    (λ c. omega arith)
-    scaled-by-requires
-    (λ c. omega arith)
-    (λ c. omega arith)
-    (λ c. omega arith)
-    (λ c. omega arith)
-    (λ c. omega arith)
-    loop-again
-    (λ c. omega arith)
-    returns)
+    (λ c κs. search needs)
+    (λ c. search needs)
+    base-of-requires
+    raised-run-requires
+    (λ c κs. search needs)
+    (λ c. search needs)
+    returns
+    (λ c. search needs)
+    (λ c. search needs))

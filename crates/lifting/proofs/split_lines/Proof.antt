@@ -1,7 +1,7 @@
 -- `lifting::split_lines` meets its contract: the even rows, then the odd ones.
 -- Assumes nothing.
-use mathlib.Core.Path.{_≡_, ap, _∙_, fun-ext}
-use Prim.Native.Nat.{ℕ, suc, _+_, _*_}
+use mathlib.Core.Path.{ap, _∙_, fun-ext}
+use Prim.Native.Nat.{ℕ, _+_}
 use native.Mathlib.Omega.{arith}
 use native.Mathlib.Nat.{mul-le-mul-right}
 use lib.IntN.{ℤ}

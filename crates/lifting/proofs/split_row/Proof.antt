@@ -1,6 +1,6 @@
 -- `lifting::split_row` meets its contract: the pairs, and the last value where there is one over.
 -- Assumes nothing.
-use mathlib.Core.Path.{_≡_, refl, ap, _∙_}
+use mathlib.Core.Path.{_≡_, _∙_}
 use Prim.Native.Nat.{ℕ, _+_}
 use native.Mathlib.Omega.{arith}
 use borrow.Author.Needs.{sfits-of}

@@ -1,12 +1,12 @@
 -- `lifting::strip_four` meets its contract: the rows are split, four steps go over the lines, and they are scaled on their way back.
 -- Assumes nothing.
 use mathlib.Core.Path.{_≡_, sym, ap, subst, _∙_, fun-ext}
-use Prim.Native.Nat.{ℕ, _+_, _*_, _≤_}
+use Prim.Native.Nat.{ℕ, _+_, _*_}
 use native.Mathlib.Omega.{arith}
 use native.Mathlib.Nat.{mul-le-mul-right}
 use lib.IntN.{ℤ}
 use lib.ListN.{length}
-use Rattle.lines.specs.Lines.{lows, highs, lowsFirst}
+use Rattle.lines.specs.Lines.{lows, highs}
 use Rattle.lines.specs.LineLaws.{first-at}
 use Rattle.lifting.specs.Steps.{applied, Safe, scaledBy, FactorSafe}
 use Rattle.lifting.specs.Patch.{at}

@@ -1,7 +1,7 @@
 -- `lifting::strip_pair` meets its contract: the rows are split, the lines of highs are done, then those of lows.
 -- Assumes nothing.
-use mathlib.Core.Path.{_≡_, _∙_}
-use Prim.Native.Nat.{ℕ, _+_}
+use mathlib.Core.Path.{_∙_}
+use Prim.Native.Nat.{ℕ}
 use native.Mathlib.Omega.{arith}
 use lib.IntN.{ℤ}
 use Rattle.lines.specs.Lines.{onHighs}

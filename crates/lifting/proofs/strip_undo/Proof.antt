@@ -1,15 +1,15 @@
 -- `lifting::strip_undo` meets its contract: the lines of lows are undone, then those of highs, and each goes to its row.
 -- Assumes nothing.
-use mathlib.Core.Path.{_≡_, _∙_}
+use mathlib.Core.Path.{_∙_}
 use Prim.Native.Nat.{ℕ, _+_}
 use native.Mathlib.Omega.{arith}
 use lib.IntN.{ℤ}
-use Rattle.lines.specs.Lines.{lows, onLows}
+use Rattle.lines.specs.Lines.{lows}
 use Rattle.lifting.specs.Steps.{applied, Safe}
 use Rattle.lifting.specs.Patch.{at}
 use Rattle.lifting.specs.Columns.{lines-ext}
 use Rattle.lifting.specs.Kernels.{worked, rowOf, columnOf, lowsUndone}
-use Rattle.lifting.specs.Tiles.{Strip, LinesHeld, high-lines-held, low-lines-held, high-lines-asked, low-lines-asked, whole-lines-held, held-lines-woven}
+use Rattle.lifting.specs.Tiles.{LinesHeld, high-lines-held, low-lines-held, high-lines-asked, low-lines-asked, whole-lines-held, held-lines-woven}
 use Rattle.lifting.specs.Strips.{tile-lines, plane-lines, strip-of}
 use Rattle.lifting.proofs.strip_undo.Statement.{statement}
 use Rattle.lifting.proofs.strip_undo.Tie as tie

@@ -12,7 +12,7 @@ use Rattle.lines.specs.Planes.{tabulate}
 use Rattle.lines.specs.RowLaws.{tabulate-at}
 use Rattle.irreversible.specs.Fixed.{nearest}
 use Rattle.irreversible.specs.Constants.{constantOf}
-use Rattle.irreversible.specs.Numbered.{nodeOf, IsNode}
+use Rattle.width_table.specs.Numbered.{nodeOf, IsNode}
 use Rattle.irreversible.specs.SafeLaws.{ConstantBits, constant-fits}
 
 -- six stages of 24 numbers

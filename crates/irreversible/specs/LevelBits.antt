@@ -8,7 +8,7 @@ use Rattle.width_table.specs.Table.{constantBits, fractionBits, inputBits}
 use Rattle.width_table.specs.Readers.{constantBitsAt, fractionBitsAt, constant-bits, fraction-bits}
 use Rattle.precision.specs.Verdict.{Accepted}
 use Rattle.precision.specs.Promise.{promise}
-use Rattle.irreversible.specs.Numbered.{nodeOf, passOf, IsNode, IsPass, node-number, pass-number}
+use Rattle.width_table.specs.Numbered.{nodeOf, passOf, IsNode, IsPass, node-number, pass-number}
 use Rattle.irreversible.specs.SafeLaws.{ConstantBits}
 use Rattle.irreversible.specs.LevelsLaws.{input-small}
 

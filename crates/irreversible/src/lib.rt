@@ -13,7 +13,7 @@ ghost use Rattle.irreversible.specs.Fixed.{nearest};
 ghost use Rattle.irreversible.specs.Constants.{constantOf};
 ghost use Rattle.irreversible.specs.Transforms.{fixedPlane};
 ghost use Rattle.irreversible.specs.Calls.{fixedAnswer, fixedPlaneAfter, fixedWork};
-ghost use Rattle.irreversible.specs.Numbered.{nodeOf, passOf, IsNode, IsPass};
+ghost use Rattle.width_table.specs.Numbered.{nodeOf, passOf, IsNode, IsPass};
 ghost use Rattle.irreversible.specs.StepLaws.{stepTop, stepOf, factorOf};
 ghost use Rattle.irreversible.specs.KernelLaws.{stageOf, scalingOf, kernelOf};
 ghost use Rattle.irreversible.specs.SafeLaws.{ConstantBits};

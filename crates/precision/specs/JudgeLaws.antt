@@ -25,7 +25,8 @@ use Rattle.width_table.specs.Readers.{constantBitsAt, integerBitsAt, fractionBi
 use Rattle.precision.specs.Bounds.{Bound, timesGain, boundAt, rowBound, passBound, entering, boundOf}
 use Rattle.precision.specs.Verdict.{fits, keptColumn, keptAt, judged, firstRefusal, verdict}
 use Rattle.precision.specs.Promise.{each-accepts, in-nodes, form-depth, form-levels, form-constants, form-widths, refusal-++}
-use Rattle.precision.specs.Places.{nodeOf, passOf, gainAt, carriedTo, multiplied, ownAt, ownsBelow, fed, bitsOf, ownErrorOf, ownsOf, nodesFrom, told, judgedAs, boundFrom, boundOfNode, At, Enters, LevelJudged}
+use Rattle.precision.specs.Places.{gainAt, carriedTo, multiplied, ownAt, ownsBelow, fed, bitsOf, ownErrorOf, ownsOf, nodesFrom, told, judgedAs, boundFrom, boundOfNode, At, Enters, LevelJudged}
+use Rattle.width_table.specs.Numbered.{nodeOf, passOf}
 use Rattle.precision.specs.PlaceLaws.{largest, by-place, owns-next, own-is, range-is, error-is, total-is, owns-most}
 use Rattle.precision.specs.declared.Bound as Code
 

@@ -14,7 +14,8 @@ use Rattle.width_table.specs.Nodes.{Node}
 use Rattle.precision.specs.Gains.{gain}
 use Rattle.precision.specs.GainTable.{gain-is}
 use Rattle.precision.specs.Bounds.{Bound, timesGain, loss, ownLift, ownScale, carried, rangeAt, errorAt, errorP1, errorU1, errorP2, errorU2, errorG1, errorG2, ownP1, ownU1, ownP2, ownU2, ownG1, ownG2}
-use Rattle.precision.specs.Places.{nodeOf, gains, gainAt, carriedTo, multiplied, other, bitsAt, ownAt, totalAt, ownFrom, ownsBelow}
+use Rattle.precision.specs.Places.{gains, gainAt, carriedTo, multiplied, other, bitsAt, ownAt, totalAt, ownFrom, ownsBelow}
+use Rattle.width_table.specs.Numbered.{nodeOf}
 
 -- an own error is at most this: 7.5 times 2^43
 abbrev pub largest : ℕ

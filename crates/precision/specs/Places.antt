@@ -10,6 +10,7 @@ use Rattle.refusals.specs.declared.Refusal.the-variants.{DoesNotFit, ErrorTooLa
 use Rattle.refusals.specs.declared.Outcome.{Outcome}
 use Rattle.refusals.specs.declared.Outcome.the-variants.{Done}
 use Rattle.refusals.specs.Refusals.{asks}
+use Rattle.width_table.specs.Numbered.{nodeOf, passOf}
 use Rattle.width_table.specs.Nodes.{Node, P1, U1, P2, U2, G1, G2, Pass, Rows, LowColumns, HighColumns, TableNode, nodeAt, passNodes, levelNodes}
 use Rattle.width_table.specs.declared.WidthTable.{WidthTable}
 use Rattle.width_table.specs.Table.{constantBits, fractionBits, inputBits, formRight}
@@ -18,22 +19,6 @@ use Rattle.precision.specs.declared.Bound as Code
 use Rattle.precision.specs.declared.PassAnswer.{PassAnswer}
 use Rattle.precision.specs.declared.LevelAnswer.{LevelAnswer}
 use Rattle.precision.specs.Verdict.{firstRefusal}
-
--- node 1 to 6, pass 1 to 3
-abbrev pub nodeOf : ℕ → Node
-nodeOf zero = P1
-nodeOf (suc zero) = P1
-nodeOf (suc (suc zero)) = U1
-nodeOf (suc (suc (suc zero))) = P2
-nodeOf (suc (suc (suc (suc zero)))) = U2
-nodeOf (suc (suc (suc (suc (suc zero))))) = G1
-nodeOf (suc (suc (suc (suc (suc (suc k)))))) = G2
-
-abbrev pub passOf : ℕ → Pass
-passOf zero = Rows
-passOf (suc zero) = Rows
-passOf (suc (suc zero)) = LowColumns
-passOf (suc (suc (suc k))) = HighColumns
 
 -- The gain from each place, in a line of its own, to each place, in whole numbers of 2^-16. The input's to itself is 1.
 abbrev pub gains : List (List ℕ)

@@ -1,5 +1,6 @@
 -- Width tables (document 01: books).
 --   Nodes      the six nodes of a pass, the three passes of a level, book order
+--   Numbered   nodes and passes by their numbers
 --   Table      limits, widths, and when the form is right (refusal 4)
 --   Bytes      reading (refusals 1 to 5) and writing (4, 9)
 --   Changes    changes of a width or of a constant's bits (4)
@@ -13,6 +14,7 @@
 --   ChangeLaws what an accepted change leaves and keeps
 --   Cases      worked cases
 pub mod Nodes
+pub mod Numbered
 pub mod Table
 pub mod Bytes
 pub mod Changes

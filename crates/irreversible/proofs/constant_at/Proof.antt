@@ -1,6 +1,6 @@
 use mathlib.Core.Path.{sym, _∙_, subst}
 use Rattle.irreversible.specs.SafeLaws.{ConstantBits}
-use Rattle.irreversible.specs.Numbered.{nodeOf}
+use Rattle.width_table.specs.Numbered.{nodeOf}
 use Rattle.irreversible.specs.LevelBits.{constant-by, constant-few}
 use Rattle.irreversible.proofs.constant_at.Statement.{statement}
 use Rattle.irreversible.proofs.constant_at.Tie as tie

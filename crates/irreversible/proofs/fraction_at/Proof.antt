@@ -1,6 +1,6 @@
 use mathlib.Core.Path.{sym, _∙_, subst}
 use Prim.Native.Nat.{ℕ, _≤_}
-use Rattle.irreversible.specs.Numbered.{nodeOf, passOf}
+use Rattle.width_table.specs.Numbered.{nodeOf, passOf}
 use Rattle.irreversible.specs.LevelBits.{fraction-by, fraction-few}
 use Rattle.irreversible.proofs.fraction_at.Statement.{statement}
 use Rattle.irreversible.proofs.fraction_at.Tie as tie

@@ -2,7 +2,7 @@ use mathlib.Core.Path.{_≡_, sym, ap, _∙_, subst}
 use Prim.Native.Nat.{ℕ, _-_, _≤_}
 use native.Mathlib.Omega.{arith}
 use Rattle.width_table.specs.Table.{inputBits}
-use Rattle.irreversible.specs.Numbered.{passOf}
+use Rattle.width_table.specs.Numbered.{passOf}
 use Rattle.irreversible.specs.LevelBits.{input-later, input-few}
 use Rattle.irreversible.proofs.input_bits.Statement.{statement}
 use Rattle.irreversible.proofs.input_bits.Tie as tie

@@ -4,7 +4,7 @@ use native.Mathlib.Omega.{arith}
 use lib.IntN.{ℤ, pos, _*ℤ_}
 use Rattle.irreversible.specs.Fixed.{nearest}
 use Rattle.irreversible.specs.Constants.{constantOf}
-use Rattle.irreversible.specs.Numbered.{nodeOf}
+use Rattle.width_table.specs.Numbered.{nodeOf}
 use Rattle.irreversible.specs.StepLaws.{factorOf}
 use Rattle.irreversible.specs.KernelLaws.{scalingOf}
 use Rattle.irreversible.specs.SafeLaws.{constant-raised}

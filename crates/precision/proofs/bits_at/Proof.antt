@@ -1,6 +1,7 @@
 use Prim.Native.Nat.{ℕ, _≤_}
 use mathlib.Core.Path.{_≡_, sym, subst}
-use Rattle.precision.specs.Places.{passOf, bitsOf}
+use Rattle.precision.specs.Places.{bitsOf}
+use Rattle.width_table.specs.Numbered.{passOf}
 use Rattle.precision.specs.JudgeLaws.{place-input, place-node}
 use Rattle.precision.proofs.bits_at.Statement.{statement}
 use Rattle.precision.proofs.bits_at.Tie as tie

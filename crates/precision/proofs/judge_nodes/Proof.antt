@@ -5,7 +5,8 @@ use borrow.Author.Needs.{needs}
 use Rattle.refusals.specs.RefusalLaws.{then-right, then-refused}
 use Rattle.width_table.specs.Nodes.{passNodes}
 use Rattle.precision.specs.Verdict.{firstRefusal}
-use Rattle.precision.specs.Places.{passOf, nodesFrom}
+use Rattle.precision.specs.Places.{nodesFrom}
+use Rattle.width_table.specs.Numbered.{passOf}
 use Rattle.precision.specs.JudgeLaws.{all-small, node-bound, nodes-next}
 use Rattle.precision.proofs.judge_nodes.Statement.{statement}
 use Rattle.precision.proofs.judge_nodes.Tie as tie

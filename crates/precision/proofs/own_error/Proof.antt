@@ -1,7 +1,8 @@
 use mathlib.Core.Path.{_∙_, ap}
 use native.Mathlib.Omega.{arith}
 use Rattle.width_table.specs.Table.{constantBits, fractionBits, inputBits}
-use Rattle.precision.specs.Places.{passOf, fed, bitsOf}
+use Rattle.precision.specs.Places.{fed, bitsOf}
+use Rattle.width_table.specs.Numbered.{passOf}
 use Rattle.precision.specs.PlaceLaws.{own-lifts, own-scales, multiplied-most}
 use Rattle.precision.specs.JudgeLaws.{read-constant}
 use Rattle.precision.proofs.own_error.Statement.{statement}

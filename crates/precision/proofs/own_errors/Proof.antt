@@ -1,7 +1,8 @@
 use Prim.Native.Nat.{_-_, _≤_}
 use mathlib.Core.Path.{_≡_, ap, _∙_}
 use native.Mathlib.Omega.{arith}
-use Rattle.precision.specs.Places.{passOf, ownsOf}
+use Rattle.precision.specs.Places.{ownsOf}
+use Rattle.width_table.specs.Numbered.{passOf}
 use Rattle.precision.specs.PlaceLaws.{multiplied-most}
 use Rattle.precision.specs.JudgeLaws.{owns-start, owns-again, all-small}
 use Rattle.precision.proofs.own_errors.Statement.{statement}

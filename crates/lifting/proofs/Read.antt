@@ -10,8 +10,6 @@ use mir.Facts.{toZ-ofZ}
 use borrow.Author.Needs.{sfits-of}
 use Rattle.lifting.specs.declared.Step.{Step}
 use Rattle.lifting.specs.declared.Step.the-variants.{Wide, Short}
-use Rattle.lifting.specs.declared.Form.{Form}
-use Rattle.lifting.specs.declared.Form.the-variants.{Slow}
 use Rattle.lifting.specs.Steps.{applied, Safe}
 
 abbrev pub back : ℤ → ℤ
@@ -35,9 +33,6 @@ wide-back {cut} fm fc e = e ∙ (λ k. Wide (sym (toZ-ofZ fm) k) (sym (toZ-ofZ f
 
 pub short-back : {s : Step} {m c : ℤ} {cut : ℕ} → SFits w64 m → SFits w64 c → s ≡ Short m c cut → s ≡ Short (back64 m) (back64 c) cut
 short-back {cut} fm fc e = e ∙ (λ k. Short (sym (toZ-ofZ fm) k) (sym (toZ-ofZ fc) k) cut)
-
-pub slow-back : {s : Form} {m c : ℤ} {cut : ℕ} → SFits w64 m → SFits w64 c → s ≡ Slow m c cut → s ≡ Slow (back64 m) (back64 c) cut
-slow-back {cut} fm fc e = e ∙ (λ k. Slow (sym (toZ-ofZ fm) k) (sym (toZ-ofZ fc) k) cut)
 
 -- the sum of two arguments
 pub sum-back : {x y : ℤ} → SFits w32 x → SFits w32 y → SFits w32 (x +ℤ y) → back (back x +ℤ back y) ≡ x +ℤ y

@@ -1,9 +1,13 @@
 -- Two lifting steps over a line: the highs take part of the lows, then the lows of the new highs.
-use Prim.Native.Nat.{ℕ, _+_, _*_, _<_}
+use Prim.Native.Nat.{ℕ, _+_, _*_, _<_, _≤_}
 use lib.IntN.{ℤ}
 use Rattle.lifting.specs.declared.Step.{Step}
 use Rattle.lifting.specs.Steps.{applied, Safe}
 use Rattle.lines.specs.Lines.{lows, highs, onHighs, onLows, lowsFirst}
+
+-- a line has a low and a high, so that each has a neighbour
+abbrev pub Liftable : ℕ → Type 0
+Liftable n = 2 ≤ n
 
 module _ {A : Type 0} (x : ℕ → A) where
   abbrev pub evens : ℕ → A

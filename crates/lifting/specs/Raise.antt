@@ -3,10 +3,10 @@
 use mathlib.Core.Path.{_≡_, refl, sym, ap, _∙_, subst}
 use mathlib.Core.Bool.{Bool, true, false, cond}
 use mathlib.Core.List.{List, [], _∷_}
-use Prim.Native.Nat.{ℕ, zero, suc, _+_, _-_, _*_, _/_, _^_, _<_, _≤_}
+use Prim.Native.Nat.{ℕ, zero, suc, _+_, _-_, _*_, _/_, _%_, _^_, _<_, _≤_}
 use native.Mathlib.Omega.{arith}
 use native.Mathlib.Decide.{decLt}
-use native.Mathlib.Nat.{mul-div-cancel, mul-comm, mul-le-mul-left, div-lt-iff-lt-mul, lt-of-lt-of-le}
+use native.Mathlib.Nat.{add-mul, mod-lt, div-add-mod', mul-div-cancel, mul-comm, mul-le-mul-left, div-lt-iff-lt-mul, lt-of-lt-of-le}
 use lib.IntN.{ℤ, pos, negsuc, negℤ, natAbs, subℕ, _+ℤ_, _-ℤ_, _*ℤ_, +ℤ-negℤ-cancel, +ℤ-comm}
 use lib.Pow.{pow-mono, pow-pos, pow-add}
 use lib.Dec.{T}
@@ -16,9 +16,8 @@ use mir.Val.{SFits}
 use borrow.Author.Tests.{lt-ltb, le-ltb, ltb-true, ltb-false}
 use Rattle.numbers.specs.Floor.{floor-add-mul}
 use Rattle.numbers.specs.Quote.{terms, vars, ring}
-use Rattle.lifting.specs.declared.Form.{Form}
-use Rattle.lifting.specs.declared.Form.the-variants.{Slow, Up, Down, Plus, Minus}
-use Rattle.lifting.specs.Steps.{scaled, ScaledSafe, ShortSafe}
+use Rattle.lifting.specs.declared.Step.the-variants.{Wide, Short, Up, Down, Plus, Minus, PlusTwo, MinusTwo}
+use Rattle.lifting.specs.Steps.{scaled, Same}
 
 -- ---- raised values
 
@@ -88,12 +87,58 @@ pub minus-is : (c base cut : ℕ) → c * 2147483648 ≡ base * 2 ^ cut → (s :
     → shrZ (pos (2 ^ cut) *ℤ own +ℤ negℤ (pos c) *ℤ s) (2 ^ cut) ≡ own +ℤ (pos ((c * raised (pos 0 -ℤ s) + 0) / 2 ^ cut) -ℤ pos base)
 minus-is c base cut tied s fs own = ap (λ (z : ℤ). shrZ (pos (2 ^ cut) *ℤ own +ℤ z) (2 ^ cut)) (turned-product (pos c) s) ∙ plus-is c base cut tied (pos 0 -ℤ s) fs own
 
+-- each neighbour raised by itself
+
+two-products : (c x y : ℤ) → c *ℤ (x +ℤ y) ≡ c *ℤ y +ℤ c *ℤ x
+two-products c x y = let ρ : List ℤ = c ∷ x ∷ y ∷ [] in ring ρ (search (terms, vars ρ) depth 30) (search (terms, vars ρ) depth 30) tt
+
+two-left : (c x y h : ℤ) → negℤ c *ℤ (x +ℤ y) +ℤ (c +ℤ c) *ℤ h ≡ c *ℤ (h +ℤ h +ℤ h +ℤ h) -ℤ (c *ℤ (y +ℤ h) +ℤ (c *ℤ (x +ℤ h) +ℤ pos 0))
+two-left c x y h = let ρ : List ℤ = c ∷ x ∷ y ∷ h ∷ [] in ring ρ (search (terms, vars ρ) depth 30) (search (terms, vars ρ) depth 30) tt
+
+less-pos : (a b : ℕ) → b ≤ a → pos a -ℤ pos b ≡ pos (a - b)
+less-pos a zero h = ap pos (omega arith)
+less-pos a (suc b) h = sub-le a (suc b) h
+
+module _ (c base cut : ℕ) (tied : (c + c) * 2147483648 ≡ base * 2 ^ cut) (x y : ℤ) (fx : SFits w32 x) (fy : SFits w32 y) where
+  pub plus-two-is : (own : ℤ) → shrZ (pos (2 ^ cut) *ℤ own +ℤ pos c *ℤ (x +ℤ y)) (2 ^ cut) ≡ own +ℤ (pos ((c * raised y + (c * raised x + 0)) / 2 ^ cut) -ℤ pos base)
+  plus-two-is own = own-out own (pos c *ℤ (x +ℤ y)) (2 ^ cut) (pow-pos cut)
+      ∙ ap (λ (z : ℤ). own +ℤ z) (ap (λ (z : ℤ). shrZ z (2 ^ cut)) (two-products (pos c) x y) ∙ up-is c c base cut tied y x fy fx)
+
+  pub minus-two-is : (own : ℤ) → c * raised y + (c * raised x + 0) ≤ c * 8589934592
+      → shrZ (pos (2 ^ cut) *ℤ own +ℤ negℤ (pos c) *ℤ (x +ℤ y)) (2 ^ cut) ≡ own +ℤ (pos ((c * 8589934592 - (c * raised y + (c * raised x + 0))) / 2 ^ cut) -ℤ pos base)
+  minus-two-is own small = own-out own (negℤ (pos c) *ℤ (x +ℤ y)) (2 ^ cut) (pow-pos cut)
+      ∙ ap (λ (z : ℤ). own +ℤ z) (lowered (negℤ (pos c) *ℤ (x +ℤ y)) _ base (2 ^ cut) (pow-pos cut)
+      (ap (λ (n : ℕ). negℤ (pos c) *ℤ (x +ℤ y) +ℤ pos n) (mul-comm (2 ^ cut) base ∙ sym tied) ∙ two-left (pos c) x y (pos 2147483648)
+      ∙ (λ k. pos (c * 8589934592) -ℤ (pos c *ℤ raised-is y fy k +ℤ (pos c *ℤ raised-is x fx k +ℤ pos 0))) ∙ less-pos _ _ small))
+
 -- a constant whose products of raised values fit, and what they are too large by
-pub record Raises (c base cut : ℕ) : Type 0 where
+pub record Raises (c pad base cut : ℕ) : Type 0 where
   pub some : 1 ≤ cut
   pub short : cut < 64
-  pub room : c < 4294967296
-  pub tied : c * 2147483648 ≡ base * 2 ^ cut
+  pub room : c < 2147483648
+  pub more : pad ≤ 4611686018427387904
+  pub tied : c * 2147483648 + pad ≡ base * 2 ^ cut
+
+padded-sum : (c s h p : ℤ) → c *ℤ s +ℤ (c *ℤ h +ℤ p) ≡ c *ℤ (s +ℤ h) +ℤ p
+padded-sum c s h p = let ρ : List ℤ = c ∷ s ∷ h ∷ p ∷ [] in ring ρ (search (terms, vars ρ) depth 30) (search (terms, vars ρ) depth 30) tt
+
+module _ {c pad base cut : ℕ} (raises : Raises c pad base cut) where
+  pub padded-is : (s : ℤ) → SFits w32 s → shrZ (pos c *ℤ s) (2 ^ cut) ≡ pos ((c * raised s + pad) / 2 ^ cut) -ℤ pos base
+  padded-is s fs = lowered (pos c *ℤ s) _ base (2 ^ cut) (pow-pos cut)
+      (ap (λ (n : ℕ). pos c *ℤ s +ℤ pos n) (mul-comm (2 ^ cut) base ∙ sym (raises .tied)) ∙ padded-sum (pos c) s (pos 2147483648) (pos pad) ∙ (λ k. pos c *ℤ raised-is s fs k +ℤ pos pad))
+
+  pub padded-base : base < 9223372036854775808
+  padded-base =
+      let one : base * 1 ≤ base * 2 ^ cut = mul-le-mul-left {m = 1} {n = 2 ^ cut} base (pow-pos cut) in
+      omega (arith, raises .tied, raises .room, raises .more)
+
+-- one more of them than go into it
+pub multiple-above : (total cut : ℕ) → (total ≤ (total / 2 ^ cut + 1) * 2 ^ cut) × ((total / 2 ^ cut + 1) * 2 ^ cut ≤ total + 2 ^ cut)
+multiple-above total cut =
+    let e : total / 2 ^ cut * 2 ^ cut + total % 2 ^ cut ≡ total = div-add-mod' total (2 ^ cut) in
+    let l : total % 2 ^ cut < 2 ^ cut = mod-lt total (pow-pos cut) in
+    let a : (total / 2 ^ cut + 1) * 2 ^ cut ≡ total / 2 ^ cut * 2 ^ cut + 1 * 2 ^ cut = add-mul (total / 2 ^ cut) 1 (2 ^ cut) in
+    omega arith
 
 -- ---- sizes
 
@@ -147,52 +192,23 @@ negative (negsuc n) e = refl
 
 -- ---- the forms that a short step is run in
 
-abbrev pub formed : Form → ℤ → ℤ → ℤ → ℤ
-formed (Slow m c cut) own x y = scaled m c cut own x y
-formed (Up m c base cut) own x y = scaled (pos m) (pos c) cut own x y
-formed (Down m c base cut) own x y = scaled (pos m) (negℤ (pos c)) cut own x y
-formed (Plus c base cut) own x y = scaled (pos (2 ^ cut)) (pos c) cut own x y
-formed (Minus c base cut) own x y = scaled (pos (2 ^ cut)) (negℤ (pos c)) cut own x y
-
--- Unsigned numbers: each value is raised by 2 ^ 31, m times one and c times another is at most 64 bits, and the sum, cut, is too large by `base`.
-pub record RaisedSafe (m c base cut : ℕ) (x y r : ℤ) : Type 0 where
-  pub some : 1 ≤ cut
-  pub short : cut < 64
-  pub room : m + c < 4294967296
-  pub tied : (m + c) * 2147483648 ≡ base * 2 ^ cut
-  pub sum : SFits w32 (x +ℤ y)
-  pub turned : SFits w32 (pos 0 -ℤ (x +ℤ y))
-  pub result : SFits w32 r
-
-abbrev pub Formed : Form → ℤ → ℤ → ℤ → Type 0
-Formed (Slow m c cut) own x y = ScaledSafe m c cut own x y
-Formed (Up m c base cut) own x y = RaisedSafe m c base cut x y (formed (Up m c base cut) own x y)
-Formed (Down m c base cut) own x y = RaisedSafe m c base cut x y (formed (Down m c base cut) own x y)
-Formed (Plus c base cut) own x y = RaisedSafe 0 c base cut x y (formed (Plus c base cut) own x y)
-Formed (Minus c base cut) own x y = RaisedSafe 0 c base cut x y (formed (Minus c base cut) own x y)
-
--- r is the short step m, c, cut
-pub record Quicker (m c : ℤ) (cut : ℕ) (r : Form) : Type 0 where
-  pub same : (own x y : ℤ) → formed r own x y ≡ scaled m c cut own x y
-  pub safe : (own x y : ℤ) → ShortSafe m c cut own x y → Formed r own x y
-
-pub not-quicker : (m c : ℤ) (cut : ℕ) → Quicker m c cut (Slow m c cut)
+pub not-quicker : (m c : ℤ) (cut : ℕ) → Same (Short m c cut) (Wide m c cut)
 not-quicker m c cut = record { same = λ own x y. refl; safe = λ own x y s. s .wide }
 
 module _ (m c base cut : ℕ) (some : 1 ≤ cut) (short : cut ≤ 31) (hm : m < 2147483648) (hc : c < 2147483648) where
-  pub up-quicker : (m + c) * 2147483648 ≡ base * 2 ^ cut → Quicker (pos m) (pos c) cut (Up m c base cut)
+  pub up-quicker : (m + c) * 2147483648 ≡ base * 2 ^ cut → Same (Short (pos m) (pos c) cut) (Up m c base cut)
   up-quicker tied = record {
     same = λ own x y. refl;
     safe = λ own x y s. record { some = some; short = omega arith; room = omega arith; tied = tied; sum = s .sum; turned = s .turned; result = s .wide .result };
   }
 
-  pub down-quicker : (m + c) * 2147483648 ≡ base * 2 ^ cut → Quicker (pos m) (negℤ (pos c)) cut (Down m c base cut)
+  pub down-quicker : (m + c) * 2147483648 ≡ base * 2 ^ cut → Same (Short (pos m) (negℤ (pos c)) cut) (Down m c base cut)
   down-quicker tied = record {
     same = λ own x y. refl;
     safe = λ own x y s. record { some = some; short = omega arith; room = omega arith; tied = tied; sum = s .sum; turned = s .turned; result = s .wide .result };
   }
 
-  pub plus-quicker : m ≡ 2 ^ cut → c * 2147483648 ≡ base * 2 ^ cut → Quicker (pos m) (pos c) cut (Plus c base cut)
+  pub plus-quicker : m ≡ 2 ^ cut → c * 2147483648 ≡ base * 2 ^ cut → Same (Short (pos m) (pos c) cut) (Plus c base cut)
   plus-quicker e tied = record {
     same = λ own x y. ap (λ (k : ℕ). scaled (pos k) (pos c) cut own x y) (sym e);
     safe = λ own x y s. record {
@@ -206,7 +222,7 @@ module _ (m c base cut : ℕ) (some : 1 ≤ cut) (short : cut ≤ 31) (hm : m < 
     };
   }
 
-  pub minus-quicker : m ≡ 2 ^ cut → c * 2147483648 ≡ base * 2 ^ cut → Quicker (pos m) (negℤ (pos c)) cut (Minus c base cut)
+  pub minus-quicker : m ≡ 2 ^ cut → c * 2147483648 ≡ base * 2 ^ cut → Same (Short (pos m) (negℤ (pos c)) cut) (Minus c base cut)
   minus-quicker e tied = record {
     same = λ own x y. ap (λ (k : ℕ). scaled (pos k) (negℤ (pos c)) cut own x y) (sym e);
     safe = λ own x y s. record {
@@ -219,3 +235,11 @@ module _ (m c base cut : ℕ) (some : 1 ≤ cut) (short : cut ≤ 31) (hm : m < 
       result = subst (λ (k : ℕ). SFits w32 (scaled (pos k) (negℤ (pos c)) cut own x y)) e (s .wide .result);
     };
   }
+
+-- ---- the forms that a wide step is run in
+
+pub plus-two-quicker : (c base cut : ℕ) → 1 ≤ cut → cut ≤ 31 → c < 2147483648 → (c + c) * 2147483648 ≡ base * 2 ^ cut → Same (Wide (pos (2 ^ cut)) (pos c) cut) (PlusTwo c base cut)
+plus-two-quicker c base cut some short hc tied = record { same = λ own x y. refl; safe = λ own x y s. record { some = some; short = omega arith; room = hc; tied = tied; result = s .result } }
+
+pub minus-two-quicker : (c base cut : ℕ) → 1 ≤ cut → cut ≤ 31 → c < 2147483648 → (c + c) * 2147483648 ≡ base * 2 ^ cut → Same (Wide (pos (2 ^ cut)) (negℤ (pos c)) cut) (MinusTwo c base cut)
+minus-two-quicker c base cut some short hc tied = record { same = λ own x y. refl; safe = λ own x y s. record { some = some; short = omega arith; room = hc; tied = tied; result = s .result } }

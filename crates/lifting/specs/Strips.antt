@@ -1,33 +1,83 @@
--- A strip's lines in the plane and in the tile, and a plane that is worked row by row or strip by strip.
+-- A strip's lines in the plane and in the tile, and a plane that is worked row by row or strip by strip. A row is a strip of one column whose stride is 1.
 -- Assumes nothing.
 use mathlib.Core.Path.{_≡_, refl, sym, ap, _∙_, fun-ext}
 use mathlib.Core.List.{List}
 use Prim.Native.Nat.{ℕ, suc, _+_, _*_, _-_, _/_, _<_, _≤_}
-use native.Mathlib.Nat.{mul-le-mul-left, mul-le-mul-right, mul-assoc, mul-comm, mul-left-comm, add-mul, one-mul, div-mul-le-self, le-div-iff-mul-le}
+use native.Mathlib.Nat.{mul-le-mul-left, mul-le-mul-right, mul-comm, add-mul, mul-one, div-mul-le-self, le-div-iff-mul-le}
 use native.Mathlib.Omega.{arith}
 use native.Mathlib.Decide.{decLt, ℕ-discrete}
 use lib.IntN.{ℤ}
 use lib.ListN.{length}
-use Rattle.lines.specs.Lines.{lows, highs, interleaved}
-use Rattle.lines.specs.LineLaws.{even-place, odd-place, by-parity}
+use Rattle.lines.specs.Lines.{lows, highs}
 use Rattle.lifting.specs.declared.Kernel.{Kernel}
 use Rattle.lifting.specs.Patch.{patch}
-use Rattle.lifting.specs.Columns.{lineAt, Lying, patchLines, lines-apart, lines-out, lines-more}
-use Rattle.lifting.specs.LineSplit.{lines-in, lines-is}
+use Rattle.lifting.specs.PatchLines.{lineAt, Lying, patchLines, packed-is, lines-apart, lines-out, lines-more, lines-in, lines-is, lines-ext, lines-then}
+use Rattle.lifting.specs.Runs.{as-type}
+use Rattle.lifting.specs.Passes.{Liftable}
 use Rattle.lifting.specs.Kernels.{worked, rowOf, columnOf, columnsWorked}
-use Rattle.lifting.specs.Tiles.{Strip, rowWorked}
+use Rattle.lifting.specs.Tiles.{Tile, sizes}
 
--- ---- lines by other numbers
+-- n lines of s values in the plane, line i from place from + i * stride on, and a tile with room for them
+pub record Strip (plane tile : List ℤ) (stride from s n : ℕ) : Type 0 where
+  pub lines : Lying plane from stride n s
+  pub some : 1 ≤ s
+  pub two : Liftable n
+  pub room : n * s ≤ length tile
 
-pub even-lines : (from stride i : ℕ) → lineAt from (2 * stride) i ≡ lineAt from stride (2 * i)
-even-lines from stride i = ap (λ (k : ℕ). from + k) (mul-left-comm i 2 stride ∙ sym (mul-assoc 2 i stride))
+-- the same strip, of slices as long
+pub strip-of : {plane tile : List ℤ} {stride from s n : ℕ} → Strip plane tile stride from s n → (p t : List ℤ) → length p ≡ length plane → length t ≡ length tile → Strip p t stride from s n
+strip-of on p t e f = record {
+  lines = record { some = on .lines .some; narrow = on .lines .narrow; few = on .lines .few; fits = λ r h. omega (arith, on .lines .fits r h) };
+  some = on .some;
+  two = on .two;
+  room = omega (arith, on .room);
+}
 
-pub odd-lines : (from stride i : ℕ) → lineAt (from + stride) (2 * stride) i ≡ lineAt from stride (2 * i + 1)
-odd-lines from stride i =
-    let e : i * (2 * stride) ≡ 2 * i * stride = mul-left-comm i 2 stride ∙ sym (mul-assoc 2 i stride) in
-    let f : (2 * i + 1) * stride ≡ 2 * i * stride + 1 * stride = add-mul (2 * i) 1 stride in
-    let o : 1 * stride ≡ stride = one-mul stride in
-    omega arith
+pub tile-of : {plane tile : List ℤ} {stride from s n : ℕ} → Strip plane tile stride from s n → (t : List ℤ) → length t ≡ length tile → Tile t s n
+tile-of on t e = record { two = on .two; few = on .lines .few; room = omega (arith, on .room) }
+
+-- the tile's lines, and some of them
+pub tile-lines : {plane tile : List ℤ} {stride from s n : ℕ} → Strip plane tile stride from s n → (t : List ℤ) → length t ≡ length tile → Lying t 0 s n s
+tile-lines {s} {n} on t e = record {
+  some = on .lines .some;
+  few = on .lines .few;
+  narrow = omega arith;
+  fits = λ i p. omega (arith, mul-le-mul-right {m = suc i} {n = n} s (omega arith), on .room);
+}
+
+-- lines 2 i and 2 i + 1 in the plane, and where they go in the tile
+pub record Two (plane tile : List ℤ) (stride from s n i : ℕ) : Type 0 where
+  pub even : lineAt from stride (2 * i) ≡ from + 2 * i * stride
+  pub odd : lineAt from stride (2 * i + 1) ≡ from + 2 * i * stride + stride
+  pub both : from + 2 * i * stride + stride + s ≤ length plane
+  pub apart : s ≤ stride
+  pub low : i * s + s ≤ lows n * s
+  pub high : lows n * s + (i * s + s) ≤ length tile
+
+pub two-lines : {plane tile : List ℤ} {stride from s n : ℕ} → Strip plane tile stride from s n → (i : ℕ) → i < highs n → Two plane tile stride from s n i
+two-lines {stride} {from} {s} {n} on i h =
+    let o : (2 * i + 1) * stride ≡ 2 * i * stride + stride = omega arith in
+    let f = on .lines .fits (2 * i + 1) (omega arith) in record {
+      even = refl;
+      odd = omega arith;
+      both = omega arith;
+      apart = on .lines .narrow;
+      low = omega (arith, mul-le-mul-right {m = suc i} {n = lows n} s (omega arith));
+      high = omega (arith, on .room, mul-le-mul-right {m = lows n + suc i} {n = n} s (omega arith), add-mul (lows n) (suc i) s);
+    }
+
+-- the last line, which has no other beside it
+pub record Last (plane tile : List ℤ) (stride from s n : ℕ) : Type 0 where
+  pub there : from + 2 * highs n * stride + s ≤ length plane
+  pub low : highs n * s + s ≡ lows n * s
+  pub high : lows n * s ≤ length tile
+
+pub last-line : {plane tile : List ℤ} {stride from s n : ℕ} → Strip plane tile stride from s n → highs n < lows n → Last plane tile stride from s n
+last-line {stride} {from} {s} {n} on h = record {
+  there = on .lines .fits (2 * highs n) (omega arith);
+  low = omega (arith, sizes s n (on .two) .odd h);
+  high = omega (arith, on .room, sizes s n (on .two) .all);
+}
 
 -- the lines from line k on
 pub lines-after : (from stride k b i : ℕ) → b ≡ from + k * stride → lineAt b stride i ≡ lineAt from stride (k + i)
@@ -35,53 +85,32 @@ lines-after from stride k b i e =
     let f : (k + i) * stride ≡ k * stride + i * stride = add-mul k i stride in
     omega arith
 
--- ---- where the lines lie
-
-pub some-lines : {l : List ℤ} {from stride n m : ℕ} → Lying l from stride n m → (k count b : ℕ) → k + count ≤ n → b ≡ from + k * stride → Lying l b stride count m
-some-lines {l} {from} {stride} {n} {m} lie k count b h e = record {
+pub some-lines : {l : List ℤ} {from stride n m : ℕ} → Lying l from stride n m → (k count b : ℕ) → 1 ≤ count → k + count ≤ n → b ≡ from + k * stride → Lying l b stride count m
+some-lines {l} {from} {stride} {n} {m} lie k count b one h e = record {
+  some = one;
   few = omega (arith, lie .few);
   narrow = lie .narrow;
   fits = λ i p. omega (arith, lines-after from stride k b i e, lie .fits (k + i) (omega arith));
 }
 
-module _ {plane tile : List ℤ} {stride from s n : ℕ} (on : Strip plane tile stride from s n) where
-  pub tile-lines : (t : List ℤ) → length t ≡ length tile → Lying t 0 s n s
-  tile-lines t e = record {
-    few = omega (arith, on .part .few);
-    narrow = omega arith;
-    fits = λ i p. omega (arith, mul-le-mul-right {m = suc i} {n = n} s (omega arith), on .room);
-  }
+pub plane-lines : {plane tile : List ℤ} {stride from s n : ℕ} → Strip plane tile stride from s n → (p : List ℤ) → length p ≡ length plane → Lying p from stride n s
+plane-lines {tile} on p e = strip-of on p tile e refl .lines
 
-  pub plane-lines : (p : List ℤ) → length p ≡ length plane → Lying p from stride n s
-  plane-lines p e = record {
-    few = omega (arith, on .part .few);
-    narrow = omega (arith, on .part .narrow);
-    fits = λ i h. omega (arith, on .part .fits i h);
-  }
+-- a strip whose stride is 1 has one column
+pub one-column : {plane tile : List ℤ} {stride from s n : ℕ} → Strip plane tile stride from s n → stride ≡ 1 → s ≡ 1
+one-column on e = omega (arith, on .lines .narrow, on .some)
 
-  pub even-rows : (p : List ℤ) → length p ≡ length plane → Lying p from (2 * stride) (lows n) s
-  even-rows p e = record {
-    few = omega (arith, on .part .few);
-    narrow = omega (arith, on .part .narrow);
-    fits = λ i h. omega (arith, even-lines from stride i, on .part .fits (2 * i) (omega arith));
-  }
+pub as-row : {plane tile : List ℤ} {stride from s n : ℕ} → Strip plane tile stride from s n → stride ≡ 1 → Strip plane tile 1 from 1 n
+as-row {plane} {tile} {from} {n} on e = as-type (λ u. Strip plane tile (e u) from (one-column on e u) n) on
 
-  pub odd-rows : (p : List ℤ) → length p ≡ length plane → Lying p (from + stride) (2 * stride) (highs n) s
-  odd-rows p e = record {
-    few = omega (arith, on .part .few);
-    narrow = omega (arith, on .part .narrow);
-    fits = λ i h. omega (arith, odd-lines from stride i, on .part .fits (2 * i + 1) (omega arith));
-  }
-
-  -- the same strip, of slices as long
-  pub strip-of : (p t : List ℤ) → length p ≡ length plane → length t ≡ length tile → Strip p t stride from s n
-  strip-of p t e f = record {
-    part = record { narrow = on .part .narrow; few = on .part .few; wide = on .part .wide; fits = λ r h. omega (arith, on .part .fits r h) };
-    two = on .two;
-    room = omega (arith, on .room);
-  }
-
--- ---- lines that are put back by turns
+-- the lines of the lows, then those of the highs
+pub both-halves : {A : Type 0} (from stride s n : ℕ) (new low high : ℕ → ℕ → A) (x y z : ℕ → A) → y ≡ patchLines (lineAt from stride) s (lows n) low x
+    → z ≡ patchLines (lineAt (from + lows n * stride) stride) s (highs n) high y → ((i j : ℕ) → i < lows n → j < s → low i j ≡ new i j) → ((i j : ℕ) → i < highs n → j < s → high i j ≡ new (lows n + i) j)
+    → z ≡ patchLines (lineAt from stride) s n new x
+both-halves from stride s n new low high x y z e f ls hs =
+    f ∙ lines-ext _ s high (λ i. new (lows n + i)) y (highs n) hs
+    ∙ (λ u. patchLines (λ i. lines-after from stride (lows n) (from + lows n * stride) i refl u) s (highs n) (λ i. new (lows n + i)) ((e ∙ lines-ext _ s low new x (lows n) ls) u))
+    ∙ lines-then (lineAt from stride) s new x (lows n) (highs n) ∙ ap (λ (k : ℕ). patchLines (lineAt from stride) s k new x) (let e : lows n + highs n ≡ n = omega arith in e)
 
 pub same-line : (from stride i k p q : ℕ) → p < stride → q < stride → lineAt from stride i + p ≡ lineAt from stride k + q → (i ≡ k) × (p ≡ q)
 same-line from stride i k p q hp hq e = go (ℕ-discrete i k)
@@ -90,34 +119,19 @@ same-line from stride i k p q hp hq e = go (ℕ-discrete i k)
     go (yes g) = (g, omega (arith, ap (λ (u : ℕ). u * stride) g))
     go (no f) = absurd (lines-apart from stride stride i k (omega arith) f p q hp hq e)
 
-module _ {A : Type 0} (from stride m n : ℕ) (narrow : m ≤ stride) (l h : ℕ → ℕ → A) (x : ℕ → A) where
-  abbrev line : ℕ → ℕ
-  line = lineAt from stride
-
-  abbrev evensDone : ℕ → A
-  evensDone = patchLines (λ i. line (2 * i)) m (lows n) l x
-
-  pub lines-woven : patchLines (λ i. line (2 * i + 1)) m (highs n) h evensDone ≡ patchLines line m n (interleaved l h) x
-  lines-woven = lines-is line m (interleaved l h) x (λ i k u. lines-apart from stride m i k narrow (omega arith)) n _
-      (λ i j p g. by-parity (λ k. patchLines (λ i. line (2 * i + 1)) m (highs n) h evensDone (line k + j) ≡ interleaved l h k j) n
-      (λ k q. lines-out _ m h _ (highs n) _ (λ u v a b e. lines-apart from stride m (2 * u + 1) (2 * k) narrow (omega arith) v j b g e)
-      ∙ lines-in (λ i. line (2 * i)) m l x (λ u v a. lines-apart from stride m (2 * u) (2 * v) narrow (omega arith)) (lows n) k j q g
-      ∙ ap (λ (r : ℕ → A). r j) (sym (even-place l h k)))
-      (λ k q. lines-in (λ i. line (2 * i + 1)) m h _ (λ u v a. lines-apart from stride m (2 * u + 1) (2 * v + 1) narrow (omega arith)) (highs n) k j q g
-      ∙ ap (λ (r : ℕ → A). r j) (sym (odd-place l h k)))
-      i p)
-      (λ p off. lines-out _ m h _ (highs n) p (λ u v a b e. off (2 * u + 1) v (omega arith) b e) ∙ lines-out _ m l x (lows n) p (λ u v a b e. off (2 * u) v (omega arith) b e))
-
 -- ---- row by row: the first r rows are done, and row r is as it was
 
 module _ (k : Kernel) (stride w r b : ℕ) (narrow : w ≤ stride) (new : ℕ → ℕ → ℤ) (x y : ℕ → ℤ) (is : y ≡ patchLines (lineAt 0 stride) w r new x) (start : b ≡ lineAt 0 stride r) where
-  pub row-as-was : (λ i. y (b + i)) ≡ rowOf stride 0 x r
-  row-as-was = fun-ext λ i. ap (λ (u : ℕ). y (u + i)) start ∙ ap (λ (g : ℕ → ℤ). g (lineAt 0 stride r + i)) is
+  pub row-as-was : columnOf 1 b y 0 ≡ rowOf stride 0 x r
+  row-as-was = fun-ext λ i. ap y (let e : b + i * 1 + 0 ≡ lineAt 0 stride r + i = omega arith in e) ∙ ap (λ (g : ℕ → ℤ). g (lineAt 0 stride r + i)) is
       ∙ lines-out (lineAt 0 stride) w new x r _ (λ u v a g e. omega (arith, mul-le-mul-right {m = suc u} {n = r} stride (omega arith)))
 
 pub row-done : (k : Kernel) (stride w r b : ℕ) → w ≤ stride → (x y z : ℕ → ℤ) → y ≡ patchLines (lineAt 0 stride) w r (λ r. worked k w (rowOf stride 0 x r)) x → b ≡ lineAt 0 stride r
-    → z ≡ rowWorked k b w y → z ≡ patchLines (lineAt 0 stride) w (r + 1) (λ r. worked k w (rowOf stride 0 x r)) x
-row-done k stride w r b narrow x y z is start e = lines-more (lineAt 0 stride) w _ x r y z _ is (e ∙ (λ u. patch (start u) w (worked k w (row-as-was k stride w r b narrow _ x y is start u)) y)) (λ j h. refl)
+    → z ≡ columnsWorked k 1 b 1 w y → z ≡ patchLines (lineAt 0 stride) w (r + 1) (λ r. worked k w (rowOf stride 0 x r)) x
+row-done k stride w r b narrow x y z is start e = lines-more (lineAt 0 stride) w _ x r y z _ is
+    (e ∙ sym (packed-is b 1 w 1 (worked k w (columnOf 1 b y 0)) _ y refl (λ i j p g. let q : 0 ≡ j = omega arith in let u : i * 1 + j ≡ i = omega arith in λ v. worked k w (columnOf 1 b y (q v)) (u v)))
+    ∙ (λ u. patch (start u) (mul-one w u) (worked k w (row-as-was k stride w r b narrow _ x y is start u)) y))
+    (λ j h. refl)
 
 -- ---- strip by strip: the first d columns are done, and the next s are as they were
 

@@ -1,129 +1,283 @@
--- A row or a strip of a plane and the tile that it is worked in; and a split line or split lines, as the steps go over them.
+-- A tile: n lines of s values, one after the other, the lines of the lows first and then those of the highs. A row is a tile with s = 1.
 -- Assumes nothing.
-use mathlib.Core.Path.{_≡_, sym, ap, subst, _∙_}
+use mathlib.Core.Path.{_≡_, refl, sym, ap, subst, _∙_}
 use mathlib.Core.List.{List}
-use Prim.Native.Nat.{ℕ, _+_, _*_, _<_, _≤_}
-use native.Mathlib.Nat.{zero-add}
+use Prim.Native.Nat.{ℕ, zero, suc, _+_, _*_, _-_, _/_, _%_, _<_, _≤_, _^_}
 use native.Mathlib.Omega.{arith}
+use native.Mathlib.Decide.{decLt}
+use native.Mathlib.Nat.{mul-comm, add-mul, mod-lt, div-add-mod', div-lt-iff-lt-mul, mul-add-div-right, mul-add-mod-self-right, div-eq-of-lt, mod-eq-of-lt, mul-le-mul-right}
 use lib.IntN.{ℤ}
 use lib.ListN.{length}
-use Rattle.lines.specs.Lines.{lows, highs, onHighs, onLows, lowsFirst, interleaved}
-use Rattle.lines.specs.LineLaws.{first-low, first-high, first-at, even-place, odd-place, by-parity, by-half}
-use Rattle.lifting.specs.declared.Kernel.{Kernel}
-use Rattle.lifting.specs.Patch.{patch, patch-in, patch-ext}
+use Rattle.lines.specs.Lines.{lows, highs, lowAfter, highBefore, highAfter, onHighs, onLows, lowsFirst, interleaved}
+use Rattle.lines.specs.LineLaws.{first-low, first-high, even-place, odd-place, by-half, by-parity}
+use Rattle.lifting.specs.Patch.{patch, patch-in, patch-below, patch-above, patch-out}
 use Rattle.lifting.specs.Runs.{as-type}
-use Rattle.lifting.specs.Rows.{highsDone, lowsDone, AtHighs, AtLows}
-use Rattle.lifting.specs.Columns.{lineAt, patchLines, highLinesDone, lowLinesDone, AtHighLines, AtLowLines, lines-apart, lines-ext}
-use Rattle.lifting.specs.Split.{split, split-low, split-high, split-at-high, split-at-low, split-highs, split-lows}
-use Rattle.lifting.specs.LineSplit.{splitLines, line-low, line-high, lines-in, lines-at-high, lines-at-low, lines-highs, lines-lows}
-use Rattle.lifting.specs.Kernels.{worked, Part}
+use Rattle.lifting.specs.PatchLines.{lineAt, patchLines, lines-apart, lines-in}
+use Rattle.lifting.specs.declared.Step.{Step}
+use Rattle.lifting.specs.Steps.{applied, Safe}
+use Rattle.lifting.specs.Passes.{Liftable}
 
--- n values of the plane from place `from` on, and a tile with room for them
-pub record Row (plane tile : List ℤ) (from n : ℕ) : Type 0 where
-  pub two : 2 ≤ n
-  pub there : from + n ≤ length plane
-  pub room : n ≤ length tile
+-- n lines of s values have room
+pub record Tile (l : List ℤ) (s n : ℕ) : Type 0 where
+  pub two : Liftable n
+  pub few : n < 2 ^ 63
+  pub room : n * s ≤ length l
 
--- these values worked
-abbrev pub rowWorked : Kernel → ℕ → ℕ → (ℕ → ℤ) → ℕ → ℤ
-rowWorked k from n x = patch from n (worked k n (λ i. x (from + i))) x
+-- the same, of a slice as long
+pub tile-as : {l : List ℤ} {s n : ℕ} → Tile l s n → (t : List ℤ) → length t ≡ length l → Tile t s n
+tile-as on t e = record { two = on .two; few = on .few; room = omega (arith, on .room) }
 
--- s columns of n rows, from column `from` on, and a tile with room for them
-pub record Strip (plane tile : List ℤ) (stride from s n : ℕ) : Type 0 where
-  pub part : Part plane stride from s n
-  pub two : 2 ≤ n
-  pub room : n * s ≤ length tile
+-- value i of column j of lines that lie one after the other
+abbrev pub column : {A : Type 0} → ℕ → (ℕ → A) → ℕ → ℕ → A
+column s x j i = x (i * s + j)
 
--- ---- y is x with the line l, h split at its front
+-- the same of the lines of the highs
+abbrev pub highColumn : {A : Type 0} → ℕ → ℕ → (ℕ → A) → ℕ → ℕ → A
+highColumn s n x = column s (λ p. x (lows n * s + p))
 
-pub record Held {A : Type 0} (n : ℕ) (l h x y : ℕ → A) : Type 0 where
-  pub is : y ≡ split 0 n l h x
+-- lines one after the other, value i of column j being t j i
+abbrev pub packed {ℓ} : {B : Type ℓ} → ℕ → (ℕ → ℕ → B) → ℕ → B
+packed s t p = t (p % s) (p / s)
 
-module _ {A : Type 0} {n : ℕ} {l h x y : ℕ → A} (two : 2 ≤ n) (held : Held n l h x y) where
-  pub high-held : (f : A → A → A → A) (z : ℕ → A) → z ≡ highsDone f 0 n y → Held n l (onHighs f n l h) x z
-  high-held f z e = record { is = e ∙ ap (highsDone f 0 n) (held .is) ∙ split-highs f 0 n l h x two }
+-- a step at each high of each column, and one at each low
+abbrev pub highsDone : {A : Type 0} → (A → A → A → A) → ℕ → ℕ → (ℕ → A) → ℕ → A
+highsDone f s n x = patch (lows n * s) (highs n * s) (packed s (λ j. onHighs f n (column s x j) (highColumn s n x j))) x
 
-  pub low-held : (f : A → A → A → A) (z : ℕ → A) → z ≡ lowsDone f 0 n y → Held n (onLows f n l h) h x z
-  low-held f z e = record { is = e ∙ ap (lowsDone f 0 n) (held .is) ∙ split-lows f 0 n l h x two }
+abbrev pub lowsDone : {A : Type 0} → (A → A → A → A) → ℕ → ℕ → (ℕ → A) → ℕ → A
+lowsDone f s n x = patch 0 (lows n * s) (packed s (λ j. onLows f n (column s x j) (highColumn s n x j))) x
 
-  pub high-asked : (P : A → A → A → Type 0) → ((i : ℕ) → i < highs n → onHighs P n l h i) → AtHighs P 0 n y
-  high-asked P safe = subst (AtHighs P 0 n) (sym (held .is)) (λ i p. as-type (sym (split-at-high P 0 n l h x two i p)) (safe i p))
+-- P holds where each step is taken
+abbrev pub AtHighs : {A : Type 0} → (A → A → A → Type 0) → ℕ → ℕ → (ℕ → A) → Type 0
+AtHighs P s n x = (i j : ℕ) → i < highs n → j < s → onHighs P n (column s x j) (highColumn s n x j) i
 
-  pub low-asked : (P : A → A → A → Type 0) → ((i : ℕ) → i < lows n → onLows P n l h i) → AtLows P 0 n y
-  low-asked P safe = subst (AtLows P 0 n) (sym (held .is)) (λ i p. as-type (sym (split-at-low P 0 n l h x two i p)) (safe i p))
+abbrev pub AtLows : {A : Type 0} → (A → A → A → Type 0) → ℕ → ℕ → (ℕ → A) → Type 0
+AtLows P s n x = (i j : ℕ) → i < lows n → j < s → onLows P n (column s x j) (highColumn s n x j) i
 
-module _ {A : Type 0} {n : ℕ} {l h x y : ℕ → A} (held : Held n l h x y) where
-  pub held-low : (i : ℕ) → i < lows n → y (0 + i) ≡ l i
-  held-low i p = ap (λ (g : ℕ → A). g (0 + i)) (held .is) ∙ split-low 0 n l h x i p
+-- ---- places of packed lines
 
-  pub held-high : (i : ℕ) → i < highs n → y (lows n + i) ≡ h i
-  held-high i p =
-      let e : lows n + i ≡ 0 + lows n + i = omega arith in
-      ap y e ∙ ap (λ (g : ℕ → A). g (0 + lows n + i)) (held .is) ∙ split-high 0 n l h x i p
+module _ {ℓ} (P : ℕ → Type ℓ) (s k : ℕ) where
+  -- a place lies on a line
+  pub by-line : ((i j : ℕ) → i < k → j < s → P (i * s + j)) → (p : ℕ) → p < k * s → P p
+  by-line h p l =
+      let some : 0 < s = go s l in
+      subst P (div-add-mod' p s) (h (p / s) (p % s) (div-lt-iff-lt-mul some .1 l) (mod-lt p some))
+    where
+      go : (s : ℕ) → p < k * s → 0 < s
+      go zero l = absurd (omega arith)
+      go (suc s) l = omega arith
 
-  pub held-at : (i : ℕ) → i < n → y (0 + i) ≡ lowsFirst n l h i
-  held-at i p = ap (λ (g : ℕ → A). g (0 + i)) (held .is) ∙ patch-in 0 n _ x i p
+pub packed-at {ℓ} : {B : Type ℓ} (s : ℕ) (t : ℕ → ℕ → B) (i j : ℕ) → j < s → packed s t (i * s + j) ≡ t j i
+packed-at s t i j h =
+    let some : 0 < s = omega arith in
+    let e : (i * s + j) / s ≡ i = mul-add-div-right some i j ∙ ap (λ (n : ℕ). i + n) (div-eq-of-lt h) ∙ omega arith in
+    let f : (i * s + j) % s ≡ j = mul-add-mod-self-right i s j ∙ mod-eq-of-lt h in
+    λ u. t (f u) (e u)
 
--- a line that lies split already
-pub whole-held : {A : Type 0} (n : ℕ) (r x y : ℕ → A) → y ≡ patch 0 n r x → Held n r (λ i. r (lows n + i)) x y
-whole-held n r x y e = record { is = e ∙ patch-ext 0 n r _ x (by-half (λ k. r k ≡ lowsFirst n r (λ i. r (lows n + i)) k) n (λ i p. sym (first-low n _ _ i p)) (λ i p. sym (first-high n _ _ i))) }
+-- how many values the lines have
+pub record Sizes (s n : ℕ) : Type 0 where
+  pub all : n * s ≡ lows n * s + highs n * s
+  pub of-lows : lows n * s ≡ (lows n - 1) * s + s
+  pub of-highs : highs n * s ≡ (highs n - 1) * s + s
+  pub fewer : highs n * s ≤ lows n * s
+  pub most : (lows n - 1) * s ≤ highs n * s
+  pub even : lows n - 1 < highs n → highs n * s ≡ lows n * s
+  pub odd : highs n < lows n → lows n * s ≡ highs n * s + s
 
--- ---- y is x with the lines l, h of s values split at its front
+pub sizes : (s n : ℕ) → Liftable n → Sizes s n
+sizes s n two = record {
+  all = times (omega arith) ∙ add-mul (lows n) (highs n) s;
+  of-lows = more (lows n - 1) (omega arith);
+  of-highs = more (highs n - 1) (omega arith);
+  fewer = mul-le-mul-right {m = highs n} {n = lows n} s (omega arith);
+  most = mul-le-mul-right {m = lows n - 1} {n = highs n} s (omega arith);
+  even = λ h. times (omega arith);
+  odd = λ h. more (highs n) (omega arith);
+}
+  where
+    times : {a b : ℕ} → a ≡ b → a * s ≡ b * s
+    times e = ap (λ (t : ℕ). t * s) e
 
-pub record LinesHeld {A : Type 0} (s n : ℕ) (l h : ℕ → ℕ → A) (x y : ℕ → A) : Type 0 where
-  pub is : y ≡ splitLines (lineAt 0 s) n s l h x
+    more : {a : ℕ} (b : ℕ) → a ≡ suc b → a * s ≡ b * s + s
+    more b e = times e ∙ omega arith
 
-module _ {A : Type 0} {s n : ℕ} {l h : ℕ → ℕ → A} {x y : ℕ → A} (two : 2 ≤ n) (held : LinesHeld s n l h x y) where
-  self : s ≤ s
-  self = omega arith
+-- ---- a tile's runs: the middle, and the ends, where a neighbour stands for the one that is missing
 
-  pub high-lines-held : (f : A → A → A → A) (z : ℕ → A) → z ≡ highLinesDone f (lineAt 0 s) n s y → LinesHeld s n l (λ i j. onHighs f n (λ k. l k j) (λ k. h k j) i) x z
-  high-lines-held f z e = record { is = e ∙ ap (highLinesDone f (lineAt 0 s) n s) (held .is) ∙ lines-highs f 0 s n s self l h x two }
+at3 {ℓ} : {A : Type 0} {B : Type ℓ} (f : A → A → A → B) (x : ℕ → A) (i j k i′ j′ k′ : ℕ) → (i ≡ i′) × (j ≡ j′) × (k ≡ k′) → f (x i) (x j) (x k) ≡ f (x i′) (x j′) (x k′)
+at3 f x i j k i′ j′ k′ e = λ u. f (x (e .0 u)) (x (e .1 u)) (x (e .2 u))
 
-  pub low-lines-held : (f : A → A → A → A) (z : ℕ → A) → z ≡ lowLinesDone f (lineAt 0 s) n s y → LinesHeld s n (λ i j. onLows f n (λ k. l k j) (λ k. h k j) i) h x z
-  low-lines-held f z e = record { is = e ∙ ap (lowLinesDone f (lineAt 0 s) n s) (held .is) ∙ lines-lows f 0 s n s self l h x two }
+module _ {ℓ} {A : Type 0} {B : Type ℓ} (f : A → A → A → B) (s n : ℕ) (x : ℕ → A) (two : Liftable n) where
+  -- what the highs and the lows become
+  abbrev pub newHighs : ℕ → ℕ → B
+  newHighs j = onHighs f n (column s x j) (highColumn s n x j)
 
-  pub high-lines-asked : (P : A → A → A → Type 0) → ((i j : ℕ) → i < highs n → j < s → onHighs P n (λ k. l k j) (λ k. h k j) i) → AtHighLines P (lineAt 0 s) n s y
-  high-lines-asked P safe = subst (AtHighLines P (lineAt 0 s) n s) (sym (held .is)) (λ i j p g. as-type (sym (lines-at-high P 0 s n s self l h x two i j g p)) (safe i j p g))
+  abbrev pub newLows : ℕ → ℕ → B
+  newLows j = onLows f n (column s x j) (highColumn s n x j)
 
-  pub low-lines-asked : (P : A → A → A → Type 0) → ((i j : ℕ) → i < lows n → j < s → onLows P n (λ k. l k j) (λ k. h k j) i) → AtLowLines P (lineAt 0 s) n s y
-  low-lines-asked P safe = subst (AtLowLines P (lineAt 0 s) n s) (sym (held .is)) (λ i j p g. as-type (sym (lines-at-low P 0 s n s self l h x two i j g p)) (safe i j p g))
+  abbrev top : ℕ
+  top = lows n * s
 
-module _ {A : Type 0} {s n : ℕ} {l h : ℕ → ℕ → A} {x y : ℕ → A} (held : LinesHeld s n l h x y) where
-  pub held-low-line : (i j : ℕ) → i < lows n → j < s → y (lineAt 0 s i + j) ≡ l i j
-  held-low-line i j p g = ap (λ (q : ℕ → A). q (lineAt 0 s i + j)) (held .is) ∙ line-low 0 s n s (omega arith) l h x i j p g
+  times : {a b : ℕ} → a ≡ b → a * s ≡ b * s
+  times e = ap (λ (t : ℕ). t * s) e
 
-  pub held-high-line : (i j : ℕ) → i < highs n → j < s → y (lineAt 0 s (lows n + i) + j) ≡ h i j
-  held-high-line i j p g = ap (λ (q : ℕ → A). q (lineAt 0 s (lows n + i) + j)) (held .is) ∙ line-high 0 s n s (omega arith) l h x i j p g
+  pub highs-middle : (p : ℕ) → p < (lows n - 1) * s → packed s newHighs p ≡ f (x (top + p)) (x (0 + p)) (x (s + p))
+  unfolding onHighs
+  highs-middle = by-line (λ p. packed s newHighs p ≡ f (x (top + p)) (x (0 + p)) (x (s + p))) s (lows n - 1) λ i j h g.
+      packed-at s newHighs i j g ∙ at3 f x _ _ _ _ _ _ (let e : lowAfter n i * s ≡ suc i * s = times (omega arith) in omega arith)
 
-  pub held-line : (i j : ℕ) → i < n → j < s → y (lineAt 0 s i + j) ≡ lowsFirst n (λ k. l k j) (λ k. h k j) i
-  held-line i j p g = ap (λ (q : ℕ → A). q (lineAt 0 s i + j)) (held .is)
-      ∙ lines-in (lineAt 0 s) s _ x (λ u v a. lines-apart 0 s s u v (omega arith) (omega arith)) n i j p g ∙ first-at n l h i j
+  pub highs-last : lows n - 1 < highs n → (j : ℕ) → j < s → packed s newHighs ((lows n - 1) * s + j) ≡ f (x (top + (lows n - 1) * s + j)) (x ((lows n - 1) * s + j)) (x ((lows n - 1) * s + j))
+  unfolding onHighs
+  highs-last even j g = packed-at s newHighs (lows n - 1) j g ∙ at3 f x _ _ _ _ _ _ (let e : lowAfter n (lows n - 1) * s ≡ (lows n - 1) * s = times (omega arith) in omega arith)
+
+  pub lows-first : (j : ℕ) → j < s → packed s newLows j ≡ f (x (0 + j)) (x (top + j)) (x (top + j))
+  unfolding onLows
+  lows-first j g =
+      let e : j ≡ 0 * s + j = omega arith in
+      ap (packed s newLows) e ∙ packed-at s newLows 0 j g ∙ at3 f x _ _ _ _ _ _ (let e : highAfter n 0 * s ≡ 0 * s = times (omega arith) in omega arith)
+
+  pub lows-middle : (p : ℕ) → p < (highs n - 1) * s → packed s newLows (s + p) ≡ f (x (s + p)) (x (top + p)) (x (top + s + p))
+  unfolding onLows
+  lows-middle = by-line (λ p. packed s newLows (s + p) ≡ f (x (s + p)) (x (top + p)) (x (top + s + p))) s (highs n - 1) λ i j h g.
+      let e : s + (i * s + j) ≡ suc i * s + j = omega arith in
+      ap (packed s newLows) e ∙ packed-at s newLows (suc i) j g ∙ at3 f x _ _ _ _ _ _
+      (let d : highBefore (suc i) * s ≡ i * s = times (omega arith) in let e : highAfter n (suc i) * s ≡ suc i * s = times (omega arith) in omega arith)
+
+  pub lows-last : highs n < lows n → (j : ℕ) → j < s → packed s newLows (highs n * s + j)
+      ≡ f (x (highs n * s + j)) (x (top + (highs n - 1) * s + j)) (x (top + (highs n - 1) * s + j))
+  unfolding onLows
+  lows-last odd j g = packed-at s newLows (highs n) j g ∙ at3 f x _ _ _ _ _ _ (let e : highAfter n (highs n) * s ≡ (highs n - 1) * s = times (omega arith) in omega arith)
+
+module _ {A : Type 0} (P : A → A → A → Type 0) (s n : ℕ) (x : ℕ → A) (two : Liftable n) where
+  pub at-highs : AtHighs P s n x → (p : ℕ) → p < highs n * s → packed s (newHighs P s n x two) p
+  at-highs safe = by-line (λ p. packed s (newHighs P s n x two) p) s (highs n) λ i j h g. as-type (sym (packed-at s (newHighs P s n x two) i j g)) (safe i j h g)
+
+  pub at-lows : AtLows P s n x → (p : ℕ) → p < lows n * s → packed s (newLows P s n x two) p
+  at-lows safe = by-line (λ p. packed s (newLows P s n x two) p) s (lows n) λ i j h g. as-type (sym (packed-at s (newLows P s n x two) i j g)) (safe i j h g)
+
+-- ---- a tile whose first a low lines are those of the columns l, and whose first b high lines, from place top on, those of h
+
+pub record Filled {A : Type 0} (s top a b : ℕ) (l h : ℕ → ℕ → A) (y : ℕ → A) : Type 0 where
+  pub low : (i j : ℕ) → i < a → j < s → y (i * s + j) ≡ l j i
+  pub high : (i j : ℕ) → i < b → j < s → y (top + (i * s + j)) ≡ h j i
+
+abbrev pub Held : {A : Type 0} → ℕ → ℕ → (ℕ → ℕ → A) → (ℕ → ℕ → A) → (ℕ → A) → Type 0
+Held s n l h y = Filled s (lows n * s) (lows n) (highs n) l h y
+
+pub filled-none : {A : Type 0} (s top : ℕ) (l h : ℕ → ℕ → A) (y : ℕ → A) → Filled s top 0 0 l h y
+filled-none s top l h y = record { low = λ i j p g. absurd (omega arith); high = λ i j p g. absurd (omega arith) }
+
+-- so many lines, written otherwise
+pub filled-to : {A : Type 0} {s top a b c d : ℕ} {l h : ℕ → ℕ → A} {y : ℕ → A} → Filled s top a b l h y → a ≡ c → b ≡ d → Filled s top c d l h y
+filled-to filled e f = record { low = λ i j p g. filled .low i j (omega arith) g; high = λ i j p g. filled .high i j (omega arith) g }
+
+module _ {A : Type 0} {s top a b : ℕ} {l h : ℕ → ℕ → A} {y : ℕ → A} (filled : Filled s top a b l h y) (z row : ℕ → A) where
+  -- one line more of the lows
+  pub filled-low : z ≡ patch (a * s) s row y → ((j : ℕ) → j < s → row j ≡ l j a) → suc a * s ≤ top → Filled s top (a + 1) b l h z
+  filled-low e same fits = record {
+    low = λ i j p g. go i j p g (decLt i a);
+    high = λ i j p g. ap (λ (q : ℕ → A). q (top + (i * s + j))) e ∙ patch-above (a * s) s row y _ (omega arith) ∙ filled .high i j p g;
+  }
+    where
+      go : (i j : ℕ) → i < a + 1 → j < s → Dec (i < a) → z (i * s + j) ≡ l j i
+      go i j p g (yes u) = ap (λ (q : ℕ → A). q (i * s + j)) e ∙ patch-below (a * s) s row y _ (omega (arith, mul-le-mul-right {m = suc i} {n = a} s (omega arith))) ∙ filled .low i j u g
+      go i j p g (no f) =
+          let q : i ≡ a = omega arith in
+          rw q (ap (λ (q : ℕ → A). q (a * s + j)) e ∙ patch-in (a * s) s row y j g ∙ same j g)
+
+  -- one line more of the highs
+  pub filled-high : z ≡ patch (top + b * s) s row y → ((j : ℕ) → j < s → row j ≡ h j b) → a * s ≤ top → Filled s top a (b + 1) l h z
+  filled-high e same fits = record {
+    low = λ i j p g. ap (λ (q : ℕ → A). q (i * s + j)) e ∙ patch-below (top + b * s) s row y _ (omega (arith, mul-le-mul-right {m = suc i} {n = a} s (omega arith))) ∙ filled .low i j p g;
+    high = λ i j p g. go i j p g (decLt i b);
+  }
+    where
+      go : (i j : ℕ) → i < b + 1 → j < s → Dec (i < b) → z (top + (i * s + j)) ≡ h j i
+      go i j p g (yes u) = ap (λ (q : ℕ → A). q (top + (i * s + j))) e ∙ patch-below (top + b * s) s row y _ (omega (arith, mul-le-mul-right {m = suc i} {n = b} s (omega arith))) ∙ filled .high i j u g
+      go i j p g (no f) =
+          let q : i ≡ b = omega arith in
+          let w : top + (b * s + j) ≡ top + b * s + j = omega arith in
+          rw q (ap z w ∙ ap (λ (q : ℕ → A). q (top + b * s + j)) e ∙ patch-in (top + b * s) s row y j g ∙ same j g)
+
+-- ---- what a step reads and makes of a tile
+
+module _ {ℓ} {A : Type 0} {B : Type ℓ} (f : A → A → A → B) {s n : ℕ} {l h : ℕ → ℕ → A} {y : ℕ → A} (two : Liftable n) (held : Held s n l h y) (i j : ℕ) (g : j < s) where
+  high-reads : i < highs n → newHighs f s n y two j i ≡ onHighs f n (l j) (h j) i
+  unfolding onHighs
+  high-reads p = λ u. f (held .high i j p g u) (held .low i j (omega arith) g u) (held .low (lowAfter n i) j (omega arith) g u)
+
+  low-reads : i < lows n → newLows f s n y two j i ≡ onLows f n (l j) (h j) i
+  unfolding onLows
+  low-reads p = λ u. f (held .low i j p g u) (held .high (highBefore i) j (omega arith) g u) (held .high (highAfter n i) j (omega arith) g u)
+
+module _ {A : Type 0} {s n : ℕ} {l h : ℕ → ℕ → A} {y : ℕ → A} (two : Liftable n) (held : Held s n l h y) where
+  high-asked : (P : A → A → A → Type 0) → ((i j : ℕ) → i < highs n → j < s → onHighs P n (l j) (h j) i) → AtHighs P s n y
+  high-asked P safe i j p g = as-type (sym (high-reads P two held i j g p)) (safe i j p g)
+
+  low-asked : (P : A → A → A → Type 0) → ((i j : ℕ) → i < lows n → j < s → onLows P n (l j) (h j) i) → AtLows P s n y
+  low-asked P safe i j p g = as-type (sym (low-reads P two held i j g p)) (safe i j p g)
+
+  high-held : (f : A → A → A → A) → Held s n l (λ j. onHighs f n (l j) (h j)) (highsDone f s n y)
+  high-held f = record {
+    low = λ i j p g. patch-below _ _ _ y _ (omega (arith, mul-le-mul-right {m = suc i} {n = lows n} s (omega arith))) ∙ held .low i j p g;
+    high = λ i j p g. patch-in _ _ _ y (i * s + j) (omega (arith, mul-le-mul-right {m = suc i} {n = highs n} s (omega arith))) ∙ packed-at s (newHighs f s n y two) i j g ∙ high-reads f two held i j g p;
+  }
+
+  low-held : (f : A → A → A → A) → Held s n (λ j. onLows f n (l j) (h j)) h (lowsDone f s n y)
+  low-held f = record {
+    low = λ i j p g. ap (lowsDone f s n y) (let e : i * s + j ≡ 0 + (i * s + j) = omega arith in e) ∙ patch-in 0 _ _ y (i * s + j) (omega (arith, mul-le-mul-right {m = suc i} {n = lows n} s (omega arith))) ∙ packed-at s (newLows f s n y two) i j g ∙ low-reads f two held i j g p;
+    high = λ i j p g. patch-above 0 _ _ y _ (omega arith) ∙ held .high i j p g;
+  }
+
+-- ---- a pair of steps: the highs, then the lows; and the other way round
+
+abbrev pub liftedTile : {A : Type 0} → (A → A → A → A) → (A → A → A → A) → ℕ → ℕ → (ℕ → A) → ℕ → A
+liftedTile f g s n x = lowsDone g s n (highsDone f s n x)
+
+abbrev pub unliftedTile : {A : Type 0} → (A → A → A → A) → (A → A → A → A) → ℕ → ℕ → (ℕ → A) → ℕ → A
+unliftedTile g f s n x = highsDone f s n (lowsDone g s n x)
+
+pub record LiftSafe (first second : Step) (s n : ℕ) (x : ℕ → ℤ) : Type 0 where
+  pub on-highs : AtHighs (Safe first) s n x
+  pub on-lows : AtLows (Safe second) s n (highsDone (applied first) s n x)
+
+pub record UnliftSafe (second first : Step) (s n : ℕ) (x : ℕ → ℤ) : Type 0 where
+  pub on-lows : AtLows (Safe second) s n x
+  pub on-highs : AtHighs (Safe first) s n (lowsDone (applied second) s n x)
+
+module _ {s n : ℕ} {l h : ℕ → ℕ → ℤ} {y : ℕ → ℤ} (two : Liftable n) (held : Held s n l h y) where
+  pub lift-held : (f g : ℤ → ℤ → ℤ → ℤ) (z : ℕ → ℤ) → z ≡ liftedTile f g s n y → Held s n (λ j. onLows g n (l j) (onHighs f n (l j) (h j))) (λ j. onHighs f n (l j) (h j)) z
+  lift-held f g z e = subst (Held s n _ _) (sym e) (low-held two (high-held two held f) g)
+
+  pub lift-asked : (first second : Step) → ((i j : ℕ) → i < highs n → j < s → onHighs (Safe first) n (l j) (h j) i)
+      → ((i j : ℕ) → i < lows n → j < s → onLows (Safe second) n (l j) (onHighs (applied first) n (l j) (h j)) i) → LiftSafe first second s n y
+  lift-asked first second p q = record { on-highs = high-asked two held (Safe first) p; on-lows = low-asked two (high-held two held (applied first)) (Safe second) q }
+
+  pub unlift-held : (g f : ℤ → ℤ → ℤ → ℤ) (z : ℕ → ℤ) → z ≡ unliftedTile g f s n y → Held s n (λ j. onLows g n (l j) (h j)) (λ j. onHighs f n (onLows g n (l j) (h j)) (h j)) z
+  unlift-held g f z e = subst (Held s n _ _) (sym e) (high-held two (low-held two held g) f)
+
+  pub unlift-asked : (second first : Step) → ((i j : ℕ) → i < lows n → j < s → onLows (Safe second) n (l j) (h j) i)
+      → ((i j : ℕ) → i < highs n → j < s → onHighs (Safe first) n (onLows (applied second) n (l j) (h j)) (h j) i) → UnliftSafe second first s n y
+  unlift-asked second first p q = record { on-lows = low-asked two held (Safe second) p; on-highs = high-asked two (low-held two held (applied second)) (Safe first) q }
+
+-- line i of such a tile
+pub held-at : {A : Type 0} {s n : ℕ} {l h : ℕ → ℕ → A} {y : ℕ → A} → Held s n l h y → (i j : ℕ) → i < n → j < s → y (0 + i * s + j) ≡ lowsFirst n (l j) (h j) i
+held-at {A} {s} {n} {l} {h} {y} held i j p g = by-half (λ i. y (0 + i * s + j) ≡ lowsFirst n (l j) (h j) i) n
+    (λ i p. ap y (omega arith) ∙ held .low i j p g ∙ sym (first-low n (l j) (h j) i p))
+    (λ i p. ap y (omega (arith, add-mul (lows n) i s)) ∙ held .high i j p g ∙ sym (first-high n (l j) (h j) i))
+    i p
+
+-- each line to its own place
+pub held-woven : {A : Type 0} {s n : ℕ} {l h : ℕ → ℕ → A} {y : ℕ → A} → Held s n l h y → (i j : ℕ) → i < n → j < s → interleaved (column s y j) (highColumn s n y j) i ≡ interleaved (l j) (h j) i
+held-woven {A} {s} {n} {l} {h} {y} held i j p g = by-parity (λ i. interleaved (column s y j) (highColumn s n y j) i ≡ interleaved (l j) (h j) i) n
+    (λ i p. even-place _ _ i ∙ held .low i j p g ∙ sym (even-place (l j) (h j) i))
+    (λ i p. odd-place _ _ i ∙ held .high i j p g ∙ sym (odd-place (l j) (h j) i))
+    i p
 
 -- lines that lie split already
-pub whole-lines-held : {A : Type 0} (s n : ℕ) (r : ℕ → ℕ → A) (x y : ℕ → A) → y ≡ patchLines (lineAt 0 s) s n r x → LinesHeld s n r (λ i. r (lows n + i)) x y
-whole-lines-held {A} s n r x y e = record { is = e ∙ lines-ext (lineAt 0 s) s r _ x n (λ i j p g. ap (λ (q : ℕ → A). q j) (same i p)) }
+pub whole-held : {A : Type 0} (s n : ℕ) (r : ℕ → ℕ → A) (t z : ℕ → A) → z ≡ patchLines (lineAt 0 s) s n (λ i j. r j i) t → Held s n r (λ j i. r j (lows n + i)) z
+whole-held {A} s n r t z e = record {
+  low = λ i j p g. ap z (omega arith) ∙ is i j (omega arith) g;
+  high = λ i j p g. ap z (omega (arith, add-mul (lows n) i s)) ∙ is (lows n + i) j (omega arith) g;
+}
   where
-    same : (i : ℕ) → i < n → r i ≡ lowsFirst n r (λ k. r (lows n + k)) i
-    same = by-half _ n (λ i p. sym (first-low n r (λ k. r (lows n + k)) i p)) (λ i p. sym (first-high n r (λ k. r (lows n + k)) i))
-
--- each value of the split line to its own place
-pub held-woven : {A : Type 0} {n : ℕ} {l h x y : ℕ → A} → Held n l h x y → (k : ℕ) → k < n → interleaved y (λ i. y (lows n + i)) k ≡ interleaved l h k
-held-woven {A} {n} {l} {h} {x} {y} held = by-parity _ n
-    (λ i p. even-place _ _ i ∙ ap y (sym (zero-add i)) ∙ held-low held i p ∙ sym (even-place l h i))
-    (λ i p. odd-place _ _ i ∙ held-high held i p ∙ sym (odd-place l h i))
-
--- each line of split lines to its own place
-pub held-lines-woven : {A : Type 0} {s n : ℕ} {l h : ℕ → ℕ → A} {x y : ℕ → A} → LinesHeld s n l h x y → (r j : ℕ) → r < n → j < s
-    → interleaved {A = ℕ → A} (λ i c. y (lineAt 0 s i + c)) (λ i c. y (lineAt 0 s (lows n + i) + c)) r j ≡ interleaved (λ i. l i j) (λ i. h i j) r
-held-lines-woven {A} {s} {n} {l} {h} {x} {y} held r j p g =
-    by-parity (λ k. interleaved even odd k j ≡ interleaved (λ i. l i j) (λ i. h i j) k) n
-    (λ i q. ap (λ (f : ℕ → A). f j) (even-place even odd i) ∙ held-low-line held i j q g ∙ sym (even-place (λ i. l i j) (λ i. h i j) i))
-    (λ i q. ap (λ (f : ℕ → A). f j) (odd-place even odd i) ∙ held-high-line held i j q g ∙ sym (odd-place (λ i. l i j) (λ i. h i j) i))
-    r p
-  where
-    even : ℕ → ℕ → A
-    even i c = y (lineAt 0 s i + c)
-
-    odd : ℕ → ℕ → A
-    odd i c = y (lineAt 0 s (lows n + i) + c)
+    is : (i j : ℕ) → i < n → j < s → z (lineAt 0 s i + j) ≡ r j i
+    is i j p g = ap (λ (q : ℕ → A). q (lineAt 0 s i + j)) e ∙ lines-in (lineAt 0 s) s _ t (λ u v a. lines-apart 0 s s u v (omega arith) (omega arith)) n i j p g

@@ -6,21 +6,20 @@ ghost use lib.Signed.{shrZ};
 ghost use lib.IntN.{pos, negℤ, natAbs, _+ℤ_, _-ℤ_, _*ℤ_};
 ghost use mir.Syntax.{w32, w64};
 ghost use mir.Val.{SFits};
-ghost use Rattle.lines.specs.Lines.{lows, interleaved};
-ghost use Rattle.lifting.specs.Steps.{applied, Safe, scaledBy, FactorSafe};
-ghost use Rattle.lifting.specs.Raise.{raised, formed, Formed, Raises, Quicker};
+ghost use Rattle.lines.specs.Lines.{interleaved};
+ghost use Rattle.lifting.specs.Steps.{applied, Plain, Safe, Same, scaledBy, FactorSafe};
+ghost use Rattle.lifting.specs.Raise.{raised, Raises};
 ghost use Rattle.lifting.specs.Patch.{at, patch};
-ghost use Rattle.lifting.specs.Runs.{ran, Runs, SafeBy, SafeRun};
-ghost use Rattle.lifting.specs.Rows.{highsDone, lowsDone, AtHighs, AtLows};
-ghost use Rattle.lifting.specs.Columns.{lineAt, patchLines, Lying, AtHighLines, AtLowLines, highLinesDone, lowLinesDone};
-ghost use Rattle.lifting.specs.Split.{split};
-ghost use Rattle.lifting.specs.LineSplit.{splitLines};
-ghost use Rattle.lifting.specs.Passes.{evens, odds};
-ghost use Rattle.lifting.specs.Kernels.{SafeKernel, Part, rowOf, columnOf, rowsWorked, columnsWorked};
-ghost use Rattle.lifting.specs.Tiles.{Row, Strip, rowWorked};
+ghost use Rattle.lifting.specs.Runs.{ran, Runs, SafeRun};
+ghost use Rattle.lifting.specs.PatchLines.{lineAt, patchLines, Lying};
+ghost use Rattle.lifting.specs.Passes.{evens, odds, Liftable};
+ghost use Rattle.lifting.specs.Tiles.{Tile, column, highColumn, highsDone, lowsDone, AtHighs, AtLows, liftedTile, unliftedTile, LiftSafe, UnliftSafe, Held};
+ghost use Rattle.lifting.specs.Kernels.{SafeKernel, SameKernel, Part, rowOf, columnOf, rowsWorked, columnsWorked};
+ghost use Rattle.lifting.specs.Strips.{Strip};
 
 // A lifting step: what it makes of a value and two neighbours is `applied` of specs/Steps. `Short` is `Wide` where the neighbours' sum
-// fits an i32.
+// fits an i32; `Up`, `Down`, `Plus` and `Minus` are the forms that it is run in,
+// and `PlusTwo` and `MinusTwo` those of `Wide`.
 pub enum Step {
     Predict,
     Update,
@@ -28,15 +27,12 @@ pub enum Step {
     Unupdate,
     Wide { m: i64, c: i64, cut: u32 },
     Short { m: i64, c: i64, cut: u32 },
-}
-
-// The forms that a short step is run in: `formed` of specs/Raise.
-enum Form {
-    Slow { m: i64, c: i64, cut: u32 },
     Up { m: u32, c: u32, base: u64, cut: u32 },
     Down { m: u32, c: u32, base: u64, cut: u32 },
     Plus { c: u32, base: u64, cut: u32 },
     Minus { c: u32, base: u64, cut: u32 },
+    PlusTwo { c: u32, base: u64, cut: u32 },
+    MinusTwo { c: u32, base: u64, cut: u32 },
 }
 
 // A scaling by a constant: `scaledBy` of specs/Steps.
@@ -176,8 +172,8 @@ fn moved(own: i32, z: i64) -> i32
 
 // The step `Up`: raised values, so that each product is one of unsigned 32-bit numbers.
 fn up_of(m: u32, c: u32, base: u64, cut: u32, own: i32, x: i32, y: i32) -> i32
-    requires { ⌜ Formed (Form.Up m c base cut) own x y ⌝ }
-    ensures { λ r. ⌜ r ≡ formed (Form.Up m c base cut) own x y ⌝ }
+    requires { ⌜ Safe (Step.Up m c base cut) own x y ⌝ }
+    ensures { λ r. ⌜ r ≡ applied (Step.Up m c base cut) own x y ⌝ }
 {
     let part = fused(c, raise(x + y), 0);
     narrow(settled(fused(m, raise(own), part), cut, base))
@@ -185,8 +181,8 @@ fn up_of(m: u32, c: u32, base: u64, cut: u32, own: i32, x: i32, y: i32) -> i32
 
 // The step `Down`: the neighbours' sum is turned before it is raised.
 fn down_of(m: u32, c: u32, base: u64, cut: u32, own: i32, x: i32, y: i32) -> i32
-    requires { ⌜ Formed (Form.Down m c base cut) own x y ⌝ }
-    ensures { λ r. ⌜ r ≡ formed (Form.Down m c base cut) own x y ⌝ }
+    requires { ⌜ Safe (Step.Down m c base cut) own x y ⌝ }
+    ensures { λ r. ⌜ r ≡ applied (Step.Down m c base cut) own x y ⌝ }
 {
     let part = fused(c, raise(0 - (x + y)), 0);
     narrow(settled(fused(m, raise(own), part), cut, base))
@@ -194,8 +190,8 @@ fn down_of(m: u32, c: u32, base: u64, cut: u32, own: i32, x: i32, y: i32) -> i32
 
 // The step `Plus`.
 fn plus_of(c: u32, base: u64, cut: u32, own: i32, x: i32, y: i32) -> i32
-    requires { ⌜ Formed (Form.Plus c base cut) own x y ⌝ }
-    ensures { λ r. ⌜ r ≡ formed (Form.Plus c base cut) own x y ⌝ }
+    requires { ⌜ Safe (Step.Plus c base cut) own x y ⌝ }
+    ensures { λ r. ⌜ r ≡ applied (Step.Plus c base cut) own x y ⌝ }
 {
     let part = fused(c, raise(x + y), 0);
     moved(own, settled(part, cut, base))
@@ -203,16 +199,42 @@ fn plus_of(c: u32, base: u64, cut: u32, own: i32, x: i32, y: i32) -> i32
 
 // The step `Minus`.
 fn minus_of(c: u32, base: u64, cut: u32, own: i32, x: i32, y: i32) -> i32
-    requires { ⌜ Formed (Form.Minus c base cut) own x y ⌝ }
-    ensures { λ r. ⌜ r ≡ formed (Form.Minus c base cut) own x y ⌝ }
+    requires { ⌜ Safe (Step.Minus c base cut) own x y ⌝ }
+    ensures { λ r. ⌜ r ≡ applied (Step.Minus c base cut) own x y ⌝ }
 {
     let part = fused(c, raise(0 - (x + y)), 0);
     moved(own, settled(part, cut, base))
 }
 
-// One step of one value.
+// c times the sum of two raised values.
+fn fused_two(c: u32, x: i32, y: i32) -> u64
+    requires { ⌜ c < 2147483648 ⌝ }
+    ensures { λ r. ⌜ (r ≡ c * raised y + (c * raised x + 0)) × (r ≤ c * 8589934592) ⌝ }
+{
+    fused(c, raise(y), fused(c, raise(x), 0))
+}
+
+// The step `PlusTwo`: each neighbour is raised by itself.
+fn plus_two_of(c: u32, base: u64, cut: u32, own: i32, x: i32, y: i32) -> i32
+    requires { ⌜ Safe (Step.PlusTwo c base cut) own x y ⌝ }
+    ensures { λ r. ⌜ r ≡ applied (Step.PlusTwo c base cut) own x y ⌝ }
+{
+    let part = fused_two(c, x, y);
+    moved(own, settled(part, cut, base))
+}
+
+// The step `MinusTwo`: what is left of 2 ^ 33 times c.
+fn minus_two_of(c: u32, base: u64, cut: u32, own: i32, x: i32, y: i32) -> i32
+    requires { ⌜ Safe (Step.MinusTwo c base cut) own x y ⌝ }
+    ensures { λ r. ⌜ r ≡ applied (Step.MinusTwo c base cut) own x y ⌝ }
+{
+    let part = fused_two(c, x, y);
+    moved(own, settled((c as u64) * 8589934592 - part, cut, base))
+}
+
+// One step of one value, not in a raised form.
 fn apply(step: Step, own: i32, x: i32, y: i32) -> i32
-    requires { ⌜ Safe step own x y ⌝ }
+    requires { ⌜ Plain step × Safe step own x y ⌝ }
     ensures { λ r. ⌜ r ≡ applied step own x y ⌝ }
 {
     match step {
@@ -222,6 +244,12 @@ fn apply(step: Step, own: i32, x: i32, y: i32) -> i32
         Step::Unupdate => unupdated(own, x, y),
         Step::Wide { m, c, cut } => wide_of(m, c, cut, own, x, y),
         Step::Short { m, c, cut } => wide_of(m, c, cut, own, x, y),
+        Step::Up { m, c, base, cut } => own,
+        Step::Down { m, c, base, cut } => own,
+        Step::Plus { c, base, cut } => own,
+        Step::Minus { c, base, cut } => own,
+        Step::PlusTwo { c, base, cut } => own,
+        Step::MinusTwo { c, base, cut } => own,
     }
 }
 
@@ -234,18 +262,18 @@ fn scaled_by(g: Factor, x: i32) -> i32
 }
 
 // The same of raised values.
-fn raised_by(c: u32, base: u64, cut: u32, x: i32) -> i32
-    requires { ⌜ Raises c base cut × SFits w32 (shrZ (pos c *ℤ x) (2 ^ cut)) ⌝ }
+fn raised_by(c: u32, pad: u64, base: u64, cut: u32, x: i32) -> i32
+    requires { ⌜ Raises c pad base cut × SFits w32 (shrZ (pos c *ℤ x) (2 ^ cut)) ⌝ }
     ensures { λ r. ⌜ r ≡ shrZ (pos c *ℤ x) (2 ^ cut) ⌝ }
 {
-    narrow(settled(fused(c, raise(x), 0), cut, base))
+    narrow(settled(fused(c, raise(x), pad), cut, base))
 }
 
 // ---- one run
 
 // A step at each of n places from t on, each with the places as far from a and from b.
 fn run(buf: &mut [i32], t: usize, a: usize, b: usize, n: usize, step: Step)
-    requires { ⌜ Runs (now buf) t a b n ⌝ }
+    requires { ⌜ Plain step × Runs (now buf) t a b n ⌝ }
     requires { ⌜ SafeRun step t a b n (at (now buf)) ⌝ }
     ensures { λ _. ⌜ at (now (buf .exit)) ≡ ran (applied step) t a b n (at (now (buf .entry))) ⌝ }
 {
@@ -264,18 +292,18 @@ fn base_of(k: u64, cut: u32) -> u64
 }
 
 // A short step of positive numbers in the form that is fastest.
-fn rising(m: u32, c: u32, cut: u32) -> Form
+fn rising(m: u32, c: u32, cut: u32) -> Step
     requires { ⌜ (1 ≤ cut) × (cut ≤ 31) × (m < 2147483648) × (c < 2147483648) ⌝ }
-    ensures { λ r. ⌜ Quicker (pos m) (pos c) cut r ⌝ }
+    ensures { λ r. ⌜ Same (Step.Short (pos m) (pos c) cut) r ⌝ }
 {
     if (m as u64) == (1u64 << cut) {
-        Form::Plus {
+        Step::Plus {
             c,
             base: base_of(c as u64, cut),
             cut,
         }
     } else {
-        Form::Up {
+        Step::Up {
             m,
             c,
             base: base_of((m as u64) + (c as u64), cut),
@@ -285,18 +313,18 @@ fn rising(m: u32, c: u32, cut: u32) -> Form
 }
 
 // The same, of a negative c.
-fn falling(m: u32, c: u32, cut: u32) -> Form
+fn falling(m: u32, c: u32, cut: u32) -> Step
     requires { ⌜ (1 ≤ cut) × (cut ≤ 31) × (m < 2147483648) × (c < 2147483648) ⌝ }
-    ensures { λ r. ⌜ Quicker (pos m) (negℤ (pos c)) cut r ⌝ }
+    ensures { λ r. ⌜ Same (Step.Short (pos m) (negℤ (pos c)) cut) r ⌝ }
 {
     if (m as u64) == (1u64 << cut) {
-        Form::Minus {
+        Step::Minus {
             c,
             base: base_of(c as u64, cut),
             cut,
         }
     } else {
-        Form::Down {
+        Step::Down {
             m,
             c,
             base: base_of((m as u64) + (c as u64), cut),
@@ -319,30 +347,120 @@ fn size(z: i64) -> u32
 }
 
 // A short step in the form that is fastest.
-fn quick(m: i64, c: i64, cut: u32) -> Form
-    ensures { λ r. ⌜ Quicker m c cut r ⌝ }
+fn quick(m: i64, c: i64, cut: u32) -> Step
+    ensures { λ r. ⌜ Same (Step.Short m c cut) r ⌝ }
 {
     let k = size(m);
     let f = size(c);
     if cut == 0 {
-        return Form::Slow { m, c, cut };
+        return Step::Wide { m, c, cut };
     }
     if 31 < cut {
-        return Form::Slow { m, c, cut };
+        return Step::Wide { m, c, cut };
     }
     if m < 0 {
-        return Form::Slow { m, c, cut };
+        return Step::Wide { m, c, cut };
     }
     if 2147483647 < k {
-        return Form::Slow { m, c, cut };
+        return Step::Wide { m, c, cut };
     }
     if 2147483647 < f {
-        return Form::Slow { m, c, cut };
+        return Step::Wide { m, c, cut };
     }
     if c < 0 {
         falling(k, f, cut)
     } else {
         rising(k, f, cut)
+    }
+}
+
+// A wide step of the own value and a positive constant, in the form that is fastest.
+fn more_two(c: u32, cut: u32) -> Step
+    requires { ⌜ (1 ≤ cut) × (cut ≤ 31) × (c < 2147483648) ⌝ }
+    ensures { λ r. ⌜ Same (Step.Wide (pos (2 ^ cut)) (pos c) cut) r ⌝ }
+{
+    Step::PlusTwo {
+        c,
+        base: base_of(2 * (c as u64), cut),
+        cut,
+    }
+}
+
+// The same, of a negative one.
+fn less_two(c: u32, cut: u32) -> Step
+    requires { ⌜ (1 ≤ cut) × (cut ≤ 31) × (c < 2147483648) ⌝ }
+    ensures { λ r. ⌜ Same (Step.Wide (pos (2 ^ cut)) (negℤ (pos c)) cut) r ⌝ }
+{
+    Step::MinusTwo {
+        c,
+        base: base_of(2 * (c as u64), cut),
+        cut,
+    }
+}
+
+// A wide step in the form that is fastest.
+fn quick_wide(m: i64, c: i64, cut: u32) -> Step
+    ensures { λ r. ⌜ Same (Step.Wide m c cut) r ⌝ }
+{
+    let k = size(m);
+    let f = size(c);
+    if cut == 0 {
+        return Step::Wide { m, c, cut };
+    }
+    if 31 < cut {
+        return Step::Wide { m, c, cut };
+    }
+    if m < 0 {
+        return Step::Wide { m, c, cut };
+    }
+    if 2147483647 < k {
+        return Step::Wide { m, c, cut };
+    }
+    if 2147483647 < f {
+        return Step::Wide { m, c, cut };
+    }
+    if (k as u64) == (1u64 << cut) {} else {
+        return Step::Wide { m, c, cut };
+    }
+    if c < 0 {
+        less_two(f, cut)
+    } else {
+        more_two(f, cut)
+    }
+}
+
+// The form in which a step is run.
+fn quickest(step: Step) -> Step
+    ensures { λ r. ⌜ Same step r ⌝ }
+{
+    match step {
+        Step::Short { m, c, cut } => quick(m, c, cut),
+        Step::Wide { m, c, cut } => quick_wide(m, c, cut),
+        _ => step,
+    }
+}
+
+// A kernel whose steps are in the forms in which they are run.
+fn readied(kernel: Kernel) -> Kernel
+    ensures { λ r. ⌜ SameKernel kernel r ⌝ }
+{
+    match kernel {
+        Kernel::Four {
+            p1,
+            u1,
+            p2,
+            u2,
+            g1,
+            g2,
+        } => Kernel::Four {
+            p1: quickest(p1),
+            u1: quickest(u1),
+            p2: quickest(p2),
+            u2: quickest(u2),
+            g1,
+            g2,
+        },
+        _ => kernel,
     }
 }
 
@@ -359,8 +477,8 @@ fn up_run(
     cut: u32,
 )
     requires { ⌜ Runs (now buf) t a b n ⌝ }
-    requires { ⌜ SafeBy (Formed (Form.Up m c base cut)) t a b n (at (now buf)) ⌝ }
-    ensures { λ _. ⌜ at (now (buf .exit)) ≡ ran (formed (Form.Up m c base cut)) t a b n (at (now (buf .entry))) ⌝ }
+    requires { ⌜ SafeRun (Step.Up m c base cut) t a b n (at (now buf)) ⌝ }
+    ensures { λ _. ⌜ at (now (buf .exit)) ≡ ran (applied (Step.Up m c base cut)) t a b n (at (now (buf .entry))) ⌝ }
 {
     for j in 0..n {
         let v = up_of(m, c, base, cut, buf[t + j], buf[a + j], buf[b + j]);
@@ -381,8 +499,8 @@ fn down_run(
     cut: u32,
 )
     requires { ⌜ Runs (now buf) t a b n ⌝ }
-    requires { ⌜ SafeBy (Formed (Form.Down m c base cut)) t a b n (at (now buf)) ⌝ }
-    ensures { λ _. ⌜ at (now (buf .exit)) ≡ ran (formed (Form.Down m c base cut)) t a b n (at (now (buf .entry))) ⌝ }
+    requires { ⌜ SafeRun (Step.Down m c base cut) t a b n (at (now buf)) ⌝ }
+    ensures { λ _. ⌜ at (now (buf .exit)) ≡ ran (applied (Step.Down m c base cut)) t a b n (at (now (buf .entry))) ⌝ }
 {
     for j in 0..n {
         let v = down_of(m, c, base, cut, buf[t + j], buf[a + j], buf[b + j]);
@@ -393,8 +511,8 @@ fn down_run(
 // A run of the step `Plus`.
 fn plus_run(buf: &mut [i32], t: usize, a: usize, b: usize, n: usize, c: u32, base: u64, cut: u32)
     requires { ⌜ Runs (now buf) t a b n ⌝ }
-    requires { ⌜ SafeBy (Formed (Form.Plus c base cut)) t a b n (at (now buf)) ⌝ }
-    ensures { λ _. ⌜ at (now (buf .exit)) ≡ ran (formed (Form.Plus c base cut)) t a b n (at (now (buf .entry))) ⌝ }
+    requires { ⌜ SafeRun (Step.Plus c base cut) t a b n (at (now buf)) ⌝ }
+    ensures { λ _. ⌜ at (now (buf .exit)) ≡ ran (applied (Step.Plus c base cut)) t a b n (at (now (buf .entry))) ⌝ }
 {
     for j in 0..n {
         let v = plus_of(c, base, cut, buf[t + j], buf[a + j], buf[b + j]);
@@ -405,8 +523,8 @@ fn plus_run(buf: &mut [i32], t: usize, a: usize, b: usize, n: usize, c: u32, bas
 // A run of the step `Minus`.
 fn minus_run(buf: &mut [i32], t: usize, a: usize, b: usize, n: usize, c: u32, base: u64, cut: u32)
     requires { ⌜ Runs (now buf) t a b n ⌝ }
-    requires { ⌜ SafeBy (Formed (Form.Minus c base cut)) t a b n (at (now buf)) ⌝ }
-    ensures { λ _. ⌜ at (now (buf .exit)) ≡ ran (formed (Form.Minus c base cut)) t a b n (at (now (buf .entry))) ⌝ }
+    requires { ⌜ SafeRun (Step.Minus c base cut) t a b n (at (now buf)) ⌝ }
+    ensures { λ _. ⌜ at (now (buf .exit)) ≡ ran (applied (Step.Minus c base cut)) t a b n (at (now (buf .entry))) ⌝ }
 {
     for j in 0..n {
         let v = minus_of(c, base, cut, buf[t + j], buf[a + j], buf[b + j]);
@@ -414,29 +532,46 @@ fn minus_run(buf: &mut [i32], t: usize, a: usize, b: usize, n: usize, c: u32, ba
     }
 }
 
-// A run of a short step in one of its forms.
-fn form_run(buf: &mut [i32], t: usize, a: usize, b: usize, n: usize, form: Form)
+// A run of the step `PlusTwo`.
+fn plus_two_run(
+    buf: &mut [i32],
+    t: usize,
+    a: usize,
+    b: usize,
+    n: usize,
+    c: u32,
+    base: u64,
+    cut: u32,
+)
     requires { ⌜ Runs (now buf) t a b n ⌝ }
-    requires { ⌜ SafeBy (Formed form) t a b n (at (now buf)) ⌝ }
-    ensures { λ _. ⌜ at (now (buf .exit)) ≡ ran (formed form) t a b n (at (now (buf .entry))) ⌝ }
+    requires { ⌜ SafeRun (Step.PlusTwo c base cut) t a b n (at (now buf)) ⌝ }
+    ensures { λ _. ⌜ at (now (buf .exit)) ≡ ran (applied (Step.PlusTwo c base cut)) t a b n (at (now (buf .entry))) ⌝ }
 {
-    match form {
-        Form::Slow { m, c, cut } => run(buf, t, a, b, n, Step::Wide { m, c, cut }),
-        Form::Up { m, c, base, cut } => up_run(buf, t, a, b, n, m, c, base, cut),
-        Form::Down { m, c, base, cut } => down_run(buf, t, a, b, n, m, c, base, cut),
-        Form::Plus { c, base, cut } => plus_run(buf, t, a, b, n, c, base, cut),
-        Form::Minus { c, base, cut } => minus_run(buf, t, a, b, n, c, base, cut),
+    for j in 0..n {
+        let v = plus_two_of(c, base, cut, buf[t + j], buf[a + j], buf[b + j]);
+        buf[t + j] = v;
     }
 }
 
-// A run of a short step in the form that is fastest.
-fn short_run(buf: &mut [i32], t: usize, a: usize, b: usize, n: usize, m: i64, c: i64, cut: u32)
+// A run of the step `MinusTwo`.
+fn minus_two_run(
+    buf: &mut [i32],
+    t: usize,
+    a: usize,
+    b: usize,
+    n: usize,
+    c: u32,
+    base: u64,
+    cut: u32,
+)
     requires { ⌜ Runs (now buf) t a b n ⌝ }
-    requires { ⌜ SafeRun (Step.Short m c cut) t a b n (at (now buf)) ⌝ }
-    ensures { λ _. ⌜ at (now (buf .exit)) ≡ ran (applied (Step.Short m c cut)) t a b n (at (now (buf .entry))) ⌝ }
+    requires { ⌜ SafeRun (Step.MinusTwo c base cut) t a b n (at (now buf)) ⌝ }
+    ensures { λ _. ⌜ at (now (buf .exit)) ≡ ran (applied (Step.MinusTwo c base cut)) t a b n (at (now (buf .entry))) ⌝ }
 {
-    let form = quick(m, c, cut);
-    form_run(buf, t, a, b, n, form);
+    for j in 0..n {
+        let v = minus_two_of(c, base, cut, buf[t + j], buf[a + j], buf[b + j]);
+        buf[t + j] = v;
+    }
 }
 
 // A step at each place of a run, dispatched once: each arm's loop is compiled for its own step.
@@ -451,7 +586,13 @@ fn lift_run(buf: &mut [i32], t: usize, a: usize, b: usize, n: usize, step: Step)
         Step::Unpredict => run(buf, t, a, b, n, Step::Unpredict),
         Step::Unupdate => run(buf, t, a, b, n, Step::Unupdate),
         Step::Wide { m, c, cut } => run(buf, t, a, b, n, Step::Wide { m, c, cut }),
-        Step::Short { m, c, cut } => short_run(buf, t, a, b, n, m, c, cut),
+        Step::Short { m, c, cut } => run(buf, t, a, b, n, Step::Short { m, c, cut }),
+        Step::Up { m, c, base, cut } => up_run(buf, t, a, b, n, m, c, base, cut),
+        Step::Down { m, c, base, cut } => down_run(buf, t, a, b, n, m, c, base, cut),
+        Step::Plus { c, base, cut } => plus_run(buf, t, a, b, n, c, base, cut),
+        Step::Minus { c, base, cut } => minus_run(buf, t, a, b, n, c, base, cut),
+        Step::PlusTwo { c, base, cut } => plus_two_run(buf, t, a, b, n, c, base, cut),
+        Step::MinusTwo { c, base, cut } => minus_two_run(buf, t, a, b, n, c, base, cut),
     }
 }
 
@@ -486,32 +627,49 @@ fn raised_run(
     to: usize,
     n: usize,
     c: u32,
+    pad: u64,
     base: u64,
     cut: u32,
 )
     requires { ⌜ (from + n ≤ length (now src)) × (to + n ≤ length (now dst)) ⌝ }
-    requires { ⌜ Raises c base cut ⌝ }
+    requires { ⌜ Raises c pad base cut ⌝ }
     requires { ⌜ ((j : ℕ) → j < n → SFits w32 (shrZ (pos c *ℤ at (now src) (from + j)) (2 ^ cut))) ⌝ }
     ensures { λ _. ⌜ at (now (dst .exit)) ≡ patch to n (λ j. shrZ (pos c *ℤ at (now (src .entry)) (from + j)) (2 ^ cut)) (at (now (dst .entry))) ⌝ }
 {
     for j in 0..n {
-        let v = raised_by(c, base, cut, src[from + j]);
+        let v = raised_by(c, pad, base, cut, src[from + j]);
         dst[to + j] = v;
     }
 }
 
 // What a factor's values may be raised by: its constant, or 2 ^ 31 where they may not.
 fn raisable(g: Factor) -> u32
-    ensures { λ r. ⌜ (r < 2147483648 → (1 ≤ g .cut) × (g .cut ≤ 31) × (g .c ≡ pos r)) ⌝ }
+    ensures { λ r. ⌜ (r < 2147483648 → (1 ≤ g .cut) × (g .cut ≤ 62) × (g .c ≡ pos r)) ⌝ }
 {
     let k = size(g.c);
     if g.cut == 0 {
         return 2147483648;
     }
-    if 31 < g.cut {
+    if 62 < g.cut {
         return 2147483648;
     }
     if g.c < 0 { 2147483648 } else { k }
+}
+
+// 2 to a power.
+fn power(cut: u32) -> u64
+    requires { ⌜ cut ≤ 62 ⌝ }
+    ensures { λ r. ⌜ r ≡ 2 ^ cut ⌝ }
+{
+    1u64 << cut
+}
+
+// How often 2 ^ cut goes into more than total.
+fn multiple(total: u64, cut: u32) -> u64
+    requires { ⌜ (total < 4611686018427387904) × (cut ≤ 62) ⌝ }
+    ensures { λ r. ⌜ (total ≤ r * 2 ^ cut) × (r * 2 ^ cut ≤ total + 2 ^ cut) ⌝ }
+{
+    (total >> cut) + 1
 }
 
 // The n values of src from place `from` on, scaled, go to dst from place `to` on.
@@ -522,241 +680,72 @@ fn scale_run(src: &[i32], from: usize, dst: &mut [i32], to: usize, n: usize, g: 
 {
     let c = raisable(g);
     if c < 2147483648 {
-        raised_run(src, from, dst, to, n, c, base_of(c as u64, g.cut), g.cut);
+        let total = (c as u64) * 2147483648;
+        let base = multiple(total, g.cut);
+        let pad = base * power(g.cut) - total;
+        raised_run(src, from, dst, to, n, c, pad, base, g.cut);
     } else {
         wide_run(src, from, dst, to, n, g);
     }
 }
 
-// ---- a row
+// ---- a tile
 
-// A step at each high of a line of n values, whose lows stand first.
-fn on_highs(buf: &mut [i32], base: usize, n: usize, step: Step)
-    requires { ⌜ (2 ≤ n) × (base + n ≤ length (now buf)) ⌝ }
-    requires { ⌜ AtHighs (Safe step) base n (at (now buf)) ⌝ }
-    ensures { λ _. ⌜ at (now (buf .exit)) ≡ highsDone (applied step) base n (at (now (buf .entry))) ⌝ }
+// A step at each high of each column of a tile of n lines of s values.
+fn on_highs(tile: &mut [i32], s: usize, n: usize, step: Step)
+    requires { ⌜ Tile (now tile) s n ⌝ }
+    requires { ⌜ AtHighs (Safe step) s n (at (now tile)) ⌝ }
+    ensures { λ _. ⌜ at (now (tile .exit)) ≡ highsDone (applied step) s n (at (now (tile .entry))) ⌝ }
 {
     let low = (n + 1) / 2;
-    let top = base + low;
-    let most = low - 1;
-    lift_run(buf, top, base, base + 1, most, step);
-    if most < n / 2 {
-        lift_run(buf, top + most, base + most, base + most, 1, step);
+    let top = low * s;
+    let most = (low - 1) * s;
+    lift_run(tile, top, 0, s, most, step);
+    if low - 1 < n / 2 {
+        lift_run(tile, top + most, most, most, s, step);
     }
 }
 
-// A step at each low of such a line.
-fn on_lows(buf: &mut [i32], base: usize, n: usize, step: Step)
-    requires { ⌜ (2 ≤ n) × (base + n ≤ length (now buf)) ⌝ }
-    requires { ⌜ AtLows (Safe step) base n (at (now buf)) ⌝ }
-    ensures { λ _. ⌜ at (now (buf .exit)) ≡ lowsDone (applied step) base n (at (now (buf .entry))) ⌝ }
-{
-    let low = (n + 1) / 2;
-    let high = n / 2;
-    let top = base + low;
-    let last = high - 1;
-    lift_run(buf, base, top, top, 1, step);
-    lift_run(buf, base + 1, top, top + 1, last, step);
-    if high < low {
-        lift_run(buf, base + high, top + last, top + last, 1, step);
-    }
-}
-
-// Pairs of neighbours in src from place `from` on, n of them: the first of each goes to the places from 0 on, the second to those from `low` on.
-fn split_pairs(src: &[i32], from: usize, dst: &mut [i32], low: usize, n: usize)
-    requires { ⌜ (from + 2 * n ≤ length (now src)) × (n ≤ low) × (low + n ≤ length (now dst)) ⌝ }
-    ensures { λ _. ⌜ at (now (dst .exit)) ≡ patch low n (odds (λ i. at (now (src .entry)) (from + i))) (patch 0 n (evens (λ i. at (now (src .entry)) (from + i))) (at (now (dst .entry)))) ⌝ }
-{
-    for j in 0..n {
-        let first = src[from + 2 * j];
-        let second = src[from + (2 * j + 1)];
-        dst[j] = first;
-        dst[low + j] = second;
-    }
-}
-
-// The n values of src from place `from` on go to dst, the lows first.
-fn split_row(src: &[i32], from: usize, dst: &mut [i32], n: usize)
-    requires { ⌜ (from + n ≤ length (now src)) × (n ≤ length (now dst)) ⌝ }
-    ensures { λ _. ⌜ at (now (dst .exit)) ≡ split 0 n (evens (λ i. at (now (src .entry)) (from + i))) (odds (λ i. at (now (src .entry)) (from + i))) (at (now (dst .entry))) ⌝ }
+// A step at each low.
+fn on_lows(tile: &mut [i32], s: usize, n: usize, step: Step)
+    requires { ⌜ Tile (now tile) s n ⌝ }
+    requires { ⌜ AtLows (Safe step) s n (at (now tile)) ⌝ }
+    ensures { λ _. ⌜ at (now (tile .exit)) ≡ lowsDone (applied step) s n (at (now (tile .entry))) ⌝ }
 {
     let low = (n + 1) / 2;
     let high = n / 2;
-    split_pairs(src, from, dst, low, high);
+    let top = low * s;
+    let most = (high - 1) * s;
+    lift_run(tile, 0, top, top, s, step);
+    lift_run(tile, s, top, top + s, most, step);
     if high < low {
-        let last = src[from + 2 * high];
-        dst[high] = last;
+        lift_run(tile, high * s, top + most, top + most, s, step);
     }
 }
 
-// Value j of src and value low + j, j < n, go to neighbouring places of dst, from place `to` on.
-fn merge_pairs(src: &[i32], low: usize, dst: &mut [i32], to: usize, n: usize)
-    requires { ⌜ (n ≤ low) × (low + n ≤ length (now src)) × (to + 2 * n ≤ length (now dst)) ⌝ }
-    ensures { λ _. ⌜ at (now (dst .exit)) ≡ patch to (2 * n) (interleaved (at (now (src .entry))) (λ i. at (now (src .entry)) (low + i))) (at (now (dst .entry))) ⌝ }
+// A pair of steps: the highs, then the lows.
+fn lift(tile: &mut [i32], s: usize, n: usize, first: Step, second: Step)
+    requires { ⌜ Tile (now tile) s n ⌝ }
+    requires { ⌜ LiftSafe first second s n (at (now tile)) ⌝ }
+    ensures { λ _. ⌜ at (now (tile .exit)) ≡ liftedTile (applied first) (applied second) s n (at (now (tile .entry))) ⌝ }
 {
-    for j in 0..n {
-        let first = src[j];
-        let second = src[low + j];
-        dst[to + 2 * j] = first;
-        dst[to + (2 * j + 1)] = second;
-    }
+    on_highs(tile, s, n, first);
+    on_lows(tile, s, n, second);
 }
 
-// The line of n values that lies split in src goes to dst from place `to` on, each value to its own place.
-fn merge_row(src: &[i32], dst: &mut [i32], to: usize, n: usize)
-    requires { ⌜ (n ≤ length (now src)) × (to + n ≤ length (now dst)) ⌝ }
-    ensures { λ _. ⌜ at (now (dst .exit)) ≡ patch to n (interleaved (at (now (src .entry))) (λ i. at (now (src .entry)) (lows n + i))) (at (now (dst .entry))) ⌝ }
+// A pair of steps undone: the lows, then the highs.
+fn unlift(tile: &mut [i32], s: usize, n: usize, second: Step, first: Step)
+    requires { ⌜ Tile (now tile) s n ⌝ }
+    requires { ⌜ UnliftSafe second first s n (at (now tile)) ⌝ }
+    ensures { λ _. ⌜ at (now (tile .exit)) ≡ unliftedTile (applied second) (applied first) s n (at (now (tile .entry))) ⌝ }
 {
-    let low = (n + 1) / 2;
-    let high = n / 2;
-    merge_pairs(src, low, dst, to, high);
-    if high < low {
-        let last = src[high];
-        dst[to + 2 * high] = last;
-    }
+    on_lows(tile, s, n, second);
+    on_highs(tile, s, n, first);
 }
 
-// The n values of the plane from place `from` on, worked by a pair of steps.
-fn row_pair(plane: &mut [i32], tile: &mut [i32], from: usize, n: usize, first: Step, second: Step)
-    requires { ⌜ Row (now plane) (now tile) from n ⌝ }
-    requires { ⌜ SafeKernel (Kernel.Pair first second) n (λ i. at (now plane) (from + i)) ⌝ }
-    ensures { λ _. ⌜ at (now (plane .exit)) ≡ rowWorked (Kernel.Pair first second) from n (at (now (plane .entry))) ⌝ }
-{
-    split_row(plane, from, tile, n);
-    on_highs(tile, 0, n, first);
-    on_lows(tile, 0, n, second);
-    copy_run(tile, 0, plane, from, n);
-}
+// ---- lines in and out
 
-// The same, by four steps and a scaling.
-fn row_four(
-    plane: &mut [i32],
-    tile: &mut [i32],
-    from: usize,
-    n: usize,
-    p1: Step,
-    u1: Step,
-    p2: Step,
-    u2: Step,
-    g1: Factor,
-    g2: Factor,
-)
-    requires { ⌜ Row (now plane) (now tile) from n ⌝ }
-    requires { ⌜ SafeKernel (Kernel.Four p1 u1 p2 u2 g1 g2) n (λ i. at (now plane) (from + i)) ⌝ }
-    ensures { λ _. ⌜ at (now (plane .exit)) ≡ rowWorked (Kernel.Four p1 u1 p2 u2 g1 g2) from n (at (now (plane .entry))) ⌝ }
-{
-    split_row(plane, from, tile, n);
-    on_highs(tile, 0, n, p1);
-    on_lows(tile, 0, n, u1);
-    on_highs(tile, 0, n, p2);
-    on_lows(tile, 0, n, u2);
-    let low = (n + 1) / 2;
-    scale_run(tile, 0, plane, from, low, g1);
-    scale_run(tile, low, plane, from + low, n / 2, g2);
-}
-
-// The same, a pair of steps undone.
-fn row_undo(plane: &mut [i32], tile: &mut [i32], from: usize, n: usize, second: Step, first: Step)
-    requires { ⌜ Row (now plane) (now tile) from n ⌝ }
-    requires { ⌜ SafeKernel (Kernel.Undo second first) n (λ i. at (now plane) (from + i)) ⌝ }
-    ensures { λ _. ⌜ at (now (plane .exit)) ≡ rowWorked (Kernel.Undo second first) from n (at (now (plane .entry))) ⌝ }
-{
-    copy_run(plane, from, tile, 0, n);
-    on_lows(tile, 0, n, second);
-    on_highs(tile, 0, n, first);
-    merge_row(tile, plane, from, n);
-}
-
-// The n values of the plane from place `from` on, worked through the tile.
-fn row(plane: &mut [i32], tile: &mut [i32], from: usize, n: usize, kernel: Kernel)
-    requires { ⌜ Row (now plane) (now tile) from n ⌝ }
-    requires { ⌜ SafeKernel kernel n (λ i. at (now plane) (from + i)) ⌝ }
-    ensures { λ _. ⌜ at (now (plane .exit)) ≡ rowWorked kernel from n (at (now (plane .entry))) ⌝ }
-{
-    match kernel {
-        Kernel::Pair(first, second) => row_pair(plane, tile, from, n, first, second),
-        Kernel::Four {
-            p1,
-            u1,
-            p2,
-            u2,
-            g1,
-            g2,
-        } => row_four(plane, tile, from, n, p1, u1, p2, u2, g1, g2),
-        Kernel::Undo(second, first) => row_undo(plane, tile, from, n, second, first),
-    }
-}
-
-// The first w values of each of h rows, row r starting at r * stride, worked in place through the tile.
-pub fn rows(plane: &mut [i32], tile: &mut [i32], stride: usize, w: usize, h: usize, kernel: Kernel)
-    requires { ⌜ Part (now plane) stride 0 w h × (2 ≤ w) × (w ≤ length (now tile)) ⌝ }
-    requires { ⌜ ((r : ℕ) → r < h → SafeKernel kernel w (rowOf stride 0 (at (now plane)) r)) ⌝ }
-    ensures { λ _. ⌜ at (now (plane .exit)) ≡ rowsWorked kernel stride w h (at (now (plane .entry))) ⌝ }
-{
-    for r in 0..h {
-        row(plane, tile, r * stride, w, kernel);
-    }
-}
-
-// ---- lines
-
-// The smaller of two numbers.
-fn smaller(a: usize, b: usize) -> usize
-    ensures { λ r. ⌜ r ≡ min a b ⌝ }
-{
-    if a < b { a } else { b }
-}
-
-// One less, down to 0.
-fn one_less(a: usize) -> usize
-    ensures { λ r. ⌜ r ≡ a - 1 ⌝ }
-{
-    if a == 0 { 0 } else { a - 1 }
-}
-
-// A step at each line of highs, of n lines of m values, whose lines of lows stand first; line i starts at base + i * stride.
-fn on_high_lines(buf: &mut [i32], base: usize, stride: usize, n: usize, m: usize, step: Step)
-    requires { ⌜ Lying (now buf) base stride n m ⌝ }
-    requires { ⌜ AtHighLines (Safe step) (lineAt base stride) n m (at (now buf)) ⌝ }
-    ensures { λ _. ⌜ at (now (buf .exit)) ≡ highLinesDone (applied step) (lineAt base stride) n m (at (now (buf .entry))) ⌝ }
-{
-    let low = (n + 1) / 2;
-    for i in 0..n / 2 {
-        let next = smaller(i + 1, low - 1);
-        lift_run(
-            buf,
-            base + (low + i) * stride,
-            base + i * stride,
-            base + next * stride,
-            m,
-            step,
-        );
-    }
-}
-
-// A step at each line of lows.
-fn on_low_lines(buf: &mut [i32], base: usize, stride: usize, n: usize, m: usize, step: Step)
-    requires { ⌜ (2 ≤ n) × Lying (now buf) base stride n m ⌝ }
-    requires { ⌜ AtLowLines (Safe step) (lineAt base stride) n m (at (now buf)) ⌝ }
-    ensures { λ _. ⌜ at (now (buf .exit)) ≡ lowLinesDone (applied step) (lineAt base stride) n m (at (now (buf .entry))) ⌝ }
-{
-    let low = (n + 1) / 2;
-    let last = n / 2 - 1;
-    for i in 0..low {
-        let before = low + one_less(i);
-        let after = low + smaller(i, last);
-        lift_run(
-            buf,
-            base + i * stride,
-            base + before * stride,
-            base + after * stride,
-            m,
-            step,
-        );
-    }
-}
-
-// n lines of m values: line i of src starts at from + i * step, line i of dst at to + i * leap.
+// n lines of m values: line i of src starts at from + i * step, line i of dst at to + i * leap. Lines without a gap are one run.
 fn copy_lines(
     src: &[i32],
     from: usize,
@@ -770,16 +759,21 @@ fn copy_lines(
     requires { ⌜ Lying (now src) from step n m × Lying (now dst) to leap n m ⌝ }
     ensures { λ _. ⌜ at (now (dst .exit)) ≡ patchLines (lineAt to leap) m n (λ i j. at (now (src .entry)) (lineAt from step i + j)) (at (now (dst .entry))) ⌝ }
 {
+    if step == m {
+        if leap == m {
+            copy_run(src, from, dst, to, n * m);
+            return;
+        }
+    }
     for i in 0..n {
         copy_run(src, from + i * step, dst, to + i * leap, m);
     }
 }
 
-// The same, each value scaled on the way.
+// The n lines of m values of src from place `from` on, scaled, go to dst: line i to to + i * leap.
 fn scale_lines(
     src: &[i32],
     from: usize,
-    step: usize,
     dst: &mut [i32],
     to: usize,
     leap: usize,
@@ -787,36 +781,88 @@ fn scale_lines(
     m: usize,
     g: Factor,
 )
-    requires { ⌜ Lying (now src) from step n m × Lying (now dst) to leap n m ⌝ }
-    requires { ⌜ ((i j : ℕ) → i < n → j < m → FactorSafe g (at (now src) (lineAt from step i + j))) ⌝ }
-    ensures { λ _. ⌜ at (now (dst .exit)) ≡ patchLines (lineAt to leap) m n (λ i j. scaledBy g (at (now (src .entry)) (lineAt from step i + j))) (at (now (dst .entry))) ⌝ }
+    requires { ⌜ Lying (now src) from m n m × Lying (now dst) to leap n m ⌝ }
+    requires { ⌜ ((i j : ℕ) → i < n → j < m → FactorSafe g (at (now src) (lineAt from m i + j))) ⌝ }
+    ensures { λ _. ⌜ at (now (dst .exit)) ≡ patchLines (lineAt to leap) m n (λ i j. scaledBy g (at (now (src .entry)) (lineAt from m i + j))) (at (now (dst .entry))) ⌝ }
 {
+    if leap == m {
+        scale_run(src, from, dst, to, n * m, g);
+        return;
+    }
     for i in 0..n {
-        scale_run(src, from + i * step, dst, to + i * leap, m, g);
+        scale_run(src, from + i * m, dst, to + i * leap, m, g);
     }
 }
 
-// ---- a strip: s neighbouring columns of n rows, from column `from` on
+// Two lines of m values, from places a and b of src to places c and d of dst.
+fn copy_pair(src: &[i32], a: usize, b: usize, dst: &mut [i32], c: usize, d: usize, m: usize)
+    requires { ⌜ (a + m ≤ length (now src)) × (b + m ≤ length (now src)) × (c + m ≤ length (now dst)) × (d + m ≤ length (now dst)) ⌝ }
+    ensures { λ _. ⌜ at (now (dst .exit)) ≡ patch d m (λ j. at (now (src .entry)) (b + j)) (patch c m (λ j. at (now (src .entry)) (a + j)) (at (now (dst .entry)))) ⌝ }
+{
+    copy_run(src, a, dst, c, m);
+    copy_run(src, b, dst, d, m);
+}
 
-// The strip's rows go to the tile, the even ones first.
+// The strip's lines go to the tile, the even ones first.
 fn split_lines(plane: &[i32], tile: &mut [i32], stride: usize, from: usize, s: usize, n: usize)
     requires { ⌜ Strip (now plane) (now tile) stride from s n ⌝ }
-    ensures { λ _. ⌜ at (now (tile .exit)) ≡ splitLines (lineAt 0 s) n s (evens (rowOf stride from (at (now (plane .entry))))) (odds (rowOf stride from (at (now (plane .entry))))) (at (now (tile .entry))) ⌝ }
+    ensures { λ _. ⌜ Held s n (λ j. evens (columnOf stride from (at (now (plane .entry))) j)) (λ j. odds (columnOf stride from (at (now (plane .entry))) j)) (at (now (tile .exit))) ⌝ }
 {
     let low = (n + 1) / 2;
-    copy_lines(plane, from, 2 * stride, tile, 0, s, low, s);
-    copy_lines(plane, from + stride, 2 * stride, tile, low * s, s, n / 2, s);
+    let high = n / 2;
+    let top = low * s;
+    for i in 0..high {
+        let a = from + 2 * i * stride;
+        let c = i * s;
+        copy_pair(plane, a, a + stride, tile, c, top + c, s);
+    }
+    if high < low {
+        copy_run(plane, from + 2 * high * stride, tile, high * s, s);
+    }
 }
 
-// The tile's lines go to the strip's rows, those of the lows to the even ones.
+// The tile's lines go to the strip's, those of the lows to the even ones.
 fn merge_lines(tile: &[i32], plane: &mut [i32], stride: usize, from: usize, s: usize, n: usize)
     requires { ⌜ Strip (now plane) (now tile) stride from s n ⌝ }
-    ensures { λ _. ⌜ at (now (plane .exit)) ≡ patchLines (lineAt from stride) s n (interleaved (rowOf s 0 (at (now (tile .entry)))) (λ i. rowOf s 0 (at (now (tile .entry))) (lows n + i))) (at (now (plane .entry))) ⌝ }
+    ensures { λ _. ⌜ at (now (plane .exit)) ≡ patchLines (lineAt from stride) s n (λ i j. interleaved (column s (at (now (tile .entry))) j) (highColumn s n (at (now (tile .entry))) j) i) (at (now (plane .entry))) ⌝ }
 {
     let low = (n + 1) / 2;
-    copy_lines(tile, 0, s, plane, from, 2 * stride, low, s);
-    copy_lines(tile, low * s, s, plane, from + stride, 2 * stride, n / 2, s);
+    let high = n / 2;
+    let top = low * s;
+    for i in 0..high {
+        let a = from + 2 * i * stride;
+        let c = i * s;
+        copy_pair(tile, c, top + c, plane, a, a + stride, s);
+    }
+    if high < low {
+        copy_run(tile, high * s, plane, from + 2 * high * stride, s);
+    }
 }
+
+// The same two, with a loop of its own for a row.
+fn split(plane: &[i32], tile: &mut [i32], stride: usize, from: usize, s: usize, n: usize)
+    requires { ⌜ Strip (now plane) (now tile) stride from s n ⌝ }
+    ensures { λ _. ⌜ Held s n (λ j. evens (columnOf stride from (at (now (plane .entry))) j)) (λ j. odds (columnOf stride from (at (now (plane .entry))) j)) (at (now (tile .exit))) ⌝ }
+{
+    if stride == 1 {
+        split_lines(plane, tile, 1, from, 1, n);
+    } else {
+        split_lines(plane, tile, stride, from, s, n);
+    }
+}
+
+fn merge(tile: &[i32], plane: &mut [i32], stride: usize, from: usize, s: usize, n: usize)
+    requires { ⌜ Strip (now plane) (now tile) stride from s n ⌝ }
+    ensures { λ _. ⌜ at (now (plane .exit)) ≡ patchLines (lineAt from stride) s n (λ i j. interleaved (column s (at (now (tile .entry))) j) (highColumn s n (at (now (tile .entry))) j) i) (at (now (plane .entry))) ⌝ }
+{
+    if stride == 1 {
+        merge_lines(tile, plane, 1, from, 1, n);
+    } else {
+        merge_lines(tile, plane, stride, from, s, n);
+    }
+}
+
+// ---- a strip: s neighbouring columns of n lines, line i from place from + i * stride on; a row is one column with stride 1
 
 // The strip, worked by a pair of steps.
 fn strip_pair(
@@ -833,13 +879,12 @@ fn strip_pair(
     requires { ⌜ ((j : ℕ) → j < s → SafeKernel (Kernel.Pair first second) n (columnOf stride from (at (now plane)) j)) ⌝ }
     ensures { λ _. ⌜ at (now (plane .exit)) ≡ columnsWorked (Kernel.Pair first second) stride from s n (at (now (plane .entry))) ⌝ }
 {
-    split_lines(plane, tile, stride, from, s, n);
-    on_high_lines(tile, 0, s, n, s, first);
-    on_low_lines(tile, 0, s, n, s, second);
+    split(plane, tile, stride, from, s, n);
+    lift(tile, s, n, first, second);
     copy_lines(tile, 0, s, plane, from, stride, n, s);
 }
 
-// The same, by four steps and a scaling.
+// The same, by two pairs and a scaling.
 fn strip_four(
     plane: &mut [i32],
     tile: &mut [i32],
@@ -858,17 +903,14 @@ fn strip_four(
     requires { ⌜ ((j : ℕ) → j < s → SafeKernel (Kernel.Four p1 u1 p2 u2 g1 g2) n (columnOf stride from (at (now plane)) j)) ⌝ }
     ensures { λ _. ⌜ at (now (plane .exit)) ≡ columnsWorked (Kernel.Four p1 u1 p2 u2 g1 g2) stride from s n (at (now (plane .entry))) ⌝ }
 {
-    split_lines(plane, tile, stride, from, s, n);
-    on_high_lines(tile, 0, s, n, s, p1);
-    on_low_lines(tile, 0, s, n, s, u1);
-    on_high_lines(tile, 0, s, n, s, p2);
-    on_low_lines(tile, 0, s, n, s, u2);
+    split(plane, tile, stride, from, s, n);
+    lift(tile, s, n, p1, u1);
+    lift(tile, s, n, p2, u2);
     let low = (n + 1) / 2;
-    scale_lines(tile, 0, s, plane, from, stride, low, s, g1);
+    scale_lines(tile, 0, plane, from, stride, low, s, g1);
     scale_lines(
         tile,
         low * s,
-        s,
         plane,
         from + low * stride,
         stride,
@@ -894,9 +936,8 @@ fn strip_undo(
     ensures { λ _. ⌜ at (now (plane .exit)) ≡ columnsWorked (Kernel.Undo second first) stride from s n (at (now (plane .entry))) ⌝ }
 {
     copy_lines(plane, from, stride, tile, 0, s, n, s);
-    on_low_lines(tile, 0, s, n, s, second);
-    on_high_lines(tile, 0, s, n, s, first);
-    merge_lines(tile, plane, stride, from, s, n);
+    unlift(tile, s, n, second, first);
+    merge(tile, plane, stride, from, s, n);
 }
 
 // The strip, worked through the tile.
@@ -927,6 +968,25 @@ fn strip(
     }
 }
 
+// The first w values of each of h rows, row r starting at r * stride, worked in place through the tile.
+pub fn rows(plane: &mut [i32], tile: &mut [i32], stride: usize, w: usize, h: usize, kernel: Kernel)
+    requires { ⌜ Part (now plane) stride 0 w h × Liftable w × (w ≤ length (now tile)) ⌝ }
+    requires { ⌜ ((r : ℕ) → r < h → SafeKernel kernel w (rowOf stride 0 (at (now plane)) r)) ⌝ }
+    ensures { λ _. ⌜ at (now (plane .exit)) ≡ rowsWorked kernel stride w h (at (now (plane .entry))) ⌝ }
+{
+    let ready = readied(kernel);
+    for r in 0..h {
+        strip(plane, tile, 1, r * stride, 1, w, ready);
+    }
+}
+
+// The smaller of two numbers.
+fn smaller(a: usize, b: usize) -> usize
+    ensures { λ r. ⌜ r ≡ min a b ⌝ }
+{
+    if a < b { a } else { b }
+}
+
 // w columns of h rows, from column `from` on, worked in place through the tile, strip by strip.
 pub fn columns(
     plane: &mut [i32],
@@ -937,15 +997,16 @@ pub fn columns(
     h: usize,
     kernel: Kernel,
 )
-    requires { ⌜ Part (now plane) stride from w h × (2 ≤ h) × (h ≤ length (now tile)) ⌝ }
+    requires { ⌜ Part (now plane) stride from w h × Liftable h × (h ≤ length (now tile)) ⌝ }
     requires { ⌜ ((j : ℕ) → j < w → SafeKernel kernel h (columnOf stride from (at (now plane)) j)) ⌝ }
     ensures { λ _. ⌜ at (now (plane .exit)) ≡ columnsWorked kernel stride from w h (at (now (plane .entry))) ⌝ }
 {
+    let ready = readied(kernel);
     let most = smaller(64, tile.len() / h);
     let mut done = 0;
     while done < w {
         let s = smaller(most, w - done);
-        strip(plane, tile, stride, from + done, s, h, kernel);
+        strip(plane, tile, stride, from + done, s, h, ready);
         done += s;
     }
 }

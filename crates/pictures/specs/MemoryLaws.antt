@@ -22,8 +22,7 @@ use Rattle.lifting.specs.declared.Kernel.{Kernel}
 use Rattle.lifting.specs.declared.Kernel.the-variants.{Pair, Four, Undo}
 use Rattle.lifting.specs.Steps.{applied, scaledBy}
 use Rattle.lifting.specs.Patch.{at, patch, patch-in, patch-above, patch-ext, patch-set}
-use Rattle.lifting.specs.Columns.{lineAt, lines-apart, lines-out}
-use Rattle.lifting.specs.LineSplit.{lines-in}
+use Rattle.lifting.specs.PatchLines.{lineAt, lines-apart, lines-out, lines-in}
 use Rattle.lifting.specs.Passes.{evens, odds}
 use Rattle.pictures.specs.Pictures.{zeroed}
 use Rattle.lifting.specs.Kernels.{worked, rowsWorked, columnsWorked}

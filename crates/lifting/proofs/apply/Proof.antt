@@ -1,27 +1,29 @@
 -- `lifting::apply` meets its contract: in each arm the step is the one that the arm takes.
 -- Assumes nothing.
+use mathlib.Core.Path.{subst}
 use borrow.Author.Needs.{needs}
+use Rattle.lifting.specs.Steps.{Plain}
 use Rattle.lifting.proofs.Read.{safe-back, applied-back, wide-back, short-back}
 use Rattle.lifting.proofs.apply.Statement.{statement}
 use Rattle.lifting.proofs.apply.Tie as tie
 
 predicted-requires : tie.Need-predicted-requires
-predicted-requires c κs = let a = c .before .before in safe-back (a .fits .own) (a .fits .x) (a .fits .y) (c .enum-told .given .1) (a .pre)
+predicted-requires c κs = let a = c .before .before in safe-back (a .fits .own) (a .fits .x) (a .fits .y) (c .enum-told .given .1) (a .pre .1)
 
 updated-requires : tie.Need-updated-requires
-updated-requires c κs = let a = c .before .before in safe-back (a .fits .own) (a .fits .x) (a .fits .y) (c .enum-told2 .given .1) (a .pre)
+updated-requires c κs = let a = c .before .before in safe-back (a .fits .own) (a .fits .x) (a .fits .y) (c .enum-told2 .given .1) (a .pre .1)
 
 unpredicted-requires : tie.Need-unpredicted-requires
-unpredicted-requires c κs = let a = c .before .before in safe-back (a .fits .own) (a .fits .x) (a .fits .y) (c .enum-told3 .given .1) (a .pre)
+unpredicted-requires c κs = let a = c .before .before in safe-back (a .fits .own) (a .fits .x) (a .fits .y) (c .enum-told3 .given .1) (a .pre .1)
 
 unupdated-requires : tie.Need-unupdated-requires
-unupdated-requires c κs = let a = c .before .before in safe-back (a .fits .own) (a .fits .x) (a .fits .y) (c .enum-told4 .given .1) (a .pre)
+unupdated-requires c κs = let a = c .before .before in safe-back (a .fits .own) (a .fits .x) (a .fits .y) (c .enum-told4 .given .1) (a .pre .1)
 
 wide-of-requires : tie.Need-wide-of-requires
-wide-of-requires c κs = let a = c .before .before .before in safe-back (a .fits .own) (a .fits .x) (a .fits .y) (wide-back (search needs) (search needs) (c .before .step .given .1)) (a .pre)
+wide-of-requires c κs = let a = c .before .before .before in safe-back (a .fits .own) (a .fits .x) (a .fits .y) (wide-back (search needs) (search needs) (c .before .step .given .1)) (a .pre .1)
 
 wide-of-requires-2 : tie.Need-wide-of-requires-2
-wide-of-requires-2 c κs = let a = c .before .before .before in safe-back (a .fits .own) (a .fits .x) (a .fits .y) (short-back (search needs) (search needs) (c .before .step2 .given .1)) (a .pre) .wide
+wide-of-requires-2 c κs = let a = c .before .before .before in safe-back (a .fits .own) (a .fits .x) (a .fits .y) (short-back (search needs) (search needs) (c .before .step2 .given .1)) (a .pre .1) .wide
 
 returns : tie.Need-returns
 returns c =
@@ -53,6 +55,24 @@ returns-6 c =
     let a = c .before .before .before .before in
     applied-back (a .fits .own) (a .fits .x) (a .fits .y) (short-back (search needs) (search needs) (c .before .before .step2 .given .1)) (c .wide-of2 .ok) (c .wide-of2 .ensures)
 
+returns-7 : tie.Need-returns-7
+returns-7 c = absurd (subst Plain (c .before .step3 .given .1) (c .before .before .before .pre .0))
+
+returns-8 : tie.Need-returns-8
+returns-8 c = absurd (subst Plain (c .before .step4 .given .1) (c .before .before .before .pre .0))
+
+returns-9 : tie.Need-returns-9
+returns-9 c = absurd (subst Plain (c .before .step5 .given .1) (c .before .before .before .pre .0))
+
+returns-10 : tie.Need-returns-10
+returns-10 c = absurd (subst Plain (c .before .step6 .given .1) (c .before .before .before .pre .0))
+
+returns-11 : tie.Need-returns-11
+returns-11 c = absurd (subst Plain (c .before .step7 .given .1) (c .before .before .before .pre .0))
+
+returns-12 : tie.Need-returns-12
+returns-12 c = absurd (subst Plain (c .before .step8 .given .1) (c .before .before .before .pre .0))
+
 pub apply-spec : {M : Type 1} → statement M
 apply-spec =
     tie.close
@@ -69,9 +89,21 @@ apply-spec =
     wide-of-requires
     (λ c. search needs)
     wide-of-requires-2
+    (λ c. search needs)
+    (λ c. search needs)
+    (λ c. search needs)
+    (λ c. search needs)
+    (λ c. search needs)
+    (λ c. search needs)
     returns
     returns-2
     returns-3
     returns-4
     returns-5
-    returns-6)
+    returns-6
+    returns-7
+    returns-8
+    returns-9
+    returns-10
+    returns-11
+    returns-12)

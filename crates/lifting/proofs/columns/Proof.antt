@@ -1,30 +1,30 @@
 -- `lifting::columns` meets its contract. The loop's invariant: the first `done` columns are worked.
 -- Assumes nothing.
-use mathlib.Core.Path.{_≡_, refl, sym, subst}
-use Prim.Native.Nat.{_+_, _*_, _-_, _≤_}
+use mathlib.Core.Path.{_≡_, refl, sym, ap, subst, _∙_}
+use Prim.Native.Nat.{ℕ, _+_, _*_, _-_, _≤_}
 use native.Mathlib.Omega.{arith}
 use lib.ListN.{length}
 use Rattle.lifting.specs.Patch.{at}
-use Rattle.lifting.specs.Kernels.{SafeKernel, columnsWorked}
+use Rattle.lifting.specs.Kernels.{SafeKernel, columnsWorked, columns-same}
 use Rattle.lifting.specs.Strips.{column-as-was, columns-more, columns-none, some-width, enough-room}
 use Rattle.lifting.proofs.columns.Statement.{statement}
 use Rattle.lifting.proofs.columns.Tie as tie
 
 abbrev Inv-loop : tie.InvT-loop
-Inv-loop plane₀ tile₀ stride from w h kernel most done₀ plane tile done =
-    (done ≤ w) × (length plane ≡ length plane₀) × (length tile ≡ length tile₀) × (at plane ≡ columnsWorked kernel stride from done h (at plane₀))
+Inv-loop plane₀ tile₀ stride from w h ready most done₀ plane tile done =
+    (done ≤ w) × (length plane ≡ length plane₀) × (length tile ≡ length tile₀) × (at plane ≡ columnsWorked ready stride from done h (at plane₀))
 
 abbrev μ-loop : tie.MeasureT-loop
-μ-loop plane₀ tile₀ stride from w h kernel most done₀ plane tile done = w - done
+μ-loop plane₀ tile₀ stride from w h ready most done₀ plane tile done = w - done
 
 loop-holds : tie.Need-loop-holds Inv-loop μ-loop
 loop-holds c = (omega arith, refl, refl, columns-none _ _ _ _ _)
 
 -- the strip's width
-width : (c : tie.After-smaller2 Inv-loop μ-loop) → let a = c .before .before .before .before .args in
+width : (c : tie.After-smaller2 Inv-loop μ-loop) → let a = c .before .before .before .before .before .args in
     (1 ≤ c .smaller2 .result) × (c .before .before .loop .done + c .smaller2 .result ≤ a .w) × (a .h * c .smaller2 .result ≤ length (a .tile .now))
 width c =
-    let a = c .before .before .before .before in
+    let a = c .before .before .before .before .before in
     let one = some-width (length (a .args .tile .now)) (a .args .h) (omega arith) (omega arith) in
     (omega arith, omega arith, enough-room (length (a .args .tile .now)) (a .args .h) (c .smaller2 .result) (omega arith))
 
@@ -32,22 +32,19 @@ strip-requires : tie.Need-strip-requires Inv-loop μ-loop
 strip-requires c κs =
     let m = c .before .before in
     let t = m .before .before in
-    let a = t .before .before in
+    let a = t .before .before .before in
     let p = a .pre .0 .0 in
+    let ready = t .before .before .readied .result in
     let wide = width m in (
       record {
-        part = record {
-          narrow = omega (arith, p .narrow);
-          few = p .few;
-          wide = p .wide;
-          fits = λ r h. omega (arith, p .fits r h);
-        };
+        lines = record { some = omega (arith, a .pre .0 .1); few = omega (arith, p .few); narrow = omega (arith, p .narrow); fits = λ r h. omega (arith, p .fits r h) };
+        some = wide .0;
         two = a .pre .0 .1;
         room = omega arith;
       },
-      λ j g. subst (SafeKernel (a .args .kernel) (a .args .h))
-          (sym (column-as-was (a .args .kernel) (a .args .stride) (a .args .from) (t .loop .done) (m .smaller2 .result) (a .args .h) (omega (arith, p .narrow)) (at (a .args .plane .now)) _ (t .loop .inv .3) j g))
-          (a .pre .1 (t .loop .done + j) (omega arith)),
+      λ j g. subst (SafeKernel ready (a .args .h))
+          (sym (column-as-was ready (a .args .stride) (a .args .from) (t .loop .done) (m .smaller2 .result) (a .args .h) (omega (arith, p .narrow)) (at (a .args .plane .now)) _ (t .loop .inv .3) j g))
+          (t .before .before .readied .ensures .safe _ _ (a .pre .1 (t .loop .done + j) (omega arith))),
     )
 
 loop-again : tie.Need-loop-again Inv-loop μ-loop
@@ -55,16 +52,16 @@ loop-again c =
     let f = c .before .before in
     let m = f .before .before .before in
     let t = m .before .before in
-    let a = t .before .before in
+    let a = t .before .before .before in
     let wide = width m in (
       omega arith,
       omega arith,
       omega arith,
-      columns-more (a .args .kernel) (a .args .stride) (a .args .from) (t .loop .done) (m .smaller2 .result) (a .args .h) (omega (arith, a .pre .0 .0 .narrow)) (at (a .args .plane .now)) _ (t .loop .inv .3) _ (f .strip .ensures),
+      columns-more (t .before .before .readied .result) (a .args .stride) (a .args .from) (t .loop .done) (m .smaller2 .result) (a .args .h) (omega (arith, a .pre .0 .0 .narrow)) (at (a .args .plane .now)) _ (t .loop .inv .3) _ (f .strip .ensures),
     )
 
 add-strip : tie.Need-add-strip Inv-loop μ-loop
-add-strip c = omega (arith, c .before .before .before .before .before .before .pre .0 .0 .narrow)
+add-strip c = omega (arith, c .before .before .before .before .before .before .before .pre .0 .0 .narrow)
 
 add-done : tie.Need-add-done Inv-loop μ-loop
 add-done c = omega (arith, width (c .before .before .before .before .before))
@@ -74,8 +71,10 @@ loop-less c = omega (arith, width (c .before .before .before .before .before))
 
 returns : tie.Need-returns Inv-loop μ-loop
 returns c =
-    let e : c .before .loop .done ≡ c .before .before .before .args .w = omega arith in
-    rw (← e) (c .before .loop .inv .3)
+    let made = c .before .before .before .readied in
+    let a = c .before .before .before .before .args in
+    let e : c .before .loop .done ≡ a .w = omega arith in
+    c .before .loop .inv .3 ∙ ap (λ (w : ℕ). columnsWorked (made .result) (a .stride) (a .from) w (a .h) (at (a .plane .now))) e ∙ columns-same (made .ensures) (a .stride) (a .from) (a .w) (a .h) (at (a .plane .now))
 
 pub columns-spec : {M : Type 1} → statement M
 columns-spec =
@@ -83,6 +82,7 @@ columns-spec =
     (tie.spec
     Inv-loop
     μ-loop
+    (λ c κs. tt)
     (λ c. omega arith)
     (λ c κs. omega arith)
     loop-holds

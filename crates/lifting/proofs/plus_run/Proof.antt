@@ -5,8 +5,8 @@ use Prim.Native.Nat.{_-_, _≤_}
 use native.Mathlib.Omega.{arith}
 use lib.IntN.{pos}
 use lib.ListN.{length, length-set}
-use Rattle.lifting.specs.declared.Form.the-variants.{Plus}
-use Rattle.lifting.specs.Raise.{formed, Formed}
+use Rattle.lifting.specs.declared.Step.the-variants.{Plus}
+use Rattle.lifting.specs.Steps.{applied, Safe}
 use Rattle.lifting.specs.Patch.{at, patch-none, patch-set, patch-to}
 use Rattle.lifting.specs.Runs.{ran}
 use Rattle.lifting.proofs.Turn.{turn-safe, turn-gives}
@@ -14,7 +14,7 @@ use Rattle.lifting.proofs.plus_run.Statement.{statement}
 use Rattle.lifting.proofs.plus_run.Tie as tie
 
 abbrev Inv-loop : tie.InvT-loop
-Inv-loop buf₀ t a b n c base cut j₀ buf j = (j ≤ n) × (length buf ≡ length buf₀) × (at buf ≡ ran (formed (Plus c base cut)) t a b j (at buf₀))
+Inv-loop buf₀ t a b n c base cut j₀ buf j = (j ≤ n) × (length buf ≡ length buf₀) × (at buf ≡ ran (applied (Plus c base cut)) t a b j (at buf₀))
 
 abbrev μ-loop : tie.MeasureT-loop
 μ-loop buf₀ t a b n c base cut j₀ buf j = n - j
@@ -26,14 +26,14 @@ plus-of-requires : tie.Need-plus-of-requires Inv-loop μ-loop
 plus-of-requires c κs =
     let i = c .before .before .before in
     let s = i .before .before in
-    turn-safe (formed (Plus (s .args .c) (s .args .base) (s .args .cut))) (Formed (Plus (s .args .c) (s .args .base) (s .args .cut))) _ _ _ _ _ _ _ (s .pre .0) (i .before .loop .inv .2) (i .loop-test .taken) (c .before .before .plus-of-arg .given) (c .before .plus-of-arg2 .given) (c .plus-of-arg3 .given) (s .pre .1)
+    turn-safe (applied (Plus (s .args .c) (s .args .base) (s .args .cut))) (Safe (Plus (s .args .c) (s .args .base) (s .args .cut))) _ _ _ _ _ _ _ (s .pre .0) (i .before .loop .inv .2) (i .loop-test .taken) (c .before .before .plus-of-arg .given) (c .before .plus-of-arg2 .given) (c .plus-of-arg3 .given) (s .pre .1)
 
 loop-again : tie.Need-loop-again Inv-loop μ-loop
 loop-again c =
     let g = c .before in
     let i = g .before .before .before in
     let s = i .before .before in
-    let v = turn-gives (formed (Plus (s .args .c) (s .args .base) (s .args .cut))) (Formed (Plus (s .args .c) (s .args .base) (s .args .cut))) _ _ _ _ _ _ _ (s .pre .0) (i .before .loop .inv .2) (i .loop-test .taken) (g .before .before .plus-of-arg .given) (g .before .plus-of-arg2 .given) (g .plus-of-arg3 .given) _ (c .plus-of .ok) (c .plus-of .ensures) in
+    let v = turn-gives (applied (Plus (s .args .c) (s .args .base) (s .args .cut))) (Safe (Plus (s .args .c) (s .args .base) (s .args .cut))) _ _ _ _ _ _ _ (s .pre .0) (i .before .loop .inv .2) (i .loop-test .taken) (g .before .before .plus-of-arg .given) (g .before .plus-of-arg2 .given) (g .plus-of-arg3 .given) _ (c .plus-of .ok) (c .plus-of .ensures) in
     (omega arith, simp length-set (i .before .loop .inv .1), patch-set (s .args .t) (i .before .loop .j) _ _ (i .before .loop .buf) (pos 0) (i .before .loop .inv .2) (omega arith) _ v)
 
 returns : tie.Need-returns Inv-loop μ-loop

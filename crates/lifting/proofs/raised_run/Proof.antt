@@ -16,10 +16,10 @@ use Rattle.lifting.proofs.raised_run.Statement.{statement}
 use Rattle.lifting.proofs.raised_run.Tie as tie
 
 abbrev Inv-loop : tie.InvT-loop
-Inv-loop src from dst₀ to n c base cut j₀ dst j = (j ≤ n) × (length dst ≡ length dst₀) × (at dst ≡ patch to j (λ i. shrZ (pos c *ℤ at src (from + i)) (2 ^ cut)) (at dst₀))
+Inv-loop src from dst₀ to n c pad base cut j₀ dst j = (j ≤ n) × (length dst ≡ length dst₀) × (at dst ≡ patch to j (λ i. shrZ (pos c *ℤ at src (from + i)) (2 ^ cut)) (at dst₀))
 
 abbrev μ-loop : tie.MeasureT-loop
-μ-loop src from dst₀ to n c base cut j₀ dst j = n - j
+μ-loop src from dst₀ to n c pad base cut j₀ dst j = n - j
 
 loop-holds : tie.Need-loop-holds Inv-loop μ-loop
 loop-holds c = (omega arith, refl, patch-none _ 0 _ _ refl)

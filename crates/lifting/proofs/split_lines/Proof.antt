@@ -1,69 +1,82 @@
--- `lifting::split_lines` meets its contract: the even rows, then the odd ones.
+-- `lifting::split_lines` meets its contract. The loop's invariant: i lines of the lows and i of the highs are there.
 -- Assumes nothing.
-use mathlib.Core.Path.{ap, _∙_, fun-ext}
-use Prim.Native.Nat.{ℕ, _+_}
+use mathlib.Core.Path.{_≡_, refl, sym, ap, _∙_}
+use Prim.Native.Nat.{ℕ, _+_, _*_, _-_, _≤_}
 use native.Mathlib.Omega.{arith}
-use native.Mathlib.Nat.{mul-le-mul-right}
 use lib.IntN.{ℤ}
+use lib.ListN.{length}
 use Rattle.lines.specs.Lines.{lows, highs}
 use Rattle.lifting.specs.Patch.{at}
-use Rattle.lifting.specs.Columns.{lineAt, patchLines, lines-ext}
-use Rattle.lifting.specs.LineSplit.{lines-made}
 use Rattle.lifting.specs.Passes.{evens, odds}
-use Rattle.lifting.specs.Kernels.{rowOf}
-use Rattle.lifting.specs.Strips.{even-lines, odd-lines, lines-after, some-lines, tile-lines, even-rows, odd-rows}
+use Rattle.lifting.specs.Kernels.{columnOf}
+use Rattle.lifting.specs.Tiles.{Filled, filled-none, filled-low, filled-high, filled-to, sizes}
+use Rattle.lifting.specs.Strips.{two-lines, last-line}
 use Rattle.lifting.proofs.split_lines.Statement.{statement}
 use Rattle.lifting.proofs.split_lines.Tie as tie
 
--- the strip's rows
-abbrev row : tie.Start → ℕ → ℕ → ℤ
-row a = rowOf (a .args .stride) (a .args .from) (at (a .args .plane .now))
+abbrev Inv-loop : tie.InvT-loop
+Inv-loop plane tile₀ stride from s n low high top i₀ tile i =
+    (i ≤ highs n) × (length tile ≡ length tile₀) × Filled s (lows n * s) i i (λ j. evens (columnOf stride from (at plane) j)) (λ j. odds (columnOf stride from (at plane) j)) (at tile)
 
-copy-lines-requires : tie.Need-copy-lines-requires
-copy-lines-requires c κs =
-    let a = c .before in
-    (even-rows (a .pre) _ (omega arith), some-lines (tile-lines (a .pre) (a .args .tile .now) (omega arith)) 0 (lows (a .args .n)) 0 (omega arith) (omega arith))
+abbrev μ-loop : tie.MeasureT-loop
+μ-loop plane tile₀ stride from s n low high top i₀ tile i = highs n - i
 
-add-copy-lines : tie.Need-add-copy-lines
-add-copy-lines c =
-    let a = c .before .before .before in
-    omega (arith, a .pre .part .fits 1 (a .pre .two))
+mul-top : tie.Need-mul-top Inv-loop μ-loop
+mul-top c = omega (arith, c .pre .room, sizes (c .args .s) (c .args .n) (c .pre .two) .all)
 
-mul-copy-lines-3 : tie.Need-mul-copy-lines-3
-mul-copy-lines-3 c =
-    let a = c .before .before .before .before in
-    omega (arith, a .pre .room, mul-le-mul-right {m = lows (a .args .n)} {n = a .args .n} (a .args .s) (omega arith))
+loop-holds : tie.Need-loop-holds Inv-loop μ-loop
+loop-holds c = (omega arith, refl, filled-none _ _ _ _ _)
 
-copy-lines-requires-2 : tie.Need-copy-lines-requires-2
-copy-lines-requires-2 c κs =
-    let a = c .before .before .before .before in
-    (odd-rows (a .pre) _ (omega arith), some-lines (tile-lines (a .pre) _ (omega arith)) (lows (a .args .n)) (highs (a .args .n)) _ (omega arith) (omega arith))
+loop-again : tie.Need-loop-again Inv-loop μ-loop
+loop-again c =
+    let f = c .before in
+    let t = f .before .before in
+    let a = t .before .before in
+    let i = t .before .loop .i in
+    let z = two-lines (a .pre) i (t .loop-test .taken) in
+    let x = at (a .args .plane .now) in (
+      omega arith,
+      omega arith,
+      filled-high (filled-low (t .before .loop .inv .2) _ _ refl (λ j g. ap x (omega (arith, z .even))) (omega (arith, z .low))) _ _ (f .copy-pair .ensures) (λ j g. ap x (omega (arith, z .odd))) (omega (arith, z .low)),
+    )
 
-returns : tie.Need-returns
+returns : tie.Need-returns Inv-loop μ-loop
 returns c =
-    let g = c .before in
-    let f = g .before .before .before in
-    let a = f .before .before in
-    let n = a .args .n in
-    let s = a .args .s in
+    let t = c .before .before .before .before in
+    let a = t .before .before in
+    let z = last-line (a .pre) (c .before .before .before .if1 .taken) in
     let x = at (a .args .plane .now) in
-    g .copy-lines2 .ensures
-    ∙ lines-ext _ _ _ (odds (row a)) _ (highs n) (λ i j p q. ap (λ (u : ℕ). x (u + j)) (odd-lines (a .args .from) (a .args .stride) i))
-    ∙ ap (λ (l : ℕ → ℕ). patchLines l s (highs n) (odds (row a)) (at (f .copy-lines .last .1 .1 .1 .0))) (fun-ext λ i. lines-after 0 s (lows n) _ i (omega arith))
-    ∙ ap (patchLines (λ i. lineAt 0 s (lows n + i)) s (highs n) (odds (row a)))
-    (f .copy-lines .ensures ∙ lines-ext _ _ _ (evens (row a)) _ (lows n) (λ i j p q. ap (λ (u : ℕ). x (u + j)) (even-lines (a .args .from) (a .args .stride) i)))
-    ∙ lines-made 0 s n s (evens (row a)) (odds (row a)) _ (omega arith)
+    let n = a .args .n in
+    filled-to (filled-low {a = highs n} {b = highs n} (filled-to (t .before .loop .inv .2) (omega arith) (omega arith)) _ _ (c .before .copy-run .ensures) (λ j g. ap x (omega arith)) (omega (arith, z .low))) (omega arith) (omega arith)
+
+returns-2 : tie.Need-returns-2 Inv-loop μ-loop
+returns-2 c = filled-to (c .before .before .loop .inv .2) (omega arith) (omega arith)
 
 pub split-lines-spec : {M : Type 1} → statement M
 split-lines-spec =
     tie.close
     (tie.spec
+    Inv-loop
+    μ-loop
+    (λ c. omega (arith, c .pre .lines .few))
+    mul-top
+    loop-holds
+    (λ c. omega (arith, two-lines (c .before .before .pre) _ (c .loop-test .taken) .both))
+    (λ c. omega (arith, two-lines (c .before .before .pre) _ (c .loop-test .taken) .both))
+    (λ c. omega (arith, two-lines (c .before .before .pre) _ (c .loop-test .taken) .both))
+    (λ c. omega (arith, two-lines (c .before .before .pre) _ (c .loop-test .taken) .high))
+    (λ c. omega (arith, two-lines (c .before .before .pre) _ (c .loop-test .taken) .both))
+    (λ c. omega (arith, two-lines (c .before .before .before .pre) _ (c .before .loop-test .taken) .high))
+    (λ c κs. omega (arith, two-lines (c .before .before .before .pre) _ (c .before .loop-test .taken) .both, two-lines (c .before .before .before .pre) _ (c .before .loop-test .taken) .high, two-lines (c .before .before .before .pre) _ (c .before .loop-test .taken) .apart, two-lines (c .before .before .before .pre) _ (c .before .loop-test .taken) .low))
     (λ c. omega arith)
     (λ c. omega arith)
-    copy-lines-requires
-    add-copy-lines
+    loop-again
+    (λ c. omega (arith, last-line (c .before .before .before .pre) (c .if1 .taken) .there))
+    (λ c. omega (arith, last-line (c .before .before .before .pre) (c .if1 .taken) .there))
+    (λ c. omega (arith, last-line (c .before .before .before .pre) (c .if1 .taken) .there))
+    (λ c. omega (arith, last-line (c .before .before .before .before .pre) (c .before .if1 .taken) .high, last-line (c .before .before .before .before .pre) (c .before .if1 .taken) .low))
+    (λ c κs. let z = last-line (c .before .before .before .before .pre) (c .before .if1 .taken) in omega (arith, z .there, z .low, z .high))
     (λ c. omega arith)
-    mul-copy-lines-3
-    copy-lines-requires-2
+    returns
     (λ c. omega arith)
-    returns)
+    returns-2)

@@ -7,7 +7,7 @@ use lib.IntN.{ℤ}
 use Rattle.lifting.specs.declared.Kernel.{Kernel}
 use Rattle.lifting.specs.Patch.{at}
 use Rattle.lifting.specs.Kernels.{SafeKernel, columnOf, columnsWorked}
-use Rattle.lifting.specs.Tiles.{Strip}
+use Rattle.lifting.specs.Strips.{Strip}
 use Rattle.lifting.proofs.strip.Statement.{statement}
 use Rattle.lifting.proofs.strip.Tie as tie
 

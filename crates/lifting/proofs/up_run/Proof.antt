@@ -5,8 +5,8 @@ use Prim.Native.Nat.{_-_, _≤_}
 use native.Mathlib.Omega.{arith}
 use lib.IntN.{pos}
 use lib.ListN.{length, length-set}
-use Rattle.lifting.specs.declared.Form.the-variants.{Up}
-use Rattle.lifting.specs.Raise.{formed, Formed}
+use Rattle.lifting.specs.declared.Step.the-variants.{Up}
+use Rattle.lifting.specs.Steps.{applied, Safe}
 use Rattle.lifting.specs.Patch.{at, patch-none, patch-set, patch-to}
 use Rattle.lifting.specs.Runs.{ran}
 use Rattle.lifting.proofs.Turn.{turn-safe, turn-gives}
@@ -14,7 +14,7 @@ use Rattle.lifting.proofs.up_run.Statement.{statement}
 use Rattle.lifting.proofs.up_run.Tie as tie
 
 abbrev Inv-loop : tie.InvT-loop
-Inv-loop buf₀ t a b n m c base cut j₀ buf j = (j ≤ n) × (length buf ≡ length buf₀) × (at buf ≡ ran (formed (Up m c base cut)) t a b j (at buf₀))
+Inv-loop buf₀ t a b n m c base cut j₀ buf j = (j ≤ n) × (length buf ≡ length buf₀) × (at buf ≡ ran (applied (Up m c base cut)) t a b j (at buf₀))
 
 abbrev μ-loop : tie.MeasureT-loop
 μ-loop buf₀ t a b n m c base cut j₀ buf j = n - j
@@ -26,14 +26,14 @@ up-of-requires : tie.Need-up-of-requires Inv-loop μ-loop
 up-of-requires c κs =
     let i = c .before .before .before in
     let s = i .before .before in
-    turn-safe (formed (Up (s .args .m) (s .args .c) (s .args .base) (s .args .cut))) (Formed (Up (s .args .m) (s .args .c) (s .args .base) (s .args .cut))) _ _ _ _ _ _ _ (s .pre .0) (i .before .loop .inv .2) (i .loop-test .taken) (c .before .before .up-of-arg .given) (c .before .up-of-arg2 .given) (c .up-of-arg3 .given) (s .pre .1)
+    turn-safe (applied (Up (s .args .m) (s .args .c) (s .args .base) (s .args .cut))) (Safe (Up (s .args .m) (s .args .c) (s .args .base) (s .args .cut))) _ _ _ _ _ _ _ (s .pre .0) (i .before .loop .inv .2) (i .loop-test .taken) (c .before .before .up-of-arg .given) (c .before .up-of-arg2 .given) (c .up-of-arg3 .given) (s .pre .1)
 
 loop-again : tie.Need-loop-again Inv-loop μ-loop
 loop-again c =
     let g = c .before in
     let i = g .before .before .before in
     let s = i .before .before in
-    let v = turn-gives (formed (Up (s .args .m) (s .args .c) (s .args .base) (s .args .cut))) (Formed (Up (s .args .m) (s .args .c) (s .args .base) (s .args .cut))) _ _ _ _ _ _ _ (s .pre .0) (i .before .loop .inv .2) (i .loop-test .taken) (g .before .before .up-of-arg .given) (g .before .up-of-arg2 .given) (g .up-of-arg3 .given) _ (c .up-of .ok) (c .up-of .ensures) in
+    let v = turn-gives (applied (Up (s .args .m) (s .args .c) (s .args .base) (s .args .cut))) (Safe (Up (s .args .m) (s .args .c) (s .args .base) (s .args .cut))) _ _ _ _ _ _ _ (s .pre .0) (i .before .loop .inv .2) (i .loop-test .taken) (g .before .before .up-of-arg .given) (g .before .up-of-arg2 .given) (g .up-of-arg3 .given) _ (c .up-of .ok) (c .up-of .ensures) in
     (omega arith, simp length-set (i .before .loop .inv .1), patch-set (s .args .t) (i .before .loop .j) _ _ (i .before .loop .buf) (pos 0) (i .before .loop .inv .2) (omega arith) _ v)
 
 returns : tie.Need-returns Inv-loop μ-loop

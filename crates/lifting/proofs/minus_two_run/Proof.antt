@@ -1,0 +1,66 @@
+-- `lifting::minus_two_run` meets its contract.
+-- Assumes nothing.
+use mathlib.Core.Path.{_≡_, refl}
+use Prim.Native.Nat.{_-_, _≤_}
+use native.Mathlib.Omega.{arith}
+use lib.IntN.{pos}
+use lib.ListN.{length, length-set}
+use Rattle.lifting.specs.declared.Step.the-variants.{MinusTwo}
+use Rattle.lifting.specs.Steps.{applied, Safe}
+use Rattle.lifting.specs.Patch.{at, patch-none, patch-set, patch-to}
+use Rattle.lifting.specs.Runs.{ran}
+use Rattle.lifting.proofs.Turn.{turn-safe, turn-gives}
+use Rattle.lifting.proofs.minus_two_run.Statement.{statement}
+use Rattle.lifting.proofs.minus_two_run.Tie as tie
+
+abbrev Inv-loop : tie.InvT-loop
+Inv-loop buf₀ t a b n c base cut j₀ buf j = (j ≤ n) × (length buf ≡ length buf₀) × (at buf ≡ ran (applied (MinusTwo c base cut)) t a b j (at buf₀))
+
+abbrev μ-loop : tie.MeasureT-loop
+μ-loop buf₀ t a b n c base cut j₀ buf j = n - j
+
+loop-holds : tie.Need-loop-holds Inv-loop μ-loop
+loop-holds c = (omega arith, refl, patch-none _ 0 _ _ refl)
+
+minus-two-of-requires : tie.Need-minus-two-of-requires Inv-loop μ-loop
+minus-two-of-requires c κs =
+    let i = c .before .before .before in
+    let s = i .before .before in
+    turn-safe (applied (MinusTwo (s .args .c) (s .args .base) (s .args .cut))) (Safe (MinusTwo (s .args .c) (s .args .base) (s .args .cut))) _ _ _ _ _ _ _ (s .pre .0) (i .before .loop .inv .2) (i .loop-test .taken) (c .before .before .minus-two-of-arg .given) (c .before .minus-two-of-arg2 .given) (c .minus-two-of-arg3 .given) (s .pre .1)
+
+loop-again : tie.Need-loop-again Inv-loop μ-loop
+loop-again c =
+    let g = c .before in
+    let i = g .before .before .before in
+    let s = i .before .before in
+    let v = turn-gives (applied (MinusTwo (s .args .c) (s .args .base) (s .args .cut))) (Safe (MinusTwo (s .args .c) (s .args .base) (s .args .cut))) _ _ _ _ _ _ _ (s .pre .0) (i .before .loop .inv .2) (i .loop-test .taken) (g .before .before .minus-two-of-arg .given) (g .before .minus-two-of-arg2 .given) (g .minus-two-of-arg3 .given) _ (c .minus-two-of .ok) (c .minus-two-of .ensures) in
+    (omega arith, simp length-set (i .before .loop .inv .1), patch-set (s .args .t) (i .before .loop .j) _ _ (i .before .loop .buf) (pos 0) (i .before .loop .inv .2) (omega arith) _ v)
+
+returns : tie.Need-returns Inv-loop μ-loop
+returns c = patch-to _ _ _ _ _ _ (c .before .loop .inv .2) (omega arith)
+
+pub minus-two-run-spec : {M : Type 1} → statement M
+minus-two-run-spec =
+    tie.close
+    (tie.spec
+    Inv-loop
+    μ-loop
+    loop-holds
+    (λ c. omega arith)
+    (λ c. omega arith)
+    (λ c. omega arith)
+    (λ c. omega arith)
+    (λ c. omega arith)
+    (λ c. omega arith)
+    (λ c. omega arith)
+    (λ c. omega arith)
+    (λ c. omega arith)
+    minus-two-of-requires
+    (λ c. omega arith)
+    (λ c. omega arith)
+    (λ c. omega arith)
+    (λ c. omega arith)
+    (λ c. omega arith)
+    loop-again
+    (λ c. omega arith)
+    returns)

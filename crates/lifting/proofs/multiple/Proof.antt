@@ -1,0 +1,11 @@
+-- `lifting::multiple` meets its contract.
+-- Assumes nothing.
+use Prim.Native.Nat.{_^_}
+use native.Mathlib.Omega.{arith}
+use native.Mathlib.Nat.{div-le-self}
+use Rattle.lifting.specs.Raise.{multiple-above}
+use Rattle.lifting.proofs.multiple.Statement.{statement}
+use Rattle.lifting.proofs.multiple.Tie as tie
+
+pub multiple-spec : {M : Type 1} → statement M
+multiple-spec = tie.close (tie.spec (λ c. omega arith) (λ c. omega (arith, div-le-self (c .args .total) (2 ^ c .args .cut))) (λ c. multiple-above (c .args .total) (c .args .cut)))

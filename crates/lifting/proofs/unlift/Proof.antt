@@ -1,0 +1,27 @@
+-- `lifting::unlift` meets its contract.
+-- Assumes nothing.
+use mathlib.Core.Path.{ap, sym, subst, _∙_}
+use native.Mathlib.Omega.{arith}
+use Rattle.lifting.specs.Steps.{applied, Safe}
+use Rattle.lifting.specs.Tiles.{AtHighs, highsDone, tile-as}
+use Rattle.lifting.proofs.unlift.Statement.{statement}
+use Rattle.lifting.proofs.unlift.Tie as tie
+
+on-lows-requires : tie.Need-on-lows-requires
+on-lows-requires c κs = (c .before .pre .0, c .before .pre .1 .on-lows)
+
+on-highs-requires : tie.Need-on-highs-requires
+on-highs-requires c κs =
+    let f = c .before .before in
+    let a = f .before .before in
+    (tile-as (a .pre .0) _ (omega arith), subst (AtHighs (Safe (a .args .first)) (a .args .s) (a .args .n)) (sym (f .on-lows .ensures)) (a .pre .1 .on-highs))
+
+returns : tie.Need-returns
+returns c =
+    let g = c .before in
+    let f = g .before .before .before in
+    let a = f .before .before in
+    g .on-highs .ensures ∙ ap (highsDone (applied (a .args .first)) (a .args .s) (a .args .n)) (f .on-lows .ensures)
+
+pub unlift-spec : {M : Type 1} → statement M
+unlift-spec = tie.close (tie.spec on-lows-requires on-highs-requires (λ c. omega arith) returns)

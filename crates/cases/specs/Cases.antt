@@ -8,11 +8,11 @@ use Rattle.lines.specs.Lines.{onHighs, onLows, lowsFirst}
 use Rattle.lines.specs.Planes.{tabulate}
 use Rattle.exact.specs.Fractions.{_⊕_, _⊗_, whole, magnitude, upDiv, wholesOf}
 use Rattle.exact.specs.Exact.{alpha, lift}
-use Rattle.width_table.specs.Nodes.{Node, P1, U1, U2, G1}
-use Rattle.precision.specs.Gains as G
-use Rattle.precision.specs.Gains.{Source, input, node, gain, exactGain, sumTo, answer, held}
+use Rattle.stages.specs.Stages as S
+use Rattle.stages.specs.Stages.{forward, made}
+use Rattle.stages.specs.Gains.{samples, node, held, sumTo, inputAnswer, nodeAnswer, sumFrom, exactGain, gain}
 use Rattle.reversible.specs.Reversible.{predict, update, high, low, reversiblePass}
-use Rattle.irreversible.specs.Fixed.{step, cut, nearest}
+use Rattle.stages.specs.Fixed.{step, cut, nearest}
 use Rattle.listing.specs.Listing.{copyText}
 use Rattle.listing.specs.Cases.{document}
 
@@ -40,9 +40,9 @@ pub record Table : Type 0 where
   -- the listing of 3 1, 2 2, 5 7 4 4: "53 3 1 2 2", "1 1", "-2 -2"
   pub listing : copyText (3 ∷ 1 ∷ 0 ∷ 2 ∷ 0 ∷ 2 ∷ 0 ∷ 5 ∷ 0 ∷ 7 ∷ 0 ∷ 4 ∷ 0 ∷ 4 ∷ [])
       ≡ 53 ∷ 51 ∷ 32 ∷ 51 ∷ 32 ∷ 49 ∷ 32 ∷ 50 ∷ 32 ∷ 50 ∷ 10 ∷ 49 ∷ 32 ∷ 49 ∷ 10 ∷ 45 ∷ 50 ∷ 32 ∷ 45 ∷ 50 ∷ 10 ∷ []
-  -- in 2^-16: input to P1 273434, P1 to U1 6945, U2 to G1 75341
-  pub gains : gain input P1 ∷ gain (node P1) U1 ∷ gain (node U2) G1 ∷ [] ≡ 273434 ∷ 6945 ∷ 75341 ∷ []
+  -- in 2^-16: input to P1 273434, P1 to U1 6945, U2 to G1 75341 (stages 0, 1, 3 and 4 leave P1, U1, U2 and G1)
+  pub gains : gain forward S.high 1 samples ∷ gain forward S.low 2 (node 0) ∷ gain forward S.low 5 (node 3) ∷ [] ≡ 273434 ∷ 6945 ∷ 75341 ∷ []
 
 pub table : Table
-unfolding reversiblePass low high onHighs onLows lowsFirst predict update tabulate step cut nearest gain exactGain sumTo answer held G.p1 G.u1 G.p2 G.u2 G.g1 G.g2 G.low G.high wholesOf upDiv lift _⊕_ _⊗_ whole magnitude
+unfolding reversiblePass low high onHighs onLows lowsFirst predict update tabulate step cut nearest gain exactGain sumFrom sumTo inputAnswer nodeAnswer held made wholesOf upDiv lift _⊕_ _⊗_ whole magnitude
 table = record { passes = refl; alpha-one = refl; stage-0 = refl; stage-2 = refl; stage-down = refl; listing = document; gains = refl }

@@ -9,7 +9,8 @@ use lib.ListN.{getD}
 use Rattle.exact.specs.Fractions.{Frac, _⊖_, neg, _<F_}
 use Rattle.width_table.specs.Nodes.{Node, G1, Pass, Rows, LowColumns, TableNode, nodeAt, columnPass, lastNode}
 use Rattle.lines.specs.Lines.{lows}
-use Rattle.irreversible.specs.Fixed.{meant, valueAt, countAt}
+use Rattle.stages.specs.Fixed.{meant}
+use Rattle.irreversible.specs.Fixed.{valueAt, countAt}
 use Rattle.lines.specs.Planes.{Plane, side, rows}
 use Rattle.width_table.specs.declared.WidthTable.{WidthTable}
 use Rattle.width_table.specs.Table.{constantBits, integerBits, fractionBits, inputBits}

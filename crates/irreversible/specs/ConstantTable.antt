@@ -10,7 +10,7 @@ use mir.Val.{toZ, ofZ}
 use mir.Facts.{toZ-ofZ}
 use Rattle.lines.specs.Planes.{tabulate}
 use Rattle.lines.specs.RowLaws.{tabulate-at}
-use Rattle.irreversible.specs.Fixed.{nearest}
+use Rattle.stages.specs.Fixed.{nearest}
 use Rattle.irreversible.specs.Constants.{constantOf}
 use Rattle.width_table.specs.Numbered.{nodeOf, IsNode}
 use Rattle.irreversible.specs.SafeLaws.{ConstantBits, constant-fits}

@@ -15,7 +15,7 @@ use Rattle.numbers.specs.Abs.{abs-mul, abs-sub, abs-zero}
 use Rattle.exact.specs.Fractions.{Frac, _⊕_, _⊖_, _⊗_, neg, whole, magnitude, _<F_}
 use Rattle.width_table.specs.Nodes.{Node, P1, U1, P2, U2, G1, G2}
 use Rattle.exact.specs.Exact.{alpha, beta, gamma, delta, zeta, zetaInverse}
-use Rattle.irreversible.specs.Fixed.{meant, nearest}
+use Rattle.stages.specs.Fixed.{meant, nearest}
 use Rattle.numbers.specs.Tests.{both}
 
 -- the constant of each stage

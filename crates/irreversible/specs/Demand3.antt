@@ -16,21 +16,22 @@ use Rattle.exact.specs.Fractions.{Frac}
 use Rattle.width_table.specs.Nodes.{Node, Pass, Rows, TableNode, columnPass}
 use Rattle.lines.specs.Lines.{lows}
 use Rattle.exact.specs.Exact.{exactPass}
-use Rattle.irreversible.specs.Fixed.{meant}
+use Rattle.stages.specs.Fixed.{meant}
 use Rattle.lines.specs.Planes.{Plane, OnLine, rows, columns, within, level, levels, side}
 use Rattle.width_table.specs.declared.WidthTable.{WidthTable}
-use Rattle.width_table.specs.Table.{fractionBits, inputBits}
+use Rattle.width_table.specs.Table.{integerBits, fractionBits, inputBits}
 use Rattle.precision.specs.Bounds.{entering, boundOf}
-use Rattle.precision.specs.Verdict.{AcceptPromise}
+use Rattle.precision.specs.Verdict.{Accepted, AcceptPromise}
 use Rattle.exact.specs.Picture.{exactSample, exactPlane}
 use Rattle.pictures.specs.Pictures.{sample}
 use Rattle.irreversible.specs.Transforms.{fixedLine, fixedAfter, fixedPlane}
-use Rattle.irreversible.specs.Claims.{Picture, keptNode, bitsPlane, Near, TwoSteps, LevelInWidth, Widths}
+use Rattle.irreversible.specs.Claims.{Picture, keptNode, bitsPlane, Near, TwoSteps, Holds, LevelInWidth, Widths}
 use Rattle.numbers.specs.Tests.{and-true, and-false-l, and-false-r}
 use Rattle.precision.specs.Promise.{promise}
 use Rattle.exact.specs.FracLaws.{⊕-neg, ≈-sym, within-≈, within-zero}
-use Rattle.irreversible.specs.PassBound.{Q}
-use Rattle.irreversible.specs.Pass.{Good, near}
+use Rattle.stages.specs.Sound.{Q}
+use Rattle.stages.specs.Sound.{Good}
+use Rattle.irreversible.specs.Pass.{near, holds}
 use Rattle.irreversible.specs.Level.{rowV, rowX, newV, newX, level-good, level-in-width}
 use Rattle.irreversible.specs.Subbands.{InPart, part-before, kept-in, kept-out, kept-LL, kept-everywhere}
 
@@ -178,6 +179,15 @@ module _ (t : WidthTable) (ok : AcceptPromise t) (pixels : List ℕ) (w h : ℕ)
       level-in-width t (suc k) (λ p n. ok .fractions (suc k) (omega arith) i p n) (side k w) (side k h) (side-two k (t .levels) w i (picture .width .0)) (side-two k (t .levels) h i (picture .height .0)) (entering t (suc k)) (fixedAfter t k pixels w h) (exactAfter k) (λ r c a b. after k (omega arith) .inside r c (a, b))
       (λ p n. ok .integers (suc k) (omega arith) i p n .0) (λ p n. ok .fit (suc k) (omega arith) i p n)
 
+  kept-held : (r c : ℕ) → r < h → c < w → (let k = keptNode (t .levels) w h r c in Holds (integerBits t (k .level) (k .pass) (k .node)) (fractionBits t (k .level) (k .pass) (k .node)) (fixedPlane t pixels w h r c))
+  unfolding fixedPlane exactAfter GoodFor
+  kept-held r c p q =
+      let K = kept-everywhere (t .levels) w h r c (ok .levels .0) p q in
+      let k = keptNode (t .levels) w h r c in
+      holds (boundOf t k) (fractionBits t (k .level) (k .pass) (k .node)) (integerBits t (k .level) (k .pass) (k .node)) _ _ (omega (arith, ok .fractions (k .level) (K .least) (K .most) (k .pass) (k .node)))
+      (ok .integers (k .level) (K .least) (K .most) (k .pass) (k .node) .0) (ok .fit (k .level) (K .least) (K .most) (k .pass) (k .node))
+      (good-everywhere (t .levels) (ok .levels .0) (omega arith) r c p q)
+
 pub two-steps : TwoSteps
 two-steps t pixels w h ok picture r c p q = result t (promise t ok) pixels w h picture r c p q
 
@@ -186,3 +196,9 @@ widths t pixels w h ok picture k i = in-width t (promise t ok) pixels w h pictur
 
 pub demand-3 : TwoSteps × Widths
 demand-3 = (two-steps, widths)
+
+-- Each coefficient of the plane is in the width of its kept node.
+pub kept-widths : (t : WidthTable) (pixels : List ℕ) (w h : ℕ) → Accepted t → Picture t pixels w h → (r c : ℕ) → r < h → c < w
+    → Holds (integerBits t (keptNode (t .levels) w h r c .level) (keptNode (t .levels) w h r c .pass) (keptNode (t .levels) w h r c .node))
+    (fractionBits t (keptNode (t .levels) w h r c .level) (keptNode (t .levels) w h r c .pass) (keptNode (t .levels) w h r c .node)) (fixedPlane t pixels w h r c)
+kept-widths t pixels w h ok picture r c p q = kept-held t (promise t ok) pixels w h picture r c p q

@@ -15,7 +15,8 @@ use Rattle.lifting.specs.declared.Kernel.the-variants.{Four}
 use Rattle.lifting.specs.Steps.{applied, scaledBy}
 use Rattle.lifting.specs.Passes.{evens, odds}
 use Rattle.lifting.specs.Kernels.{worked, firstHighs, firstLows, secondHighs, secondLows}
-use Rattle.irreversible.specs.Fixed.{nearest, step, scale, atP1, atU1, atP2, atU2, atG1, atG2, fixedPass}
+use Rattle.stages.specs.Fixed.{nearest, step, scale}
+use Rattle.irreversible.specs.Fixed.{atP1, atU1, atP2, atU2, atG1, atG2, fixedPass}
 use Rattle.irreversible.specs.Transforms.{fixedLine}
 use Rattle.irreversible.specs.StepLaws.{stepOf, factorOf, step-applied, scale-applied}
 

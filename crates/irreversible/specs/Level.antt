@@ -11,11 +11,13 @@ use Rattle.exact.specs.Exact.{exactPass}
 use Rattle.lines.specs.Planes.{Plane, rows, columns}
 use Rattle.width_table.specs.declared.WidthTable.{WidthTable}
 use Rattle.width_table.specs.Table.{constantBits, integerBits, fractionBits, inputBits}
-use Rattle.precision.specs.Bounds.{Bound, rowBound, passBound}
+use Rattle.stages.specs.Rule.{Bound}
+use Rattle.precision.specs.Bounds.{rowBound, passBound}
 use Rattle.irreversible.specs.Transforms.{fixedLine}
 use Rattle.irreversible.specs.Claims.{InWidth, LevelInWidth}
-use Rattle.irreversible.specs.PassBound.{Small}
-use Rattle.irreversible.specs.Pass.{Good, pass-good, in-width}
+use Rattle.irreversible.specs.Pass.{Small}
+use Rattle.stages.specs.Sound.{Good}
+use Rattle.irreversible.specs.Pass.{pass-good, in-width}
 
 -- after the rows, and after the columns
 unfoldable pub rowV : WidthTable → ℕ → ℕ → Plane ℤ → Plane ℤ

@@ -18,7 +18,8 @@ use Rattle.width_table.specs.Table.{constantBits, integerBits, fractionBits, in
 use Rattle.lifting.specs.declared.Kernel.{Kernel}
 use Rattle.lifting.specs.Kernels.{worked, SafeKernel, rowOf, columnOf, rowsWorked, columnsWorked}
 use Rattle.pictures.specs.MemoryLaws.{Stands, columnsPlane, worked-same, rows-stand, rows-beyond, columns-stand, columns-beyond}
-use Rattle.irreversible.specs.Fixed.{step, scale, atP1, atU1, atP2, atU2, atG1, atG2, valueAt, countAt, fixedPass}
+use Rattle.stages.specs.Fixed.{step, scale}
+use Rattle.irreversible.specs.Fixed.{atP1, atU1, atP2, atU2, atG1, atG2, valueAt, countAt, fixedPass}
 use Rattle.irreversible.specs.Transforms.{fixedLine}
 use Rattle.irreversible.specs.Claims.{Holds, InWidth, LevelInWidth}
 use Rattle.irreversible.specs.KernelLaws.{kernelOf, worked-fixed}

@@ -11,7 +11,7 @@
 --   Constants    no-tie, is-nearest: a constant at F bits is the nearest multiple, for F from 1 to 24
 --   Subbands     kept-LL, kept-HL, kept-LH, kept-HH: the kept node of each subband of each level
 --   Sizes        sum-size, product-size: 64 bits hold the sum of a stage
--- Proofs: Walk, Linear, Own, PassBound, Pass, Level lead to Demand3, in this order.
+-- Proofs: Pass (by the rule of the crate stages, which is sound), Level lead to Demand3, in this order.
 -- For the code, which works lines by the kernels of the lifting crate:
 --   StepLaws     a stage as a step or a scaling of that crate
 --   KernelLaws   a pass as a kernel: worked-fixed
@@ -24,10 +24,6 @@ pub mod Fixed
 pub mod Transforms
 pub mod Claims
 pub mod Calls
-pub mod Walk
-pub mod Linear
-pub mod Own
-pub mod PassBound
 pub mod Pass
 pub mod Level
 pub mod Subbands

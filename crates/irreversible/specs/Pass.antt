@@ -1,5 +1,5 @@
 -- What a pass makes of good values: a value is good where the exact one lies within a range and the fixed-point one within an error of it.
-use Prim.Native.Nat.{ℕ, _+_, _*_, _-_, _^_, _<_, _≤_}
+use Prim.Native.Nat.{ℕ, suc, _+_, _*_, _-_, _^_, _<_, _≤_}
 use mathlib.Core.Path.{_≡_, sym, ap, subst}
 use mathlib.Core.Bool.{true, false}
 use native.Mathlib.Omega.{arith}
@@ -11,48 +11,60 @@ use lib.Signed.{mag, _≤ℤ_, _<ℤ_}
 use Rattle.numbers.specs.Dif.{by-dif, difs}
 use Rattle.numbers.specs.Abs.{mag-of-abs, abs-of-dif}
 use Rattle.exact.specs.Fractions.{Frac, _⊕_, neg}
-use Rattle.lines.specs.Lines.{lows, highs, lowsFirst}
-use Rattle.exact.specs.Exact.{exactPass, p1, u1, p2, u2, g1, g2}
-use Rattle.irreversible.specs.Fixed.{meant, fixedPass, valueAt, countAt, atP1, atU1, atP2, atU2, atG1, atG2}
+use Rattle.lines.specs.Lines.{lows, lowsFirst, onHighs, onLows}
+use Rattle.exact.specs.Exact.{exactPass, low₀, high₀, p1, u1, p2, u2, g1, g2}
+use Rattle.stages.specs.Fixed.{meant}
+use Rattle.irreversible.specs.Fixed.{fixedPass, valueAt, countAt, atP1, atU1, atP2, atU2, atG1, atG2}
 use Rattle.width_table.specs.Nodes.{Node, P1, U1, P2, U2, G1, G2, lastNode}
-use Rattle.precision.specs.Bounds.{Bound, boundAt, errorAt}
-use Rattle.exact.specs.FracLaws.{Within, within-near}
-use Rattle.irreversible.specs.PassBound.{Q, Small, off, rangeP1, rangeU1, rangeP2, rangeU2, rangeG1, rangeG2, errorsP1, errorsU1, errorsP2, errorsU2, errorsG1, errorsG2}
-use Rattle.irreversible.specs.Own.{pow-split}
+use Rattle.stages.specs.Rule.{Bound}
+use Rattle.precision.specs.Bounds.{boundAfter, boundAt}
+use Rattle.exact.specs.FracLaws.{within-near}
+use Rattle.stages.specs.Stages.{Side, low, high, forward, made, bits}
+use Rattle.stages.specs.Rule.{together}
+use Rattle.stages.specs.OnLine.{count, exactAfter, fixedMade, fixedAfter}
+use Rattle.stages.specs.Sound.{Good, good}
+use Rattle.width_table.specs.Numbered.{nodeOf}
+use Rattle.stages.specs.Own.{pow-split}
 use Rattle.irreversible.specs.Claims.{Near, Holds}
 use Rattle.numbers.specs.Tests.{by-ltb}
 
-pub record Good (b : Bound) (f : ℕ) (v : ℤ) (x : Frac) : Type 0 where
-  pub range : Within x (b .range) Q
-  pub error : Within (off v f x) (b .error) Q
+-- the nodes' bits are at most 32 (a table's are at most 20)
+abbrev pub Small : (Node → ℕ) → Type 0
+Small f = (i : Node) → f i ≤ 32
 
 -- ---- all six nodes of a pass over a line of n
 
+-- a line of samples by sides
+abbrev split : {A : Type 0} → (ℕ → A) → Side → ℕ → A
+split x low k = x (2 * k)
+split x high k = x (2 * k + 1)
+
 module _ (F : Node → ℕ) (fi : ℕ) (b : Bound) (f : Node → ℕ) (n : ℕ) (v : ℕ → ℤ) (x : ℕ → Frac) (big : 2 ≤ n) (small : Small f) (given : (k : ℕ) → k < n → Good b fi (v k) (x k)) where
-  pub record Nodes : Type 0 where
-    pub p1 : (h : ℕ) → h < highs n → Good (boundAt F fi b f P1) (f P1) (atP1 F fi f n v h) (p1 n x h)
-    pub u1 : (l : ℕ) → l < lows n → Good (boundAt F fi b f U1) (f U1) (atU1 F fi f n v l) (u1 n x l)
-    pub p2 : (h : ℕ) → h < highs n → Good (boundAt F fi b f P2) (f P2) (atP2 F fi f n v h) (p2 n x h)
-    pub u2 : (l : ℕ) → l < lows n → Good (boundAt F fi b f U2) (f U2) (atU2 F fi f n v l) (u2 n x l)
-    pub g1 : (l : ℕ) → l < lows n → Good (boundAt F fi b f G1) (f G1) (atG1 F fi f n v l) (g1 n x l)
-    pub g2 : (h : ℕ) → h < highs n → Good (boundAt F fi b f G2) (f G2) (atG2 F fi f n v h) (g2 n x h)
+  entered : (s : Side) (k : ℕ) → k < count n s → Good b fi (split v s k) (split x s k)
+  entered low k i = given (2 * k) (omega arith)
+  entered high k i = given (2 * k + 1) (omega arith)
 
-  inRange : (k : ℕ) → k < n → Within (x k) (b .range) Q
-  inRange k i = given k i .range
+  -- each side after m stages
+  after : (m : ℕ) (s : Side) (k : ℕ) → k < count n s → Good (boundAfter F fi b f s m) (bits forward (λ s. fi) (λ i. f (nodeOf (suc i))) m s) (fixedAfter forward (λ i. F (nodeOf (suc i))) (λ s. fi) (λ i. f (nodeOf (suc i))) n (split v) m s k) (exactAfter forward n (split x) m s k)
+  after = good forward (together b) (λ i. F (nodeOf (suc i))) (λ s. fi) (λ i. f (nodeOf (suc i))) n (split v) (split x) big (λ m. small (nodeOf (suc m))) entered
 
-  inError : (k : ℕ) → k < n → Within (off (v k) fi (x k)) (b .error) Q
-  inError k i = given k i .error
+  -- the exact value of each node
+  abbrev exactAt : Node → ℕ → Frac
+  exactAt P1 = p1 n x
+  exactAt U1 = u1 n x
+  exactAt P2 = p2 n x
+  exactAt U2 = u2 n x
+  exactAt G1 = g1 n x
+  exactAt G2 = g2 n x
 
-  pub nodes : Nodes
-  unfolding boundAt errorAt
-  nodes = record {
-    p1 = λ h i. record { range = rangeP1 F fi b f n x big inRange h i; error = errorsP1 F fi b f n v x big small inRange inError h i };
-    u1 = λ l i. record { range = rangeU1 F fi b f n x big inRange l i; error = errorsU1 F fi b f n v x big small inRange inError l i };
-    p2 = λ h i. record { range = rangeP2 F fi b f n x big inRange h i; error = errorsP2 F fi b f n v x big small inRange inError h i };
-    u2 = λ l i. record { range = rangeU2 F fi b f n x big inRange l i; error = errorsU2 F fi b f n v x big small inRange inError l i };
-    g1 = λ l i. record { range = rangeG1 F fi b f n x big inRange l i; error = errorsG1 F fi b f n v x big small inRange inError l i };
-    g2 = λ h i. record { range = rangeG2 F fi b f n x big inRange h i; error = errorsG2 F fi b f n v x big small inRange inError h i };
-  }
+  pub node-good : (i : Node) (k : ℕ) → k < countAt n i → Good (boundAt F fi b f i) (f i) (valueAt F fi f n v i k) (exactAt i k)
+  unfolding boundAt bits fixedAfter fixedMade exactAfter made atP1 atU1 atP2 atU2 atG1 atG2 p1 u1 p2 u2 g1 g2 low₀ high₀ onHighs onLows
+  node-good P1 k i = after 1 high k i
+  node-good U1 k i = after 2 low k i
+  node-good P2 k i = after 3 high k i
+  node-good U2 k i = after 4 low k i
+  node-good G1 k i = after 5 low k i
+  node-good G2 k i = after 6 high k i
 
 -- ---- the lows first, then the highs
 
@@ -61,8 +73,8 @@ module _ (F : Node → ℕ) (fi : ℕ) (b : Bound) (f : Node → ℕ) (n : ℕ) 
   unfolding fixedPass exactPass lowsFirst
   pass-good i h =
       by-ltb (λ q. Good (boundAt F fi b f (lastNode q)) (f (lastNode q)) (elim q [ true ↦ atG1 F fi f n v i | false ↦ atG2 F fi f n v (i - lows n) ]) (elim q [ true ↦ g1 n x i | false ↦ g2 n x (i - lows n) ])) i (lows n)
-      (λ j. nodes F fi b f n v x big small given .g1 i j)
-      (λ j. nodes F fi b f n v x big small given .g2 (i - lows n) (omega arith))
+      (λ j. node-good F fi b f n v x big small given G1 i j)
+      (λ j. node-good F fi b f n v x big small given G2 (i - lows n) (omega arith))
 
 -- ---- what good values give
 
@@ -75,7 +87,7 @@ fits b f IB v x small room g = mag-of-abs v (rw (pow-add 2 (IB - 1) f) (lt-of-mu
     law a P W I K s e h k z = omega (arith, mul-le-mul-right P h)
 
 -- within two steps
-abs-< : (n : ℕ) (z : ℤ) → natAbs z < n → (negℤ (pos n) <ℤ z) × (z <ℤ pos n)
+pub abs-< : (n : ℕ) (z : ℤ) → natAbs z < n → (negℤ (pos n) <ℤ z) × (z <ℤ pos n)
 abs-< n = by-dif _ λ a a'. λ h. simp difs (omega (arith, abs-of-dif a a'))
 
 near-low : (d P : ℕ) → 0 < P → (e : ℤ) → negℤ (pos (2 * d)) <ℤ e → (negℤ (pos 2) *ℤ pos (P * d)) <ℤ (e *ℤ pos P)
@@ -104,9 +116,4 @@ holds b f IB v x small some room g =
 
 module _ (F : Node → ℕ) (fi : ℕ) (b : Bound) (f : Node → ℕ) (n : ℕ) (v : ℕ → ℤ) (x : ℕ → Frac) (big : 2 ≤ n) (small : Small f) (given : (k : ℕ) → k < n → Good b fi (v k) (x k)) where
   pub in-width : (IB : Node → ℕ) → ((i : Node) → 1 ≤ IB i) → ((i : Node) → boundAt F fi b f i .range + boundAt F fi b f i .error + 2 ^ (32 - f i) ≤ 2 ^ (IB i - 1) * 2 ^ 32) → (i : Node) (k : ℕ) → k < countAt n i → Holds (IB i) (f i) (valueAt F fi f n v i k)
-  in-width IB some room P1 k h = holds _ _ _ _ _ (small P1) (some P1) (room P1) (nodes F fi b f n v x big small given .p1 k h)
-  in-width IB some room U1 k h = holds _ _ _ _ _ (small U1) (some U1) (room U1) (nodes F fi b f n v x big small given .u1 k h)
-  in-width IB some room P2 k h = holds _ _ _ _ _ (small P2) (some P2) (room P2) (nodes F fi b f n v x big small given .p2 k h)
-  in-width IB some room U2 k h = holds _ _ _ _ _ (small U2) (some U2) (room U2) (nodes F fi b f n v x big small given .u2 k h)
-  in-width IB some room G1 k h = holds _ _ _ _ _ (small G1) (some G1) (room G1) (nodes F fi b f n v x big small given .g1 k h)
-  in-width IB some room G2 k h = holds _ _ _ _ _ (small G2) (some G2) (room G2) (nodes F fi b f n v x big small given .g2 k h)
+  in-width IB some room i k h = holds _ _ _ _ _ (small i) (some i) (room i) (node-good F fi b f n v x big small given i k h)

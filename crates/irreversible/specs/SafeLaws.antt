@@ -20,7 +20,8 @@ use Rattle.lifting.specs.Steps.{Safe, ScaledSafe, FactorSafe}
 use Rattle.lifting.specs.Runs.{as-type}
 use Rattle.lifting.specs.Passes.{evens}
 use Rattle.lifting.specs.Kernels.{SafeKernel}
-use Rattle.irreversible.specs.Fixed.{nearest, step, scale, valueAt, countAt, atP1, atU1, atP2, atU2, atG1, atG2}
+use Rattle.stages.specs.Fixed.{nearest, step, scale}
+use Rattle.irreversible.specs.Fixed.{valueAt, countAt, atP1, atU1, atP2, atU2, atG1, atG2}
 use Rattle.irreversible.specs.Constants.{constantOf}
 use Rattle.irreversible.specs.Sizes.{product-size}
 use Rattle.irreversible.specs.Claims.{Holds}

@@ -12,7 +12,7 @@ use lib.IntN.{ℤ, pos, natAbs, _+ℤ_, _*ℤ_}
 use Rattle.numbers.specs.Abs.{abs-add, abs-mul}
 use Rattle.exact.specs.Fractions.{Frac}
 use Rattle.width_table.specs.Nodes.{Node, P1, U1, P2, U2, G1, G2}
-use Rattle.irreversible.specs.Fixed.{nearest}
+use Rattle.stages.specs.Fixed.{nearest}
 use Rattle.irreversible.specs.Constants.{constantOf}
 use Rattle.numbers.specs.Tests.{both}
 

@@ -14,7 +14,7 @@ use Rattle.lifting.specs.declared.Step.{Step}
 use Rattle.lifting.specs.declared.Step.the-variants.{Short, Wide}
 use Rattle.lifting.specs.declared.Factor.{Factor}
 use Rattle.lifting.specs.Steps.{applied, scaledBy}
-use Rattle.irreversible.specs.Fixed.{nearest, cut, step, scale}
+use Rattle.stages.specs.Fixed.{nearest, cut, step, scale}
 
 -- the bits at which a stage forms its sum: those of its operands and of its node
 abbrev pub stepTop : ℕ → ℕ → ℕ → ℕ → ℕ

@@ -9,7 +9,7 @@ ghost use Rattle.width_table.specs.Table.{constantBits, fractionBits, inputBits
 ghost use Rattle.lines.specs.Planes.{rowByRow};
 ghost use Rattle.numbers.specs.Lists.{over};
 ghost use Rattle.precision.specs.Verdict.{Accepted};
-ghost use Rattle.irreversible.specs.Fixed.{nearest};
+ghost use Rattle.stages.specs.Fixed.{nearest};
 ghost use Rattle.irreversible.specs.Constants.{constantOf};
 ghost use Rattle.irreversible.specs.Transforms.{fixedPlane};
 ghost use Rattle.irreversible.specs.Calls.{fixedAnswer, fixedPlaneAfter, fixedWork};

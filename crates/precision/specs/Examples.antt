@@ -9,8 +9,9 @@ use Rattle.numbers.specs.Tests.{every}
 use Rattle.exact.specs.Exact.{lift}
 use Rattle.width_table.specs.declared.WidthTable.{WidthTable}
 use Rattle.width_table.specs.Table.{formRight}
-use Rattle.precision.specs.Gains as G
-use Rattle.precision.specs.Gains.{gain, exactGain, sumTo, answer, held}
+use Rattle.stages.specs.Stages.{made, bits}
+use Rattle.stages.specs.Gains.{gain, exactGain, sumFrom, sumTo, inputAnswer, nodeAnswer, held}
+use Rattle.stages.specs.Rule as Rule
 use Rattle.precision.specs.Bounds
 use Rattle.refusals.specs.declared.Refusal.{Refusal}
 use Rattle.refusals.specs.declared.Refusal.the-variants.{OutsideLimits, DoesNotFit, ErrorTooLarge}
@@ -59,7 +60,7 @@ wide = table 1 [] (level 12 13 2 2 20)
 verdicts :
     verdict (usual 1) ∷ verdict (usual 2) ∷ verdict (usual 3) ∷ verdict (usual 4) ∷ verdict (usual 5) ∷ verdict narrow ∷ verdict rough ∷ verdict wide ∷ []
     ≡ Done ∷ Done ∷ Done ∷ Done ∷ Done ∷ Refused (DoesNotFit (record { level = 1; pass = 1; node = 1 })) ∷ Refused (ErrorTooLarge (record { level = 1; pass = 2; node = 5 })) ∷ Refused OutsideLimits ∷ []
-unfolding verdict formRight every firstRefusal judged Bounds.boundOf Bounds.entering Bounds.passBound Bounds.rowBound Bounds.boundAt Bounds.rangeAt Bounds.errorAt Bounds.errorP1 Bounds.errorU1 Bounds.errorP2 Bounds.errorU2 Bounds.errorG1 Bounds.errorG2 Bounds.ownP1 Bounds.ownU1 Bounds.ownP2 Bounds.ownU2 Bounds.ownG1 Bounds.ownG2 Bounds.ownLift Bounds.ownScale Bounds.loss Bounds.timesGain upDiv gain exactGain sumTo answer held G.p1 G.u1 G.p2 G.u2 G.g1 G.g2 G.low G.high wholesOf lift _⊕_ _⊗_ whole magnitude
+unfolding verdict formRight every firstRefusal judged Bounds.boundOf Bounds.entering Bounds.passBound Bounds.rowBound Bounds.boundAt Rule.boundAt Rule.rangeAt Rule.errorAt Rule.owns Rule.ownsBring Rule.ownFrom Rule.brought Rule.ownLift Rule.ownScale Rule.loss Rule.timesGain bits upDiv gain exactGain sumFrom sumTo inputAnswer nodeAnswer held made wholesOf lift _⊕_ _⊗_ whole magnitude
 verdicts = refl
 
 abbrev nth : ℕ → List Outcome → Outcome

@@ -22,7 +22,8 @@ use Rattle.width_table.specs.declared.WidthTable.{WidthTable}
 use Rattle.width_table.specs.Nodes.{Node, G1, G2, Pass, Rows, LowColumns, HighColumns, nodeAt, passNumber, nodeNumber, passNodes, levelNodes, bookOrder}
 use Rattle.width_table.specs.Table.{constantBits, integerBits, fractionBits, inputBits, formRight}
 use Rattle.width_table.specs.Readers.{constantBitsAt, integerBitsAt, fractionBitsAt, constant-bits, integer-bits, fraction-bits}
-use Rattle.precision.specs.Bounds.{Bound, timesGain, boundAt, rowBound, passBound, entering, boundOf}
+use Rattle.stages.specs.Rule.{Bound, timesGain}
+use Rattle.precision.specs.Bounds.{boundAt, rowBound, passBound, entering, boundOf}
 use Rattle.precision.specs.Verdict.{fits, keptColumn, keptAt, judged, firstRefusal, verdict}
 use Rattle.precision.specs.Promise.{each-accepts, in-nodes, form-depth, form-levels, form-constants, form-widths, refusal-++}
 use Rattle.precision.specs.Places.{gainAt, carriedTo, multiplied, ownAt, ownsBelow, fed, bitsOf, ownErrorOf, ownsOf, nodesFrom, told, judgedAs, boundFrom, boundOfNode, At, Enters, LevelJudged}

@@ -1,25 +1,17 @@
 -- The precision analysis of a width table (document 01: the judge).
---   Gains       the gain from one node to another on an endless line
---   Bounds      range and error of each node
+--   Bounds      range and error of each node, by the rule of the crate stages
 --   Verdict     the verdict: form, then the nodes in book order; and what acceptance promises
 -- Proved of them:
 --   Promise     promise : Accepted t → AcceptPromise t, accept : AcceptPromise t → Accepted t
 --   Examples    tables that are accepted, and tables that are refused 4, 6 and 7
---   Endless     the finite sum in a gain is the endless one
---   GainTable   the gains as numbers
---   Forms       linear forms of answers
 -- For the program:
 --   Places      nodes, passes and bounds by number
 --   PlaceLaws   these are the bounds of Bounds, and small where what enters a pass is small
 --   JudgeLaws   what the program reads, computes and answers step by step is the verdict
-pub mod Gains
 pub mod Bounds
 pub mod Verdict
-pub mod Forms
 pub mod Promise
 pub mod Examples
-pub mod Endless
-pub mod GainTable
 pub mod Places
 pub mod PlaceLaws
 pub mod JudgeLaws

@@ -2,18 +2,27 @@
 use Prim.Native.Nat.{ℕ, zero, suc, _+_, _*_, _-_, _/_, _^_, _<_, _≤_, zero-le, max}
 use mathlib.Core.Bool.{Bool, true, false}
 use mathlib.Core.List.{List, [], _∷_}
-use mathlib.Core.Path.{_≡_, refl, sym, ap}
+use mathlib.Core.Path.{_≡_, refl, sym, _∙_, ap}
 use native.Mathlib.Omega.{arith}
 use native.Mathlib.Nat.{div-mul-le-self, mul-le-mul-left, mul-le-mul-right, le-trans}
 use lib.Dec.{T, eqb, ltb, leb, leb→le, lit≤}
 use lib.ListN.{getD, set}
 use lib.Pow.{pow-mono}
 use Rattle.numbers.specs.Tests.{every, both, ltb-true, ltb-false}
-use Rattle.exact.specs.Fractions.{upDiv}
+use Rattle.exact.specs.Fractions.{_⊕_, _⊗_, whole, magnitude, upDiv, wholesOf}
 use Rattle.width_table.specs.Nodes.{Node}
-use Rattle.precision.specs.Gains.{gain}
-use Rattle.precision.specs.GainTable.{gain-is}
-use Rattle.precision.specs.Bounds.{Bound, timesGain, loss, ownLift, ownScale, carried, rangeAt, errorAt, errorP1, errorU1, errorP2, errorU2, errorG1, errorG2, ownP1, ownU1, ownP2, ownU2, ownG1, ownG2}
+use Rattle.exact.specs.Exact.{lift}
+use Rattle.lines.specs.Planes.{tabulate}
+use Rattle.lines.specs.RowLaws.{tabulate-at}
+use Rattle.stages.specs.Stages.{low, high, stage, forward, made, bits}
+use Rattle.stages.specs.Gains as G
+use Rattle.stages.specs.Gains.{Source, samples, node, sumTo, inputAnswer, nodeAnswer, sumFrom, exactGain, gain}
+use Rattle.stages.specs.Rule as Rule
+use Rattle.stages.specs.Rule.{Bound, together, timesGain, loss, ownLift, ownScale, brought}
+use Rattle.stages.specs.Held.{weighed}
+use Rattle.stages.specs.RuleLaws as RuleLaws
+use Rattle.stages.specs.RuleLaws.{timesGain-zero, timesGain-none, timesGain-one, weighed-ext, error-sum, bound-start, bound-kept}
+use Rattle.precision.specs.Bounds.{boundAt}
 use Rattle.precision.specs.Places.{gains, gainAt, carriedTo, multiplied, other, bitsAt, ownAt, totalAt, ownFrom, ownsBelow}
 use Rattle.width_table.specs.Numbered.{nodeOf}
 
@@ -42,18 +51,6 @@ multiplied-most k h = go (eqb k 6)
 
 -- ---- products by a gain
 
-times-zero : (g : ℕ) → timesGain 0 g ≡ 0
-unfolding timesGain upDiv
-times-zero g = omega arith
-
-times-none : (x : ℕ) → timesGain x 0 ≡ 0
-unfolding timesGain upDiv
-times-none x = omega arith
-
-times-one : (x : ℕ) → timesGain x 65536 ≡ x
-unfolding timesGain upDiv
-times-one x = omega arith
-
 pub times-most : (x g : ℕ) → timesGain x g * 65536 ≤ x * g + 65535
 unfolding timesGain upDiv
 times-most x g = omega arith
@@ -79,6 +76,22 @@ gain-most = rows-most 273434 gains tt
 pub product-most : (x g : ℕ) → x ≤ largest → g ≤ 273434 → x * g ≤ largest * 273434
 product-most x g h k = le-trans (mul-le-mul-right g h) (mul-le-mul-left largest k)
 
+-- ---- the gains by number
+
+-- what comes from place i
+abbrev from : ℕ → Source
+from zero = samples
+from (suc i) = node i
+
+gains-are : tabulate 7 (λ i. tabulate 7 (λ j. gain forward (stage forward (j - 1) .side) j (from i))) ≡ gains
+unfolding tabulate gain exactGain sumFrom sumTo inputAnswer nodeAnswer G.held made wholesOf upDiv lift _⊕_ _⊗_ whole magnitude
+gains-are = refl
+
+pub gain-is : (i j : ℕ) → i < 7 → j < 7 → gain forward (stage forward (j - 1) .side) j (from i) ≡ gainAt i j
+gain-is i j h k =
+    sym (ap (λ (row : List ℕ). getD row j 0) (tabulate-at 7 (λ i. tabulate 7 (λ j. gain forward (stage forward (j - 1) .side) j (from i))) [] i h) ∙ tabulate-at 7 (λ j. gain forward (stage forward (j - 1) .side) j (from i)) 0 j k)
+    ∙ ap (λ (rows : List (List ℕ)). getD (getD rows i []) j 0) gains-are
+
 -- ---- the bounds by number
 
 module _ (F : Node → ℕ) (fi : ℕ) (b : Bound) (f : Node → ℕ) where
@@ -86,36 +99,61 @@ module _ (F : Node → ℕ) (fi : ℕ) (b : Bound) (f : Node → ℕ) where
   unfolding ownsBelow
   owns-next = by-place _ refl refl refl refl refl refl
 
+  abbrev Fs : ℕ → ℕ
+  Fs i = F (nodeOf (suc i))
+
+  abbrev fs : ℕ → ℕ
+  fs i = f (nodeOf (suc i))
+
+  -- the first stage multiplies the input, and G2 what P2 left
   pub own-is : (k : ℕ) → 1 ≤ k → k ≤ 6 → ownAt F fi b f k ≡ ownFrom F fi b f k (totalAt F fi b f (multiplied k))
-  unfolding ownAt ownFrom totalAt ownP1 ownU1 ownP2 ownU2 ownG1 ownG2 errorAt
-  own-is = by-place _ refl refl refl refl refl refl
+  unfolding ownAt ownFrom totalAt boundAt bits RuleLaws.ownAt Rule.ownFrom Rule.boundAt
+  own-is =
+      by-place _
+      (ap (λ (x : Bound). ownLift (Fs 0) fi fi (fs 0) (x .range + x .error)) (bound-start forward (together b) Fs (λ s. fi) fs low))
+      refl refl refl refl
+      (ap (λ (x : Bound). ownScale (Fs 5) (fs 2) (fs 5) (x .range + x .error)) (bound-kept forward (together b) Fs (λ s. fi) fs 4 high refl ∙ bound-kept forward (together b) Fs (λ s. fi) fs 3 high refl))
 
-  pub range-is : (k : ℕ) → 1 ≤ k → k ≤ 6 → timesGain (b .range) (gainAt 0 k) ≡ rangeAt F fi b f (nodeOf k)
-  unfolding rangeAt
-  range-is = by-place _ (simp gain-is) (simp gain-is) (simp gain-is) (simp gain-is) (simp gain-is) (simp gain-is)
+  pub range-is : (k : ℕ) → 1 ≤ k → k ≤ 6 → timesGain (b .range) (gainAt 0 k) ≡ boundAt F fi b f (nodeOf k) .range
+  unfolding boundAt Rule.boundAt Rule.rangeAt brought
+  range-is = by-place _ (at 1 (lit≤ tt)) (at 2 (lit≤ tt)) (at 3 (lit≤ tt)) (at 4 (lit≤ tt)) (at 5 (lit≤ tt)) (at 6 (lit≤ tt))
+    where
+      at : (k : ℕ) → k ≤ 6 → timesGain (b .range) (gainAt 0 k) ≡ timesGain (b .range) (gain forward (stage forward (k - 1) .side) k samples)
+      at k h = ap (timesGain (b .range)) (sym (gain-is 0 k (omega arith) (omega arith)))
 
-  pub error-is : (k : ℕ) → 1 ≤ k → k ≤ 6 → carriedTo (ownsBelow F fi b f 7) k 7 ≡ errorAt F fi b f (nodeOf k)
-  unfolding carriedTo ownsBelow ownAt errorAt errorP1 errorU1 errorP2 errorU2 errorG1 errorG2
+  -- the error of a node by numbers
+  error-at : (k : ℕ) → k ≤ 6 → Rule.errorAt forward (together b) Fs (λ s. fi) fs (stage forward (k - 1) .side) k ≡ timesGain (b .error) (gainAt 0 k) + weighed (λ i. gainAt (suc i) k) (RuleLaws.ownAt forward (together b) Fs (λ s. fi) fs) k
+  unfolding brought
+  error-at k h =
+      omega (
+        arith,
+        error-sum forward (together b) Fs (λ s. fi) fs (stage forward (k - 1) .side) k,
+        ap (timesGain (b .error)) (gain-is 0 k (omega arith) (omega arith)),
+        weighed-ext (λ i. gain forward (stage forward (k - 1) .side) k (node i)) (λ i. gainAt (suc i) k) (RuleLaws.ownAt forward (together b) Fs (λ s. fi) fs) k (λ i l. gain-is (suc i) k (omega arith) (omega arith)),
+      )
+
+  pub error-is : (k : ℕ) → 1 ≤ k → k ≤ 6 → carriedTo (ownsBelow F fi b f 7) k 7 ≡ boundAt F fi b f (nodeOf k) .error
+  unfolding carriedTo ownsBelow ownAt boundAt Rule.boundAt weighed
   error-is =
       by-place _
-      (simp (gain-is, times-none) (omega arith))
-      (simp (gain-is, times-none) (omega arith))
-      (simp (gain-is, times-none) (omega arith))
-      (simp (gain-is, times-none) (omega arith))
-      (simp (gain-is, times-none) (omega arith))
-      (simp (gain-is, times-none) (omega arith))
+      (simp timesGain-none (omega (arith, error-at 1 (lit≤ tt))))
+      (simp timesGain-none (omega (arith, error-at 2 (lit≤ tt))))
+      (simp timesGain-none (omega (arith, error-at 3 (lit≤ tt))))
+      (simp timesGain-none (omega (arith, error-at 4 (lit≤ tt))))
+      (simp timesGain-none (omega (arith, error-at 5 (lit≤ tt))))
+      (simp timesGain-none (omega (arith, error-at 6 (lit≤ tt), timesGain-none (RuleLaws.ownAt forward (together b) Fs (λ s. fi) fs 3), timesGain-none (RuleLaws.ownAt forward (together b) Fs (λ s. fi) fs 4))))
 
   -- what the places below k carry to the place that k multiplies
   pub total-is : (k : ℕ) → 1 ≤ k → k ≤ 6 → timesGain (b .range) (gainAt 0 (multiplied k)) + carriedTo (ownsBelow F fi b f k) (multiplied k) 7 ≡ totalAt F fi b f (multiplied k)
-  unfolding carriedTo ownsBelow ownAt totalAt rangeAt errorAt errorP1 errorU1 errorP2 errorU2
+  unfolding carriedTo ownsBelow ownAt totalAt boundAt Rule.boundAt weighed
   total-is =
       by-place _
-      (simp (gain-is, times-zero, times-none, times-one) (omega arith))
-      (simp (gain-is, times-zero, times-none) (omega arith))
-      (simp (gain-is, times-zero, times-none) (omega arith))
-      (simp (gain-is, times-zero, times-none) (omega arith))
-      (simp (gain-is, times-zero, times-none) (omega arith))
-      (simp (gain-is, times-zero, times-none) (omega arith))
+      (simp (timesGain-zero, timesGain-none, timesGain-one) (omega arith))
+      (simp timesGain-zero (omega (arith, range-is 1 (lit≤ tt) (lit≤ tt), error-at 1 (lit≤ tt))))
+      (simp timesGain-zero (omega (arith, range-is 2 (lit≤ tt) (lit≤ tt), error-at 2 (lit≤ tt))))
+      (simp timesGain-zero (omega (arith, range-is 3 (lit≤ tt) (lit≤ tt), error-at 3 (lit≤ tt))))
+      (simp timesGain-zero (omega (arith, range-is 4 (lit≤ tt) (lit≤ tt), error-at 4 (lit≤ tt))))
+      (simp (timesGain-zero, timesGain-none) (omega (arith, range-is 3 (lit≤ tt) (lit≤ tt), error-at 3 (lit≤ tt))))
 
 -- a stage's own error, from what the program reads
 module _ (F : Node → ℕ) (fi : ℕ) (b : Bound) (f : Node → ℕ) (k r : ℕ) where

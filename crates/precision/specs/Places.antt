@@ -11,10 +11,13 @@ use Rattle.refusals.specs.declared.Outcome.{Outcome}
 use Rattle.refusals.specs.declared.Outcome.the-variants.{Done}
 use Rattle.refusals.specs.Refusals.{asks}
 use Rattle.width_table.specs.Numbered.{nodeOf, passOf}
-use Rattle.width_table.specs.Nodes.{Node, P1, U1, P2, U2, G1, G2, Pass, Rows, LowColumns, HighColumns, TableNode, nodeAt, passNodes, levelNodes}
+use Rattle.width_table.specs.Nodes.{Node, G1, G2, Pass, Rows, LowColumns, HighColumns, TableNode, nodeAt, passNodes, levelNodes}
 use Rattle.width_table.specs.declared.WidthTable.{WidthTable}
 use Rattle.width_table.specs.Table.{constantBits, fractionBits, inputBits, formRight}
-use Rattle.precision.specs.Bounds.{Bound, timesGain, ownLift, ownScale, rangeAt, errorAt, ownP1, ownU1, ownP2, ownU2, ownG1, ownG2, boundOf, entering}
+use Rattle.stages.specs.Stages.{forward}
+use Rattle.stages.specs.RuleLaws as RuleLaws
+use Rattle.stages.specs.Rule.{Bound, together, timesGain, ownLift, ownScale}
+use Rattle.precision.specs.Bounds.{boundAt, boundOf, entering}
 use Rattle.precision.specs.declared.Bound as Code
 use Rattle.precision.specs.declared.PassAnswer.{PassAnswer}
 use Rattle.precision.specs.declared.LevelAnswer.{LevelAnswer}
@@ -56,17 +59,12 @@ module _ (F : Node → ℕ) (fi : ℕ) (b : Bound) (f : Node → ℕ) where
   -- the own error of a place; the input's error
   unfoldable pub ownAt : ℕ → ℕ
   ownAt zero = b .error
-  ownAt (suc zero) = ownP1 F fi b f
-  ownAt (suc (suc zero)) = ownU1 F fi b f
-  ownAt (suc (suc (suc zero))) = ownP2 F fi b f
-  ownAt (suc (suc (suc (suc zero)))) = ownU2 F fi b f
-  ownAt (suc (suc (suc (suc (suc zero))))) = ownG1 F fi b f
-  ownAt (suc (suc (suc (suc (suc (suc k)))))) = ownG2 F fi b f
+  ownAt (suc i) = RuleLaws.ownAt forward (together b) (λ i. F (nodeOf (suc i))) (λ s. fi) (λ i. f (nodeOf (suc i))) i
 
   -- range plus error of a place
   unfoldable pub totalAt : ℕ → ℕ
   totalAt zero = b .range + b .error
-  totalAt (suc k) = rangeAt F fi b f (nodeOf (suc k)) + errorAt F fi b f (nodeOf (suc k))
+  totalAt (suc k) = boundAt F fi b f (nodeOf (suc k)) .range + boundAt F fi b f (nodeOf (suc k)) .error
 
   -- the own error of place k where r is the range plus error of the value that it multiplies
   unfoldable pub ownFrom : ℕ → ℕ → ℕ

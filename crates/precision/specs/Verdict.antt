@@ -12,7 +12,8 @@ use Rattle.refusals.specs.Refusals.{asks, _then_}
 use Rattle.width_table.specs.declared.WidthTable.{WidthTable}
 use Rattle.width_table.specs.Nodes.{Node, P1, U1, P2, U2, G1, G2, Pass, Rows, LowColumns, HighColumns, TableNode, nodeAt, passNumber, nodeNumber, bookOrder}
 use Rattle.width_table.specs.Table.{maxDepth, maxLevels, maxConstantBits, maxIntegerBits, maxFractionBits, integerBits, fractionBits, constantBits, formRight}
-use Rattle.precision.specs.Bounds.{Bound, boundOf}
+use Rattle.stages.specs.Rule.{Bound}
+use Rattle.precision.specs.Bounds.{boundOf}
 
 -- A node fits if range plus error is at most 2^(IB-1) - 2^-f.
 abbrev pub fits : Bound → ℕ → ℕ → Bool

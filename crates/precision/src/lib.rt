@@ -8,7 +8,7 @@ ghost use mathlib.Core.Path.{_≡_};
 ghost use Prim.Native.Nat.{ℕ, _+_, _*_, _-_, _^_, _<_, _≤_, max};
 ghost use lib.ListN.{getD};
 ghost use Rattle.exact.specs.Fractions.{upDiv};
-ghost use Rattle.precision.specs.Bounds.{timesGain, loss, ownLift, ownScale};
+ghost use Rattle.stages.specs.Rule.{timesGain, loss, ownLift, ownScale};
 ghost use Rattle.precision.specs.Verdict.{keptAt, judged, firstRefusal, verdict};
 ghost use Rattle.precision.specs.Places.{gainAt, carriedTo, multiplied, other, bitsOf, ownErrorOf, ownsOf, boundOfNode, boundFrom, judgedAs, At, Enters, PassJudged, LevelJudged};
 ghost use Rattle.width_table.specs.Numbered.{nodeOf, passOf};

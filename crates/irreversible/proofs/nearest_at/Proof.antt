@@ -1,7 +1,7 @@
 use mathlib.Core.Path.{refl}
 use native.Mathlib.Omega.{arith}
 use Rattle.lines.specs.Planes.{tabulate}
-use Rattle.irreversible.specs.Fixed.{nearest}
+use Rattle.stages.specs.Fixed.{nearest}
 use Rattle.irreversible.specs.ConstantTable.{nearestTable, table-at}
 use Rattle.irreversible.proofs.nearest_at.Statement.{statement}
 use Rattle.irreversible.proofs.nearest_at.Tie as tie

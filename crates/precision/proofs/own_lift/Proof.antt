@@ -1,5 +1,5 @@
 use native.Mathlib.Omega.{arith}
-use Rattle.precision.specs.Bounds.{ownLift}
+use Rattle.stages.specs.Rule.{ownLift}
 use Rattle.precision.proofs.own_lift.Statement.{statement}
 use Rattle.precision.proofs.own_lift.Tie as tie
 

@@ -1,5 +1,5 @@
 use native.Mathlib.Omega.{arith}
-use Rattle.precision.specs.Bounds.{ownScale}
+use Rattle.stages.specs.Rule.{ownScale}
 use Rattle.precision.proofs.own_scale.Statement.{statement}
 use Rattle.precision.proofs.own_scale.Tie as tie
 

@@ -2,7 +2,7 @@ use Prim.Native.Nat.{_*_, _≤_}
 use mathlib.Core.Path.{ap}
 use native.Mathlib.Omega.{arith}
 use Rattle.exact.specs.Fractions.{upDiv}
-use Rattle.precision.specs.Bounds.{timesGain}
+use Rattle.stages.specs.Rule.{timesGain}
 use Rattle.precision.specs.PlaceLaws.{gain-most, product-most, largest}
 use Rattle.precision.proofs.times_gain.Statement.{statement}
 use Rattle.precision.proofs.times_gain.Tie as tie

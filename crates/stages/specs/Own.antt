@@ -14,10 +14,10 @@ use Rattle.numbers.specs.Abs.{abs-mul}
 use Rattle.numbers.specs.Floor.{floor-≤, floor-<, floor-mul-r, round-near}
 use Rattle.exact.specs.Fractions.{Frac, _≈_, _⊕_, _⊗_, neg, upDiv}
 use Rattle.exact.specs.Exact.{lift}
-use Rattle.irreversible.specs.Fixed.{meant, nearest, cut, step, scale}
-use Rattle.precision.specs.Bounds.{loss, ownLift, ownScale}
+use Rattle.stages.specs.Fixed.{meant, nearest, cut, step, scale}
+use Rattle.stages.specs.Rule.{loss, ownLift, ownScale}
 use Rattle.exact.specs.FracLaws.{ring, ≈-refl, ≈-sym, ≈-trans, ⊕-cong, ⊗-cong, ⊕-neg, through, sub-times, sub-own, Within, within-≈, within-⊕, within-product, within-zero, within-weaken}
-use Rattle.precision.specs.Forms.{upDiv-most}
+use Rattle.stages.specs.Linear.{upDiv-most}
 
 -- ---- v / 2^f
 

@@ -1,0 +1,29 @@
+-- The fixed-point stages (document 01: the lifting). Values are whole numbers without limit: v at f fractional bits means v / 2^f.
+use Prim.Native.Nat.{ℕ, _+_, _*_, _-_, _^_, max}
+use lib.IntN.{ℤ, pos, _+ℤ_, _*ℤ_}
+use lib.Pow.{pow-pos}
+use Rattle.numbers.specs.Floor.{floorDiv}
+use Rattle.exact.specs.Fractions.{Frac}
+
+-- v / 2^f
+unfoldable pub meant : ℤ → ℕ → Frac
+meant v f = record { num = v; den = 2 ^ f; above = pow-pos f }
+
+-- A constant at F bits: the nearest multiple of 2^-F, as a whole number of them (no tie arises: Constants). (floorDiv z m is the floor of z / m.)
+unfoldable pub nearest : Frac → ℕ → ℤ
+nearest c F = floorDiv (c .num *ℤ pos (2 * 2 ^ F) +ℤ pos (c .den)) (2 * c .den)
+
+-- z at `full` bits, cut once towards minus infinity to f bits
+unfoldable pub cut : ℕ → ℕ → ℤ → ℤ
+cut full f z = floorDiv (z *ℤ pos (2 ^ (f - full))) (2 ^ (full - f))
+
+-- A stage that lifts: own value at fo bits, neighbours x and y at fm bits, the constant at F bits. Sum and product are formed
+-- without loss, at the larger of fo and F + fm bits, and cut once to f bits.
+unfoldable pub step : Frac → ℕ → ℕ → ℕ → ℕ → ℤ → ℤ → ℤ → ℤ
+step c F fm fo f own x y =
+    let full = max fo (F + fm) in
+    cut full f (own *ℤ pos (2 ^ (full - fo)) +ℤ nearest c F *ℤ (x +ℤ y) *ℤ pos (2 ^ (full - (F + fm))))
+
+-- A stage that scales: the product has F + fm bits.
+unfoldable pub scale : Frac → ℕ → ℕ → ℕ → ℤ → ℤ
+scale c F fm f x = cut (F + fm) f (nearest c F *ℤ x)

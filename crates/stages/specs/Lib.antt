@@ -1,0 +1,29 @@
+-- The judge's rule for any pass (document 01: the judge; document 02, job 1). A pass is the list of its stages.
+--
+-- Definitions:
+--   Stages     stages, and the two passes as data: forward, inverse
+--   Gains      the gain from one node to another on an endless line
+--   Rule       range, own error and error of each node
+--   Fixed      one fixed-point stage: nearest constants, one cut towards minus infinity
+-- Proved of them, for any list of stages:
+--   Sound      good: on a line with mirrored edges each exact value lies within the range, each fixed-point value within the error of it
+--   Endless    the finite sum in a gain is the endless one
+--   RuleLaws   the error as a sum; a side that a stage does not work keeps its bound
+-- Of the two passes:
+--   GainTable  the gains as numbers
+--   Examples   worked bounds
+-- Proofs: Linear, Held, Walk, Own lead to Sound, in this order; OnLine has the stages on a line of n samples.
+pub mod Stages
+pub mod Gains
+pub mod Rule
+pub mod Fixed
+pub mod OnLine
+pub mod GainTable
+pub mod Examples
+pub mod Linear
+pub mod Held
+pub mod Endless
+pub mod RuleLaws
+pub mod Walk
+pub mod Own
+pub mod Sound

@@ -1,0 +1,139 @@
+-- Laws of the rule: the error as a sum over the stages; what enters has its own bound; a side that a stage does not work keeps its bound.
+use mathlib.Core.List.{List}
+use Prim.Native.Nat.{ℕ, zero, suc, _+_, _<_, _≤_}
+use mathlib.Core.Path.{_≡_, refl, _∙_, ap, fun-ext}
+use native.Mathlib.Omega.{arith}
+use lib.IntN.{ℤ, pos, negsuc}
+use Rattle.exact.specs.Fractions.{Frac, _≈_, _⊕_, whole, magnitude, upDiv, wholesOf}
+use Rattle.exact.specs.FracLaws.{≈-trans, ⊕-cong, ⊕-zero-r, zeroF}
+use Rattle.stages.specs.Stages.{Side, low, high, Stage, stage, made, worked}
+use Rattle.stages.specs.OnLine.{other}
+use Rattle.stages.specs.Gains.{Line, before, after, held, nothing, unit, feed, only, sumTo, Source, samples, lows, highs, node, inputAnswer, nodeAnswer, sumFrom, exactGain, gain}
+use Rattle.stages.specs.Rule.{Bound, timesGain, Entering, together, apart, carried, brought, rangeAt, ownFrom, ownsBring, owns, errorAt, boundAt}
+use Rattle.stages.specs.Held.{enters, weighed, nodesBring, node-later}
+use Rattle.stages.specs.Endless.{magnitude-zero, endless-gain, wholes-≈}
+
+-- ---- products by a gain
+
+pub timesGain-zero : (g : ℕ) → timesGain 0 g ≡ 0
+unfolding timesGain upDiv
+timesGain-zero g = omega arith
+
+pub timesGain-none : (x : ℕ) → timesGain x 0 ≡ 0
+unfolding timesGain upDiv
+timesGain-none x = omega arith
+
+pub timesGain-one : (x : ℕ) → timesGain x 65536 ≡ x
+unfolding timesGain upDiv
+timesGain-one x = omega arith
+
+-- ---- the error as a sum
+
+pub nothing-brings : (st : List Stage) (s : Side) (m j : ℕ) → nodesBring st s m (λ i. 0) j ≡ 0
+unfolding weighed
+nothing-brings st s m zero = refl
+nothing-brings st s m (suc j) = omega (arith, nothing-brings st s m j, timesGain-zero (gain st s m (node j)))
+
+module _ (st : List Stage) (e : Entering) (F : ℕ → ℕ) (fi : Side → ℕ) (f : ℕ → ℕ) where
+  -- own error of stage i: by range and error of the value that it multiplies
+  unfoldable pub ownAt : ℕ → ℕ
+  ownAt i = ownFrom st e F fi f (stage st i .kind) (stage st i .side) i (λ s. rangeAt st e F fi f s i + errorAt st e F fi f s i)
+
+  owns-bring : (s : Side) (m j : ℕ) → ownsBring st e F fi f j (owns st e F fi f j) s m ≡ nodesBring st s m (ownAt) j
+  unfolding weighed ownsBring owns ownAt errorAt
+  owns-bring s m zero = refl
+  owns-bring s m (suc j) = ap (λ (t : ℕ). t + carried st (ownAt j) (node j) s m) (owns-bring s m j)
+
+  -- The error of a node is the input's error times the gain from the input, plus each stage's own error times the gain from it.
+  pub error-sum : (s : Side) (m : ℕ) → errorAt st e F fi f s m ≡ brought st (λ b. b .error) e s m + nodesBring st s m (ownAt) m
+  unfolding errorAt
+  error-sum s m = ap (λ (t : ℕ). brought st (λ b. b .error) e s m + t) (owns-bring s m m)
+
+pub weighed-ext : (g h o : ℕ → ℕ) (j : ℕ) → ((i : ℕ) → i < j → g i ≡ h i) → weighed g o j ≡ weighed h o j
+unfolding weighed
+weighed-ext g h o zero e = refl
+weighed-ext g h o (suc j) e = omega (arith, weighed-ext g h o j (λ i l. e i (omega arith)), ap (timesGain (o j)) (e j (omega arith)))
+
+-- ---- before the first stage
+
+-- a bound that enters, on its side
+pub brought-start : (st : List Stage) (r : Bound → ℕ) (e : Entering) (s : Side) → brought st r e s 0 ≡ r (enters e s)
+unfolding brought gain exactGain sumFrom sumTo inputAnswer held wholesOf upDiv _⊕_ whole magnitude
+brought-start st r (together b) low = timesGain-one (r b)
+brought-start st r (together b) high = timesGain-one (r b)
+brought-start st r (apart a b) low = omega (arith, timesGain-one (r a), timesGain-none (r b))
+brought-start st r (apart a b) high = omega (arith, timesGain-none (r a), timesGain-one (r b))
+
+module _ (st : List Stage) (e : Entering) (F : ℕ → ℕ) (fi : Side → ℕ) (f : ℕ → ℕ) where
+  pub bound-start : (s : Side) → boundAt st e F fi f s 0 ≡ enters e s
+  unfolding boundAt rangeAt errorAt owns ownsBring
+  bound-start s =
+      let bound : ℕ → ℕ → Bound = λ r t. record { range = r; error = t } in
+      ap (λ (t : ℕ). bound t (brought st (λ b. b .error) e s 0 + 0)) (brought-start st (λ b. b .range) e s)
+      ∙ ap (bound (enters e s .range)) (omega (arith, brought-start st (λ b. b .error) e s))
+
+-- ---- a stage on the other side
+
+module _ (st : List Stage) (m : ℕ) (s : Side) (elsewhere : stage st m .side ≡ other s) where
+  held-kept : (x : Side → Line) (a : ℕ → Line) (k : ℤ) → held st x a (suc m) s k ≡ held st x a m s k
+  unfolding held
+  held-kept x a k = go s (stage st m .side) elsewhere
+    where
+      go : (s t : Side) → t ≡ other s → worked before after t (λ k own y z. made (stage st m .kind) (stage st m .constant) own y z ⊕ a m k) (held st x a m) s k ≡ held st x a m s k
+      go s t e = rw e (kept s)
+        where
+          kept : (s : Side) → worked before after (other s) (λ k own y z. made (stage st m .kind) (stage st m .constant) own y z ⊕ a m k) (held st x a m) s k ≡ held st x a m s k
+          kept low = refl
+          kept high = refl
+
+  inputs-kept : inputAnswer st s (suc m) ≡ inputAnswer st s m
+  unfolding inputAnswer
+  inputs-kept = fun-ext (λ t. fun-ext (λ p. held-kept (feed t (unit p)) (λ i. nothing) (pos 0)))
+
+  nodes-kept : nodeAnswer st s (suc m) ≡ nodeAnswer st s m
+  unfolding nodeAnswer
+  nodes-kept = fun-ext (λ i. fun-ext (λ p. held-kept (λ t. nothing) (only i (unit p)) (pos 0)))
+
+  sums-kept : (r : ℕ) (i : Source) → sumFrom st s (suc m) r i ≡ sumFrom st s m r i
+  unfolding sumFrom
+  sums-kept r samples = ap (λ (g : Side → ℤ → Frac). sumTo r (g low) ⊕ sumTo r (g high)) inputs-kept
+  sums-kept r lows = ap (λ (g : Side → ℤ → Frac). sumTo r (g low)) inputs-kept
+  sums-kept r highs = ap (λ (g : Side → ℤ → Frac). sumTo r (g high)) inputs-kept
+  sums-kept r (node i) = ap (λ (g : ℕ → ℤ → Frac). sumTo r (g i)) nodes-kept
+
+  pub gain-kept : (i : Source) → gain st s (suc m) i ≡ gain st s m i
+  unfolding gain exactGain
+  gain-kept i = ap (wholesOf 65536) (sums-kept (suc m) i) ∙ endless-gain st s m i (suc m) (omega arith)
+
+-- a later stage has no gain
+sum-none : (r : ℕ) (f : ℤ → Frac) → ((p : ℤ) → f p ≈ zeroF) → sumTo r f ≈ zeroF
+unfolding sumTo
+sum-none zero f h = magnitude-zero (h (pos 0))
+sum-none (suc r) f h = ≈-trans (⊕-cong (⊕-cong (sum-none r f h) (magnitude-zero (h (pos (suc r))))) (magnitude-zero (h (negsuc r)))) (≈-trans (⊕-zero-r _) (⊕-zero-r _))
+
+pub gain-later : (st : List Stage) (s : Side) (m i : ℕ) → m ≤ i → gain st s m (node i) ≡ 0
+unfolding gain exactGain sumFrom nodeAnswer whole wholesOf
+gain-later st s m i h = wholes-≈ 65536 {y = zeroF} (sum-none m _ (λ p. node-later st s m i (unit p) h))
+
+module _ (st : List Stage) (e : Entering) (F : ℕ → ℕ) (fi : Side → ℕ) (f : ℕ → ℕ) (m : ℕ) (s : Side) (elsewhere : stage st m .side ≡ other s) where
+  brought-kept : (r : Bound → ℕ) (e : Entering) → brought st r e s (suc m) ≡ brought st r e s m
+  unfolding brought
+  brought-kept r (together b) = ap (timesGain (r b)) (gain-kept st m s elsewhere samples)
+  brought-kept r (apart a b) = ap (λ (g : ℕ). timesGain (r a) g + timesGain (r b) (gain st s (suc m) highs)) (gain-kept st m s elsewhere lows) ∙ ap (λ (g : ℕ). timesGain (r a) (gain st s m lows) + timesGain (r b) g) (gain-kept st m s elsewhere highs)
+
+  bring-kept : (o : ℕ → ℕ) (j : ℕ) → nodesBring st s (suc m) o j ≡ nodesBring st s m o j
+  unfolding weighed
+  bring-kept o zero = refl
+  bring-kept o (suc j) = ap (λ (t : ℕ). t + timesGain (o j) (gain st s (suc m) (node j))) (bring-kept o j) ∙ ap (λ (g : ℕ). nodesBring st s m o j + timesGain (o j) g) (gain-kept st m s elsewhere (node j))
+
+  last-kept : (o : ℕ → ℕ) → nodesBring st s (suc m) o (suc m) ≡ nodesBring st s m o m
+  unfolding weighed
+  last-kept o = omega (arith, bring-kept o m, ap (timesGain (o m)) (gain-kept st m s elsewhere (node m) ∙ gain-later st s m m (omega arith)), timesGain-none (o m))
+
+  -- A side that a stage does not work keeps its bound.
+  pub bound-kept : boundAt st e F fi f s (suc m) ≡ boundAt st e F fi f s m
+  unfolding boundAt rangeAt
+  bound-kept =
+      let bound : ℕ → ℕ → Bound = λ r t. record { range = r; error = t } in
+      ap (λ (t : ℕ). bound t (errorAt st e F fi f s (suc m))) (brought-kept (λ b. b .range) e)
+      ∙ ap (bound (brought st (λ b. b .range) e s m)) (omega (arith, error-sum st e F fi f s (suc m), error-sum st e F fi f s m, brought-kept (λ b. b .error) e, last-kept (ownAt st e F fi f)))

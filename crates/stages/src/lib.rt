@@ -1,0 +1,1 @@
+// Places of lines and planes, in specs/; no code.

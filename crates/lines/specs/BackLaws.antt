@@ -1,13 +1,13 @@
--- Where each pass is undone, the levels are (`levels-undone`, `levels-redone`), up to a relation that the passes respect.
-use Prim.Native.Nat.{ℕ, zero, suc, _<_, _≤_}
+-- Where each line's pass is undone, a level is, in either order of rows and columns (`rows-first-undone`, `columns-first-undone`); and
+-- where each level is undone, the levels are (`levels-undone`, `levels-redone`). All of it up to a relation R that the passes respect.
+use Prim.Native.Nat.{ℕ, zero, suc, _+_, _<_, _≤_}
 use mathlib.Core.Bool.{Bool}
-use mathlib.Core.Path.{_≡_, subst}
+use mathlib.Core.Path.{_≡_, refl, sym, _∙_, subst}
 use native.Mathlib.Omega.{arith}
 use lib.Dec.{ltb}
-use Rattle.lines.specs.Lines.{lows}
-use Rattle.lines.specs.Planes.{Plane, OnLine, rows, columns, level, levels, side}
-use Rattle.lines.specs.Back.{levelBack, levelsBack}
-use Rattle.lines.specs.PlaneLaws.{within-in, within-below, within-beyond, by-part, Roomy}
+use Rattle.lines.specs.Lines.{lows, Liftable}
+use Rattle.lines.specs.Planes.{Plane, OnLine, OnPart, rowsFirst, columnsFirst, levels, levelsBack, side}
+use Rattle.lines.specs.PlaneLaws.{rows-first-in, rows-first-keeps, columns-first-in, columns-first-keeps, by-part, Roomy, roomy-less, side-in, Alike}
 
 -- an equivalence
 pub record Same {A : Type 0} (R : A → A → Type 0) : Type 0 where
@@ -15,118 +15,128 @@ pub record Same {A : Type 0} (R : A → A → Type 0) : Type 0 where
   pub back : {x y : A} → R x y → R y x
   pub next : {x y z : A} → R x y → R y z → R x z
 
--- a pass over two values or more and the pass that takes it back; neither reads more than its n values
-pub record Undoes {A : Type 0} (R : A → A → Type 0) (pass undo : OnLine A) : Type 0 where
-  pub pass-same : (n : ℕ) → 2 ≤ n → (x y : ℕ → A) → ((k : ℕ) → k < n → R (x k) (y k)) → (k : ℕ) → k < n → R (pass n x k) (pass n y k)
-  pub undo-same : (n : ℕ) → 2 ≤ n → (x y : ℕ → A) → ((k : ℕ) → k < n → R (x k) (y k)) → (k : ℕ) → k < n → R (undo n x k) (undo n y k)
-  pub undone : (n : ℕ) → 2 ≤ n → (x : ℕ → A) (k : ℕ) → k < n → R (undo n (pass n x) k) (x k)
-  pub redone : (n : ℕ) → 2 ≤ n → (y : ℕ → A) (k : ℕ) → k < n → R (pass n (undo n y) k) (y k)
+pub equal : {A : Type 0} → Same (_≡_ {A = A})
+equal = record { same = λ x. refl; back = λ e. sym e; next = λ e f. e ∙ f }
 
--- what a level does to a plane, place by place
-module _ {A : Type 0} (row : ℕ → OnLine A) (column : ℕ → Bool → OnLine A) (l w h : ℕ) (p : Plane A) (r c : ℕ) where
-  pub level-in : r < h → c < w → level row column l w h p r c ≡ column l (ltb c (lows w)) h (λ k. row l w (p k) c) r
-  unfolding level columns rows
-  level-in i j = within-in w h (λ r c. column l (ltb c (lows w)) h (λ k. row l w (p k) c) r) p r c i j
+module _ {A : Type 0} (R : A → A → Type 0) where
+  -- a pass that reads no more than its n values, and is taken back by another
+  pub record Taken (pass undo : OnLine A) : Type 0 where
+    pub reads : (n : ℕ) → Liftable n → (x y : ℕ → A) → ((k : ℕ) → k < n → R (x k) (y k)) → (k : ℕ) → k < n → R (pass n x k) (pass n y k)
+    pub taken : (n : ℕ) → Liftable n → (x : ℕ → A) (k : ℕ) → k < n → R (undo n (pass n x) k) (x k)
 
-  pub level-below : h ≤ r → level row column l w h p r c ≡ p r c
-  unfolding level
-  level-below i = within-below w h _ p r c i
+  -- two passes that take each other back
+  pub record Undoes (pass undo : OnLine A) : Type 0 where
+    pub there : Taken pass undo
+    pub back : Taken undo pass
 
-  pub level-beyond : w ≤ c → level row column l w h p r c ≡ p r c
-  unfolding level
-  level-beyond j = within-beyond w h _ p r c j
+  pub swapped : {pass undo : OnLine A} → Undoes pass undo → Undoes undo pass
+  swapped u = record { there = u .back; back = u .there }
 
-  pub back-in : r < h → c < w → levelBack row column l w h p r c ≡ row l w (λ k. column l (ltb k (lows w)) h (λ m. p m k) r) c
-  unfolding levelBack columns rows
-  back-in i j = within-in w h (λ r c. row l w (λ k. column l (ltb k (lows w)) h (λ m. p m k) r) c) p r c i j
+  -- the same of a level: it reads no more than the plane that its part lies in
+  pub record TakenPart (level undo : OnPart A) : Type 0 where
+    pub reads : (w h : ℕ) → Liftable w → Liftable h → (W H : ℕ) → w ≤ W → h ≤ H → (p q : Plane A) → Alike R W H p q → Alike R W H (level w h p) (level w h q)
+    pub taken : (w h : ℕ) → Liftable w → Liftable h → (p : Plane A) (r c : ℕ) → R (undo w h (level w h p) r c) (p r c)
 
-  pub back-below : h ≤ r → levelBack row column l w h p r c ≡ p r c
-  unfolding levelBack
-  back-below i = within-below w h _ p r c i
+  pub record UndoesPart (level undo : OnPart A) : Type 0 where
+    pub there : TakenPart level undo
+    pub back : TakenPart undo level
 
-  pub back-beyond : w ≤ c → levelBack row column l w h p r c ≡ p r c
-  unfolding levelBack
-  back-beyond j = within-beyond w h _ p r c j
+  pub turned : {level undo : OnPart A} → UndoesPart level undo → UndoesPart undo level
+  turned u = record { there = u .back; back = u .there }
 
-module _ {A : Type 0} (R : A → A → Type 0) (e : Same R) (row unrow : ℕ → OnLine A) (column uncolumn : ℕ → Bool → OnLine A)
-    (rowsU : (l : ℕ) → Undoes R (row l) (unrow l)) (columnsU : (l : ℕ) (b : Bool) → Undoes R (column l b) (uncolumn l b)) where
+module _ {A : Type 0} {R : A → A → Type 0} (e : Same R) where
   is : {x y : A} → x ≡ y → R x y
   is {x} q = subst (λ (z : A). R x z) q (e .same x)
 
-  Alike : Plane A → Plane A → Type 0
-  Alike p q = (r c : ℕ) → R (p r c) (q r c)
+  -- equal to values that are alike
+  between : {x x' y y' : A} → x ≡ x' → R x' y' → y ≡ y' → R x y
+  between a b d = e .next (is a) (e .next b (e .back (is d)))
 
-  module _ (l w h : ℕ) (wide : 2 ≤ w) (tall : 2 ≤ h) where
-    module _ (p q : Plane A) (alike : Alike p q) where
-      level-alike : Alike (level row column l w h p) (level row column l w h q)
-      unfolding Alike
-      level-alike = by-part (λ r c. R (level row column l w h p r c) (level row column l w h q r c)) w h
-          (λ r c i j. e .next (is (level-in row column l w h p r c i j)) (e .next
-          (columnsU l (ltb c (lows w)) .pass-same h tall _ _ (λ k ik. rowsU l .pass-same w wide (p k) (q k) (λ m jm. alike k m) c j) r i)
-          (e .back (is (level-in row column l w h q r c i j)))))
-          (λ r c i. e .next (is (level-below row column l w h p r c i)) (e .next (alike r c) (e .back (is (level-below row column l w h q r c i)))))
-          (λ r c j. e .next (is (level-beyond row column l w h p r c j)) (e .next (alike r c) (e .back (is (level-beyond row column l w h q r c j)))))
+  module _ {row unrow : OnLine A} {column uncolumn : Bool → OnLine A} (rowsU : Undoes R row unrow) (columnsU : (b : Bool) → Undoes R (column b) (uncolumn b)) where
+    rows-first-taken : TakenPart R (rowsFirst row column) (columnsFirst unrow uncolumn)
+    rows-first-taken = record {
+      reads = λ w h wide tall W H in-w in-h p q alike.
+          by-part (λ r c. r < H → c < W → R (rowsFirst row column w h p r c) (rowsFirst row column w h q r c)) w h
+          (λ r c i j a b. between (rows-first-in row column w h p r c i j)
+          (columnsU (ltb c (lows w)) .there .reads h tall _ _ (λ k ik. rowsU .there .reads w wide (p k) (q k) (λ m jm. alike k m (omega arith) (omega arith)) c j) r i)
+          (rows-first-in row column w h q r c i j))
+          (λ r c i a b. between (rows-first-keeps row column .below w h p r c i) (alike r c a b) (rows-first-keeps row column .below w h q r c i))
+          (λ r c j a b. between (rows-first-keeps row column .beyond w h p r c j) (alike r c a b) (rows-first-keeps row column .beyond w h q r c j));
+      taken = λ w h wide tall p.
+          let q : Plane A = rowsFirst row column w h p in
+          by-part (λ r c. R (columnsFirst unrow uncolumn w h q r c) (p r c)) w h
+          (λ r c i j. e .next (is (columns-first-in unrow uncolumn w h q r c i j)) (e .next
+          (rowsU .back .reads w wide _ (row w (p r)) (λ k jk.
+          e .next (columnsU (ltb k (lows w)) .back .reads h tall (λ m. q m k) (column (ltb k (lows w)) h (λ m. row w (p m) k)) (λ m im. is (rows-first-in row column w h p m k im jk)) r i)
+          (columnsU (ltb k (lows w)) .there .taken h tall (λ m. row w (p m) k) r i)) c j)
+          (rowsU .there .taken w wide (p r) c j)))
+          (λ r c i. is (columns-first-keeps unrow uncolumn .below w h q r c i ∙ rows-first-keeps row column .below w h p r c i))
+          (λ r c j. is (columns-first-keeps unrow uncolumn .beyond w h q r c j ∙ rows-first-keeps row column .beyond w h p r c j));
+    }
 
-      back-alike : Alike (levelBack unrow uncolumn l w h p) (levelBack unrow uncolumn l w h q)
-      unfolding Alike
-      back-alike = by-part (λ r c. R (levelBack unrow uncolumn l w h p r c) (levelBack unrow uncolumn l w h q r c)) w h
-          (λ r c i j. e .next (is (back-in unrow uncolumn l w h p r c i j)) (e .next
-          (rowsU l .undo-same w wide _ _ (λ k jk. columnsU l (ltb k (lows w)) .undo-same h tall (λ m. p m k) (λ m. q m k) (λ m im. alike m k) r i) c j)
-          (e .back (is (back-in unrow uncolumn l w h q r c i j)))))
-          (λ r c i. e .next (is (back-below unrow uncolumn l w h p r c i)) (e .next (alike r c) (e .back (is (back-below unrow uncolumn l w h q r c i)))))
-          (λ r c j. e .next (is (back-beyond unrow uncolumn l w h p r c j)) (e .next (alike r c) (e .back (is (back-beyond unrow uncolumn l w h q r c j)))))
+    columns-first-taken : TakenPart R (columnsFirst unrow uncolumn) (rowsFirst row column)
+    columns-first-taken = record {
+      reads = λ w h wide tall W H in-w in-h p q alike.
+          by-part (λ r c. r < H → c < W → R (columnsFirst unrow uncolumn w h p r c) (columnsFirst unrow uncolumn w h q r c)) w h
+          (λ r c i j a b. between (columns-first-in unrow uncolumn w h p r c i j)
+          (rowsU .back .reads w wide _ _ (λ k jk. columnsU (ltb k (lows w)) .back .reads h tall (λ m. p m k) (λ m. q m k) (λ m im. alike m k (omega arith) (omega arith)) r i) c j)
+          (columns-first-in unrow uncolumn w h q r c i j))
+          (λ r c i a b. between (columns-first-keeps unrow uncolumn .below w h p r c i) (alike r c a b) (columns-first-keeps unrow uncolumn .below w h q r c i))
+          (λ r c j a b. between (columns-first-keeps unrow uncolumn .beyond w h p r c j) (alike r c a b) (columns-first-keeps unrow uncolumn .beyond w h q r c j));
+      taken = λ w h wide tall p.
+          let q : Plane A = columnsFirst unrow uncolumn w h p in
+          by-part (λ r c. R (rowsFirst row column w h q r c) (p r c)) w h
+          (λ r c i j. e .next (is (rows-first-in row column w h q r c i j)) (e .next
+          (columnsU (ltb c (lows w)) .there .reads h tall _ (uncolumn (ltb c (lows w)) h (λ m. p m c)) (λ k ik.
+          e .next (rowsU .there .reads w wide (q k) (unrow w (λ m. uncolumn (ltb m (lows w)) h (λ t. p t m) k)) (λ m jm. is (columns-first-in unrow uncolumn w h p k m ik jm)) c j)
+          (rowsU .back .taken w wide (λ m. uncolumn (ltb m (lows w)) h (λ t. p t m) k) c j)) r i)
+          (columnsU (ltb c (lows w)) .back .taken h tall (λ m. p m c) r i)))
+          (λ r c i. is (rows-first-keeps row column .below w h q r c i ∙ columns-first-keeps unrow uncolumn .below w h p r c i))
+          (λ r c j. is (rows-first-keeps row column .beyond w h q r c j ∙ columns-first-keeps unrow uncolumn .beyond w h p r c j));
+    }
 
-    module _ (p : Plane A) where
-      level-undone : Alike (levelBack unrow uncolumn l w h (level row column l w h p)) p
-      unfolding Alike
-      level-undone =
-          let q : Plane A = level row column l w h p in
-          by-part (λ r c. R (levelBack unrow uncolumn l w h q r c) (p r c)) w h
-          (λ r c i j. e .next (is (back-in unrow uncolumn l w h q r c i j)) (e .next
-          (rowsU l .undo-same w wide _ (row l w (p r)) (λ k jk.
-          e .next (columnsU l (ltb k (lows w)) .undo-same h tall (λ m. q m k) (column l (ltb k (lows w)) h (λ m. row l w (p m) k)) (λ m im. is (level-in row column l w h p m k im jk)) r i)
-          (columnsU l (ltb k (lows w)) .undone h tall (λ m. row l w (p m) k) r i)) c j)
-          (rowsU l .undone w wide (p r) c j)))
-          (λ r c i. e .next (is (back-below unrow uncolumn l w h q r c i)) (is (level-below row column l w h p r c i)))
-          (λ r c j. e .next (is (back-beyond unrow uncolumn l w h q r c j)) (is (level-beyond row column l w h p r c j)))
+    -- A level is undone by the passes that undo its own, in the other order.
+    pub rows-first-undone : UndoesPart R (rowsFirst row column) (columnsFirst unrow uncolumn)
+    rows-first-undone = record { there = rows-first-taken; back = columns-first-taken }
 
-      level-redone : Alike (level row column l w h (levelBack unrow uncolumn l w h p)) p
-      unfolding Alike
-      level-redone =
-          let q : Plane A = levelBack unrow uncolumn l w h p in
-          by-part (λ r c. R (level row column l w h q r c) (p r c)) w h
-          (λ r c i j. e .next (is (level-in row column l w h q r c i j)) (e .next
-          (columnsU l (ltb c (lows w)) .pass-same h tall _ (uncolumn l (ltb c (lows w)) h (λ m. p m c)) (λ k ik.
-          e .next (rowsU l .pass-same w wide (q k) (unrow l w (λ m. uncolumn l (ltb m (lows w)) h (λ t. p t m) k)) (λ m jm. is (back-in unrow uncolumn l w h p k m ik jm)) c j)
-          (rowsU l .redone w wide (λ m. uncolumn l (ltb m (lows w)) h (λ t. p t m) k) c j)) r i)
-          (columnsU l (ltb c (lows w)) .redone h tall (λ m. p m c) r i)))
-          (λ r c i. e .next (is (level-below row column l w h q r c i)) (is (back-below unrow uncolumn l w h p r c i)))
-          (λ r c j. e .next (is (level-beyond row column l w h q r c j)) (is (back-beyond unrow uncolumn l w h p r c j)))
+  pub columns-first-undone : {row unrow : OnLine A} {column uncolumn : Bool → OnLine A} → Undoes R row unrow → ((b : Bool) → Undoes R (column b) (uncolumn b)) → UndoesPart R (columnsFirst row column) (rowsFirst unrow uncolumn)
+  columns-first-undone rowsU columnsU = turned R (rows-first-undone (swapped R rowsU) (λ b. swapped R (columnsU b)))
 
-  module _ (w h : ℕ) where
-    levels-alike : (k : ℕ) → Roomy k w → Roomy k h → (p q : Plane A) → Alike p q → Alike (levelsBack unrow uncolumn k w h p) (levelsBack unrow uncolumn k w h q)
-    unfolding levelsBack
-    levels-alike zero wide tall p q s = s
-    levels-alike (suc k) wide tall p q s =
-        levels-alike k (λ j i. wide j (omega arith)) (λ j i. tall j (omega arith)) _ _ (back-alike (suc k) (side k w) (side k h) (wide k (omega arith)) (tall k (omega arith)) p q s)
+  -- levels that are undone one by one
+  module _ {level undo : ℕ → OnPart A} (undone : (l : ℕ) → UndoesPart R (level l) (undo l)) (w h : ℕ) where
+    -- they read no more than the plane
+    module _ (W H : ℕ) (in-w : w ≤ W) (in-h : h ≤ H) where
+      pub levels-read : (L : ℕ) → Roomy L w → Roomy L h → (p q : Plane A) → Alike R W H p q → Alike R W H (levels level L w h p) (levels level L w h q)
+      unfolding levels
+      levels-read zero wide tall p q s = s
+      levels-read (suc k) wide tall p q s =
+          undone (suc k) .there .reads (side k w) (side k h) (wide k (omega arith)) (tall k (omega arith)) W H (side-in k w W wide in-w) (side-in k h H tall in-h) _ _
+          (levels-read k (roomy-less k w wide) (roomy-less k h tall) p q s)
+
+      pub back-reads : (L : ℕ) → Roomy L w → Roomy L h → (p q : Plane A) → Alike R W H p q → Alike R W H (levelsBack undo L w h p) (levelsBack undo L w h q)
+      unfolding levelsBack
+      back-reads zero wide tall p q s = s
+      back-reads (suc k) wide tall p q s =
+          back-reads k (roomy-less k w wide) (roomy-less k h tall) _ _
+          (undone (suc k) .back .reads (side k w) (side k h) (wide k (omega arith)) (tall k (omega arith)) W H (side-in k w W wide in-w) (side-in k h H tall in-h) p q s)
 
     -- Levels 1 to L, taken back, leave the plane as it was.
-    pub levels-undone : (L : ℕ) → Roomy L w → Roomy L h → (p : Plane A) (r c : ℕ) → R (levelsBack unrow uncolumn L w h (levels row column L w h p) r c) (p r c)
-    unfolding levelsBack levels Alike
+    pub levels-undone : (L : ℕ) → Roomy L w → Roomy L h → (p : Plane A) (r c : ℕ) → R (levelsBack undo L w h (levels level L w h p) r c) (p r c)
+    unfolding levelsBack levels
     levels-undone zero wide tall p r c = e .same (p r c)
     levels-undone (suc k) wide tall p r c =
-        let wide' : Roomy k w = λ j i. wide j (omega arith) in
-        let tall' : Roomy k h = λ j i. tall j (omega arith) in
-        e .next (levels-alike k wide' tall' _ _ (level-undone (suc k) (side k w) (side k h) (wide k (omega arith)) (tall k (omega arith)) (levels row column k w h p)) r c)
-        (levels-undone k wide' tall' p r c)
+        e .next
+        (back-reads (w + suc c) (h + suc r) (omega arith) (omega arith) k (roomy-less k w wide) (roomy-less k h tall) _ (levels level k w h p)
+        (λ a b i j. undone (suc k) .there .taken (side k w) (side k h) (wide k (omega arith)) (tall k (omega arith)) (levels level k w h p) a b) r c (omega arith) (omega arith))
+        (levels-undone k (roomy-less k w wide) (roomy-less k h tall) p r c)
 
     -- Levels L to 1 taken back, and worked again, leave the plane as it was.
-    pub levels-redone : (L : ℕ) → Roomy L w → Roomy L h → (p : Plane A) (r c : ℕ) → R (levels row column L w h (levelsBack unrow uncolumn L w h p) r c) (p r c)
-    unfolding levelsBack levels Alike
+    pub levels-redone : (L : ℕ) → Roomy L w → Roomy L h → (p : Plane A) (r c : ℕ) → R (levels level L w h (levelsBack undo L w h p) r c) (p r c)
+    unfolding levelsBack levels
     levels-redone zero wide tall p r c = e .same (p r c)
     levels-redone (suc k) wide tall p r c =
-        let wide' : Roomy k w = λ j i. wide j (omega arith) in
-        let tall' : Roomy k h = λ j i. tall j (omega arith) in
-        let q : Plane A = levelBack unrow uncolumn (suc k) (side k w) (side k h) p in
-        e .next (level-alike (suc k) (side k w) (side k h) (wide k (omega arith)) (tall k (omega arith)) _ q (levels-redone k wide' tall' q) r c)
-        (level-redone (suc k) (side k w) (side k h) (wide k (omega arith)) (tall k (omega arith)) p r c)
+        let q : Plane A = undo (suc k) (side k w) (side k h) p in
+        e .next
+        (undone (suc k) .there .reads (side k w) (side k h) (wide k (omega arith)) (tall k (omega arith)) (w + suc c) (h + suc r) (side-in k w (w + suc c) wide (omega arith)) (side-in k h (h + suc r) tall (omega arith)) _ q
+        (λ a b i j. levels-redone k (roomy-less k w wide) (roomy-less k h tall) q a b) r c (omega arith) (omega arith))
+        (undone (suc k) .back .taken (side k w) (side k h) (wide k (omega arith)) (tall k (omega arith)) p r c)

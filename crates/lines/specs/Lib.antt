@@ -1,18 +1,18 @@
 -- Lines and planes (document 01: pictures and planes; the lifting, edges).
 --   Lines      low and high places of a line, their neighbours, the skeleton of a lifting step
---   Planes     rows, then columns, level by level; a plane in memory, row by row
---   Back       the levels taken back: level L first, columns before rows
+--   Planes     rows and columns in either order, level by level there and back; a plane in memory, row by row
 -- Proved of them:
 --   Mirror     the neighbours are the mirrored samples
---   LineLaws   places of a line that is split or interleaved
+--   LineLaws   lengths that a pass works; places of a line that is split or interleaved
+--   Neighbours where the neighbours stand: beside their place, in the middle and at the ends
 --   PlaneLaws  inside and outside of a part; sides of the low-low parts
 --   RowLaws    elements of a plane in memory
---   BackLaws   where each pass is undone, the levels are
+--   BackLaws   where each pass is undone, a level is, and so are the levels
 pub mod Lines
 pub mod Planes
-pub mod Back
 pub mod Mirror
 pub mod LineLaws
+pub mod Neighbours
 pub mod PlaneLaws
 pub mod RowLaws
 pub mod BackLaws

@@ -5,7 +5,20 @@ use mathlib.Core.Path.{_≡_, refl, sym, _∙_, ap, subst}
 use native.Mathlib.Omega.{arith}
 use lib.Dec.{T, ltb, eqb, ltb→lt, nltb→le, eqb→eq}
 use Rattle.numbers.specs.Tests.{ltb-true, ltb-false}
-use Rattle.lines.specs.Lines.{lows, highs, lowsFirst, interleaved}
+use Rattle.lines.specs.Lines.{lows, highs, Liftable, lowsFirst, interleaved}
+
+-- a line that a pass works has a sample, a low and a high
+module _ (n : ℕ) (works : Liftable n) where
+  pub some-samples : 1 ≤ n
+  some-samples = omega arith
+
+  pub some-lows : 1 ≤ lows n
+  some-lows = omega arith
+
+  pub some-highs : 1 ≤ highs n
+  some-highs = omega arith
+
+-- ---- lines that are split or interleaved
 
 abbrev pick : {A : Type 0} → A → A → Bool → A
 pick a b t = elim t [ true ↦ a | false ↦ b ]
@@ -20,15 +33,6 @@ module _ {A : Type 0} (n : ℕ) (l h : ℕ → A) where
   first-high i =
       let e : lows n + i - lows n ≡ i = omega arith in
       ap (pick (l (lows n + i)) (h (lows n + i - lows n))) (ltb-false (lows n + i) (lows n) (omega arith)) ∙ ap h e
-
--- what holds of lines holds at each of their places
-pub first-at : {A : Type 0} (n : ℕ) (l h : ℕ → ℕ → A) (i j : ℕ) → lowsFirst n l h i j ≡ lowsFirst n (λ k. l k j) (λ k. h k j) i
-unfolding lowsFirst
-first-at n l h i j = go (ltb i (lows n)) (l i) (h (i - lows n))
-  where
-    go : {A : Type 0} (b : Bool) (l h : ℕ → A) → pick l h b j ≡ pick (l j) (h j) b
-    go true l h = refl
-    go false l h = refl
 
 module _ {A : Type 0} (l h : ℕ → A) where
   pub even-place : (i : ℕ) → interleaved l h (2 * i) ≡ l i
@@ -74,3 +78,35 @@ by-half P n l g k h = go (ltb k (lows n)) refl
         let z : lows n ≤ k = nltb→le k (lows n) (subst (λ (t : Bool). T (not t)) (sym e) tt) in
         let f : lows n + (k - lows n) ≡ k = omega arith in
         subst P f (g (k - lows n) (omega arith))
+
+-- ---- the same values
+
+-- equal at the places below n
+abbrev pub Equal : {A : Type 0} → ℕ → (ℕ → A) → (ℕ → A) → Type 0
+Equal n x y = (i : ℕ) → i < n → x i ≡ y i
+
+module _ {A : Type 0} (n : ℕ) where
+  module _ {l h m g : ℕ → A} (at-lows : Equal (lows n) l m) (at-highs : Equal (highs n) h g) where
+    pub first-equal : Equal n (lowsFirst n l h) (lowsFirst n m g)
+    first-equal = by-half (λ i. lowsFirst n l h i ≡ lowsFirst n m g i) n
+        (λ i p. first-low n l h i p ∙ at-lows i p ∙ sym (first-low n m g i p))
+        (λ i p. first-high n l h i ∙ at-highs i p ∙ sym (first-high n m g i))
+
+    pub interleaved-equal : Equal n (interleaved l h) (interleaved m g)
+    interleaved-equal = by-parity (λ i. interleaved l h i ≡ interleaved m g i) n
+        (λ i p. even-place l h i ∙ at-lows i p ∙ sym (even-place m g i))
+        (λ i p. odd-place l h i ∙ at-highs i p ∙ sym (odd-place m g i))
+
+  -- the lows and the highs of a line, in samples and lows first
+  module _ {x y : ℕ → A} (same : Equal n x y) where
+    pub evens-equal : Equal (lows n) (λ i. x (2 * i)) (λ i. y (2 * i))
+    evens-equal i p = same (2 * i) (omega arith)
+
+    pub odds-equal : Equal (highs n) (λ i. x (2 * i + 1)) (λ i. y (2 * i + 1))
+    odds-equal i p = same (2 * i + 1) (omega arith)
+
+    pub lows-equal : Equal (lows n) x y
+    lows-equal i p = same i (omega arith)
+
+    pub highs-equal : Equal (highs n) (λ i. x (lows n + i)) (λ i. y (lows n + i))
+    highs-equal i p = same (lows n + i) (omega arith)

@@ -1,6 +1,6 @@
 -- One line of samples, its low and high places, and the neighbours of each (document 01: the lifting, edges; Mirror).
 -- A line is its length and a value at each place. Low values stand at 0, 2, 4, .., high values at 1, 3, 5, ..
-use Prim.Native.Nat.{ℕ, _+_, _-_, _/_, _%_, min}
+use Prim.Native.Nat.{ℕ, _+_, _-_, _/_, _%_, _≤_, min}
 use mathlib.Core.Bool.{true, false}
 use lib.Dec.{ltb, eqb}
 
@@ -11,16 +11,20 @@ lows n = (n + 1) / 2
 abbrev pub highs : ℕ → ℕ
 highs n = n / 2
 
+-- A pass works lengths from 2: there is a low and a high, and so each has neighbours.
+pub record Liftable (n : ℕ) : Type 0 where
+  pub least : 2 ≤ n
+
 -- The low value after high i: the low value past the last is the last.
-abbrev pub lowAfter : ℕ → ℕ → ℕ
+unfoldable pub lowAfter : ℕ → ℕ → ℕ
 lowAfter n i = min (i + 1) (lows n - 1)
 
 -- The high value before low i: the one before the first is the first (0 - 1 is 0).
-abbrev pub highBefore : ℕ → ℕ
+unfoldable pub highBefore : ℕ → ℕ
 highBefore i = i - 1
 
 -- The high value after low i: the one past the last is the last.
-abbrev pub highAfter : ℕ → ℕ → ℕ
+unfoldable pub highAfter : ℕ → ℕ → ℕ
 highAfter n i = min i (highs n - 1)
 
 -- A step works a value with two neighbours. (What a step gives, or what is asked of it, may be of any type B.)

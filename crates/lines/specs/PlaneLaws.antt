@@ -6,7 +6,9 @@ use native.Mathlib.Omega.{arith}
 use lib.Pow.{pow-pos}
 use lib.Dec.{T, ltb, ltb→lt, nltb→le}
 use Rattle.numbers.specs.Tests.{and-true, and-false-l, and-false-r}
-use Rattle.lines.specs.Planes.{Plane, within, side}
+use Rattle.lines.specs.Lines.{lows, Liftable}
+use Rattle.lines.specs.LineLaws.{some-samples}
+use Rattle.lines.specs.Planes.{Plane, OnLine, OnPart, rows, columns, within, side, rowsFirst, columnsFirst}
 
 abbrev pick : {A : Type 0} → A → A → Bool → A
 pick a b t = elim t [ true ↦ a | false ↦ b ]
@@ -24,6 +26,28 @@ module _ {A : Type 0} (w h : ℕ) (new old : Plane A) (r c : ℕ) where
   unfolding within
   within-beyond j = ap (pick (new r c) (old r c)) (and-false-r r h c w j)
 
+-- a level changes its part and nothing else
+pub record Keeps {A : Type 0} (level : OnPart A) : Type 0 where
+  pub below : (w h : ℕ) (p : Plane A) (r c : ℕ) → h ≤ r → level w h p r c ≡ p r c
+  pub beyond : (w h : ℕ) (p : Plane A) (r c : ℕ) → w ≤ c → level w h p r c ≡ p r c
+
+module _ {A : Type 0} (row : OnLine A) (column : Bool → OnLine A) where
+  pub rows-first-in : (w h : ℕ) (p : Plane A) (r c : ℕ) → r < h → c < w → rowsFirst row column w h p r c ≡ column (ltb c (lows w)) h (λ k. row w (p k) c) r
+  unfolding rowsFirst columns rows
+  rows-first-in w h p r c i j = within-in w h (λ r c. column (ltb c (lows w)) h (λ k. row w (p k) c) r) p r c i j
+
+  pub rows-first-keeps : Keeps (rowsFirst row column)
+  unfolding rowsFirst
+  rows-first-keeps = record { below = λ w h p r c i. within-below w h _ p r c i; beyond = λ w h p r c j. within-beyond w h _ p r c j }
+
+  pub columns-first-in : (w h : ℕ) (p : Plane A) (r c : ℕ) → r < h → c < w → columnsFirst row column w h p r c ≡ row w (λ k. column (ltb k (lows w)) h (λ m. p m k) r) c
+  unfolding columnsFirst columns rows
+  columns-first-in w h p r c i j = within-in w h (λ r c. row w (λ k. column (ltb k (lows w)) h (λ m. p m k) r) c) p r c i j
+
+  pub columns-first-keeps : Keeps (columnsFirst row column)
+  unfolding columnsFirst
+  columns-first-keeps = record { below = λ w h p r c i. within-below w h _ p r c i; beyond = λ w h p r c j. within-beyond w h _ p r c j }
+
 -- a place lies in a part of a plane or outside it
 pub by-part : (P : ℕ → ℕ → Type 0) (w h : ℕ) → ((r c : ℕ) → r < h → c < w → P r c) → ((r c : ℕ) → h ≤ r → P r c) → ((r c : ℕ) → w ≤ c → P r c) → (r c : ℕ) → P r c
 by-part P w h inside below beyond r c = go (ltb r h) (ltb c w) refl refl
@@ -33,9 +57,9 @@ by-part P w h inside below beyond r c = go (ltb r h) (ltb c w) refl refl
     go true false e f = beyond r c (nltb→le c w (subst (λ (t : Bool). T (not t)) (sym f) tt))
     go false b e f = below r c (nltb→le r h (subst (λ (t : Bool). T (not t)) (sym e) tt))
 
--- each level has two values or more on a side
+-- each level can work its side
 abbrev pub Roomy : ℕ → ℕ → Type 0
-Roomy L n = (k : ℕ) → k < L → 2 ≤ side k n
+Roomy L n = (k : ℕ) → k < L → Liftable (side k n)
 
 -- sides greater than 2^(L-1) are roomy
 
@@ -51,12 +75,25 @@ pub roomy : (L n : ℕ) → 2 ^ (L - 1) < n → Roomy L n
 roomy L n h k i =
     let e : L - 1 ≡ k + (L - 1 - k) = omega arith in
     let a : 2 ^ (L - 1 - k) < side k n = side-above k (L - 1 - k) n (subst (λ (t : ℕ). 2 ^ t < n) e h) in
-    omega (arith, pow-pos (L - 1 - k))
+    record { least = omega (arith, pow-pos (L - 1 - k)) }
 
 pub side-le : (k n : ℕ) → 1 ≤ n → side k n ≤ n
 unfolding side
 side-le zero n h = omega arith
 side-le (suc k) n h = omega (arith, side-le k n h)
+
+-- the side of a level lies within the plane
+pub side-in : (k n N : ℕ) → Roomy (suc k) n → n ≤ N → side k n ≤ N
+unfolding side
+side-in k n N room i = omega (arith, side-le k n (some-samples _ (room 0 (omega arith))))
+
+-- one level less
+pub roomy-less : (k n : ℕ) → Roomy (suc k) n → Roomy k n
+roomy-less k n room j i = room j (omega arith)
+
+-- alike within w columns and h rows
+abbrev pub Alike : {A : Type 0} → (A → A → Type 0) → ℕ → ℕ → Plane A → Plane A → Type 0
+Alike R w h p q = (r c : ℕ) → r < h → c < w → R (p r c) (q r c)
 
 -- equal within w columns and h rows
 abbrev pub Agree : {A : Type 0} → ℕ → ℕ → Plane A → Plane A → Type 0

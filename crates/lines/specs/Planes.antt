@@ -30,16 +30,31 @@ unfoldable pub side : ℕ → ℕ → ℕ
 side zero n = n
 side (suc k) n = lows (side k n)
 
-module _ {A : Type 0} (row : ℕ → OnLine A) (column : ℕ → Bool → OnLine A) where
-  -- One level works the rows, then the columns, of the part that the last level left as low-low. Levels count from 1.
-  -- A column's pass goes by whether it holds row-low values.
-  unfoldable pub level : ℕ → ℕ → ℕ → Plane A → Plane A
-  level l w h p = within w h (columns (λ c. column l (ltb c (lows w))) h (rows (row l) w p)) p
+-- what a level makes of a part of w columns and h rows of a plane
+abbrev pub OnPart : Type 0 → Type 0
+OnPart A = ℕ → ℕ → Plane A → Plane A
 
+-- A level of a row's pass and a column's. A column's pass goes by whether it holds row-low values.
+module _ {A : Type 0} (row : OnLine A) (column : Bool → OnLine A) where
+  -- the rows of the part, then its columns
+  unfoldable pub rowsFirst : OnPart A
+  rowsFirst w h p = within w h (columns (λ c. column (ltb c (lows w))) h (rows row w p)) p
+
+  -- the columns, then the rows
+  unfoldable pub columnsFirst : OnPart A
+  columnsFirst w h p = within w h (rows row w (columns (λ c. column (ltb c (lows w))) h p)) p
+
+-- Levels count from 1; each works the part that those before it left as low-low.
+module _ {A : Type 0} (level : ℕ → OnPart A) where
   -- levels 1 to k
-  unfoldable pub levels : ℕ → ℕ → ℕ → Plane A → Plane A
+  unfoldable pub levels : ℕ → OnPart A
   levels zero w h p = p
   levels (suc k) w h p = level (suc k) (side k w) (side k h) (levels k w h p)
+
+  -- levels k to 1: the way back begins with the last
+  unfoldable pub levelsBack : ℕ → OnPart A
+  levelsBack zero w h p = p
+  levelsBack (suc k) w h p = levelsBack k w h (level (suc k) (side k w) (side k h) p)
 
 -- f 0, f 1, .., f (n - 1)
 unfoldable pub tabulate : {A : Type 0} → ℕ → (ℕ → A) → List A

@@ -6,7 +6,7 @@ use mathlib.Core.Bool.{Bool, true, false}
 use native.Mathlib.Omega.{arith}
 use native.Mathlib.Decide.{decLe}
 use native.Mathlib.Nat.{mul-le-mul-right, mul-pos, lt-div-mul-add}
-use lib.Dec.{T, eqb, eqb→eq, eqb-refl}
+use lib.Dec.{T, eqb→eq, eqb-refl}
 use lib.IntN.{ℤ, pos, negsuc, natAbs, _+ℤ_, _*ℤ_, *ℤ-comm}
 use Rattle.exact.specs.Fractions.{Frac, _≈_, _⊕_, _⊗_, whole, magnitude, upDiv, wholesOf}
 use Rattle.exact.specs.FracLaws.{≈-refl, ≈-sym, ≈-trans, ⊕-cong, ⊗-cong, ⊕-zero-l, ⊕-zero-r, ⊗-zero-r, ⊗-one-l, zeroF, oneF, Within, within-≈, within-⊕, within-⊗, within-weaken}

@@ -7,10 +7,12 @@ use native.Mathlib.Omega.{arith}
 use native.Mathlib.Decide.{decLt}
 use lib.Pow.{pow-pos}
 use lib.IntN.{ℤ}
-use Rattle.lines.specs.Lines.{lowAfter, highBefore, highAfter}
+use Rattle.lines.specs.Lines.{Liftable, lowAfter, highBefore, highAfter}
+use Rattle.lines.specs.LineLaws.{some-highs}
+use Rattle.lines.specs.Neighbours.{low-after-in, high-before-in, high-after-in}
 use Rattle.exact.specs.Fractions.{Frac, _≈_, _⊕_, _⊗_, neg}
 use Rattle.exact.specs.Exact.{lift}
-use Rattle.exact.specs.FracLaws.{≈-refl, ≈-sym, ≈-trans, ⊕-cong, ⊗-cong, ⊕-zero-r, neg-cong, zeroF, through, times-sub, sub-sum, Within, within-≈, within-zero, within-near}
+use Rattle.exact.specs.FracLaws.{≈-refl, ≈-sym, ≈-trans, ⊕-cong, ⊗-cong, ⊕-zero-r, zeroF, through, times-sub, sub-sum, Within, within-zero, within-near}
 use Rattle.stages.specs.Stages.{Side, low, high, Kind, lifts, scales, Stage, stage, made, worked, replaced, bits}
 use Rattle.stages.specs.OnLine.{other, beforeIn, afterIn, count, exactAfter, fixedMade, fixedAfter}
 use Rattle.stages.specs.Rule.{Bound, Entering, rangeAt, ownFrom, errorAt, boundAt}
@@ -31,9 +33,6 @@ off v f x = meant v f ⊕ neg x
 pub record Good (b : Bound) (f : ℕ) (v : ℤ) (x : Frac) : Type 0 where
   pub range : Within x (b .range) Q
   pub error : Within (off v f x) (b .error) Q
-
-pub good-≈ : {b : Bound} {f : ℕ} {v w : ℤ} {x y : Frac} → v ≡ w → x ≈ y → Good b f w y → Good b f v x
-good-≈ {b} {f} {v} {w} {x} {y} e h g = subst (λ (u : ℤ). Good b f u x) (sym e) (record { range = within-≈ (≈-sym h) (g .range); error = within-≈ (⊕-cong (≈-refl _) (neg-cong (≈-sym h))) (g .error) })
 
 -- ---- the difference of two liftings
 
@@ -78,9 +77,9 @@ module _ (st : List Stage) (e : Entering) (F : ℕ → ℕ) (fi : Side → ℕ) 
         go high high = ≈-sym (⊕-zero-r _)
 
     -- Exact values by the exact gain: inputs of at most b give at most b times the exact gain from the input.
-    pub exact-weighs : 2 ≤ n → (b : ℕ) → ((t : Side) (k : ℕ) → k < count n t → Within (x t k) b Q) → (m : ℕ) (s : Side) (k : ℕ) → k < count n s → Weighs (exactGain st s m samples) b Q (exactAfter st n x m s k)
+    pub exact-weighs : Liftable n → (b : ℕ) → ((t : Side) (k : ℕ) → k < count n t → Within (x t k) b Q) → (m : ℕ) (s : Side) (k : ℕ) → k < count n s → Weighs (exactGain st s m samples) b Q (exactAfter st n x m s k)
     unfolding exactAfter
-    exact-weighs big b h = line-weighs st n exactly exact-stages big b Q (pow-pos 32) h
+    exact-weighs works b h = line-weighs st n exactly exact-stages works b Q (pow-pos 32) h
 
     -- what the fixed-point line means
     abbrev means : ℕ → Side → ℕ → Frac
@@ -104,12 +103,12 @@ module _ (st : List Stage) (e : Entering) (F : ℕ → ℕ) (fi : Side → ℕ) 
         go high low = ≈-refl _
         go high high = made-dev (stage st m .kind) (stage st m .constant) _ _ _ _ _ _ _
 
-    module _ (big : 2 ≤ n) (small : (m : ℕ) → f m ≤ 32) (given : (s : Side) (k : ℕ) → k < count n s → Good (enters e s) (fi s) (v s k) (x s k)) where
+    module _ (works : Liftable n) (small : (m : ℕ) → f m ≤ 32) (given : (s : Side) (k : ℕ) → k < count n s → Good (enters e s) (fi s) (v s k) (x s k)) where
       ranges : (m : ℕ) (s : Side) (k : ℕ) → k < count n s → Within (exactly m s k) (rangeAt st e F fi f s m) Q
       unfolding rangeAt exactAfter
       ranges m s k i =
           subst (λ (t : ℕ). Within (exactly m s k) t Q) (omega (arith, nothing-brings st s m m))
-          (line-within st n (λ i k. zeroF) exactly exact-stages big Q (pow-pos 32) (λ b. b .range) e (λ i. 0) (λ t k i. given t k i .range) m (λ i k l h. within-zero 0 Q) s k i)
+          (line-within st n (λ i k. zeroF) exactly exact-stages works Q (pow-pos 32) (λ b. b .range) e (λ i. 0) (λ t k i. given t k i .range) m (λ i k l h. within-zero 0 Q) s k i)
 
       abbrev Owns : ℕ → Type 0
       Owns m = (i k : ℕ) → i < m → k < count n (stage st i .side) → Within (ownOn i (stage st i .side) k) (ownAt st e F fi f i) Q
@@ -118,7 +117,7 @@ module _ (st : List Stage) (e : Entering) (F : ℕ → ℕ) (fi : Side → ℕ) 
       unfolding errorAt exactAfter fixedAfter bits
       errors m own s k i =
           subst (λ (t : ℕ). Within (off (fixed m s k) (bits st fi f m s) (exactly m s k)) t Q) (sym (error-sum st e F fi f s m))
-          (line-within st n (λ m. ownOn m (stage st m .side)) (λ m s k. off (fixed m s k) (bits st fi f m s) (exactly m s k)) error-stages big Q (pow-pos 32) (λ b. b .error) e (ownAt st e F fi f) (λ t k i. given t k i .error) m own s k i)
+          (line-within st n (λ m. ownOn m (stage st m .side)) (λ m s k. off (fixed m s k) (bits st fi f m s) (exactly m s k)) error-stages works Q (pow-pos 32) (λ b. b .error) e (ownAt st e F fi f) (λ t k i. given t k i .error) m own s k i)
 
       -- what the fixed-point line means is at most range plus error
       sizes : (m : ℕ) → Owns m → (s : Side) (k : ℕ) → k < count n s → Within (means m s k) (rangeAt st e F fi f s m + errorAt st e F fi f s m) Q
@@ -135,8 +134,8 @@ module _ (st : List Stage) (e : Entering) (F : ℕ → ℕ) (fi : Side → ℕ) 
               → Within (meant (fixedMade d (stage st m .constant) (F m) (bits st fi f m (other t)) (bits st fi f m t) (f m) (fixed m t k) (fixed m (other t) (beforeIn t k)) (fixed m (other t) (afterIn n t k))) (f m)
               ⊕ neg (made d (stage st m .constant) (means m t k) (means m (other t) (beforeIn t k)) (means m (other t) (afterIn n t k))))
               (ownFrom st e F fi f d t m (λ s. rangeAt st e F fi f s m + errorAt st e F fi f s m)) Q
-          go lifts low i = lift-own (stage st m .constant) (F m) _ _ (f m) _ _ _ _ (small m) (size high (highBefore k) (omega arith)) (size high (highAfter n k) (omega arith))
-          go lifts high i = lift-own (stage st m .constant) (F m) _ _ (f m) _ _ _ _ (small m) (size low k (omega arith)) (size low (lowAfter n k) (omega arith))
+          go lifts low i = lift-own (stage st m .constant) (F m) _ _ (f m) _ _ _ _ (small m) (size high (highBefore k) (high-before-in n k (some-highs n works) i)) (size high (highAfter n k) (high-after-in n k (some-highs n works) i))
+          go lifts high i = lift-own (stage st m .constant) (F m) _ _ (f m) _ _ _ _ (small m) (size low k (omega arith)) (size low (lowAfter n k) (low-after-in n k i))
           go scales low i = scale-own (stage st m .constant) (F m) _ (f m) _ _ (small m) (size low k i)
           go scales high i = scale-own (stage st m .constant) (F m) _ (f m) _ _ (small m) (size high k i)
 

@@ -7,8 +7,10 @@ use mathlib.Core.Path.{_≡_, refl, subst}
 use native.Mathlib.Omega.{arith}
 use native.Mathlib.Decide.{decLe}
 use lib.IntN.{ℤ, pos, negsuc, sucℤ, predℤ}
-use Rattle.lines.specs.Lines.{lows, highs, lowAfter, highBefore, highAfter}
-use Rattle.exact.specs.Fractions.{Frac, _≈_, _⊕_, _⊗_}
+use Rattle.lines.specs.Lines.{Liftable, lowAfter, highBefore, highAfter}
+use Rattle.lines.specs.LineLaws.{some-highs}
+use Rattle.lines.specs.Neighbours.{Beside, low-after-beside, high-before-beside, high-after-beside, low-after-next, high-before-next, high-after-next}
+use Rattle.exact.specs.Fractions.{Frac, _≈_, _⊕_}
 use Rattle.exact.specs.FracLaws.{≈-refl, ≈-sym, ≈-trans, ⊕-cong, ⊗-cong, ⊕-comm, zeroF, Within, within-≈}
 use Rattle.exact.specs.Exact.{lift}
 use Rattle.stages.specs.Stages.{Side, low, high, Kind, lifts, scales, Stage, stage, made, worked}
@@ -27,26 +29,19 @@ pub two-back : {a b x y : ℕ} → Two a b x y → Two a b y x
 two-back (straight p q) = crossed p q
 two-back (crossed p q) = straight p q
 
--- low l and high h of a line of n stand side by side
-pub record Beside (n l h : ℕ) : Type 0 where
-  pub low-in : l < lows n
-  pub high-in : h < highs n
-  pub after : h ≤ l
-  pub before : l ≤ suc h
-
 pub nextLow : (n l h : ℕ) → Beside n l h → (m : ℕ) × Beside n m h × Two h (lowAfter n h) l m
 nextLow n l h b = go (decLe l h)
   where
     go : Dec (l ≤ h) → (m : ℕ) × Beside n m h × Two h (lowAfter n h) l m
-    go (yes e) = (lowAfter n h, omega arith, straight (omega arith) refl)
-    go (no e) = (h, omega arith, crossed refl (omega arith))
+    go (yes e) = (lowAfter n h, low-after-beside n h (b .high-in), straight (omega arith) refl)
+    go (no e) = (h, omega arith, crossed refl (omega (arith, low-after-next n h (omega arith))))
 
 pub nextHigh : (n l h : ℕ) → Beside n l h → (m : ℕ) × Beside n l m × Two (highBefore l) (highAfter n l) h m
 nextHigh n l h b = go (decLe l h)
   where
     go : Dec (l ≤ h) → (m : ℕ) × Beside n l m × Two (highBefore l) (highAfter n l) h m
-    go (yes e) = (highBefore l, omega arith, crossed refl (omega arith))
-    go (no e) = (highAfter n l, omega arith, straight (omega arith) refl)
+    go (yes e) = (highBefore l, high-before-beside n l (omega arith) (b .low-in), crossed refl (omega (arith, high-after-next n l (omega arith))))
+    go (no e) = (highAfter n l, high-after-beside n l (omega arith) (b .low-in), straight (omega (arith, high-before-next l (omega arith))) refl)
 
 -- where a walk stands
 record Stand (n : ℕ) : Type 0 where
@@ -96,10 +91,10 @@ walkFrom n p = record {
     at-high (negsuc zero) = two-back (nextLow n (p .low) _ (nextHigh n (p .low) (p .high) (p .beside) .1) .2)
     at-high (negsuc (suc k)) = two-back (nextLow n (stand n p (negsuc k) .low) _ (nextHigh n (stand n p (negsuc k) .low) (stand n p (negsuc k) .high) (stand n p (negsuc k) .beside) .1) .2)
 
-pub walkTo : (n : ℕ) → 2 ≤ n → (s : Side) (k : ℕ) → k < count n s → (w : Walk n) × (w .place s (pos 0) ≡ k)
+pub walkTo : (n : ℕ) → Liftable n → (s : Side) (k : ℕ) → k < count n s → (w : Walk n) × (w .place s (pos 0) ≡ k)
 unfolding walkFrom stand
-walkTo n big low k h = (walkFrom n (record { low = k; high = highAfter n k; beside = omega arith }), refl)
-walkTo n big high k h = (walkFrom n (record { low = k; high = k; beside = omega arith }), refl)
+walkTo n works low k h = (walkFrom n (record { low = k; high = highAfter n k; beside = high-after-beside n k (some-highs n works) h }), refl)
+walkTo n works high k h = (walkFrom n (record { low = k; high = k; beside = omega arith }), refl)
 
 -- ---- a line of n along a walk
 
@@ -134,15 +129,15 @@ module _ (st : List Stage) (n : ℕ) (a : ℕ → ℕ → Frac) (y : ℕ → Sid
         go at high high = ⊕-cong (≈-trans (made-two (stage st m .kind) (stage st m .constant) _ (y m low) (w .beside high k)) (made-cong (stage st m .kind) (stage st m .constant) (at high k) (at low k) (at low (sucℤ k)))) (≈-refl _)
 
   -- sizes on a line of n go by the gains
-  pub line-within : 2 ≤ n → (q : ℕ) → 0 < q → (r : Bound → ℕ) (e : Entering) (o : ℕ → ℕ) → ((t : Side) (k : ℕ) → k < count n t → Within (y 0 t k) (r (enters e t)) q) → (m : ℕ) → ((i k : ℕ) → i < m → k < count n (stage st i .side) → Within (a i k) (o i) q) → (s : Side) (k : ℕ) → k < count n s → Within (y m s k) (brought st r e s m + nodesBring st s m o m) q
-  line-within big q above r e o h m own s k i =
-      let (w, at) = walkTo n big s k i in
+  pub line-within : Liftable n → (q : ℕ) → 0 < q → (r : Bound → ℕ) (e : Entering) (o : ℕ → ℕ) → ((t : Side) (k : ℕ) → k < count n t → Within (y 0 t k) (r (enters e t)) q) → (m : ℕ) → ((i k : ℕ) → i < m → k < count n (stage st i .side) → Within (a i k) (o i) q) → (s : Side) (k : ℕ) → k < count n s → Within (y m s k) (brought st r e s m + nodesBring st s m o m) q
+  line-within works q above r e o h m own s k i =
+      let (w, at) = walkTo n works s k i in
       subst (λ (j : ℕ). Within (y m s j) (brought st r e s m + nodesBring st s m o m) q) at
       (within-≈ (≈-sym (along w m s (pos 0))) (held-within st s m q above r e o (entered w) (added w) (λ t p. h t (w .place t p) (w .inside t p)) (λ j p l. own j (w .place (stage st j .side) p) l (w .inside (stage st j .side) p))))
 
 -- the same by the exact gain, where nothing is added
-pub line-weighs : (st : List Stage) (n : ℕ) (y : ℕ → Side → ℕ → Frac) → Stages st n (λ i k. zeroF) y → 2 ≤ n → (b q : ℕ) → 0 < q → ((t : Side) (k : ℕ) → k < count n t → Within (y 0 t k) b q) → (m : ℕ) (s : Side) (k : ℕ) → k < count n s → Weighs (exactGain st s m samples) b q (y m s k)
-line-weighs st n y is big b q above h m s k i =
-    let (w, at) = walkTo n big s k i in
+pub line-weighs : (st : List Stage) (n : ℕ) (y : ℕ → Side → ℕ → Frac) → Stages st n (λ i k. zeroF) y → Liftable n → (b q : ℕ) → 0 < q → ((t : Side) (k : ℕ) → k < count n t → Within (y 0 t k) b q) → (m : ℕ) (s : Side) (k : ℕ) → k < count n s → Weighs (exactGain st s m samples) b q (y m s k)
+line-weighs st n y is works b q above h m s k i =
+    let (w, at) = walkTo n works s k i in
     subst (λ (j : ℕ). Weighs (exactGain st s m samples) b q (y m s j)) at
     (weighs-≈ (≈-sym (along st n (λ i k. zeroF) y is w m s (pos 0))) (held-weighs st s m q above b (entered st n (λ i k. zeroF) y is w) (λ t p. h t (w .place t p) (w .inside t p))))

@@ -7,7 +7,7 @@
 --   Linear     linear facts in a context (`zarith`, `parts`)
 --   Ring, Combine, Quote   identities of polynomials (`ring`, `combine-ring`)
 --   Tests      computed tests (`between`, `every`) and their laws
---   Lists      writing over the front of a list (`over`)
+--   Lists      writing over the front of a list (`over`), parts of lists
 --   Examples   worked examples of each
 pub mod Dif
 pub mod Laws

@@ -2,9 +2,10 @@
 use Prim.Native.Nat.{ℕ, _<_, _≤_}
 use mathlib.Core.Bool.{Bool, true, false, _&&_, not}
 use mathlib.Core.List.{List, [], _∷_}
-use mathlib.Core.Path.{_≡_, refl, _∙_, ap}
+use mathlib.Core.Path.{_≡_, refl, sym, _∙_, ap, subst}
 use lib.Dec.{leb, leb→le, le→leb, nleb→lt, T, ltb, ltb→lt, nltb→le, lt→ltb}
 use lib.Arith.{le→nltb}
+use borrow.Author.Tests.{lt-leb}
 
 -- least ≤ n ≤ most
 abbrev pub between : ℕ → ℕ → ℕ → Bool
@@ -20,6 +21,12 @@ every test (x ∷ xs) = test x && every test xs
 pub both : (a b : Bool) → T (a && b) → T a × T b
 both true b h = (tt, h)
 both false b h = absurd h
+
+pub three : (a b c : Bool) → T (a && b && c) → T a × T b × T c
+three a b c h =
+    let (i, s) = both (a && b) c h in
+    let (j, r) = both a b i in
+    (j, r, s)
 
 pub four : (a b c d : Bool) → T (a && b && c && d) → T a × T b × T c × T d
 four a b c d h =
@@ -42,9 +49,15 @@ ltb-true a b h = is-true (ltb a b) (lt→ltb a b h)
 pub ltb-false : (a b : ℕ) → b ≤ a → ltb a b ≡ false
 ltb-false a b h = is-false (ltb a b) (le→nltb a b h)
 
-and-false : (t : Bool) → t && false ≡ false
+pub and-false : (t : Bool) → t && false ≡ false
 and-false true = refl
 and-false false = refl
+
+pub left-false : (a b : Bool) → a ≡ false → a && b ≡ false
+left-false a b e = ap (λ (t : Bool). t && b) e
+
+pub right-false : (a b : Bool) → b ≡ false → a && b ≡ false
+right-false a b e = ap (λ (t : Bool). a && t) e ∙ and-false a
 
 pub and-true : (a b c d : ℕ) → a < b → c < d → ltb a b && ltb c d ≡ true
 and-true a b c d h k = ap (λ (t : Bool). t && ltb c d) (ltb-true a b h) ∙ ltb-true c d k
@@ -81,3 +94,15 @@ between-≤ a b x h =
 
 pub to-between : (a b x : ℕ) → a ≤ x → x ≤ b → T (between a b x)
 to-between a b x h k = and-intro (leb a x) (leb x b) (le→leb a x h) (le→leb x b k)
+
+pub in-limits : (a b x : ℕ) → between a b x ≡ true → (a ≤ x) × (x ≤ b)
+in-limits a b x e = between-≤ a b x (subst T (sym e) tt)
+
+pub is-between : (a b x : ℕ) → a ≤ x → x ≤ b → between a b x ≡ true
+is-between a b x h k = is-true (between a b x) (to-between a b x h k)
+
+pub below-least : (a b x : ℕ) → x < a → between a b x ≡ false
+below-least a b x h = left-false (leb a x) (leb x b) (lt-leb a x h)
+
+pub above-most : (a b x : ℕ) → b < x → between a b x ≡ false
+above-most a b x h = right-false (leb a x) (leb x b) (lt-leb x b h)

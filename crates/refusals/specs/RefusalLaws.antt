@@ -20,6 +20,9 @@ pub asks-right : (t : Bool) (r : Refusal) (o : Outcome) → T t → asks t r o �
 asks-right true r o h = refl
 asks-right false r o h = absurd h
 
+pub asks-wrong : (t : Bool) (r : Refusal) (o : Outcome) → t ≡ false → asks t r o ≡ Refused r
+asks-wrong t r o e = ap (λ (t : Bool). asks t r o) e
+
 pub then-done : (a b : Outcome) → a then b ≡ Done → (a ≡ Done) × (b ≡ Done)
 then-done Done b e = (refl, e)
 then-done (Refused r) b e = never r e

@@ -1,12 +1,9 @@
 -- Width tables as bytes (document 01: books as bytes): reading, refusals 1 to 5, and writing, refusals 4 and 9.
-use Prim.Native.Nat.{ℕ, zero, suc, _+_, _*_, _-_, _/_, _%_}
-use mathlib.Core.Bool.{Bool, true, false, _&&_}
+use Prim.Native.Nat.{ℕ, _+_, _*_, _-_}
 use mathlib.Core.List.{List, [], _∷_, _++_}
 use lib.Dec.{leb, eqb}
 use lib.ListN.{length, getD, take, drop, replicate}
-use Rattle.numbers.specs.Tests.{every}
 use Rattle.numbers.specs.Lists.{over}
-use Rattle.refusals.specs.declared.Refusal.{Refusal}
 use Rattle.refusals.specs.declared.Refusal.the-variants.{CutShort, WrongTag, WrongLength, OutsideLimits, TrailingBytes, SliceTooShort}
 use Rattle.refusals.specs.declared.Outcome.{Outcome}
 use Rattle.refusals.specs.declared.Outcome.the-variants.{Done, Refused}
@@ -15,19 +12,8 @@ use Rattle.width_table.specs.declared.WidthTable.{WidthTable}
 use Rattle.width_table.specs.declared.TableAnswer.{TableAnswer}
 use Rattle.width_table.specs.declared.Written.{Written}
 use Rattle.width_table.specs.declared.Written.the-variants.{Bytes, NotWritten}
-use Rattle.width_table.specs.Table.{depthRight, levelsRight, constantRight, widthRight, formRight}
-
--- bytes of the nodes of L levels: each of three passes has six nodes of two bytes
-abbrev pub nodeBytes : ℕ → ℕ
-nodeBytes L = 36 * L
-
--- a table of 20 + 36 L bytes: tags 1 to 4 in order
-unfoldable pub tableBytes : WidthTable → List ℕ
-tableBytes t =
-    1 ∷ 0 ∷ 1 ∷ t .depth
-    ∷ 2 ∷ 0 ∷ 1 ∷ t .levels
-    ∷ 3 ∷ 0 ∷ 6 ∷ (t .constants
-    ++ 4 ∷ nodeBytes (t .levels) / 256 ∷ nodeBytes (t .levels) % 256 ∷ take (nodeBytes (t .levels)) (t .nodes))
+use Rattle.width_table.specs.Table.{formRight}
+use Rattle.width_table.specs.Fields.{Field, nodeBytes, fixedFields, fields, startOf, tableSize, valueStart, valueLength, bytesOf}
 
 -- ---- reading
 
@@ -46,50 +32,36 @@ headed tag len bytes =
     Done)))
 
 -- One field: its head, and what is right for its value (4).
-unfoldable pub field : ℕ → ℕ → (List ℕ → Bool) → List ℕ → Outcome
-field tag len right bytes = headed tag len bytes then asks (right (take len (drop 3 bytes))) OutsideLimits Done
+unfoldable pub field : Field → List ℕ → Outcome
+field f bytes = headed (f .tag) (f .size) bytes then asks (f .right (take (f .size) (drop 3 bytes))) OutsideLimits Done
 
--- what follows a field of that length is read as input of its own
-abbrev pub after : ℕ → List ℕ → List ℕ
-after len bytes = drop (3 + len) bytes
+-- Fields are done one by one, refusals 1 to 4 within each, and what follows a field is read as input of its own; then 5.
+unfoldable pub formBy : List Field → List ℕ → Outcome
+formBy [] bytes = asks (eqb (length bytes) 0) TrailingBytes Done
+formBy (f ∷ fs) bytes = field f bytes then formBy fs (drop (3 + f .size) bytes)
 
-abbrev pub field2 : List ℕ → List ℕ
-field2 bytes = after 1 bytes
-
-abbrev pub field3 : List ℕ → List ℕ
-field3 bytes = after 1 (field2 bytes)
-
-abbrev pub field4 : List ℕ → List ℕ
-field4 bytes = after 6 (field3 bytes)
-
+-- the numbers of the first two fields
 abbrev pub depthIn : List ℕ → ℕ
-depthIn bytes = getD bytes 3 0
+depthIn bytes = getD bytes (startOf fixedFields 1) 0
 
 abbrev pub levelsIn : List ℕ → ℕ
-levelsIn bytes = getD (field2 bytes) 3 0
+levelsIn bytes = getD bytes (startOf fixedFields 2) 0
 
--- the value of the fourth field: of each node IB, then f
-unfoldable pub widthsRight : List ℕ → Bool
-widthsRight [] = true
-widthsRight (IB ∷ []) = false
-widthsRight (IB ∷ f ∷ rest) = widthRight IB f && widthsRight rest
-
--- Fields are done one by one, refusals 1 to 4 within each; then 5.
+-- The fields of a table of as many levels as the second field has, which is right by the time that L counts.
 unfoldable pub form : List ℕ → Outcome
-form bytes =
-    field 1 1 (every depthRight) bytes
-    then field 2 1 (every levelsRight) (field2 bytes)
-    then field 3 6 (every constantRight) (field3 bytes)
-    then field 4 (nodeBytes (levelsIn bytes)) widthsRight (field4 bytes)
-    then asks (eqb (length (after (nodeBytes (levelsIn bytes)) (field4 bytes))) 0) TrailingBytes Done
+form bytes = formBy (fields (levelsIn bytes)) bytes
+
+-- the value of a tag in bytes of a right form
+abbrev pub valueIn : List ℕ → ℕ → List ℕ
+valueIn bytes tag = take (valueLength (levelsIn bytes) tag) (drop (valueStart (levelsIn bytes) tag) bytes)
 
 -- the table that bytes of a right form hold, with zeros at unused levels
 unfoldable pub tableIn : List ℕ → WidthTable
 tableIn bytes = record {
   depth = depthIn bytes;
   levels = levelsIn bytes;
-  constants = take 6 (drop 3 (field3 bytes));
-  nodes = take (nodeBytes (levelsIn bytes)) (drop 3 (field4 bytes)) ++ replicate (180 - nodeBytes (levelsIn bytes)) 0;
+  constants = valueIn bytes 3;
+  nodes = valueIn bytes 4 ++ replicate (180 - nodeBytes (levelsIn bytes)) 0;
 }
 
 -- what comes back where there is no table
@@ -102,9 +74,13 @@ reading bytes = record { outcome = form bytes; table = answered (form bytes) (ta
 
 -- ---- writing
 
+-- a table's bytes: its fields in order
+unfoldable pub tableBytes : WidthTable → List ℕ
+tableBytes t = bytesOf (fields (t .levels)) t
+
 -- 4, then 9
 unfoldable pub writable : WidthTable → List ℕ → Outcome
-writable t lent = asks (formRight t) OutsideLimits (asks (leb (20 + nodeBytes (t .levels)) (length lent)) SliceTooShort Done)
+writable t lent = asks (formRight t) OutsideLimits (asks (leb (tableSize (t .levels)) (length lent)) SliceTooShort Done)
 
 abbrev pub written : Outcome → ℕ → Written
 written Done n = Bytes n
@@ -112,7 +88,7 @@ written (Refused r) n = NotWritten r
 
 -- The call that writes a table into lent bytes: the answer, with the number of bytes, and the lent bytes afterwards.
 unfoldable pub writing : WidthTable → List ℕ → Written
-writing t lent = written (writable t lent) (20 + nodeBytes (t .levels))
+writing t lent = written (writable t lent) (tableSize (t .levels))
 
 unfoldable pub bytesAfter : WidthTable → List ℕ → List ℕ
 bytesAfter t lent = answered (writable t lent) (over (tableBytes t) lent) lent

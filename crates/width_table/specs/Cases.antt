@@ -13,10 +13,11 @@ use Rattle.width_table.specs.declared.Named.{Named}
 use Rattle.width_table.specs.declared.Named.the-variants.{Value, NotNamed}
 use Rattle.width_table.specs.Nodes.{Rows, LowColumns, P2}
 use Rattle.width_table.specs.Table.{formRight, integerBits, fractionBits, inputBits}
-use Rattle.width_table.specs.Bytes.{tableBytes, headed, field, widthsRight, form, tableIn, reading, emptyTable, writable, writing, bytesAfter}
+use Rattle.width_table.specs.Fields.{widthsRight}
+use Rattle.width_table.specs.Bytes.{tableBytes, headed, field, formBy, form, tableIn, reading, emptyTable, writable, writing, bytesAfter}
 use Rattle.width_table.specs.Changes.{changeable, widthChanged, constantChangeable, constantChanged}
 use Rattle.width_table.specs.Names.{nameable, naming, valueOf}
-use Rattle.width_table.specs.Readers.{constantBitsAt, integerBitsAt, fractionBitsAt}
+use Rattle.width_table.specs.Readers.{constantBitsAt, integerBitsAt, fractionBitsAt, inputBitsAt}
 
 -- ---- tables
 
@@ -47,7 +48,7 @@ pub readings :
     ∷ take 55 good ∷ (good ++ (0 ∷ [])) ∷ take 20 (set good 17 5) ∷ [])
     ≡ [] ∷ (1 ∷ []) ∷ (1 ∷ []) ∷ (2 ∷ []) ∷ (3 ∷ []) ∷ (4 ∷ []) ∷ (4 ∷ []) ∷ (3 ∷ []) ∷ (4 ∷ []) ∷ (4 ∷ []) ∷ (4 ∷ []) ∷ (4 ∷ [])
     ∷ (1 ∷ []) ∷ (5 ∷ []) ∷ (1 ∷ []) ∷ []
-unfolding form field headed every widthsRight tableBytes
+unfolding form formBy field headed every widthsRight tableBytes
 readings = refl
 
 -- A head whose announced value is cut short is 1, whatever its tag and length; a whole one of another tag is 2; length 0 is
@@ -56,16 +57,16 @@ pub heads :
     map (λ b. told (form b)) (
     (9 ∷ 0 ∷ 5 ∷ []) ∷ (9 ∷ 0 ∷ 0 ∷ []) ∷ (1 ∷ 0 ∷ 0 ∷ []) ∷ (1 ∷ 0 ∷ 2 ∷ 8 ∷ []) ∷ (1 ∷ 0 ∷ 2 ∷ 8 ∷ 8 ∷ []) ∷ (1 ∷ 1 ∷ 1 ∷ 8 ∷ []) ∷ (1 ∷ 0 ∷ 1 ∷ 0 ∷ []) ∷ (1 ∷ 0 ∷ 1 ∷ 8 ∷ []) ∷ [])
     ≡ (1 ∷ []) ∷ (2 ∷ []) ∷ (3 ∷ []) ∷ (1 ∷ []) ∷ (3 ∷ []) ∷ (1 ∷ []) ∷ (4 ∷ []) ∷ (1 ∷ []) ∷ []
-unfolding form field headed every widthsRight
+unfolding form formBy field headed every widthsRight
 heads = refl
 
 -- 5 comes after a right fourth field alone; fractional bits 0 are right
 pub ends : map (λ b. told (form b)) ((set good 20 0 ++ (0 ∷ [])) ∷ (take 55 good ++ []) ∷ set good 21 0 ∷ []) ≡ (4 ∷ []) ∷ (1 ∷ []) ∷ [] ∷ []
-unfolding form field headed every widthsRight tableBytes
+unfolding form formBy field headed every widthsRight tableBytes
 ends = refl
 
 pub read-back : (reading good .table ≡ usual) × (reading (take 55 good) .table ≡ emptyTable)
-unfolding reading tableIn form field headed every widthsRight tableBytes
+unfolding reading tableIn form formBy field headed every widthsRight tableBytes
 read-back = (refl, refl)
 
 -- book order: the columns of row-low come second, P2 third; level 2 takes what G1 of those columns leaves
@@ -93,7 +94,7 @@ place (NotNamed r) = number r ∷ []
 pub names :
     place (naming good 0) ∷ place (naming [] 0) ∷ place (naming good 1) ∷ place (naming good 2) ∷ place (naming good 3) ∷ place (naming good 4) ∷ place (naming good 5) ∷ place (naming [] 4) ∷ place (naming (good ++ (0 ∷ [])) 1) ∷ valueOf good 1 ∷ valueOf good 3 ∷ valueOf [] 3 ∷ []
     ≡ (2 ∷ []) ∷ (2 ∷ []) ∷ (3 ∷ 1 ∷ []) ∷ (7 ∷ 1 ∷ []) ∷ (11 ∷ 6 ∷ []) ∷ (20 ∷ 36 ∷ []) ∷ (2 ∷ []) ∷ (1 ∷ []) ∷ (5 ∷ []) ∷ (8 ∷ []) ∷ (24 ∷ 24 ∷ 24 ∷ 24 ∷ 24 ∷ 24 ∷ []) ∷ [] ∷ []
-unfolding naming valueOf nameable form field headed every widthsRight tableBytes
+unfolding naming valueOf nameable form formBy field headed every widthsRight tableBytes
 names = refl
 
 -- ---- changes
@@ -147,7 +148,7 @@ writes = refl
 -- ---- widths by number: 0 where there is no such node
 
 pub by-number :
-    constantBitsAt usual 1 ∷ constantBitsAt usual 6 ∷ constantBitsAt usual 0 ∷ constantBitsAt usual 7 ∷ integerBitsAt usual 1 3 6 ∷ fractionBitsAt usual 1 3 6 ∷ integerBitsAt usual 2 1 1 ∷ integerBitsAt usual 0 1 1 ∷ fractionBitsAt usual 1 0 1 ∷ fractionBitsAt usual 1 1 7 ∷ []
-    ≡ 24 ∷ 24 ∷ 0 ∷ 0 ∷ 12 ∷ 20 ∷ 0 ∷ 0 ∷ 0 ∷ 0 ∷ []
-unfolding constantBitsAt integerBitsAt fractionBitsAt
+    constantBitsAt usual 1 ∷ constantBitsAt usual 6 ∷ constantBitsAt usual 0 ∷ constantBitsAt usual 7 ∷ integerBitsAt usual 1 3 6 ∷ fractionBitsAt usual 1 3 6 ∷ integerBitsAt usual 2 1 1 ∷ integerBitsAt usual 0 1 1 ∷ fractionBitsAt usual 1 0 1 ∷ fractionBitsAt usual 1 1 7 ∷ inputBitsAt usual 1 1 ∷ inputBitsAt usual 1 2 ∷ inputBitsAt usual 2 1 ∷ inputBitsAt usual 6 1 ∷ inputBitsAt usual 0 1 ∷ inputBitsAt usual 1 0 ∷ inputBitsAt usual 1 4 ∷ []
+    ≡ 24 ∷ 24 ∷ 0 ∷ 0 ∷ 12 ∷ 20 ∷ 0 ∷ 0 ∷ 0 ∷ 0 ∷ 8 ∷ 20 ∷ 20 ∷ 0 ∷ 0 ∷ 0 ∷ 0 ∷ []
+unfolding constantBitsAt integerBitsAt fractionBitsAt inputBitsAt
 by-number = refl

@@ -1,5 +1,5 @@
 -- Changes that are accepted: the new number is there, every other number is as it was, the form stays right, and the same change twice is once.
-use Prim.Native.Nat.{ℕ, zero, suc, _+_, _*_, _-_, _/_, _≤_}
+use Prim.Native.Nat.{ℕ, suc, _+_, _*_, _-_, _/_, _≤_}
 use mathlib.Core.Bool.{Bool, true, false, _&&_}
 use mathlib.Core.List.{List, [], _∷_}
 use mathlib.Core.Path.{_≡_, refl, sym, _∙_, ap, ap₂, subst}
@@ -8,7 +8,8 @@ use borrow.Author.Tests.{le-leb}
 use lib.Dec.{T, eqb}
 use lib.ListN.{getD, set, length-set}
 use lib.Seq.{getD-set-same, getD-set-other, set-set, set-comm}
-use Rattle.numbers.specs.Tests.{between, every, both, four, and-intro, is-true, by-leb, between-≤, to-between}
+use Rattle.numbers.specs.Tests.{between, every, three, four, and-intro, is-true, by-leb, between-≤, to-between}
+use Rattle.numbers.specs.Lists.{every-set}
 use Rattle.refusals.specs.declared.Outcome.the-variants.{Done}
 use Rattle.refusals.specs.RefusalLaws.{asks-done}
 use Rattle.width_table.specs.declared.WidthTable.{WidthTable}
@@ -22,11 +23,10 @@ use Rattle.width_table.specs.FormLaws.{node-in, width-changes, constant-
 
 -- ---- parts
 
-three : (a b c : Bool) → T (a && b && c) → (a ≡ true) × (b ≡ true) × (c ≡ true)
-three a b c h =
-    let (x, y) = both (a && b) c h in
-    let (u, v) = both a b x in
-    (is-true a u, is-true b v, is-true c y)
+all-true : (a b c : Bool) → T (a && b && c) → (a ≡ true) × (b ≡ true) × (c ≡ true)
+all-true a b c h =
+    let (x, y, z) = three a b c h in
+    (is-true a x, is-true b y, is-true c z)
 
 holding : {x : Bool} → x ≡ true → T x
 holding e = subst T (sym e) tt
@@ -37,12 +37,6 @@ same-or P a b is not = by-leb (λ (x : Bool). P) a b (λ h. by-leb (λ (x : Bool
 or-zero : (b : Bool) (x y : ℕ) → (T b → x ≡ y) → orZero b x ≡ orZero b y
 or-zero true x y h = h tt
 or-zero false x y h = refl
-
-every-set : (test : ℕ → Bool) (l : List ℕ) (i x : ℕ) → T (every test l) → T (test x) → T (every test (set l i x))
-unfolding every
-every-set test [] i x h k = tt
-every-set test (a ∷ l) zero x h k = and-intro (test x) (every test l) k (both (test a) (every test l) h .1)
-every-set test (a ∷ l) (suc i) x h k = let (u, v) = both (test a) (every test l) h in and-intro (test a) (every test (set l i x)) u (every-set test l i x v k)
 
 -- the numbers of a node stand at no other node's places
 one-node : (a b c x y z k : ℕ) → b ≤ 2 → c ≤ 5 → y ≤ 2 → z ≤ 5
@@ -119,7 +113,7 @@ module _ (t : WidthTable) (s : Sized t) (level pass node IB f : ℕ) (ok : chang
 
   accepted : (formRight t ≡ true) × (hasNode (t .levels) level pass node ≡ true) × (widthRight IB f ≡ true)
   unfolding changeable
-  accepted = three (formRight t) (hasNode (t .levels) level pass node) (widthRight IB f) (asks-done (formRight t && hasNode (t .levels) level pass node && widthRight IB f) _ _ ok .0)
+  accepted = all-true (formRight t) (hasNode (t .levels) level pass node) (widthRight IB f) (asks-done (formRight t && hasNode (t .levels) level pass node && widthRight IB f) _ _ ok .0)
 
   few : t .levels ≤ 5
   few = between-≤ 1 5 (t .levels) (rules t (accepted .0) .levels) .1
@@ -221,7 +215,7 @@ module _ (t : WidthTable) (s : Sized t) (node F : ℕ) (ok : constantChangeable 
 
   allowed : (formRight t ≡ true) × (between 1 6 node ≡ true) × (constantRight F ≡ true)
   unfolding constantChangeable
-  allowed = three (formRight t) (between 1 6 node) (constantRight F) (asks-done (formRight t && between 1 6 node && constantRight F) _ _ ok .0)
+  allowed = all-true (formRight t) (between 1 6 node) (constantRight F) (asks-done (formRight t && between 1 6 node && constantRight F) _ _ ok .0)
 
   stage : (1 ≤ node) × (node ≤ 6)
   stage = between-≤ 1 6 node (holding (allowed .1))

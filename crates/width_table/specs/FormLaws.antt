@@ -10,14 +10,11 @@ use Rattle.width_table.specs.declared.TableAnswer.{TableAnswer}
 use Rattle.refusals.specs.declared.Refusal.the-variants.{OutsideLimits}
 use Rattle.refusals.specs.declared.Outcome.the-variants.{Done}
 use Rattle.refusals.specs.Refusals.{asks, answered}
-use Rattle.numbers.specs.Tests.{both, four, between-≤, between, every}
+use Rattle.numbers.specs.Tests.{three, four, left-false, right-false, between-≤, between, every}
 use Rattle.width_table.specs.Table.{depthRight, levelsRight, constantRight, formRight, widthRight}
-use Rattle.width_table.specs.Bytes.{widthsRight, nodeBytes}
+use Rattle.width_table.specs.Fields.{widthsRight, nodeBytes}
 use Rattle.width_table.specs.Changes.{hasNode, changeable, withWidth, widthChanged, constantChangeable, withConstant, constantChanged}
 use Rattle.width_table.specs.FormLists.{formLists}
-
-pub in-limits : (a b n : ℕ) → between a b n ≡ true → (a ≤ n) × (n ≤ b)
-in-limits a b n e = between-≤ a b n (subst T (sym e) tt)
 
 zero-test : (n : ℕ) → between 0 0 n ≡ eqb 0 n
 zero-test zero = refl
@@ -27,16 +24,6 @@ pub zeros-test : (l : List ℕ) → every (between 0 0) l ≡ every (eqb 0) l
 unfolding every
 zeros-test [] = refl
 zeros-test (a ∷ l) = ap₂ _&&_ (zero-test a) (zeros-test l)
-
-and-false : (t : Bool) → t && false ≡ false
-and-false true = refl
-and-false false = refl
-
-left-fails : (x y : Bool) → x ≡ false → x && y ≡ false
-left-fails x y e = ap (λ (z : Bool). z && y) e
-
-right-fails : (x y : Bool) → y ≡ false → x && y ≡ false
-right-fails x y e = ap (λ (z : Bool). x && z) e ∙ and-false x
 
 -- any rule of the form by lists that fails decides it, and the last one where the others hold
 module _ (t : WidthTable) where
@@ -57,21 +44,21 @@ module _ (t : WidthTable) where
 
   limits-wrong : B && L ≡ false → formLists t ≡ false
   unfolding formLists
-  limits-wrong e = left-fails (B && L && C && W) Z (left-fails (B && L && C) W (left-fails (B && L) C e))
+  limits-wrong e = left-false (B && L && C && W) Z (left-false (B && L && C) W (left-false (B && L) C e))
 
   pub depth-wrong : B ≡ false → formLists t ≡ false
-  depth-wrong e = limits-wrong (left-fails B L e)
+  depth-wrong e = limits-wrong (left-false B L e)
 
   pub levels-wrong : L ≡ false → formLists t ≡ false
-  levels-wrong e = limits-wrong (right-fails B L e)
+  levels-wrong e = limits-wrong (right-false B L e)
 
   pub constants-wrong : C ≡ false → formLists t ≡ false
   unfolding formLists
-  constants-wrong e = left-fails (B && L && C && W) Z (left-fails (B && L && C) W (right-fails (B && L) C e))
+  constants-wrong e = left-false (B && L && C && W) Z (left-false (B && L && C) W (right-false (B && L) C e))
 
   pub widths-wrong : W ≡ false → formLists t ≡ false
   unfolding formLists
-  widths-wrong e = left-fails (B && L && C && W) Z (right-fails (B && L && C) W e)
+  widths-wrong e = left-false (B && L && C && W) Z (right-false (B && L && C) W e)
 
   pub unused-decide : B ≡ true → L ≡ true → C ≡ true → W ≡ true → formLists t ≡ Z
   unfolding formLists
@@ -82,9 +69,8 @@ module _ (t : WidthTable) where
 module _ (L level pass node : ℕ) where
   pub node-in : hasNode L level pass node ≡ true → ((1 ≤ level) × (level ≤ L)) × ((1 ≤ pass) × (pass ≤ 3)) × ((1 ≤ node) × (node ≤ 6))
   node-in e =
-      let x = both (between 1 L level && between 1 3 pass) (between 1 6 node) (subst T (sym e) tt) in
-      let y = both (between 1 L level) (between 1 3 pass) (x .0) in
-      (between-≤ 1 L level (y .0), between-≤ 1 3 pass (y .1), between-≤ 1 6 node (x .1))
+      let (l, p, n) = three (between 1 L level) (between 1 3 pass) (between 1 6 node) (subst T (sym e) tt) in
+      (between-≤ 1 L level l, between-≤ 1 3 pass p, between-≤ 1 6 node n)
 
 -- the answer of a change, by whether its rules hold
 abbrev pub answer : Bool → WidthTable → WidthTable → TableAnswer
@@ -92,13 +78,13 @@ answer x new old = record { outcome = asks x OutsideLimits Done; table = answere
 
 -- three rules
 first-fails : (a b c : Bool) → a ≡ false → a && b && c ≡ false
-first-fails a b c e = left-fails (a && b) c (left-fails a b e)
+first-fails a b c e = left-false (a && b) c (left-false a b e)
 
 second-fails : (a b c : Bool) → b ≡ false → a && b && c ≡ false
-second-fails a b c e = left-fails (a && b) c (right-fails a b e)
+second-fails a b c e = left-false (a && b) c (right-false a b e)
 
 third-fails : (a b c : Bool) → c ≡ false → a && b && c ≡ false
-third-fails a b c e = right-fails (a && b) c e
+third-fails a b c e = right-false (a && b) c e
 
 all-hold : (a b c : Bool) → a ≡ true → b ≡ true → c ≡ true → a && b && c ≡ true
 all-hold a b c e f g = ap (λ (x : Bool). x && b && c) e ∙ ap (λ (x : Bool). x && c) f ∙ g

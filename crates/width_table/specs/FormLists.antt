@@ -7,12 +7,12 @@ use native.Mathlib.Omega.{arith}
 use borrow.Author.Tests.{le-leb, lt-leb}
 use lib.Dec.{T, leb, eqb, eqb·zero-suc, eqb·suc-zero}
 use lib.ListN.{length, getD, take, drop, drop-of-length-le}
-use lib.Seq.{drop-cons}
 use Rattle.numbers.specs.Tests.{every, both, and-intro, between-≤, by-leb}
+use Rattle.numbers.specs.Lists.{next-two}
 use Rattle.width_table.specs.declared.WidthTable.{WidthTable}
 use Rattle.width_table.specs.Nodes.{P1, U1, P2, U2, G1, G2, nodeNumber, bookOrder}
 use Rattle.width_table.specs.Table.{depthRight, levelsRight, constantRight, widthRight, nodeRight, formRight}
-use Rattle.width_table.specs.Bytes.{nodeBytes, widthsRight}
+use Rattle.width_table.specs.Fields.{nodeBytes, widthsRight}
 
 -- what its type says of every table in memory
 pub record Sized (t : WidthTable) : Type 0 where
@@ -86,22 +86,13 @@ pairRight L k IB f = elim (leb (k / 18 + 1) L) [ true ↦ widthRight IB f | fals
 abbrev pub placeRight : ℕ → List ℕ → ℕ → Bool
 placeRight L l k = pairRight L k (getD l (2 * k) 0) (getD l (2 * k + 1) 0)
 
-pub two-more : (l : List ℕ) (i : ℕ) → i + 1 < length l → drop i l ≡ getD l i 0 ∷ getD l (i + 1) 0 ∷ drop (i + 2) l
-two-more l i h =
-    let s : suc i ≡ i + 1 = omega arith in
-    let t : suc (i + 1) ≡ i + 2 = omega arith in
-    drop-cons l i 0 (omega arith)
-    ∙ ap (λ (n : ℕ). getD l i 0 ∷ drop n l) s
-    ∙ ap (λ (r : List ℕ). getD l i 0 ∷ r) (drop-cons l (i + 1) 0 h)
-    ∙ ap (λ (n : ℕ). getD l i 0 ∷ getD l (i + 1) 0 ∷ drop n l) t
-
 widths-hold : (l : List ℕ) (i n : ℕ) → 2 * (i + n) ≤ length l → widthsRight (take (2 * n) (drop (2 * i) l)) ≡ holds (widthAt l) i n
 unfolding widthsRight holds
 widths-hold l i zero h = refl
 widths-hold l i (suc n) h =
     let e : 2 * suc n ≡ suc (suc (2 * n)) = omega arith in
     let s : 2 * i + 2 ≡ 2 * (i + 1) = omega arith in
-    ap₂ (λ (m : ℕ) (r : List ℕ). widthsRight (take m r)) e (two-more l (2 * i) (omega arith))
+    ap₂ (λ (m : ℕ) (r : List ℕ). widthsRight (take m r)) e (next-two l 0 (2 * i) (omega arith))
     ∙ ap (λ (m : ℕ). widthAt l i && widthsRight (take (2 * n) (drop m l))) s
     ∙ ap (λ (x : Bool). widthAt l i && x) (widths-hold l (i + 1) n (omega arith))
 
@@ -114,7 +105,7 @@ unfolding every holds
 zeros-hold l i zero h = ap (every (eqb 0)) (drop-of-length-le l {i = 2 * i} (omega arith))
 zeros-hold l i (suc n) h =
     let s : 2 * i + 2 ≡ 2 * (i + 1) = omega arith in
-    ap (every (eqb 0)) (two-more l (2 * i) (omega arith))
+    ap (every (eqb 0)) (next-two l 0 (2 * i) (omega arith))
     ∙ ap₂ (λ (x y : Bool). x && (y && every (eqb 0) (drop (2 * i + 2) l))) (eqb-zero (getD l (2 * i) 0)) (eqb-zero (getD l (2 * i + 1) 0))
     ∙ sym (and-assoc (eqb (getD l (2 * i) 0) 0) (eqb (getD l (2 * i + 1) 0) 0) _)
     ∙ ap (λ (m : ℕ). zeroAt l i && every (eqb 0) (drop m l)) s

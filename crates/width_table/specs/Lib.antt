@@ -2,11 +2,12 @@
 --   Nodes      the six nodes of a pass, the three passes of a level, book order
 --   Numbered   nodes and passes by their numbers
 --   Table      limits, widths, and when the form is right (refusal 4)
+--   Fields     the fields of the bytes, one list: lengths, places and bytes follow from it
 --   Bytes      reading (refusals 1 to 5) and writing (4, 9)
 --   Changes    changes of a width or of a constant's bits (4)
 --   Names      naming a tag (2, then 1 to 5)
---   Steps      the form from the second, third and fourth field on
 --   Readers    widths by the numbers of level, pass and node
+--   Limits     the limits of a table of right form, by node and by number
 --   FormLists  the form by lists
 --   BytesLaws  fields and the whole form taken apart, and the values of tags
 --   ReadLaws, FormLaws, NameLaws, WriteLaws   the rules one by one, as the code goes through them
@@ -16,11 +17,12 @@
 pub mod Nodes
 pub mod Numbered
 pub mod Table
+pub mod Fields
 pub mod Bytes
 pub mod Changes
 pub mod Names
-pub mod Steps
 pub mod Readers
+pub mod Limits
 pub mod FormLists
 pub mod BytesLaws
 pub mod ReadLaws

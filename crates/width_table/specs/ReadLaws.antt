@@ -1,71 +1,36 @@
--- How the tests of a field's value go on from one number to the next.
-use Prim.Native.Nat.{ℕ, suc, _+_, _-_, _<_, _≤_}
+-- The rules of reading one by one, as the code goes through them.
+use Prim.Native.Nat.{ℕ, zero, suc, _+_, _-_, _<_, _≤_}
 use mathlib.Core.Bool.{Bool, true, false, _&&_}
-use mathlib.Core.List.{List, [], _∷_, _++_}
-use mathlib.Core.Path.{_≡_, refl, sym, _∙_, ap, subst}
+use mathlib.Core.List.{List, [], _∷_}
+use mathlib.Core.Path.{_≡_, refl, _∙_, ap}
 use native.Mathlib.Omega.{arith}
-use borrow.Author.Tests.{le-leb, lt-leb, eq-eqb, ne-eqb}
-use lib.Dec.{leb, eqb, leb→le, eqb→eq}
-use lib.ListN.{length, getD, take, drop, set, replicate}
-use lib.Seq.{drop-cons, take-all, set-at, length-take-le, take-suc, append-snoc, drop-drop, getD-drop}
-use lib.ListN.{drop-of-length-le, length-drop}
-use Rattle.width_table.specs.declared.WidthTable.{WidthTable}
-use Rattle.width_table.specs.declared.TableAnswer.{TableAnswer}
+use borrow.Author.Tests.{lt-leb, eq-eqb, ne-eqb}
+use lib.Dec.{leb, eqb, leb→le, le→leb, eqb→eq}
+use lib.ListN.{length, getD, take, drop, drop-of-length-le}
+use lib.Seq.{drop-cons}
 use Rattle.refusals.specs.declared.Refusal.{Refusal}
 use Rattle.refusals.specs.declared.Refusal.the-variants.{CutShort, WrongTag, WrongLength, OutsideLimits, TrailingBytes}
 use Rattle.refusals.specs.declared.Outcome.{Outcome}
 use Rattle.refusals.specs.declared.Outcome.the-variants.{Done, Refused}
-use Rattle.width_table.specs.FormLists.{two-more}
-use Rattle.width_table.specs.BytesLaws.{field-done, single, form-done, levels-most}
 use Rattle.refusals.specs.Refusals.{asks, answered}
-use Rattle.refusals.specs.RefusalLaws.{asks-done, then-done, then-right, then-refused}
-use Rattle.numbers.specs.Tests.{between-≤, between, every}
-use Rattle.width_table.specs.Table.{widthRight, depthRight, levelsRight, constantRight}
-use Rattle.width_table.specs.Bytes.{widthsRight, announced, headed, field, after, form, nodeBytes, tableIn, reading, emptyTable, levelsIn, field2, field3, field4}
-use Rattle.width_table.specs.Steps.{fromSecond, fromThird, fromFourth}
-
-and-false : (t : Bool) → t && false ≡ false
-and-false true = refl
-and-false false = refl
-
--- ---- between limits
-
-pub is-between : (a b n : ℕ) → a ≤ n → n ≤ b → between a b n ≡ true
-is-between a b n h k = simp (le-leb a n h, le-leb n b k)
-
-pub below-least : (a b n : ℕ) → n < a → between a b n ≡ false
-below-least a b n h = simp (lt-leb a n h)
-
-pub above-most : (a b n : ℕ) → b < n → between a b n ≡ false
-above-most a b n h = simp (lt-leb n b h) (and-false (leb a n))
-
--- ---- every number of a list
-
-module _ (right : ℕ → Bool) (l : List ℕ) (i : ℕ) (h : i < length l) where
-  pub every-next : right (getD l i 0) ≡ true → every right (drop i l) ≡ every right (drop (i + 1) l)
-  unfolding every
-  every-next e =
-      let s : suc i ≡ i + 1 = omega arith in
-      ap (every right) (drop-cons l i 0 h) ∙ ap (λ (t : Bool). t && every right (drop (suc i) l)) e ∙ ap (λ (n : ℕ). every right (drop n l)) s
-
-  pub every-stops : right (getD l i 0) ≡ false → every right (drop i l) ≡ false
-  unfolding every
-  every-stops e = ap (every right) (drop-cons l i 0 h) ∙ ap (λ (t : Bool). t && every right (drop (suc i) l)) e
-
-pub every-ends : (right : ℕ → Bool) (l : List ℕ) (i : ℕ) → length l ≤ i → every right (drop i l) ≡ true
-unfolding every
-every-ends right l i h = ap (every right) (drop-of-length-le l h)
+use Rattle.refusals.specs.RefusalLaws.{asks-done, asks-right, asks-wrong, then-right, then-refused}
+use Rattle.numbers.specs.Lists.{next-two}
+use Rattle.width_table.specs.declared.TableAnswer.{TableAnswer}
+use Rattle.width_table.specs.Table.{widthRight}
+use Rattle.width_table.specs.Fields.{Field, widthsRight, fields, fieldOf, tableSize, valueStart, valueLength}
+use Rattle.width_table.specs.Bytes.{announced, headed, field, formBy, form, tableIn, reading, emptyTable}
+use Rattle.width_table.specs.BytesLaws.{field-done}
 
 -- ---- widths
 
 module _ (l : List ℕ) (i : ℕ) (h : i + 1 < length l) where
   pub widths-next : widthRight (getD l i 0) (getD l (i + 1) 0) ≡ true → widthsRight (drop i l) ≡ widthsRight (drop (i + 2) l)
   unfolding widthsRight
-  widths-next e = ap widthsRight (two-more l i h) ∙ ap (λ (t : Bool). t && widthsRight (drop (i + 2) l)) e
+  widths-next e = ap widthsRight (next-two l 0 i h) ∙ ap (λ (t : Bool). t && widthsRight (drop (i + 2) l)) e
 
   pub widths-stop : widthRight (getD l i 0) (getD l (i + 1) 0) ≡ false → widthsRight (drop i l) ≡ false
   unfolding widthsRight
-  widths-stop e = ap widthsRight (two-more l i h) ∙ ap (λ (t : Bool). t && widthsRight (drop (i + 2) l)) e
+  widths-stop e = ap widthsRight (next-two l 0 i h) ∙ ap (λ (t : Bool). t && widthsRight (drop (i + 2) l)) e
 
 pub widths-odd : (l : List ℕ) (i : ℕ) → i < length l → length l - i < 2 → widthsRight (drop i l) ≡ false
 unfolding widthsRight
@@ -77,131 +42,107 @@ widths-end l i h = ap widthsRight (drop-of-length-le l h)
 
 -- ---- the head of a field
 
--- a rule that holds, and one that does not
-passes : (t : Bool) (r : Refusal) (o : Outcome) → t ≡ true → asks t r o ≡ o
-passes t r o e = ap (λ (t : Bool). asks t r o) e
-
-fails : (t : Bool) (r : Refusal) (o : Outcome) → t ≡ false → asks t r o ≡ Refused r
-fails t r o e = ap (λ (t : Bool). asks t r o) e
-
 module _ (tag len : ℕ) (bytes : List ℕ) where
   pub no-head : length bytes < 3 → headed tag len bytes ≡ Refused CutShort
   unfolding headed
-  no-head h = fails (leb 3 (length bytes)) _ _ (lt-leb _ _ h)
+  no-head h = asks-wrong (leb 3 (length bytes)) _ _ (lt-leb _ _ h)
 
-  pub cut-value : 3 ≤ length bytes → length bytes - 3 < announced bytes → headed tag len bytes ≡ Refused CutShort
-  unfolding headed
-  cut-value h k = passes (leb 3 (length bytes)) _ _ (le-leb _ _ h) ∙ fails (leb (announced bytes) (length bytes - 3)) _ _ (lt-leb _ _ k)
+  -- after a whole head
+  module _ (h : 3 ≤ length bytes) where
+    pub cut-value : length bytes - 3 < announced bytes → headed tag len bytes ≡ Refused CutShort
+    unfolding headed
+    cut-value k = asks-right (leb 3 (length bytes)) _ _ (le→leb _ _ h) ∙ asks-wrong (leb (announced bytes) (length bytes - 3)) _ _ (lt-leb _ _ k)
 
-  pub other-tag : 3 ≤ length bytes → announced bytes ≤ length bytes - 3 → (getD bytes 0 0 ≡ tag → ⊥) → headed tag len bytes ≡ Refused WrongTag
-  unfolding headed
-  other-tag h k e =
-      passes (leb 3 (length bytes)) _ _ (le-leb _ _ h)
-      ∙ passes (leb (announced bytes) (length bytes - 3)) _ _ (le-leb _ _ k)
-      ∙ fails (eqb (getD bytes 0 0) tag) _ _ (ne-eqb _ _ e)
+    -- and a whole value
+    module _ (k : announced bytes ≤ length bytes - 3) where
+      tag-next : headed tag len bytes ≡ asks (eqb (getD bytes 0 0) tag) WrongTag (asks (eqb (announced bytes) len) WrongLength Done)
+      unfolding headed
+      tag-next = asks-right (leb 3 (length bytes)) _ _ (le→leb _ _ h) ∙ asks-right (leb (announced bytes) (length bytes - 3)) _ _ (le→leb _ _ k)
 
-  pub other-length : 3 ≤ length bytes → announced bytes ≤ length bytes - 3 → getD bytes 0 0 ≡ tag → (announced bytes ≡ len → ⊥) → headed tag len bytes ≡ Refused WrongLength
-  unfolding headed
-  other-length h k e f =
-      passes (leb 3 (length bytes)) _ _ (le-leb _ _ h)
-      ∙ passes (leb (announced bytes) (length bytes - 3)) _ _ (le-leb _ _ k)
-      ∙ passes (eqb (getD bytes 0 0) tag) _ _ (eq-eqb _ _ e)
-      ∙ fails (eqb (announced bytes) len) _ _ (ne-eqb _ _ f)
+      pub other-tag : (getD bytes 0 0 ≡ tag → ⊥) → headed tag len bytes ≡ Refused WrongTag
+      other-tag e = tag-next ∙ asks-wrong (eqb (getD bytes 0 0) tag) _ _ (ne-eqb _ _ e)
 
-  pub whole-head : 3 ≤ length bytes → announced bytes ≤ length bytes - 3 → getD bytes 0 0 ≡ tag → announced bytes ≡ len → headed tag len bytes ≡ Done
-  unfolding headed
-  whole-head h k e f =
-      passes (leb 3 (length bytes)) _ _ (le-leb _ _ h)
-      ∙ passes (leb (announced bytes) (length bytes - 3)) _ _ (le-leb _ _ k)
-      ∙ passes (eqb (getD bytes 0 0) tag) _ _ (eq-eqb _ _ e)
-      ∙ passes (eqb (announced bytes) len) _ _ (eq-eqb _ _ f)
+      pub other-length : getD bytes 0 0 ≡ tag → (announced bytes ≡ len → ⊥) → headed tag len bytes ≡ Refused WrongLength
+      other-length e f = tag-next ∙ ap (λ (t : Bool). asks t WrongTag (asks (eqb (announced bytes) len) WrongLength Done)) (eq-eqb _ _ e) ∙ asks-wrong (eqb (announced bytes) len) _ _ (ne-eqb _ _ f)
 
-  -- a right head announces no more than there is
-  pub head-holds : headed tag len bytes ≡ Done → 3 + len ≤ length bytes
-  unfolding headed
-  head-holds e =
-      let a = asks-done (leb 3 (length bytes)) _ _ e in
-      let b = asks-done (leb (announced bytes) (length bytes - 3)) _ _ (a .1) in
-      let c = asks-done (eqb (getD bytes 0 0) tag) _ _ (b .1) in
-      let d = asks-done (eqb (announced bytes) len) _ _ (c .1) in
-      omega (arith, leb→le 3 (length bytes) (a .0), leb→le (announced bytes) (length bytes - 3) (b .0), eqb→eq (announced bytes) len (d .0))
+      pub whole-head : getD bytes 0 0 ≡ tag → announced bytes ≡ len → headed tag len bytes ≡ Done
+      whole-head e f = tag-next ∙ (λ u. asks (eq-eqb _ _ e u) WrongTag (asks (eq-eqb _ _ f u) WrongLength Done))
 
-  -- the value's rule, after a right head
-  module _ (right : List ℕ → Bool) where
-    pub field-head : (r : Refusal) → headed tag len bytes ≡ Refused r → field tag len right bytes ≡ Refused r
+-- ---- one field, and the next
+
+module _ (f : Field) (bytes : List ℕ) where
+  pub field-head : (r : Refusal) → headed (f .tag) (f .size) bytes ≡ Refused r → field f bytes ≡ Refused r
+  unfolding field
+  field-head r e = then-refused (headed (f .tag) (f .size) bytes) _ r e
+
+  -- after a right head
+  module _ (e : headed (f .tag) (f .size) bytes ≡ Done) where
+    pub head-holds : 3 + f .size ≤ length bytes
+    unfolding headed
+    head-holds =
+        let a = asks-done (leb 3 (length bytes)) _ _ e in
+        let b = asks-done (leb (announced bytes) (length bytes - 3)) _ _ (a .1) in
+        let c = asks-done (eqb (getD bytes 0 0) (f .tag)) _ _ (b .1) in
+        let d = asks-done (eqb (announced bytes) (f .size)) _ _ (c .1) in
+        omega (arith, leb→le 3 (length bytes) (a .0), leb→le (announced bytes) (length bytes - 3) (b .0), eqb→eq (announced bytes) (f .size) (d .0))
+
+    pub field-judged : (t : Bool) → f .right (take (f .size) (drop 3 bytes)) ≡ t → field f bytes ≡ asks t OutsideLimits Done
     unfolding field
-    field-head r e = then-refused (headed tag len bytes) _ r e
+    field-judged t g = then-right (headed (f .tag) (f .size) bytes) _ e ∙ ap (λ (t : Bool). asks t OutsideLimits Done) g
 
-    pub field-value : headed tag len bytes ≡ Done → right (take len (drop 3 bytes)) ≡ true → field tag len right bytes ≡ Done
-    unfolding field
-    field-value e f = then-right (headed tag len bytes) _ e ∙ passes (right (take len (drop 3 bytes))) _ _ f
+  pub field-holds : field f bytes ≡ Done → 3 + f .size ≤ length bytes
+  field-holds e = omega (arith, field-done f 0 bytes e .whole)
 
-    pub field-wrong : headed tag len bytes ≡ Done → right (take len (drop 3 bytes)) ≡ false → field tag len right bytes ≡ Refused OutsideLimits
-    unfolding field
-    field-wrong e f = then-right (headed tag len bytes) _ e ∙ fails (right (take len (drop 3 bytes))) _ _ f
+  -- what follows it is read next
+  module _ (fs : List Field) where
+    pub next-read : field f bytes ≡ Done → formBy (f ∷ fs) bytes ≡ formBy fs (drop (3 + f .size) bytes)
+    unfolding formBy
+    next-read e = then-right (field f bytes) _ e
 
-    pub field-holds : field tag len right bytes ≡ Done → 3 + len ≤ length bytes
-    unfolding field
-    field-holds e = head-holds (then-done (headed tag len bytes) _ e .0)
+    pub next-refused : (r : Refusal) → field f bytes ≡ Refused r → formBy (f ∷ fs) bytes ≡ Refused r
+    unfolding formBy
+    next-refused r e = then-refused (field f bytes) _ r e
 
--- ---- the whole form, field by field
+pub ends-there : (bytes : List ℕ) → length bytes ≡ 0 → formBy [] bytes ≡ Done
+unfolding formBy
+ends-there bytes h = ap (λ (t : Bool). asks t TrailingBytes Done) (eq-eqb _ _ h)
 
-module _ (L : ℕ) (bytes : List ℕ) (e : field 4 (nodeBytes L) widthsRight bytes ≡ Done) where
-  none-after : length (after (nodeBytes L) bytes) ≡ length bytes - (3 + nodeBytes L)
-  none-after = length-drop (3 + nodeBytes L) bytes
+pub more-follows : (bytes : List ℕ) → (length bytes ≡ 0 → ⊥) → formBy [] bytes ≡ Refused TrailingBytes
+unfolding formBy
+more-follows bytes h = asks-wrong (eqb (length bytes) 0) _ _ (ne-eqb _ _ h)
 
-  pub fourth-done : length bytes ≡ 3 + nodeBytes L → fromFourth L bytes ≡ Done
-  unfolding fromFourth
-  fourth-done h = then-right (field 4 (nodeBytes L) widthsRight bytes) _ e ∙ passes (eqb (length (after (nodeBytes L) bytes)) 0) _ _ (eq-eqb (length (after (nodeBytes L) bytes)) 0 (omega (arith, none-after)))
+-- ---- fields by tag
 
-  pub fourth-trailing : (length bytes ≡ 3 + nodeBytes L → ⊥) → fromFourth L bytes ≡ Refused TrailingBytes
-  unfolding fromFourth
-  fourth-trailing h =
-      let k = field-holds 4 (nodeBytes L) bytes widthsRight e in
-      then-right (field 4 (nodeBytes L) widthsRight bytes) _ e ∙ fails (eqb (length (after (nodeBytes L) bytes)) 0) _ _ (ne-eqb (length (after (nodeBytes L) bytes)) 0 (λ z. h (omega (arith, none-after))))
+-- what holds of the four tags holds of each
+pub by-tag : (P : ℕ → Type 0) → P 1 → P 2 → P 3 → P 4 → (tag : ℕ) → 1 ≤ tag → tag ≤ 4 → P tag
+by-tag P a b c d zero h k = absurd (omega arith)
+by-tag P a b c d (suc zero) h k = a
+by-tag P a b c d (suc (suc zero)) h k = b
+by-tag P a b c d (suc (suc (suc zero))) h k = c
+by-tag P a b c d (suc (suc (suc (suc zero)))) h k = d
+by-tag P a b c d (suc (suc (suc (suc (suc n))))) h k = absurd (omega arith)
 
-pub fourth-refused : (L : ℕ) (bytes : List ℕ) (r : Refusal) → field 4 (nodeBytes L) widthsRight bytes ≡ Refused r → fromFourth L bytes ≡ Refused r
-unfolding fromFourth
-fourth-refused L bytes r e = then-refused (field 4 (nodeBytes L) widthsRight bytes) _ r e
+module _ (L : ℕ) where
+  pub tag-is : (tag : ℕ) → 1 ≤ tag → tag ≤ 4 → fieldOf (fields L) tag .tag ≡ tag
+  tag-is = by-tag (λ (tag : ℕ). fieldOf (fields L) tag .tag ≡ tag) refl refl refl refl
 
-pub third-done : (L : ℕ) (bytes : List ℕ) → field 3 6 (every constantRight) bytes ≡ Done → fromThird L bytes ≡ fromFourth L (after 6 bytes)
-unfolding fromThird
-third-done L bytes e = then-right (field 3 6 (every constantRight) bytes) _ e
+  -- the rule of a value is the same for any number of levels
+  pub rule-is : (tag : ℕ) → 1 ≤ tag → tag ≤ 4 → fieldOf (fields L) tag .right ≡ fieldOf (fields 0) tag .right
+  rule-is = by-tag (λ (tag : ℕ). fieldOf (fields L) tag .right ≡ fieldOf (fields 0) tag .right) refl refl refl refl
 
-pub third-refused : (L : ℕ) (bytes : List ℕ) (r : Refusal) → field 3 6 (every constantRight) bytes ≡ Refused r → fromThird L bytes ≡ Refused r
-unfolding fromThird
-third-refused L bytes r e = then-refused (field 3 6 (every constantRight) bytes) _ r e
+  pub short-length : (tag : ℕ) → 1 ≤ tag → tag ≤ 2 → valueLength L tag ≡ 1
+  short-length tag h k = by-tag (λ (tag : ℕ). tag ≤ 2 → valueLength L tag ≡ 1) (λ i. refl) (λ i. refl) (λ i. absurd (omega arith)) (λ i. absurd (omega arith)) tag h (omega arith) k
 
-pub second-done : (bytes : List ℕ) → field 2 1 (every levelsRight) bytes ≡ Done → fromSecond bytes ≡ fromThird (getD bytes 3 0) (after 1 bytes)
-unfolding fromSecond
-second-done bytes e = then-right (field 2 1 (every levelsRight) bytes) _ e
+  -- a value starts after the one before it and its own head
+  pub start-next : (tag : ℕ) → 1 ≤ tag → tag ≤ 3 → valueStart L (tag + 1) ≡ valueStart L tag + valueLength L tag + 3
+  start-next tag h k = by-tag (λ (tag : ℕ). tag ≤ 3 → valueStart L (tag + 1) ≡ valueStart L tag + valueLength L tag + 3) (λ i. refl) (λ i. refl) (λ i. refl) (λ i. absurd (omega arith)) tag h (omega arith) k
 
-pub second-refused : (bytes : List ℕ) (r : Refusal) → field 2 1 (every levelsRight) bytes ≡ Refused r → fromSecond bytes ≡ Refused r
-unfolding fromSecond
-second-refused bytes r e = then-refused (field 2 1 (every levelsRight) bytes) _ r e
+  pub start-after : (tag : ℕ) → 1 ≤ tag → tag ≤ 4 → valueStart L tag - 3 + 3 ≡ valueStart L tag
+  start-after = by-tag (λ (tag : ℕ). valueStart L tag - 3 + 3 ≡ valueStart L tag) refl refl refl refl
 
--- levels that were read are at most 5
-pub levels-held : (bytes : List ℕ) → field 2 1 (every levelsRight) bytes ≡ Done → getD bytes 3 0 ≤ 5
-levels-held bytes e =
-    let f = field-done 2 1 (every levelsRight) bytes e in
-    between-≤ 1 5 (getD bytes 3 0) (single levelsRight bytes (omega (arith, f .head, f .whole)) (f .value)) .1
-
-pub first-done : (bytes : List ℕ) → field 1 1 (every depthRight) bytes ≡ Done → form bytes ≡ fromSecond (after 1 bytes)
-unfolding form fromSecond fromThird fromFourth
-first-done bytes e = then-right (field 1 1 (every depthRight) bytes) _ e
-
-pub first-refused : (bytes : List ℕ) (r : Refusal) → field 1 1 (every depthRight) bytes ≡ Refused r → form bytes ≡ Refused r
-unfolding form
-first-refused bytes r e = then-refused (field 1 1 (every depthRight) bytes) _ r e
-
-pub part-length : (n : ℕ) → n ≡ 3 + n - 3
-part-length n = omega arith
-
--- what a part that starts at n holds
-pub rest-whole : (n : ℕ) (l : List ℕ) → take (length l - n) (drop n l) ≡ drop n l
-rest-whole n l = take-all (length l - n) (drop n l) (omega (arith, length-drop n l))
-
--- ---- the table that is read
+  -- and ends where the table ends, or before
+  pub value-ends : (tag : ℕ) → 1 ≤ tag → tag ≤ 4 → valueStart L tag + valueLength L tag ≤ tableSize L
+  value-ends = by-tag (λ (tag : ℕ). valueStart L tag + valueLength L tag ≤ tableSize L) (omega arith) (omega arith) (omega arith) (omega arith)
 
 pub six : (l : List ℕ) → 6 ≤ length l → take 6 l ≡ getD l 0 0 ∷ getD l 1 0 ∷ getD l 2 0 ∷ getD l 3 0 ∷ getD l 4 0 ∷ getD l 5 0 ∷ []
 six [] h = absurd (omega arith)
@@ -212,63 +153,16 @@ six (a ∷ b ∷ c ∷ d ∷ []) h = absurd (omega arith)
 six (a ∷ b ∷ c ∷ d ∷ e ∷ []) h = absurd (omega arith)
 six (a ∷ b ∷ c ∷ d ∷ e ∷ f ∷ l) h = refl
 
--- one more element over zeros
-pub fill-next : (l : List ℕ) (i m : ℕ) → i < length l → i < m → set (take i l ++ replicate (m - i) 0) i (getD l i 0) ≡ take (i + 1) l ++ replicate (m - (i + 1)) 0
-fill-next l i m h k =
-    let e : m - i ≡ suc (m - (i + 1)) = omega arith in
-    let s : suc i ≡ i + 1 = omega arith in
-    let r : List ℕ = replicate (m - (i + 1)) 0 in
-    ap (λ (n : ℕ). set (take i l ++ replicate n 0) i (getD l i 0)) e
-    ∙ set-at (take i l) 0 r (getD l i 0) i (length-take-le i l (omega arith))
-    ∙ sym (append-snoc (take i l) (getD l i 0) r)
-    ∙ ap (λ (t : List ℕ). t ++ r) (sym (take-suc l i 0 h))
-    ∙ ap (λ (n : ℕ). take n l ++ r) s
-
-module _ (bytes : List ℕ) (e : form bytes ≡ Done) where
-  pub levels-place : levelsIn bytes ≡ getD bytes 7 0
-  levels-place = getD-drop 4 bytes 3 0
-
-  pub few-levels : getD bytes 7 0 ≤ 5
-  few-levels = subst (λ (n : ℕ). n ≤ 5) levels-place (levels-most bytes (form-done bytes e))
-
-  pub form-long : length bytes ≡ 20 + nodeBytes (getD bytes 7 0)
-  form-long =
-      let f = form-done bytes e in
-      let N = nodeBytes (levelsIn bytes) in
-      let a = length-drop (3 + N) (field4 bytes) in
-      let b = length-drop 9 (field3 bytes) in
-      let c = length-drop 4 (field2 bytes) in
-      let d = length-drop 4 bytes in
-      subst (λ (n : ℕ). length bytes ≡ 20 + nodeBytes n) levels-place (omega (arith, f .ended, f .fourth .head, f .fourth .whole))
-
-  pub table-parts : tableIn bytes ≡ record { depth = getD bytes 3 0; levels = getD bytes 7 0; constants = take 6 (drop 11 bytes); nodes = take (nodeBytes (getD bytes 7 0)) (drop 20 bytes) ++ replicate (180 - nodeBytes (getD bytes 7 0)) 0 }
-  unfolding tableIn
-  table-parts =
-      let c : drop 3 (field3 bytes) ≡ drop 11 bytes = drop-drop 3 4 (field2 bytes) ∙ drop-drop 7 4 bytes in
-      let d : drop 3 (field4 bytes) ≡ drop 20 bytes = drop-drop 3 9 (field3 bytes) ∙ drop-drop 12 4 (field2 bytes) ∙ drop-drop 16 4 bytes in
-      ap (λ (l : List ℕ). made (levelsIn bytes) (take 6 l) (drop 3 (field4 bytes))) c
-      ∙ ap (λ (l : List ℕ). made (levelsIn bytes) (take 6 (drop 11 bytes)) l) d
-      ∙ ap (λ (n : ℕ). made n (take 6 (drop 11 bytes)) (drop 20 bytes)) levels-place
-    where
-      made : ℕ → List ℕ → List ℕ → WidthTable
-      made L c n = record { depth = getD bytes 3 0; levels = L; constants = c; nodes = take (nodeBytes L) n ++ replicate (180 - nodeBytes L) 0 }
-
-pub rest-length : (n : ℕ) (l : List ℕ) → length (take (length l - n) (drop n l)) ≡ length l - n
-rest-length n l = ap length (rest-whole n l) ∙ length-drop n l
-
 -- ---- the answer of reading
 
 module _ (bytes : List ℕ) where
+  abbrev answer : Outcome → TableAnswer
+  answer o = record { outcome = o; table = answered o (tableIn bytes) emptyTable }
+
   pub reading-done : form bytes ≡ Done → reading bytes ≡ record { outcome = Done; table = tableIn bytes }
   unfolding reading
-  reading-done e = ap (λ (o : Outcome). answer o (answered o (tableIn bytes) emptyTable)) e
-    where
-      answer : Outcome → WidthTable → TableAnswer
-      answer o t = record { outcome = o; table = t }
+  reading-done e = ap answer e
 
   pub reading-refused : (r : Refusal) → form bytes ≡ Refused r → reading bytes ≡ record { outcome = Refused r; table = emptyTable }
   unfolding reading
-  reading-refused r e = ap (λ (o : Outcome). answer o (answered o (tableIn bytes) emptyTable)) e
-    where
-      answer : Outcome → WidthTable → TableAnswer
-      answer o t = record { outcome = o; table = t }
+  reading-refused r e = ap answer e

@@ -1,13 +1,15 @@
 -- The widths of a table by number: level 1 to 5, pass 1 to 3, node 1 to 6, and 0 elsewhere.
-use Prim.Native.Nat.{ℕ, _+_, _-_, _≤_}
-use mathlib.Core.Bool.{Bool, true, false}
-use mathlib.Core.Path.{_≡_, refl, ap}
+use Prim.Native.Nat.{ℕ, zero, suc, _+_, _-_, _≤_}
+use mathlib.Core.Bool.{Bool, true, false, _&&_}
+use mathlib.Core.Path.{_≡_, refl, sym, _∙_, ap, ap₂}
+use native.Mathlib.Omega.{arith}
 use borrow.Author.Tests.{le-leb}
 use lib.ListN.{getD}
-use Rattle.numbers.specs.Tests.{between}
+use Rattle.numbers.specs.Tests.{between, is-between}
 use Rattle.width_table.specs.declared.WidthTable.{WidthTable}
-use Rattle.width_table.specs.Nodes.{Node, P1, U1, P2, U2, G1, G2, Pass, Rows, LowColumns, HighColumns, passNumber, nodeNumber}
-use Rattle.width_table.specs.Table.{maxLevels, nodePlace, constantBits, integerBits, fractionBits}
+use Rattle.width_table.specs.Nodes.{Node, P1, U1, P2, U2, G1, G2, Pass, Rows, LowColumns, HighColumns, columnPass, lastNode, passNumber, nodeNumber}
+use Rattle.width_table.specs.Table.{maxLevels, nodePlace, constantBits, integerBits, fractionBits, inputBits}
+use Rattle.width_table.specs.Numbered.{passOf, IsPass}
 use Rattle.width_table.specs.Changes.{hasNode}
 
 -- a number where the test holds, else 0
@@ -26,6 +28,10 @@ integerBitsAt t level pass node = orZero (hasNode maxLevels level pass node) (ge
 -- f of a node
 unfoldable pub fractionBitsAt : WidthTable → ℕ → ℕ → ℕ → ℕ
 fractionBitsAt t level pass node = orZero (hasNode maxLevels level pass node) (getD (t .nodes) (nodePlace level pass node + 1) 0)
+
+-- f of what enters a pass
+unfoldable pub inputBitsAt : WidthTable → ℕ → ℕ → ℕ
+inputBitsAt t level pass = orZero (between 1 maxLevels level && between 1 3 pass) (inputBits t level (passOf pass))
 
 -- ---- laws
 
@@ -62,3 +68,44 @@ integer-bits t l p n a b = ap (λ (x : Bool). orZero x (integerBits t l p n)) (h
 pub fraction-bits : (t : WidthTable) (l : ℕ) (p : Pass) (n : Node) → 1 ≤ l → l ≤ maxLevels → fractionBitsAt t l (passNumber p) (nodeNumber n) ≡ fractionBits t l p n
 unfolding fractionBitsAt
 fraction-bits t l p n a b = ap (λ (x : Bool). orZero x (fractionBits t l p n)) (has-every 5 l p n a b)
+
+-- columns are fed by the rows of their level
+columns-fed : (t : WidthTable) (l : ℕ) (low : Bool) → inputBits t l (columnPass low) ≡ fractionBits t l Rows (lastNode low)
+columns-fed t zero true = refl
+columns-fed t zero false = refl
+columns-fed t (suc zero) true = refl
+columns-fed t (suc zero) false = refl
+columns-fed t (suc (suc l)) true = refl
+columns-fed t (suc (suc l)) false = refl
+
+-- what enters a pass: by its number, and as the fractional bits of the node that feeds it
+module _ (t : WidthTable) (l p : ℕ) where
+  pub input-none : between 1 maxLevels l && between 1 3 p ≡ false → inputBitsAt t l p ≡ 0
+  unfolding inputBitsAt
+  input-none e = ap (λ (x : Bool). orZero x (inputBits t l (passOf p))) e
+
+  module _ (least : 1 ≤ l) (most : l ≤ maxLevels) where
+    pub input-bits : IsPass p → inputBitsAt t l p ≡ inputBits t l (passOf p)
+    unfolding inputBitsAt
+    input-bits h = ap₂ (λ (x y : Bool). orZero (x && y) (inputBits t l (passOf p))) (is-between 1 maxLevels l least most) (is-between 1 3 p (h .0) (h .1))
+
+    pub input-low : p ≡ 2 → inputBitsAt t l p ≡ fractionBitsAt t l 1 5
+    input-low e = input-bits (omega arith, omega arith) ∙ ap (λ (q : ℕ). inputBits t l (passOf q)) e ∙ columns-fed t l true ∙ sym (fraction-bits t l Rows G1 least most)
+
+    pub input-high : p ≡ 3 → inputBitsAt t l p ≡ fractionBitsAt t l 1 6
+    input-high e = input-bits (omega arith, omega arith) ∙ ap (λ (q : ℕ). inputBits t l (passOf q)) e ∙ columns-fed t l false ∙ sym (fraction-bits t l Rows G2 least most)
+
+    pub input-first : p ≡ 1 → l ≡ 1 → inputBitsAt t l p ≡ t .depth
+    input-first e d = input-bits (omega arith, omega arith) ∙ (λ u. inputBits t (d u) (passOf (e u)))
+
+    pub input-later : p ≡ 1 → (l ≡ 1 → ⊥) → inputBitsAt t l p ≡ fractionBitsAt t (l - 1) 2 5
+    input-later e d =
+        input-bits (omega arith, omega arith) ∙ ap (λ (q : ℕ). inputBits t l (passOf q)) e ∙ later l least d ∙ sym (fraction-bits t (l - 1) LowColumns G1 (omega arith) (omega arith))
+      where
+        before : (k : ℕ) → suc k ≡ suc (suc k) - 1
+        before k = omega arith
+
+        later : (l : ℕ) → 1 ≤ l → (l ≡ 1 → ⊥) → inputBits t l Rows ≡ fractionBits t (l - 1) LowColumns G1
+        later zero h d = absurd (omega arith)
+        later (suc zero) h d = absurd (d refl)
+        later (suc (suc k)) h d = ap (λ (m : ℕ). fractionBits t m LowColumns G1) (before k)

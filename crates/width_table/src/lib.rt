@@ -4,16 +4,17 @@ use refusals::Refusal;
 ghost use mathlib.Core.Path.{_≡_};
 ghost use Prim.Native.Nat.{_+_, _*_, _-_, _<_, _≤_};
 ghost use mathlib.Core.List.{_++_};
-ghost use lib.ListN.{length, take, replicate};
-ghost use Rattle.numbers.specs.Tests.{between, every};
-ghost use Rattle.width_table.specs.Table.{widthRight, formRight, nodePlace};
-ghost use Rattle.width_table.specs.Bytes.{widthsRight, nodeBytes, headed, field, form, reading, emptyTable, tableIn, tableBytes, writing, bytesAfter};
-ghost use Rattle.width_table.specs.Steps.{fromSecond, fromThird, fromFourth};
-ghost use Rattle.width_table.specs.Names.{valueOf, naming, valueStart, valueLength};
-ghost use Rattle.width_table.specs.Changes.{hasNode, widthChanged, constantChanged};
-ghost use Rattle.width_table.specs.Readers.{constantBitsAt, integerBitsAt, fractionBitsAt};
-ghost use Rattle.numbers.specs.Lists.{over};
+ghost use lib.ListN.{length, getD, take, drop, replicate};
 ghost use lib.Seq.{paste};
+ghost use Rattle.numbers.specs.Tests.{between, every};
+ghost use Rattle.numbers.specs.Lists.{over};
+ghost use Rattle.width_table.specs.Table.{widthRight, formRight, nodePlace};
+ghost use Rattle.width_table.specs.Fields.{widthsRight, fields, fieldOf, tableSize, valueStart, valueLength};
+ghost use Rattle.width_table.specs.Bytes.{headed, field, formBy, levelsIn, form, reading, emptyTable, tableIn, tableBytes, writing, bytesAfter};
+ghost use Rattle.width_table.specs.Names.{valueOf, naming};
+ghost use Rattle.width_table.specs.Changes.{hasNode, widthChanged, constantChanged};
+ghost use Rattle.width_table.specs.Readers.{constantBitsAt, integerBitsAt, fractionBitsAt, inputBitsAt};
+ghost use Rattle.width_table.specs.WriteLaws.{placed};
 
 // A width table. Level l, pass p and node k, counted from 1, have their integer bits at place
 // ((l - 1) * 3 + (p - 1)) * 12 + (k - 1) * 2 of `nodes` and their fractional bits after them; places of unused levels hold 0.
@@ -45,6 +46,12 @@ impl WidthTable {
     pub const LEVEL_BYTES: usize = 36;
 
     pub const PASS_BYTES: usize = 12;
+
+    // Bytes of a field before its value: its tag, and its length.
+    pub const HEAD_BYTES: usize = 3;
+
+    // The last tag.
+    pub const LAST_TAG: u8 = 4;
 }
 
 // The answer of writing: how many bytes were written.
@@ -76,11 +83,11 @@ fn two(high: u8, low: u8) -> usize
 fn head(bytes: &[u8], tag: u8, len: usize) -> Outcome
     ensures { λ r. ⌜ r ≡ headed tag len (now (bytes .entry)) ⌝ }
 {
-    if bytes.len() < 3 {
+    if bytes.len() < WidthTable::HEAD_BYTES {
         return Outcome::Refused(Refusal::CutShort);
     }
     let announced = two(bytes[1], bytes[2]);
-    if bytes.len() - 3 < announced {
+    if bytes.len() - WidthTable::HEAD_BYTES < announced {
         return Outcome::Refused(Refusal::CutShort);
     }
     if bytes[0] != tag {
@@ -141,15 +148,60 @@ fn widths_right(numbers: &[u8]) -> bool
     true
 }
 
-// A field of numbers between limits.
-fn field_between(bytes: &[u8], tag: u8, len: usize, least: u8, most: u8) -> Outcome
-    requires { ⌜ len < 256 ⌝ }
-    ensures { λ r. ⌜ r ≡ field tag len (every (between least most)) (now (bytes .entry)) ⌝ }
+// How long a tag's value is in a table of so many levels: those before tag 4 are as long in every table.
+fn value_length(levels: u8, tag: u8) -> usize
+    requires { ⌜ (1 ≤ tag) × (tag ≤ 4) ⌝ }
+    ensures { λ r. ⌜ r ≡ valueLength levels tag ⌝ }
 {
+    if tag <= 2 {
+        return 1;
+    }
+    if tag == 3 {
+        return WidthTable::NODES as usize;
+    }
+    WidthTable::LEVEL_BYTES * (levels as usize)
+}
+
+// Where a tag's value starts in the bytes of a table of so many levels: after the fields before it and its own head.
+fn value_start(levels: u8, tag: u8) -> usize
+    requires { ⌜ (1 ≤ tag) × (tag ≤ 4) ⌝ }
+    ensures { λ r. ⌜ r ≡ valueStart levels tag ⌝ }
+{
+    let mut start = WidthTable::HEAD_BYTES;
+    for before in 1..tag {
+        start = start + value_length(levels, before) + WidthTable::HEAD_BYTES;
+    }
+    start
+}
+
+// Whether a tag's value is right.
+fn value_right(value: &[u8], tag: u8) -> bool
+    requires { ⌜ (1 ≤ tag) × (tag ≤ 4) ⌝ }
+    ensures { λ r. ⌜ r ≡ fieldOf (fields 0) tag .right (now (value .entry)) ⌝ }
+{
+    if tag == 1 {
+        return all_between(value, 1, WidthTable::MAX_DEPTH);
+    }
+    if tag == 2 {
+        return all_between(value, 1, WidthTable::MAX_LEVELS);
+    }
+    if tag == 3 {
+        return all_between(value, 1, WidthTable::MAX_CONSTANT_BITS);
+    }
+    widths_right(value)
+}
+
+// The field of a tag at the front of the bytes: refusals 1 to 4.
+fn field(bytes: &[u8], levels: u8, tag: u8) -> Outcome
+    requires { ⌜ (1 ≤ tag) × (tag ≤ 4) ⌝ }
+    ensures { λ r. ⌜ r ≡ field (fieldOf (fields levels) tag) (now (bytes .entry)) ⌝ }
+{
+    let len = value_length(levels, tag);
     match head(bytes, tag, len) {
         Outcome::Refused(why) => Outcome::Refused(why),
         Outcome::Done => {
-            if all_between(&bytes[3..3 + len], least, most) {
+            let end = WidthTable::HEAD_BYTES + len;
+            if value_right(&bytes[WidthTable::HEAD_BYTES..end], tag) {
                 Outcome::Done
             } else {
                 Outcome::Refused(Refusal::OutsideLimits)
@@ -158,61 +210,55 @@ fn field_between(bytes: &[u8], tag: u8, len: usize, least: u8, most: u8) -> Outc
     }
 }
 
-// The field of the nodes' widths.
-fn field_widths(bytes: &[u8], len: usize) -> Outcome
-    requires { ⌜ len < 256 ⌝ }
-    ensures { λ r. ⌜ r ≡ field 4 len widthsRight (now (bytes .entry)) ⌝ }
+// What follows the field of a tag is read as input of its own.
+fn after_field(bytes: &[u8], levels: u8, tag: u8) -> &[u8]
+    requires { ⌜ (1 ≤ tag) × (tag ≤ 4) × (3 + valueLength levels tag ≤ length (now bytes)) ⌝ }
+    ensures { λ r. ⌜ now r ≡ drop (3 + valueLength levels tag) (now (bytes .entry)) ⌝ }
 {
-    match head(bytes, 4, len) {
-        Outcome::Refused(why) => Outcome::Refused(why),
-        Outcome::Done => {
-            if widths_right(&bytes[3..3 + len]) {
-                Outcome::Done
-            } else {
-                Outcome::Refused(Refusal::OutsideLimits)
-            }
-        }
+    let start = WidthTable::HEAD_BYTES + value_length(levels, tag);
+    &bytes[start..]
+}
+
+// Nothing follows the last field.
+fn ended(bytes: &[u8]) -> Outcome
+    ensures { λ r. ⌜ r ≡ formBy (drop 4 (fields 0)) (now (bytes .entry)) ⌝ }
+{
+    if bytes.len() == 0 {
+        Outcome::Done
+    } else {
+        Outcome::Refused(Refusal::TrailingBytes)
     }
 }
 
 // The form from the fourth field on, for a table of so many levels.
 fn from_fourth(bytes: &[u8], levels: u8) -> Outcome
-    requires { ⌜ levels ≤ 5 ⌝ }
-    ensures { λ r. ⌜ r ≡ fromFourth levels (now (bytes .entry)) ⌝ }
+    ensures { λ r. ⌜ r ≡ formBy (drop 3 (fields levels)) (now (bytes .entry)) ⌝ }
 {
-    let len = WidthTable::LEVEL_BYTES * (levels as usize);
-    match field_widths(bytes, len) {
+    match field(bytes, levels, 4) {
         Outcome::Refused(why) => Outcome::Refused(why),
-        Outcome::Done => {
-            if bytes.len() == 3 + len {
-                Outcome::Done
-            } else {
-                Outcome::Refused(Refusal::TrailingBytes)
-            }
-        }
+        Outcome::Done => ended(after_field(bytes, levels, 4)),
     }
 }
 
-// From the third field on: what follows a field is read as input of its own.
+// From the third field on.
 fn from_third(bytes: &[u8], levels: u8) -> Outcome
-    requires { ⌜ levels ≤ 5 ⌝ }
-    ensures { λ r. ⌜ r ≡ fromThird levels (now (bytes .entry)) ⌝ }
+    ensures { λ r. ⌜ r ≡ formBy (drop 2 (fields levels)) (now (bytes .entry)) ⌝ }
 {
-    match field_between(bytes, 3, 6, 1, WidthTable::MAX_CONSTANT_BITS) {
+    match field(bytes, levels, 3) {
         Outcome::Refused(why) => Outcome::Refused(why),
-        Outcome::Done => from_fourth(&bytes[9..], levels),
+        Outcome::Done => from_fourth(after_field(bytes, levels, 3), levels),
     }
 }
 
 // From the second field on, which has the levels.
 fn from_second(bytes: &[u8]) -> Outcome
-    ensures { λ r. ⌜ r ≡ fromSecond (now (bytes .entry)) ⌝ }
+    ensures { λ r. ⌜ r ≡ formBy (drop 1 (fields (getD (now (bytes .entry)) 3 0))) (now (bytes .entry)) ⌝ }
 {
-    match field_between(bytes, 2, 1, 1, WidthTable::MAX_LEVELS) {
+    match field(bytes, 0, 2) {
         Outcome::Refused(why) => Outcome::Refused(why),
         Outcome::Done => {
-            let levels = bytes[3];
-            from_third(&bytes[4..], levels)
+            let levels = bytes[WidthTable::HEAD_BYTES];
+            from_third(after_field(bytes, levels, 2), levels)
         }
     }
 }
@@ -221,9 +267,9 @@ fn from_second(bytes: &[u8]) -> Outcome
 pub fn form_of(bytes: &[u8]) -> Outcome
     ensures { λ r. ⌜ r ≡ form (now (bytes .entry)) ⌝ }
 {
-    match field_between(bytes, 1, 1, 1, WidthTable::MAX_DEPTH) {
+    match field(bytes, 0, 1) {
         Outcome::Refused(why) => Outcome::Refused(why),
-        Outcome::Done => from_second(&bytes[4..]),
+        Outcome::Done => from_second(after_field(bytes, 0, 1)),
     }
 }
 
@@ -247,16 +293,26 @@ fn nodes_of(bytes: &[u8], n: usize) -> [u8; 180]
     nodes
 }
 
+// The levels that bytes of a right form hold.
+fn levels_in(bytes: &[u8]) -> u8
+    requires { ⌜ form (now bytes) ≡ Outcome.Done ⌝ }
+    ensures { λ r. ⌜ r ≡ levelsIn (now (bytes .entry)) ⌝ }
+{
+    bytes[value_start(0, 2)]
+}
+
 // The table that bytes of a right form hold.
 fn table_of(bytes: &[u8]) -> WidthTable
     requires { ⌜ form (now bytes) ≡ Outcome.Done ⌝ }
     ensures { λ r. ⌜ r ≡ tableIn (now (bytes .entry)) ⌝ }
 {
-    let levels = bytes[7];
-    let n = WidthTable::LEVEL_BYTES * (levels as usize);
-    let constants = six_of(&bytes[11..]);
-    let nodes = nodes_of(&bytes[20..], n);
-    WidthTable::new(bytes[3], levels, constants, nodes)
+    let levels = levels_in(bytes);
+    let depth = bytes[value_start(levels, 1)];
+    let constants_at = value_start(levels, 3);
+    let constants = six_of(&bytes[constants_at..]);
+    let nodes_at = value_start(levels, 4);
+    let nodes = nodes_of(&bytes[nodes_at..], value_length(levels, 4));
+    WidthTable::new(depth, levels, constants, nodes)
 }
 
 impl WidthTable {
@@ -296,37 +352,6 @@ impl WidthTable {
     }
 }
 
-// Where a tag's value starts.
-fn value_start(tag: u8) -> usize
-    requires { ⌜ (1 ≤ tag) × (tag ≤ 4) ⌝ }
-    ensures { λ r. ⌜ r ≡ valueStart tag ⌝ }
-{
-    if tag == 1 {
-        return 3;
-    }
-    if tag == 2 {
-        return 7;
-    }
-    if tag == 3 {
-        return 11;
-    }
-    20
-}
-
-// How long a tag's value is.
-fn value_length(levels: u8, tag: u8) -> usize
-    requires { ⌜ (1 ≤ tag) × (tag ≤ 4) ⌝ }
-    ensures { λ r. ⌜ r ≡ valueLength levels tag ⌝ }
-{
-    if tag <= 2 {
-        return 1;
-    }
-    if tag == 3 {
-        return 6;
-    }
-    WidthTable::LEVEL_BYTES * (levels as usize)
-}
-
 // Where a tag's value lies in the caller's bytes.
 pub fn value_place(bytes: &[u8], tag: u8) -> Named
     ensures { λ r. ⌜ r ≡ naming (now (bytes .entry)) tag ⌝ }
@@ -334,14 +359,15 @@ pub fn value_place(bytes: &[u8], tag: u8) -> Named
     if tag < 1 {
         return Named::NotNamed(Refusal::WrongTag);
     }
-    if 4 < tag {
+    if WidthTable::LAST_TAG < tag {
         return Named::NotNamed(Refusal::WrongTag);
     }
     match form_of(bytes) {
         Outcome::Refused(why) => Named::NotNamed(why),
         Outcome::Done => {
-            let start = value_start(tag);
-            let len = value_length(bytes[7], tag);
+            let levels = levels_in(bytes);
+            let start = value_start(levels, tag);
+            let len = value_length(levels, tag);
             Named::Value { start, len }
         }
     }
@@ -383,7 +409,7 @@ impl WidthTable {
 }
 
 // A table of so many levels has this node.
-fn has_node(levels: u8, level: u8, pass: u8, node: u8) -> bool
+pub fn has_node(levels: u8, level: u8, pass: u8, node: u8) -> bool
     ensures { λ r. ⌜ r ≡ hasNode levels level pass node ⌝ }
 {
     if in_between(level, 1, levels) {} else {
@@ -503,6 +529,29 @@ impl WidthTable {
         }
         self.nodes[node_place(level, pass, node) + 1]
     }
+
+    // The fractional bits of what enters a pass of levels 1 to 5, 0 for any other. Columns take those of G1 or G2 of the rows; the first
+    // rows have the pixels' depth, later rows those of G1 of the columns of row-low, one level before.
+    pub fn input_bits(self, level: u8, pass: u8) -> u8
+        ensures { λ r. ⌜ r ≡ inputBitsAt self level pass ⌝ }
+    {
+        if in_between(level, 1, WidthTable::MAX_LEVELS) {} else {
+            return 0;
+        }
+        if in_between(pass, 1, WidthTable::PASSES) {} else {
+            return 0;
+        }
+        if pass == 2 {
+            return self.fraction_bits(level, 1, 5);
+        }
+        if pass == 3 {
+            return self.fraction_bits(level, 1, 6);
+        }
+        if level == 1 {
+            return self.depth;
+        }
+        self.fraction_bits(level - 1, 2, 5)
+    }
 }
 
 // Copies `from` into lent bytes from a place on.
@@ -515,21 +564,40 @@ fn put(lent: &mut [u8], start: usize, from: &[u8])
     }
 }
 
+// How many bytes a table of so many levels has: they end with the last tag's value.
+fn table_size(levels: u8) -> usize
+    ensures { λ r. ⌜ r ≡ tableSize levels ⌝ }
+{
+    value_start(levels, WidthTable::LAST_TAG) + value_length(levels, WidthTable::LAST_TAG)
+}
+
+// Puts a field into its place: its head, then its value.
+fn put_field(lent: &mut [u8], levels: u8, tag: u8, value: &[u8])
+    requires { ⌜ (1 ≤ tag) × (tag ≤ 4) × (levels ≤ 5) × (length (now value) ≡ valueLength levels tag) × (tableSize levels ≤ length (now lent)) ⌝ }
+    ensures { λ _. ⌜ now (lent .exit) ≡ placed levels tag (now (value .entry)) (now (lent .entry)) ⌝ }
+{
+    let start = value_start(levels, tag);
+    let len = value.len();
+    let head = [tag, (len / 256) as u8, (len % 256) as u8];
+    put(lent, start - WidthTable::HEAD_BYTES, &head);
+    put(lent, start, value);
+}
+
 // Writes the bytes of a table of right form over the front of lent bytes.
 fn put_table(table: WidthTable, lent: &mut [u8])
-    requires { ⌜ (table .levels ≤ 5) × (20 + nodeBytes (table .levels) ≤ length (now lent)) ⌝ }
+    requires { ⌜ (table .levels ≤ 5) × (tableSize (table .levels) ≤ length (now lent)) ⌝ }
     ensures { λ _. ⌜ now (lent .exit) ≡ over (tableBytes table) (now (lent .entry)) ⌝ }
 {
     let levels = table.levels;
-    let n = WidthTable::LEVEL_BYTES * (levels as usize);
-    let fields = [1, 0, 1, table.depth, 2, 0, 1, levels, 3, 0, 6];
-    put(lent, 0, &fields);
+    let depth = [table.depth];
+    put_field(lent, levels, 1, &depth);
+    let count = [levels];
+    put_field(lent, levels, 2, &count);
     let constants = table.constants;
-    put(lent, 11, &constants);
-    let last = [4, (n / 256) as u8, (n % 256) as u8];
-    put(lent, 17, &last);
+    put_field(lent, levels, 3, &constants);
     let nodes = table.nodes;
-    put(lent, 20, &nodes[..n]);
+    let n = WidthTable::LEVEL_BYTES * (levels as usize);
+    put_field(lent, levels, 4, &nodes[..n]);
 }
 
 impl WidthTable {
@@ -542,7 +610,7 @@ impl WidthTable {
             return Written::NotWritten(Refusal::OutsideLimits);
         }
         let levels = self.levels;
-        let n = 20 + WidthTable::LEVEL_BYTES * (levels as usize);
+        let n = table_size(levels);
         if lent.len() < n {
             return Written::NotWritten(Refusal::SliceTooShort);
         }

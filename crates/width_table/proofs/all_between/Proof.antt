@@ -4,7 +4,7 @@ use native.Mathlib.Omega.{arith}
 use borrow.Author.Needs.{needs}
 use lib.ListN.{length, drop}
 use Rattle.numbers.specs.Tests.{between, every}
-use Rattle.width_table.specs.ReadLaws.{every-next, every-stops, every-ends}
+use Rattle.numbers.specs.Lists.{every-next, every-stops, every-ends}
 use Rattle.width_table.proofs.all_between.Statement.{statement}
 use Rattle.width_table.proofs.all_between.Tie as tie
 
@@ -18,13 +18,13 @@ returns : tie.Need-returns Inv-loop μ-loop
 returns c =
     let l = c .before .before .before .before in
     let a = l .before .before .args in
-    sym (l .loop .inv .1 ∙ every-stops (between (a .least) (a .most)) (a .numbers .now) (l .loop .i) (omega arith) (sym (c .before .in-between .ensures) ∙ c .if1 .left))
+    sym (l .loop .inv .1 ∙ every-stops (between (a .least) (a .most)) (a .numbers .now) 0 (l .loop .i) (omega arith) (sym (c .before .in-between .ensures) ∙ c .if1 .left))
 
 loop-again : tie.Need-loop-again Inv-loop μ-loop
 loop-again c =
     let l = c .before .before .before .before in
     let a = l .before .before .args in
-    (omega arith, l .loop .inv .1 ∙ every-next (between (a .least) (a .most)) (a .numbers .now) (l .loop .i) (omega arith) (sym (c .before .in-between .ensures) ∙ c .if1 .taken))
+    (omega arith, l .loop .inv .1 ∙ every-next (between (a .least) (a .most)) (a .numbers .now) 0 (l .loop .i) (omega arith) (sym (c .before .in-between .ensures) ∙ c .if1 .taken))
 
 returns-2 : tie.Need-returns-2 Inv-loop μ-loop
 returns-2 c =

@@ -1,36 +1,38 @@
-use mathlib.Core.Path.{_∙_, sym}
-use Rattle.width_table.specs.ReadLaws.{fourth-done, fourth-trailing, fourth-refused}
+use mathlib.Core.Path.{_≡_, sym, _∙_, ap}
+use native.Mathlib.Omega.{arith}
+use lib.ListN.{drop}
+use Rattle.refusals.specs.declared.Outcome.the-variants.{Done}
+use Rattle.width_table.specs.Fields.{fields, fieldOf}
+use Rattle.width_table.specs.Bytes.{field, formBy}
+use Rattle.width_table.specs.ReadLaws.{field-holds, next-read, next-refused}
 use borrow.Author.Needs.{needs}
 use Rattle.width_table.proofs.from_fourth.Statement.{statement}
 use Rattle.width_table.proofs.from_fourth.Tie as tie
+
+-- the field is right, and there
+done : (c : tie.After-enum-told) → field (fieldOf (fields (c .before .before .before .before .args .levels)) 4) (c .before .before .before .before .args .bytes .now) ≡ Done
+done c = sym (c .before .before .field .ensures) ∙ c .enum-told .given .1
 
 returns : tie.Need-returns
 returns c =
     let h = c .before .before .before in
     let s = h .before .before .args in
-    sym (fourth-refused (s .levels) (s .bytes .now) _ (sym (h .field-widths .ensures) ∙ c .before .why .given .1))
+    sym (next-refused _ (s .bytes .now) (drop 4 (fields (s .levels))) _ (sym (h .field .ensures) ∙ c .before .why .given .1))
 
 returns-2 : tie.Need-returns-2
 returns-2 c =
-    let h = c .before .before .before in
-    let s = h .before .before .args in
-    sym (fourth-done (s .levels) (s .bytes .now) (sym (h .field-widths .ensures) ∙ c .before .enum-told .given .1) (c .if1 .taken))
-
-returns-3 : tie.Need-returns-3
-returns-3 c =
-    let h = c .before .before .before in
-    let s = h .before .before .args in
-    sym (fourth-trailing (s .levels) (s .bytes .now) (sym (h .field-widths .ensures) ∙ c .before .enum-told .given .1) (c .if1 .left))
+    let d = c .before .before in
+    let s = d .before .before .before .before .args in
+    sym (next-read _ (s .bytes .now) (drop 4 (fields (s .levels))) (done d) ∙ ap (formBy (drop 4 (fields (s .levels)))) (sym (c .before .after-field .ensures)) ∙ sym (c .ended .ensures))
 
 pub from-fourth-spec : {M : Type 1} → statement M
 from-fourth-spec =
     tie.close
     (tie.spec
-    (λ c. search needs)
     (λ c κs. search needs)
     (λ c. search needs)
     (λ c. search needs)
-    (λ c. search needs)
+    (λ c κs. (omega arith, omega arith, field-holds _ _ (done c)))
+    (λ c κs. search needs)
     returns
-    returns-2
-    returns-3)
+    returns-2)

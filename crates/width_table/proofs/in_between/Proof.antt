@@ -2,7 +2,7 @@ use mathlib.Core.Path.{sym, ap}
 use mathlib.Core.Bool.{Bool, _&&_}
 use lib.Dec.{leb}
 use borrow.Author.Tests.{le-leb}
-use Rattle.width_table.specs.ReadLaws.{below-least}
+use Rattle.numbers.specs.Tests.{below-least}
 use Rattle.width_table.proofs.in_between.Statement.{statement}
 use Rattle.width_table.proofs.in_between.Tie as tie
 

@@ -3,7 +3,7 @@ use mathlib.Core.Path.{_≡_, refl, ap, _∙_}
 use mathlib.Core.List.{_++_}
 use native.Mathlib.Omega.{arith}
 use lib.ListN.{take, replicate, getD, set}
-use Rattle.width_table.specs.ReadLaws.{fill-next}
+use Rattle.numbers.specs.Lists.{fill-next}
 use Rattle.width_table.proofs.nodes_of.Statement.{statement}
 use Rattle.width_table.proofs.nodes_of.Tie as tie
 
@@ -22,7 +22,7 @@ loop-again c =
     let s = l .before .args in
     let b = s .bytes .now in
     let i = l .loop .i in
-    (omega arith, ap (λ (t : _). set t i (getD b i 0)) (l .loop .inv .1) ∙ fill-next b i 180 (omega arith) (omega arith))
+    (omega arith, ap (λ (t : _). set t i (getD b i 0)) (l .loop .inv .1) ∙ fill-next b 0 i 180 (omega arith) (omega arith))
 
 returns : tie.Need-returns Inv-loop μ-loop
 returns c =

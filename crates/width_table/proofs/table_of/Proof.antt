@@ -1,30 +1,60 @@
-use Prim.Native.Nat.{ℕ, _+_, _-_, _≤_}
-use mathlib.Core.Path.{_≡_, sym, ap, ap₂, _∙_}
+use Prim.Native.Nat.{ℕ, _+_, _*_, _-_, _≤_}
+use mathlib.Core.Path.{_≡_, _∙_, ap}
 use mathlib.Core.List.{List, _++_}
 use native.Mathlib.Omega.{arith}
-use lib.ListN.{length, getD, take, replicate}
+use lib.ListN.{length, getD, take, drop, replicate}
+use Rattle.numbers.specs.Lists.{rest-whole, rest-length}
 use Rattle.width_table.specs.declared.WidthTable.{WidthTable}
-use Rattle.width_table.specs.Bytes.{nodeBytes}
-use Rattle.width_table.specs.ReadLaws.{few-levels, form-long, table-parts, rest-whole, rest-length}
+use Rattle.width_table.specs.Fields.{nodeBytes, tableSize}
+use Rattle.width_table.specs.Bytes.{depthIn, levelsIn, tableIn}
+use Rattle.width_table.specs.BytesLaws.{form-long, levels-most}
 use borrow.Author.Needs.{needs}
 use Rattle.width_table.proofs.table_of.Statement.{statement}
 use Rattle.width_table.proofs.table_of.Tie as tie
 
 -- how long the bytes are, and how many levels they hold
-long : (s : tie.Start) → (length (s .args .bytes .now) ≡ 20 + nodeBytes (getD (s .args .bytes .now) 7 0)) × (getD (s .args .bytes .now) 7 0 ≤ 5)
-long s = (form-long (s .args .bytes .now) (s .pre), few-levels (s .args .bytes .now) (s .pre))
+long : (s : tie.Start) → (length (s .args .bytes .now) ≡ tableSize (levelsIn (s .args .bytes .now))) × (levelsIn (s .args .bytes .now) ≤ 5)
+long s = (form-long (s .args .bytes .now) (s .pre), levels-most (s .args .bytes .now) (s .pre))
+
+six-of-requires : tie.Need-six-of-requires
+six-of-requires c κs =
+    let v = c .before in
+    let s = v .before .before .before .before .before in
+    omega (arith, long s, v .value-start2 .ensures, rest-length (v .value-start2 .result) (s .args .bytes .now))
+
+-- where the nodes start
+nodes-start : (v : tie.After-value-start3) → (v .value-start3 .result ≡ 20) × (length (v .before .before .before .before .before .before .before .before .args .bytes .now) ≡ 20 + 36 * v .before .before .before .before .before .before .levels-in .result) × (v .before .before .before .before .before .before .levels-in .result ≤ 5)
+nodes-start v =
+    let l = v .before .before .before .before .before .before in
+    let s = l .before .before in
+    (v .value-start3 .ensures, omega (arith, long s, l .levels-in .ensures), omega (arith, long s, l .levels-in .ensures))
+
+nodes-of-requires : tie.Need-nodes-of-requires
+nodes-of-requires c κs =
+    let v = c .before .before in
+    let s = v .before .before .before .before .before .before .before .before in
+    let long4 = rest-length (v .value-start3 .result) (s .args .bytes .now) in
+    (omega (arith, nodes-start v, c .value-length .ensures), omega (arith, nodes-start v, c .value-length .ensures, long4))
 
 returns : tie.Need-returns
+unfolding tableIn
 returns c =
-    let n = c .before .before in
-    let x = n .before .before in
-    let s = x .before .before .before .before in
-    let b = s .args .bytes .now in
-    let e = x .six-of .ensures ∙ ap (take 6) (rest-whole 11 b) in
-    let f = n .nodes-of .ensures ∙ ap (λ (l : List ℕ). take (nodeBytes (getD b 7 0)) l ++ replicate (180 - nodeBytes (getD b 7 0)) 0) (rest-whole 20 b) in
-    c .new .ensures
-    ∙ ap₂ (λ (k m : List ℕ). made (getD b 3 0) (getD b 7 0) k m) e f
-    ∙ sym (table-parts b (s .pre))
+    let n = c .before in
+    let m = n .before in
+    let v3 = m .before .before in
+    let x = v3 .before in
+    let v2 = x .before .before in
+    let v1 = v2 .before .before in
+    let l = v1 .before in
+    let b = l .before .before .args .bytes .now in
+    let depth : getD b (v1 .value-start .result) 0 ≡ depthIn b = ap (λ (k : ℕ). getD b k 0) (v1 .value-start .ensures) in
+    let levels : l .levels-in .result ≡ levelsIn b = l .levels-in .ensures in
+    let constants = x .six-of .ensures ∙ ap (take 6) (rest-whole (v2 .value-start2 .result) b) ∙ ap (λ (k : ℕ). take 6 (drop k b)) (v2 .value-start2 .ensures) in
+    let many = m .value-length .ensures ∙ ap nodeBytes levels in
+    let nodes = n .nodes-of .ensures
+    ∙ ap (λ (r : List ℕ). take (m .value-length .result) r ++ replicate (180 - m .value-length .result) 0) (rest-whole (v3 .value-start3 .result) b)
+    ∙ (λ u. take (many u) (drop (v3 .value-start3 .ensures u) b) ++ replicate (180 - many u) 0) in
+    c .new .ensures ∙ (λ u. made (depth u) (levels u) (constants u) (nodes u))
   where
     made : ℕ → ℕ → List ℕ → List ℕ → WidthTable
     made d l k m = record { depth = d; levels = l; constants = k; nodes = m }
@@ -33,17 +63,19 @@ pub table-of-spec : {M : Type 1} → statement M
 table-of-spec =
     tie.close
     (tie.spec
-    (λ c. omega (arith, long (c .before .before)))
-    (λ c. omega (arith, long (c .before .before)))
-    (λ c. omega (arith, long (c .before .before)))
-    (λ c. omega (arith, long (c .before .before)))
-    (λ c. omega (arith, long (c .before .before)))
+    (λ c κs. c .before .pre)
+    (λ c κs. search needs)
+    (λ c. omega (arith, c .before .value-start .ensures, long (c .before .before .before .before)))
+    (λ c κs. search needs)
+    (λ c. omega (arith, c .value-start2 .ensures, long (c .before .before .before .before .before)))
+    (λ c. omega (arith, c .value-start2 .ensures, long (c .before .before .before .before .before)))
     (λ c. search needs)
-    (λ c κs. let s = c .before .before .before in omega (arith, long s, rest-length 11 (s .args .bytes .now)))
-    (λ c. omega (arith, long (c .before .before .before .before)))
-    (λ c. omega (arith, long (c .before .before .before .before)))
+    six-of-requires
+    (λ c κs. search needs)
+    (λ c. omega (arith, nodes-start c))
+    (λ c. omega (arith, nodes-start c))
     (λ c. search needs)
-    (λ c κs. let s = c .before .before .before .before .before in omega (arith, long s, rest-length 20 (s .args .bytes .now)))
-    (λ c. omega (arith, long (c .before .before .before .before .before .before .before)))
+    (λ c κs. search needs)
+    nodes-of-requires
     (λ c κs. search needs)
     returns)

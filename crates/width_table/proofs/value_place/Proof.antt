@@ -1,8 +1,9 @@
 use Prim.Native.Nat.{ℕ}
-use mathlib.Core.Path.{sym, _∙_, ap₂}
-use native.Mathlib.Omega.{arith}
+use mathlib.Core.Path.{_≡_, sym, _∙_, ap}
 use Rattle.width_table.specs.declared.Named.the-variants.{Value}
-use Rattle.width_table.specs.ReadLaws.{is-between, below-least, above-most, form-long}
+use Rattle.numbers.specs.Tests.{is-between, below-least, above-most}
+use Rattle.width_table.specs.Fields.{valueStart, valueLength}
+use Rattle.width_table.specs.Bytes.{levelsIn}
 use Rattle.width_table.specs.NameLaws.{name-wrong, name-refused, name-right}
 use borrow.Author.Needs.{needs}
 use Rattle.width_table.proofs.value_place.Statement.{statement}
@@ -18,12 +19,6 @@ returns-2 c =
     let a = c .before .before .before .args in
     sym (name-wrong (a .bytes .now) (a .tag) (above-most 1 4 (a .tag) (c .if2 .taken)))
 
-shared-slice-read-value-length : tie.Need-shared-slice-read-value-length
-shared-slice-read-value-length c =
-    let d = c .before .before in
-    let f = d .before .before in
-    omega (arith, form-long (f .before .before .before .before .args .bytes .now) (sym (f .form-of .ensures) ∙ d .enum-told .given .1))
-
 returns-3 : tie.Need-returns-3
 returns-3 c =
     let w = c .before in
@@ -33,11 +28,13 @@ returns-3 c =
 
 returns-4 : tie.Need-returns-4
 returns-4 c =
-    let v = c .before .before in
-    let d = v .before in
+    let l = c .before .before in
+    let d = l .before in
     let f = d .before .before in
     let a = f .before .before .before .before .args in
-    ap₂ (λ (s n : ℕ). Value s n) (v .value-start .ensures) (c .value-length .ensures)
+    let levels : l .levels-in .result ≡ levelsIn (a .bytes .now) = l .levels-in .ensures in
+    (λ u. Value (c .before .value-start .ensures u) (c .value-length .ensures u))
+    ∙ ap (λ (L : ℕ). Value (valueStart L (a .tag)) (valueLength L (a .tag))) levels
     ∙ sym (name-right (a .bytes .now) (a .tag) (is-between 1 4 (a .tag) (f .before .before .if1 .left) (f .before .if2 .left)) (sym (f .form-of .ensures) ∙ d .enum-told .given .1))
 
 pub value-place-spec : {M : Type 1} → statement M
@@ -49,8 +46,8 @@ value-place-spec =
     (λ c κs. search needs)
     (λ c. search needs)
     (λ c. search needs)
+    (λ c κs. sym (c .before .before .form-of .ensures) ∙ c .enum-told .given .1)
     (λ c κs. search needs)
-    shared-slice-read-value-length
     (λ c κs. search needs)
     returns-3
     returns-4)

@@ -1,12 +1,49 @@
-use mathlib.Core.Path.{sym}
+use Prim.Native.Nat.{_+_, _-_, _≤_}
+use mathlib.Core.Path.{_≡_, refl, sym, _∙_, ap}
 use native.Mathlib.Omega.{arith}
-use Rattle.width_table.specs.NameLaws.{last-start}
-use borrow.Author.Needs.{needs}
+use Rattle.width_table.specs.Fields.{valueStart}
+use Rattle.width_table.specs.ReadLaws.{start-next, value-ends}
 use Rattle.width_table.proofs.value_start.Statement.{statement}
 use Rattle.width_table.proofs.value_start.Tie as tie
 
-returns-4 : tie.Need-returns-4
-returns-4 c = sym (last-start (c .before .before .before .args .tag) (omega arith))
+abbrev Inv-loop : tie.InvT-loop
+Inv-loop levels tag start₀ before₀ start before = (1 ≤ before) × (before ≤ tag) × (start ≡ valueStart levels before)
+
+abbrev μ-loop : tie.MeasureT-loop
+μ-loop levels tag start₀ before₀ start before = tag - before
+
+add-start : tie.Need-add-start Inv-loop μ-loop
+add-start c =
+    let l = c .before .before in
+    omega (arith, c .value-length .ensures, l .loop .inv, value-ends (l .before .args .levels) (l .loop .before) (omega arith) (omega arith))
+
+add-start-2 : tie.Need-add-start-2 Inv-loop μ-loop
+add-start-2 c =
+    let l = c .before .before in
+    omega (arith, c .value-length .ensures, l .loop .inv, value-ends (l .before .args .levels) (l .loop .before) (omega arith) (omega arith))
+
+loop-again : tie.Need-loop-again Inv-loop μ-loop
+loop-again c =
+    let l = c .before .before in
+    (omega arith, omega arith, (λ u. l .loop .inv .2 u + c .value-length .ensures u + 3) ∙ sym (start-next (l .before .args .levels) (l .loop .before) (omega arith) (omega arith)))
+
+returns : tie.Need-returns Inv-loop μ-loop
+returns c =
+    let l = c .before in
+    let e : l .loop .before ≡ l .before .args .tag = omega arith in
+    l .loop .inv .2 ∙ ap (valueStart (l .before .args .levels)) e
 
 pub value-start-spec : {M : Type 1} → statement M
-value-start-spec = tie.close (tie.spec (λ c. search needs) (λ c. search needs) (λ c. search needs) returns-4)
+value-start-spec =
+    tie.close
+    (tie.spec
+    Inv-loop
+    μ-loop
+    (λ c. (omega arith, omega arith, refl))
+    (λ c κs. (omega arith, omega arith))
+    add-start
+    add-start-2
+    (λ c. omega arith)
+    (λ c. omega arith)
+    loop-again
+    returns)

@@ -3,7 +3,7 @@ use mathlib.Core.Path.{sym, _∙_, ap}
 use mathlib.Core.Bool.{Bool}
 use native.Mathlib.Omega.{arith}
 use lib.ListN.{getD}
-use Rattle.width_table.specs.FormLaws.{in-limits}
+use Rattle.numbers.specs.Tests.{in-limits}
 use Rattle.width_table.specs.Readers.{orZero, constantBitsAt}
 use borrow.Author.Needs.{needs}
 use Rattle.width_table.proofs.WidthTable.constant_bits.Statement.{statement}

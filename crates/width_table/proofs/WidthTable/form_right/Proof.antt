@@ -3,12 +3,12 @@ use mathlib.Core.Path.{_≡_, sym, _∙_, ap}
 use native.Mathlib.Omega.{arith}
 use lib.ListN.{length, take, drop, length-map}
 use lib.Seq.{length-take-le}
-use Rattle.width_table.specs.Bytes.{nodeBytes}
-use Rattle.numbers.specs.Tests.{between, every}
+use Rattle.width_table.specs.Fields.{nodeBytes}
+use Rattle.numbers.specs.Tests.{between, every, in-limits}
+use Rattle.numbers.specs.Lists.{rest-whole}
 use Rattle.width_table.specs.Table.{formRight}
 use Rattle.width_table.specs.FormLists.{Sized, formLists, form-lists}
-use Rattle.width_table.specs.FormLaws.{in-limits, zeros-test, depth-wrong, levels-wrong, constants-wrong, widths-wrong, unused-decide}
-use Rattle.width_table.specs.ReadLaws.{rest-whole}
+use Rattle.width_table.specs.FormLaws.{zeros-test, depth-wrong, levels-wrong, constants-wrong, widths-wrong, unused-decide}
 use borrow.Author.Needs.{needs}
 use Rattle.width_table.proofs.WidthTable.form_right.Statement.{statement}
 use Rattle.width_table.proofs.WidthTable.form_right.Tie as tie

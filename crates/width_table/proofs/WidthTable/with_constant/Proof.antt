@@ -1,6 +1,7 @@
 use mathlib.Core.Path.{sym, _∙_}
 use native.Mathlib.Omega.{arith}
-use Rattle.width_table.specs.FormLaws.{table-not-formed, no-stage, no-bits, constant-changes, in-limits}
+use Rattle.width_table.specs.FormLaws.{table-not-formed, no-stage, no-bits, constant-changes}
+use Rattle.numbers.specs.Tests.{in-limits}
 use borrow.Author.Needs.{needs}
 use Rattle.width_table.proofs.WidthTable.with_constant.Statement.{statement}
 use Rattle.width_table.proofs.WidthTable.with_constant.Tie as tie

@@ -1,5 +1,6 @@
-use mathlib.Core.Path.{sym, _∙_}
+use mathlib.Core.Path.{sym, _∙_, ap}
 use native.Mathlib.Omega.{arith}
+use Rattle.width_table.specs.declared.Written.the-variants.{Bytes}
 use Rattle.width_table.specs.FormLaws.{few-levels}
 use Rattle.width_table.specs.WriteLaws.{not-formed, too-short, table-written}
 use borrow.Author.Needs.{needs}
@@ -13,22 +14,24 @@ returns c =
 
 returns-2 : tie.Need-returns-2
 returns-2 c =
-    let i = c .before in
+    let i = c .before .before in
     let a = i .before .before .before .args in
-    too-short (a .self) (a .lent .now) (sym (i .before .form-right .ensures) ∙ i .if1 .taken) (omega arith)
+    too-short (a .self) (a .lent .now) (sym (i .before .form-right .ensures) ∙ i .if1 .taken) (omega (arith, c .before .table-size .ensures))
 
 put-table-requires : tie.Need-put-table-requires
 put-table-requires c κs =
-    let i = c .before .before in
-    (few-levels (i .before .before .before .args .self) (sym (i .before .form-right .ensures) ∙ i .if1 .taken), omega arith)
+    let n = c .before .before in
+    let i = n .before in
+    (few-levels (i .before .before .before .args .self) (sym (i .before .form-right .ensures) ∙ i .if1 .taken), omega (arith, n .table-size .ensures))
 
 returns-3 : tie.Need-returns-3
 returns-3 c =
     let p = c .before .before in
-    let i = p .before .before .before in
+    let n = p .before .before .before in
+    let i = n .before in
     let a = i .before .before .before .args in
-    let w = table-written (a .self) (a .lent .now) (sym (i .before .form-right .ensures) ∙ i .if1 .taken) (omega arith) in
-    (w .0, p .put-table .ensures ∙ w .1)
+    let w = table-written (a .self) (a .lent .now) (sym (i .before .form-right .ensures) ∙ i .if1 .taken) (omega (arith, n .table-size .ensures)) in
+    (ap Bytes (n .table-size .ensures) ∙ w .0, p .put-table .ensures ∙ w .1)
 
 pub write-spec : {M : Type 1} → statement M
 write-spec =
@@ -36,9 +39,7 @@ write-spec =
     (tie.spec
     (λ c κs. search needs)
     returns
-    (λ c. search needs)
-    (λ c. search needs)
-    (λ c. search needs)
+    (λ c κs. search needs)
     returns-2
     put-table-requires
     (λ c. search needs)

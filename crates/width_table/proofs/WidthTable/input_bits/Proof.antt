@@ -1,0 +1,71 @@
+use Prim.Native.Nat.{ℕ, _≤_}
+use mathlib.Core.Path.{_≡_, sym, _∙_}
+use native.Mathlib.Omega.{arith}
+use Rattle.numbers.specs.Tests.{between, in-limits, left-false, right-false}
+use Rattle.width_table.specs.Readers.{input-none, input-low, input-high, input-first, input-later}
+use borrow.Author.Needs.{needs}
+use Rattle.width_table.proofs.WidthTable.input_bits.Statement.{statement}
+use Rattle.width_table.proofs.WidthTable.input_bits.Tie as tie
+
+returns : tie.Need-returns
+returns c =
+    let a = c .before .before .args in
+    sym (input-none (a .self) (a .level) (a .pass) (left-false (between 1 5 (a .level)) (between 1 3 (a .pass)) (sym (c .before .in-between .ensures) ∙ c .if1 .left)))
+
+returns-2 : tie.Need-returns-2
+returns-2 c =
+    let a = c .before .before .before .before .args in
+    sym (input-none (a .self) (a .level) (a .pass) (right-false (between 1 5 (a .level)) (between 1 3 (a .pass)) (sym (c .before .in-between2 .ensures) ∙ c .if2 .left)))
+
+-- a level and a pass that there are
+level : (c : tie.Then1) → (1 ≤ c .before .before .args .level) × (c .before .before .args .level ≤ 5)
+level c = in-limits 1 5 (c .before .before .args .level) (sym (c .before .in-between .ensures) ∙ c .if1 .taken)
+
+rows : (k : ℕ) → (1 ≤ k) × (k ≤ 3) → (k ≡ 2 → ⊥) → (k ≡ 3 → ⊥) → k ≡ 1
+rows k h x y = omega arith
+
+first : (c : tie.Else4) → c .before .before .before .before .before .before .args .pass ≡ 1
+first c =
+    let i = c .before .before in
+    rows _ (in-limits 1 3 (i .before .before .before .before .args .pass) (sym (i .before .in-between2 .ensures) ∙ i .if2 .taken)) (c .before .if3 .left) (c .if4 .left)
+
+returns-3 : tie.Need-returns-3
+returns-3 c =
+    let i = c .before .before .before .before in
+    let a = i .before .before .args in
+    c .fraction-bits .ensures ∙ sym (input-low (a .self) (a .level) (a .pass) (level i .0) (level i .1) (c .before .if3 .taken))
+
+returns-4 : tie.Need-returns-4
+returns-4 c =
+    let i = c .before .before .before .before .before in
+    let a = i .before .before .args in
+    c .fraction-bits2 .ensures ∙ sym (input-high (a .self) (a .level) (a .pass) (level i .0) (level i .1) (c .before .if4 .taken))
+
+returns-5 : tie.Need-returns-5
+returns-5 c =
+    let i = c .before .before .before .before .before in
+    let a = i .before .before .args in
+    sym (input-first (a .self) (a .level) (a .pass) (level i .0) (level i .1) (first (c .before)) (c .if5 .taken))
+
+returns-6 : tie.Need-returns-6
+returns-6 c =
+    let i = c .before .before .before .before .before .before in
+    let a = i .before .before .args in
+    c .fraction-bits3 .ensures ∙ sym (input-later (a .self) (a .level) (a .pass) (level i .0) (level i .1) (first (c .before .before)) (c .before .if5 .left))
+
+pub input-bits-spec : {M : Type 1} → statement M
+input-bits-spec =
+    tie.close
+    (tie.spec
+    (λ c κs. search needs)
+    returns
+    (λ c κs. search needs)
+    returns-2
+    (λ c κs. search needs)
+    returns-3
+    (λ c κs. search needs)
+    returns-4
+    returns-5
+    (λ c. omega (arith, level (c .before .before .before .before .before)))
+    (λ c κs. search needs)
+    returns-6)

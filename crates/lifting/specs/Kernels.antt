@@ -1,5 +1,7 @@
 -- A kernel over a line, over the rows of a part of a plane, and over its columns.
 use mathlib.Core.Path.{_≡_, refl, sym, fun-ext}
+use mathlib.Core.Bool.{Bool, true, false}
+use lib.Dec.{T}
 use Prim.Native.Nat.{ℕ, _+_, _<_, _≤_, _^_}
 use mathlib.Core.List.{List}
 use lib.IntN.{ℤ}
@@ -7,110 +9,122 @@ use lib.ListN.{length}
 use Rattle.lines.specs.Lines.{lows, highs, onHighs, onLows, lowsFirst, interleaved}
 use Rattle.lifting.specs.declared.Step.{Step}
 use Rattle.lifting.specs.declared.Factor.{Factor}
+use Rattle.lifting.specs.declared.Pair.{Pair}
 use Rattle.lifting.specs.declared.Kernel.{Kernel}
-use Rattle.lifting.specs.declared.Kernel.the-variants.{Pair, Four, Undo}
-use Rattle.lifting.specs.Steps.{applied, Safe, Same, scaledBy, FactorSafe}
+use Rattle.lifting.specs.declared.Kernel.the-variants.{One, Two, Undo}
+use Rattle.lifting.specs.Steps.{applied, Safe, Same, scaledBy, FactorSafe, SameFactor}
 use Rattle.lifting.specs.Runs.{as-type}
 use Rattle.lifting.specs.PatchLines.{lineAt, patchLines}
-use Rattle.lifting.specs.Passes.{evens, odds, lifted, SafePass}
+use Rattle.lifting.specs.Passes.{evens, odds, liftedHighs, liftedLows, SafePair}
 
--- ---- four steps and a scaling
+-- ---- two pairs of steps
 
-module _ (p1 u1 p2 u2 : Step) (n : ℕ) (x : ℕ → ℤ) where
+module _ (first second : Pair) (n : ℕ) (x : ℕ → ℤ) where
   abbrev pub firstHighs : ℕ → ℤ
-  firstHighs = onHighs (applied p1) n (evens x) (odds x)
+  firstHighs = liftedHighs first n (evens x) (odds x)
 
   abbrev pub firstLows : ℕ → ℤ
-  firstLows = onLows (applied u1) n (evens x) firstHighs
+  firstLows = liftedLows first n (evens x) (odds x)
 
   abbrev pub secondHighs : ℕ → ℤ
-  secondHighs = onHighs (applied p2) n firstLows firstHighs
+  secondHighs = liftedHighs second n firstLows firstHighs
 
   abbrev pub secondLows : ℕ → ℤ
-  secondLows = onLows (applied u2) n firstLows secondHighs
+  secondLows = liftedLows second n firstLows firstHighs
 
--- ---- a pair of steps undone: the lows by t, then the highs by s, then each to its place
+-- ---- a pair of steps undone: the lows, then the highs, then each to its place
 
-module _ (t s : Step) (n : ℕ) (y : ℕ → ℤ) where
+module _ (pair : Pair) (n : ℕ) (y : ℕ → ℤ) where
   abbrev pub lowsUndone : ℕ → ℤ
-  lowsUndone = onLows (applied t) n y (λ i. y (lows n + i))
+  lowsUndone = onLows (applied (pair .lows)) n y (λ i. y (lows n + i))
 
   abbrev pub highsUndone : ℕ → ℤ
-  highsUndone = onHighs (applied s) n lowsUndone (λ i. y (lows n + i))
-
-  abbrev pub undone : ℕ → ℤ
-  undone = interleaved lowsUndone highsUndone
+  highsUndone = onHighs (applied (pair .highs)) n lowsUndone (λ i. y (lows n + i))
 
 -- what a kernel makes of a line of n values
 unfoldable pub worked : Kernel → ℕ → (ℕ → ℤ) → ℕ → ℤ
-worked (Pair s t) n x = lifted (applied s) (applied t) n x
-worked (Four p1 u1 p2 u2 g1 g2) n x = lowsFirst n (λ i. scaledBy g1 (secondLows p1 u1 p2 u2 n x i)) (λ i. scaledBy g2 (secondHighs p1 u1 p2 u2 n x i))
-worked (Undo t s) n x = undone t s n x
+worked (One pair) n x = lowsFirst n (liftedLows pair n (evens x) (odds x)) (liftedHighs pair n (evens x) (odds x))
+worked (Two first second low high) n x = lowsFirst n (λ i. scaledBy low (secondLows first second n x i)) (λ i. scaledBy high (secondHighs first second n x i))
+worked (Undo pair) n x = interleaved (lowsUndone pair n x) (highsUndone pair n x)
+
+-- a kernel that is worked forward
+abbrev pub forwards : Kernel → Bool
+forwards (One pair) = true
+forwards (Two first second low high) = true
+forwards (Undo pair) = false
+
+abbrev pub Forward : Kernel → Type 0
+Forward k = T (forwards k)
 
 -- ---- every number on the way fits
 
-pub record SafeFour (p1 u1 p2 u2 : Step) (g1 g2 : Factor) (n : ℕ) (x : ℕ → ℤ) : Type 0 where
-  pub at-p1 : (i : ℕ) → i < highs n → onHighs (Safe p1) n (evens x) (odds x) i
-  pub at-u1 : (i : ℕ) → i < lows n → onLows (Safe u1) n (evens x) (firstHighs p1 u1 p2 u2 n x) i
-  pub at-p2 : (i : ℕ) → i < highs n → onHighs (Safe p2) n (firstLows p1 u1 p2 u2 n x) (firstHighs p1 u1 p2 u2 n x) i
-  pub at-u2 : (i : ℕ) → i < lows n → onLows (Safe u2) n (firstLows p1 u1 p2 u2 n x) (secondHighs p1 u1 p2 u2 n x) i
-  pub at-g1 : (i : ℕ) → i < lows n → FactorSafe g1 (secondLows p1 u1 p2 u2 n x i)
-  pub at-g2 : (i : ℕ) → i < highs n → FactorSafe g2 (secondHighs p1 u1 p2 u2 n x i)
+pub record SafeTwo (first second : Pair) (low high : Factor) (n : ℕ) (x : ℕ → ℤ) : Type 0 where
+  pub at-first : SafePair first n (evens x) (odds x)
+  pub at-second : SafePair second n (firstLows first second n x) (firstHighs first second n x)
+  pub at-lows : (i : ℕ) → i < lows n → FactorSafe low (secondLows first second n x i)
+  pub at-highs : (i : ℕ) → i < highs n → FactorSafe high (secondHighs first second n x i)
 
-pub record SafeUndo (t s : Step) (n : ℕ) (y : ℕ → ℤ) : Type 0 where
-  pub on-lows : (i : ℕ) → i < lows n → onLows (Safe t) n y (λ i. y (lows n + i)) i
-  pub on-highs : (i : ℕ) → i < highs n → onHighs (Safe s) n (lowsUndone t s n y) (λ i. y (lows n + i)) i
+pub record SafeUndo (pair : Pair) (n : ℕ) (y : ℕ → ℤ) : Type 0 where
+  pub on-lows : (i : ℕ) → i < lows n → onLows (Safe (pair .lows)) n y (λ i. y (lows n + i)) i
+  pub on-highs : (i : ℕ) → i < highs n → onHighs (Safe (pair .highs)) n (lowsUndone pair n y) (λ i. y (lows n + i)) i
 
 abbrev pub SafeKernel : Kernel → ℕ → (ℕ → ℤ) → Type 0
-SafeKernel (Pair s t) n x = SafePass s t n x
-SafeKernel (Four p1 u1 p2 u2 g1 g2) n x = SafeFour p1 u1 p2 u2 g1 g2 n x
-SafeKernel (Undo t s) n x = SafeUndo t s n x
+SafeKernel (One pair) n x = SafePair pair n (evens x) (odds x)
+SafeKernel (Two first second low high) n x = SafeTwo first second low high n x
+SafeKernel (Undo pair) n x = SafeUndo pair n x
 
 -- r does what k does, wherever k may be used
 pub record SameKernel (k r : Kernel) : Type 0 where
   pub same : worked r ≡ worked k
+  pub way : Forward k → Forward r
   pub safe : (n : ℕ) (x : ℕ → ℤ) → SafeKernel k n x → SafeKernel r n x
 
 pub as-it-is : (k : Kernel) → SameKernel k k
-as-it-is k = record { same = refl; safe = λ n x h. h }
+as-it-is k = record { same = refl; way = λ h. h; safe = λ n x h. h }
+
+-- the steps of r do what those of p do
+pub record SamePair (p r : Pair) : Type 0 where
+  pub on-highs : Same (p .highs) (r .highs)
+  pub on-lows : Same (p .lows) (r .lows)
 
 same-applied : {s r : Step} → Same s r → applied r ≡ applied s
 same-applied e = fun-ext λ own. fun-ext λ x. fun-ext λ y. e .same own x y
 
-module _ {s r : Step} (e : Same s r) (n : ℕ) {l l′ h h′ : ℕ → ℤ} (el : l ≡ l′) (eh : h ≡ h′) where
-  at-highs : ((i : ℕ) → i < highs n → onHighs (Safe s) n l h i) → (i : ℕ) → i < highs n → onHighs (Safe r) n l′ h′ i
-  unfolding onHighs
-  at-highs safe i p = e .safe _ _ _ (as-type (λ u. onHighs (Safe s) n (el u) (eh u) i) (safe i p))
+same-scaled : {g r : Factor} → SameFactor g r → scaledBy r ≡ scaledBy g
+same-scaled e = fun-ext λ x. e .same x
 
-  at-lows : ((i : ℕ) → i < lows n → onLows (Safe s) n l h i) → (i : ℕ) → i < lows n → onLows (Safe r) n l′ h′ i
-  unfolding onLows
-  at-lows safe i p = e .safe _ _ _ (as-type (λ u. onLows (Safe s) n (el u) (eh u) i) (safe i p))
+module _ {p r : Pair} (e : SamePair p r) (n : ℕ) {l l′ h h′ : ℕ → ℤ} (el : l′ ≡ l) (eh : h′ ≡ h) where
+  same-highs : liftedHighs r n l′ h′ ≡ liftedHighs p n l h
+  same-highs = λ u. onHighs (same-applied (e .on-highs) u) n (el u) (eh u)
 
-pub same-four : {p1 u1 p2 u2 q1 v1 q2 v2 : Step} (g1 g2 : Factor) → Same p1 q1 → Same u1 v1 → Same p2 q2 → Same u2 v2 → SameKernel (Four p1 u1 p2 u2 g1 g2) (Four q1 v1 q2 v2 g1 g2)
+  same-lows : liftedLows r n l′ h′ ≡ liftedLows p n l h
+  same-lows = λ u. onLows (same-applied (e .on-lows) u) n (el u) (same-highs u)
+
+  same-safe : SafePair p n l h → SafePair r n l′ h′
+  unfolding onHighs onLows
+  same-safe safe = record {
+    on-highs = λ i q. e .on-highs .safe _ _ _ (as-type (λ u. onHighs (Safe (p .highs)) n (sym el u) (sym eh u) i) (safe .on-highs i q));
+    on-lows = λ i q. e .on-lows .safe _ _ _ (as-type (λ u. onLows (Safe (p .lows)) n (sym el u) (sym same-highs u) i) (safe .on-lows i q));
+  }
+
+pub same-two : {p q r t : Pair} {g1 g2 f1 f2 : Factor} → SamePair p r → SamePair q t → SameFactor g1 f1 → SameFactor g2 f2 → SameKernel (Two p q g1 g2) (Two r t f1 f2)
 unfolding worked
-same-four {p1} {u1} {p2} {u2} {q1} {v1} {q2} {v2} g1 g2 ep eu fp fu = record {
-  same = fun-ext λ n. fun-ext λ x. λ u. lowsFirst n (λ i. scaledBy g1 (l2 n x u i)) (λ i. scaledBy g2 (h2 n x u i));
+same-two {p} {q} {r} {t} {g1} {g2} {f1} {f2} ep eq eg fg = record {
+  same = fun-ext λ n. fun-ext λ x. λ u. lowsFirst n (λ i. same-scaled eg u (l2 n x u i)) (λ i. same-scaled fg u (h2 n x u i));
+  way = λ h. tt;
   safe = λ n x s. record {
-    at-p1 = at-highs ep n refl refl (s .at-p1);
-    at-u1 = at-lows eu n refl (sym (h1 n x)) (s .at-u1);
-    at-p2 = at-highs fp n (sym (l1 n x)) (sym (h1 n x)) (s .at-p2);
-    at-u2 = at-lows fu n (sym (l1 n x)) (sym (h2 n x)) (s .at-u2);
-    at-g1 = λ i p. as-type (λ u. FactorSafe g1 (sym (l2 n x) u i)) (s .at-g1 i p);
-    at-g2 = λ i p. as-type (λ u. FactorSafe g2 (sym (h2 n x) u i)) (s .at-g2 i p);
+    at-first = same-safe ep n refl refl (s .at-first);
+    at-second = same-safe eq n (same-lows ep n refl refl) (same-highs ep n refl refl) (s .at-second);
+    at-lows = λ i h. as-type (λ u. FactorSafe f1 (sym (l2 n x) u i)) (eg .safe _ (s .at-lows i h));
+    at-highs = λ i h. as-type (λ u. FactorSafe f2 (sym (h2 n x) u i)) (fg .safe _ (s .at-highs i h));
   };
 }
   where
-    h1 : (n : ℕ) (x : ℕ → ℤ) → firstHighs q1 v1 q2 v2 n x ≡ firstHighs p1 u1 p2 u2 n x
-    h1 n x = λ u. onHighs (same-applied ep u) n (evens x) (odds x)
+    h2 : (n : ℕ) (x : ℕ → ℤ) → secondHighs r t n x ≡ secondHighs p q n x
+    h2 n x = same-highs eq n (same-lows ep n refl refl) (same-highs ep n refl refl)
 
-    l1 : (n : ℕ) (x : ℕ → ℤ) → firstLows q1 v1 q2 v2 n x ≡ firstLows p1 u1 p2 u2 n x
-    l1 n x = λ u. onLows (same-applied eu u) n (evens x) (h1 n x u)
-
-    h2 : (n : ℕ) (x : ℕ → ℤ) → secondHighs q1 v1 q2 v2 n x ≡ secondHighs p1 u1 p2 u2 n x
-    h2 n x = λ u. onHighs (same-applied fp u) n (l1 n x u) (h1 n x u)
-
-    l2 : (n : ℕ) (x : ℕ → ℤ) → secondLows q1 v1 q2 v2 n x ≡ secondLows p1 u1 p2 u2 n x
-    l2 n x = λ u. onLows (same-applied fu u) n (l1 n x u) (h2 n x u)
+    l2 : (n : ℕ) (x : ℕ → ℤ) → secondLows r t n x ≡ secondLows p q n x
+    l2 n x = same-lows eq n (same-lows ep n refl refl) (same-highs ep n refl refl)
 
 -- ---- rows and columns of a plane in memory, whose row r starts at r * stride
 

@@ -5,8 +5,8 @@
 --   Runs       a step at each place of a run
 --   Tiles      a step at each high or low of the columns of a tile; a tile filled with lines
 -- Proved of them:
---   Raise      steps by unsigned numbers
---   Strips     a strip's lines; a plane worked row by row and strip by strip
+--   Raise      steps and scalings by unsigned numbers
+--   Strips     a strip's lines, worked on their way out of the tile; a plane worked row by row and strip by strip; rows of pixels
 pub mod Steps
 pub mod Patch
 pub mod Runs

@@ -1,13 +1,10 @@
--- Two lifting steps over a line: the highs take part of the lows, then the lows of the new highs.
-use Prim.Native.Nat.{ℕ, _+_, _*_, _<_, _≤_}
+-- A pair of lifting steps over a line: the highs take part of the lows, then the lows of the new highs.
+use Prim.Native.Nat.{ℕ, _+_, _*_, _<_}
 use lib.IntN.{ℤ}
-use Rattle.lifting.specs.declared.Step.{Step}
+use Rattle.lifting.specs.declared.Pair.{Pair}
 use Rattle.lifting.specs.Steps.{applied, Safe}
-use Rattle.lines.specs.Lines.{lows, highs, onHighs, onLows, lowsFirst}
-
--- a line has a low and a high, so that each has a neighbour
-abbrev pub Liftable : ℕ → Type 0
-Liftable n = 2 ≤ n
+use Rattle.lines.specs.Lines.{lows, highs, onHighs, onLows}
+pub use Rattle.lines.specs.Lines.{Liftable}
 
 module _ {A : Type 0} (x : ℕ → A) where
   abbrev pub evens : ℕ → A
@@ -16,10 +13,15 @@ module _ {A : Type 0} (x : ℕ → A) where
   abbrev pub odds : ℕ → A
   odds i = x (2 * i + 1)
 
--- highs by f, then lows by g
-abbrev pub lifted : {A : Type 0} → (A → A → A → A) → (A → A → A → A) → ℕ → (ℕ → A) → ℕ → A
-lifted f g n x = let h = onHighs f n (evens x) (odds x) in lowsFirst n (onLows g n (evens x) h) h
+-- what a pair makes of the lows l and the highs h
+module _ (pair : Pair) (n : ℕ) (l h : ℕ → ℤ) where
+  abbrev pub liftedHighs : ℕ → ℤ
+  liftedHighs = onHighs (applied (pair .highs)) n l h
 
-pub record SafePass (s t : Step) (n : ℕ) (x : ℕ → ℤ) : Type 0 where
-  pub on-highs : (i : ℕ) → i < highs n → onHighs (Safe s) n (evens x) (odds x) i
-  pub on-lows : (i : ℕ) → i < lows n → onLows (Safe t) n (evens x) (onHighs (applied s) n (evens x) (odds x)) i
+  abbrev pub liftedLows : ℕ → ℤ
+  liftedLows = onLows (applied (pair .lows)) n l liftedHighs
+
+-- every number on the way fits
+pub record SafePair (pair : Pair) (n : ℕ) (l h : ℕ → ℤ) : Type 0 where
+  pub on-highs : (i : ℕ) → i < highs n → onHighs (Safe (pair .highs)) n l h i
+  pub on-lows : (i : ℕ) → i < lows n → onLows (Safe (pair .lows)) n l (liftedHighs pair n l h) i

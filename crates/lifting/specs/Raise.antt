@@ -16,8 +16,9 @@ use mir.Val.{SFits}
 use borrow.Author.Tests.{lt-ltb, le-ltb, ltb-true, ltb-false}
 use Rattle.numbers.specs.Floor.{floor-add-mul}
 use Rattle.numbers.specs.Quote.{terms, vars, ring}
-use Rattle.lifting.specs.declared.Step.the-variants.{Wide, Short, Up, Down, Plus, Minus, PlusTwo, MinusTwo}
-use Rattle.lifting.specs.Steps.{scaled, Same}
+use Rattle.lifting.specs.declared.Step.the-variants.{Scaled, Near, Far}
+use Rattle.lifting.specs.declared.Factor.the-variants.{Plain, Raised}
+use Rattle.lifting.specs.Steps.{signed, turnedSum, scaled, SumSafe, Same, SameFactor}
 
 -- ---- raised values
 
@@ -51,86 +52,55 @@ lowered z u base m h e =
 own-out : (own z : ℤ) (m : ℕ) → 0 < m → shrZ (pos m *ℤ own +ℤ z) m ≡ own +ℤ shrZ z m
 own-out own z m h = ap (λ (w : ℤ). shrZ w m) (+ℤ-comm (pos m *ℤ own) z) ∙ floor-add-mul z own m h ∙ +ℤ-comm (shrZ z m) own
 
-up-sum : (m o c s h : ℤ) → m *ℤ o +ℤ c *ℤ s +ℤ (m +ℤ c) *ℤ h ≡ m *ℤ (o +ℤ h) +ℤ (c *ℤ (s +ℤ h) +ℤ pos 0)
-up-sum m o c s h = let ρ : List ℤ = m ∷ o ∷ c ∷ s ∷ h ∷ [] in ring ρ (search (terms, vars ρ) depth 30) (search (terms, vars ρ) depth 30) tt
+-- a raised product and pad more
+padded-sum : (c s h p : ℤ) → c *ℤ s +ℤ (c *ℤ h +ℤ p) ≡ c *ℤ (s +ℤ h) +ℤ p
+padded-sum c s h p = let ρ : List ℤ = c ∷ s ∷ h ∷ p ∷ [] in ring ρ (search (terms, vars ρ) depth 30) (search (terms, vars ρ) depth 30) tt
 
-plus-sum : (c s h : ℤ) → c *ℤ s +ℤ c *ℤ h ≡ c *ℤ (s +ℤ h) +ℤ pos 0
-plus-sum c s h = let ρ : List ℤ = c ∷ s ∷ h ∷ [] in ring ρ (search (terms, vars ρ) depth 30) (search (terms, vars ρ) depth 30) tt
+pub padded-is : (c pad base cut : ℕ) → c * 2147483648 + pad ≡ base * 2 ^ cut → (s : ℤ) → SFits w32 s → shrZ (pos c *ℤ s) (2 ^ cut) ≡ pos ((c * raised s + pad) / 2 ^ cut) -ℤ pos base
+padded-is c pad base cut tied s fs = lowered (pos c *ℤ s) _ base (2 ^ cut) (pow-pos cut)
+    (ap (λ (n : ℕ). pos c *ℤ s +ℤ pos n) (mul-comm (2 ^ cut) base ∙ sym tied) ∙ padded-sum (pos c) s (pos 2147483648) (pos pad) ∙ (λ k. pos c *ℤ raised-is s fs k +ℤ pos pad))
+
+-- two of them
+far-sum : (m o c s h p : ℤ) → m *ℤ o +ℤ c *ℤ s +ℤ ((m +ℤ c) *ℤ h +ℤ p) ≡ m *ℤ (o +ℤ h) +ℤ (c *ℤ (s +ℤ h) +ℤ p)
+far-sum m o c s h p = let ρ : List ℤ = m ∷ o ∷ c ∷ s ∷ h ∷ p ∷ [] in ring ρ (search (terms, vars ρ) depth 30) (search (terms, vars ρ) depth 30) tt
+
+both-padded : (m c pad base cut : ℕ) → (m + c) * 2147483648 + pad ≡ base * 2 ^ cut → (own s : ℤ) → SFits w32 own → SFits w32 s
+    → shrZ (pos m *ℤ own +ℤ pos c *ℤ s) (2 ^ cut) ≡ pos ((m * raised own + (c * raised s + pad)) / 2 ^ cut) -ℤ pos base
+both-padded m c pad base cut tied own s fo fs = lowered (pos m *ℤ own +ℤ pos c *ℤ s) _ base (2 ^ cut) (pow-pos cut)
+    (ap (λ (n : ℕ). pos m *ℤ own +ℤ pos c *ℤ s +ℤ pos n) (mul-comm (2 ^ cut) base ∙ sym tied) ∙ far-sum (pos m) own (pos c) s (pos 2147483648) (pos pad)
+    ∙ (λ k. pos m *ℤ raised-is own fo k +ℤ (pos c *ℤ raised-is s fs k +ℤ pos pad)))
+
+-- ---- the forms of a scaled step
 
 turned-product : (c s : ℤ) → negℤ c *ℤ s ≡ c *ℤ (pos 0 -ℤ s)
 turned-product c s = let ρ : List ℤ = c ∷ s ∷ [] in ring ρ (search (terms, vars ρ) depth 30) (search (terms, vars ρ) depth 30) tt
 
-module _ (m c base cut : ℕ) (tied : (m + c) * 2147483648 ≡ base * 2 ^ cut) (own s : ℤ) (fo : SFits w32 own) (fs : SFits w32 s) where
-  too-large : (z : ℤ) → z +ℤ pos (2 ^ cut) *ℤ pos base ≡ z +ℤ (pos m +ℤ pos c) *ℤ pos 2147483648
-  too-large z = ap (λ (n : ℕ). z +ℤ pos n) (mul-comm (2 ^ cut) base ∙ sym tied)
+-- a constant of either sign times a sum
+signed-product : (down : Bool) (c : ℕ) (x y : ℤ) → signed down c *ℤ (x +ℤ y) ≡ pos c *ℤ turnedSum down x y
+signed-product true c x y = turned-product (pos c) (x +ℤ y)
+signed-product false c x y = refl
 
-  pub up-is : shrZ (pos m *ℤ own +ℤ pos c *ℤ s) (2 ^ cut) ≡ pos ((m * raised own + (c * raised s + 0)) / 2 ^ cut) -ℤ pos base
-  up-is = lowered (pos m *ℤ own +ℤ pos c *ℤ s) _ base (2 ^ cut) (pow-pos cut) (too-large (pos m *ℤ own +ℤ pos c *ℤ s) ∙ up-sum (pos m) own (pos c) s (pos 2147483648)
-      ∙ (λ k. pos m *ℤ raised-is own fo k +ℤ (pos c *ℤ raised-is s fs k +ℤ pos 0)))
+pub turned-fits : (down : Bool) (x y : ℤ) → SumSafe x y → SFits w32 (turnedSum down x y)
+turned-fits true x y h = h .turned
+turned-fits false x y h = h .sum
 
-pub down-is : (m c base cut : ℕ) → (m + c) * 2147483648 ≡ base * 2 ^ cut → (own s : ℤ) → SFits w32 own → SFits w32 (pos 0 -ℤ s)
-    → shrZ (pos m *ℤ own +ℤ negℤ (pos c) *ℤ s) (2 ^ cut) ≡ pos ((m * raised own + (c * raised (pos 0 -ℤ s) + 0)) / 2 ^ cut) -ℤ pos base
-down-is m c base cut tied own s fo fs = ap (λ (z : ℤ). shrZ (pos m *ℤ own +ℤ z) (2 ^ cut)) (turned-product (pos c) s) ∙ up-is m c base cut tied own (pos 0 -ℤ s) fo fs
+power-out : (P R own : ℤ) → P *ℤ R *ℤ own ≡ P *ℤ (own *ℤ R)
+power-out P R own = let ρ : List ℤ = P ∷ R ∷ own ∷ [] in ring ρ (search (terms, vars ρ) depth 30) (search (terms, vars ρ) depth 30) tt
 
--- a product alone
-module _ (c base cut : ℕ) (tied : c * 2147483648 ≡ base * 2 ^ cut) (s : ℤ) (fs : SFits w32 s) where
-  large : (z : ℤ) → z +ℤ pos (2 ^ cut) *ℤ pos base ≡ z +ℤ pos c *ℤ pos 2147483648
-  large z = ap (λ (n : ℕ). z +ℤ pos n) (mul-comm (2 ^ cut) base ∙ sym tied)
+pub near-is : (down : Bool) (rise c base cut : ℕ) → c * 2147483648 ≡ base * 2 ^ cut → (own x y : ℤ) → SumSafe x y
+    → scaled (cut + rise) (signed down c) cut own x y ≡ own *ℤ pos (2 ^ rise) +ℤ (pos ((c * raised (turnedSum down x y) + 0) / 2 ^ cut) -ℤ pos base)
+near-is down rise c base cut tied own x y safe =
+    let s : ℤ = turnedSum down x y in
+    (λ k. shrZ (pos (pow-add 2 cut rise k) *ℤ own +ℤ signed-product down c x y k) (2 ^ cut))
+    ∙ ap (λ (z : ℤ). shrZ (z +ℤ pos c *ℤ s) (2 ^ cut)) (power-out (pos (2 ^ cut)) (pos (2 ^ rise)) own)
+    ∙ own-out (own *ℤ pos (2 ^ rise)) (pos c *ℤ s) (2 ^ cut) (pow-pos cut)
+    ∙ ap (λ (z : ℤ). own *ℤ pos (2 ^ rise) +ℤ z) (padded-is c 0 base cut (let e : c * 2147483648 + 0 ≡ c * 2147483648 = omega arith in e ∙ tied) s (turned-fits down x y safe))
 
-  pub product-is : shrZ (pos c *ℤ s) (2 ^ cut) ≡ pos ((c * raised s + 0) / 2 ^ cut) -ℤ pos base
-  product-is = lowered (pos c *ℤ s) _ base (2 ^ cut) (pow-pos cut) (large (pos c *ℤ s) ∙ plus-sum (pos c) s (pos 2147483648) ∙ (λ k. pos c *ℤ raised-is s fs k +ℤ pos 0))
-
-  pub plus-is : (own : ℤ) → shrZ (pos (2 ^ cut) *ℤ own +ℤ pos c *ℤ s) (2 ^ cut) ≡ own +ℤ (pos ((c * raised s + 0) / 2 ^ cut) -ℤ pos base)
-  plus-is own = own-out own (pos c *ℤ s) (2 ^ cut) (pow-pos cut) ∙ ap (λ (z : ℤ). own +ℤ z) product-is
-
-pub minus-is : (c base cut : ℕ) → c * 2147483648 ≡ base * 2 ^ cut → (s : ℤ) → SFits w32 (pos 0 -ℤ s) → (own : ℤ)
-    → shrZ (pos (2 ^ cut) *ℤ own +ℤ negℤ (pos c) *ℤ s) (2 ^ cut) ≡ own +ℤ (pos ((c * raised (pos 0 -ℤ s) + 0) / 2 ^ cut) -ℤ pos base)
-minus-is c base cut tied s fs own = ap (λ (z : ℤ). shrZ (pos (2 ^ cut) *ℤ own +ℤ z) (2 ^ cut)) (turned-product (pos c) s) ∙ plus-is c base cut tied (pos 0 -ℤ s) fs own
-
--- each neighbour raised by itself
-
-two-products : (c x y : ℤ) → c *ℤ (x +ℤ y) ≡ c *ℤ y +ℤ c *ℤ x
-two-products c x y = let ρ : List ℤ = c ∷ x ∷ y ∷ [] in ring ρ (search (terms, vars ρ) depth 30) (search (terms, vars ρ) depth 30) tt
-
-two-left : (c x y h : ℤ) → negℤ c *ℤ (x +ℤ y) +ℤ (c +ℤ c) *ℤ h ≡ c *ℤ (h +ℤ h +ℤ h +ℤ h) -ℤ (c *ℤ (y +ℤ h) +ℤ (c *ℤ (x +ℤ h) +ℤ pos 0))
-two-left c x y h = let ρ : List ℤ = c ∷ x ∷ y ∷ h ∷ [] in ring ρ (search (terms, vars ρ) depth 30) (search (terms, vars ρ) depth 30) tt
-
-less-pos : (a b : ℕ) → b ≤ a → pos a -ℤ pos b ≡ pos (a - b)
-less-pos a zero h = ap pos (omega arith)
-less-pos a (suc b) h = sub-le a (suc b) h
-
-module _ (c base cut : ℕ) (tied : (c + c) * 2147483648 ≡ base * 2 ^ cut) (x y : ℤ) (fx : SFits w32 x) (fy : SFits w32 y) where
-  pub plus-two-is : (own : ℤ) → shrZ (pos (2 ^ cut) *ℤ own +ℤ pos c *ℤ (x +ℤ y)) (2 ^ cut) ≡ own +ℤ (pos ((c * raised y + (c * raised x + 0)) / 2 ^ cut) -ℤ pos base)
-  plus-two-is own = own-out own (pos c *ℤ (x +ℤ y)) (2 ^ cut) (pow-pos cut)
-      ∙ ap (λ (z : ℤ). own +ℤ z) (ap (λ (z : ℤ). shrZ z (2 ^ cut)) (two-products (pos c) x y) ∙ up-is c c base cut tied y x fy fx)
-
-  pub minus-two-is : (own : ℤ) → c * raised y + (c * raised x + 0) ≤ c * 8589934592
-      → shrZ (pos (2 ^ cut) *ℤ own +ℤ negℤ (pos c) *ℤ (x +ℤ y)) (2 ^ cut) ≡ own +ℤ (pos ((c * 8589934592 - (c * raised y + (c * raised x + 0))) / 2 ^ cut) -ℤ pos base)
-  minus-two-is own small = own-out own (negℤ (pos c) *ℤ (x +ℤ y)) (2 ^ cut) (pow-pos cut)
-      ∙ ap (λ (z : ℤ). own +ℤ z) (lowered (negℤ (pos c) *ℤ (x +ℤ y)) _ base (2 ^ cut) (pow-pos cut)
-      (ap (λ (n : ℕ). negℤ (pos c) *ℤ (x +ℤ y) +ℤ pos n) (mul-comm (2 ^ cut) base ∙ sym tied) ∙ two-left (pos c) x y (pos 2147483648)
-      ∙ (λ k. pos (c * 8589934592) -ℤ (pos c *ℤ raised-is y fy k +ℤ (pos c *ℤ raised-is x fx k +ℤ pos 0))) ∙ less-pos _ _ small))
-
--- a constant whose products of raised values fit, and what they are too large by
-pub record Raises (c pad base cut : ℕ) : Type 0 where
-  pub some : 1 ≤ cut
-  pub short : cut < 64
-  pub room : c < 2147483648
-  pub more : pad ≤ 4611686018427387904
-  pub tied : c * 2147483648 + pad ≡ base * 2 ^ cut
-
-padded-sum : (c s h p : ℤ) → c *ℤ s +ℤ (c *ℤ h +ℤ p) ≡ c *ℤ (s +ℤ h) +ℤ p
-padded-sum c s h p = let ρ : List ℤ = c ∷ s ∷ h ∷ p ∷ [] in ring ρ (search (terms, vars ρ) depth 30) (search (terms, vars ρ) depth 30) tt
-
-module _ {c pad base cut : ℕ} (raises : Raises c pad base cut) where
-  pub padded-is : (s : ℤ) → SFits w32 s → shrZ (pos c *ℤ s) (2 ^ cut) ≡ pos ((c * raised s + pad) / 2 ^ cut) -ℤ pos base
-  padded-is s fs = lowered (pos c *ℤ s) _ base (2 ^ cut) (pow-pos cut)
-      (ap (λ (n : ℕ). pos c *ℤ s +ℤ pos n) (mul-comm (2 ^ cut) base ∙ sym (raises .tied)) ∙ padded-sum (pos c) s (pos 2147483648) (pos pad) ∙ (λ k. pos c *ℤ raised-is s fs k +ℤ pos pad))
-
-  pub padded-base : base < 9223372036854775808
-  padded-base =
-      let one : base * 1 ≤ base * 2 ^ cut = mul-le-mul-left {m = 1} {n = 2 ^ cut} base (pow-pos cut) in
-      omega (arith, raises .tied, raises .room, raises .more)
+pub far-is : (down : Bool) (k c pad base cut : ℕ) → (2 ^ k + c) * 2147483648 + pad ≡ base * 2 ^ cut → (own x y : ℤ) → SFits w32 own → SumSafe x y
+    → scaled k (signed down c) cut own x y ≡ pos ((2 ^ k * raised own + (c * raised (turnedSum down x y) + pad)) / 2 ^ cut) -ℤ pos base
+far-is down k c pad base cut tied own x y fo safe =
+    ap (λ (z : ℤ). shrZ (pos (2 ^ k) *ℤ own +ℤ z) (2 ^ cut)) (signed-product down c x y)
+    ∙ both-padded (2 ^ k) c pad base cut tied own (turnedSum down x y) fo (turned-fits down x y safe)
 
 -- one more of them than go into it
 pub multiple-above : (total cut : ℕ) → (total ≤ (total / 2 ^ cut + 1) * 2 ^ cut) × ((total / 2 ^ cut + 1) * 2 ^ cut ≤ total + 2 ^ cut)
@@ -139,6 +109,20 @@ multiple-above total cut =
     let l : total % 2 ^ cut < 2 ^ cut = mod-lt total (pow-pos cut) in
     let a : (total / 2 ^ cut + 1) * 2 ^ cut ≡ total / 2 ^ cut * 2 ^ cut + 1 * 2 ^ cut = add-mul (total / 2 ^ cut) 1 (2 ^ cut) in
     omega arith
+
+-- such a multiple, base times m, and what it is more than the total by
+pub record Padded (total base m cut : ℕ) : Type 0 where
+  pub enough : total ≤ base * m
+  pub little : base * m - total ≤ 2305843009213693952
+  pub tied : total + (base * m - total) ≡ base * 2 ^ cut
+
+pub padded : (total base m cut : ℕ) → cut ≤ 61 → m ≡ 2 ^ cut → (total ≤ base * 2 ^ cut) × (base * 2 ^ cut ≤ total + 2 ^ cut) → Padded total base m cut
+padded total base m cut few e h =
+    let l : 2 ^ cut ≤ 2305843009213693952 = pow-mono {i = cut} {j = 61} few in
+    let f : base * m ≡ base * 2 ^ cut = ap (λ (n : ℕ). base * n) e in
+    let a = h .0 in
+    let b = h .1 in
+    record { enough = omega arith; little = omega arith; tied = omega arith }
 
 -- ---- sizes
 
@@ -162,9 +146,10 @@ difference-fits a (suc b) h k = go (decLt a (suc b))
 pub cut-small : (x cut : ℕ) → x < 18446744073709551616 → 1 ≤ cut → x / 2 ^ cut < 9223372036854775808
 cut-small x cut h l = div-lt-iff-lt-mul {k = 2 ^ cut} {x = x} {y = 9223372036854775808} (pow-pos cut) .1 (lt-of-lt-of-le h (mul-le-mul-left 9223372036854775808 (pow-mono l)))
 
-pub base-small : (k base cut : ℕ) → k < 4294967296 → k * 2147483648 ≡ base * 2 ^ cut → base < 9223372036854775808
-base-small k base cut h e =
-    let one : base * 1 ≤ base * 2 ^ cut = mul-le-mul-left {m = 1} {n = 2 ^ cut} base (pow-pos cut) in
+-- what is too large by a multiple of 2 ^ cut
+pub base-small : (total base cut : ℕ) → total < 18446744073709551616 → 1 ≤ cut → total ≡ base * 2 ^ cut → base < 9223372036854775808
+base-small total base cut h some e =
+    let two : base * 2 ≤ base * 2 ^ cut = mul-le-mul-left {m = 2} {n = 2 ^ cut} base (pow-mono some) in
     omega arith
 
 -- 2 ^ 31 is a multiple of 2 ^ cut
@@ -186,60 +171,34 @@ pub positive : (z : ℤ) → ltZ z (pos 0) ≡ false → z ≡ pos (natAbs z)
 positive (pos n) e = refl
 positive (negsuc n) e = absurd (subst T e tt)
 
-pub negative : (z : ℤ) → ltZ z (pos 0) ≡ true → z ≡ negℤ (pos (natAbs z))
+negative : (z : ℤ) → ltZ z (pos 0) ≡ true → z ≡ negℤ (pos (natAbs z))
 negative (pos n) e = absurd (omega (arith, ltb-true n 0 e))
 negative (negsuc n) e = refl
 
--- ---- the forms that a short step is run in
+-- a number by its sign and its size
+pub signed-is : (z : ℤ) (n : ℕ) → n ≡ natAbs z → signed (ltZ z (pos 0)) n ≡ z
+signed-is z n e = go (ltZ z (pos 0)) refl
+  where
+    go : (down : Bool) → ltZ z (pos 0) ≡ down → signed down n ≡ z
+    go true h = ap (λ (k : ℕ). negℤ (pos k)) e ∙ sym (negative z h)
+    go false h = ap pos e ∙ sym (positive z h)
 
-pub not-quicker : (m c : ℤ) (cut : ℕ) → Same (Short m c cut) (Wide m c cut)
-not-quicker m c cut = record { same = λ own x y. refl; safe = λ own x y s. s .wide }
+-- ---- the same steps and scalings
 
-module _ (m c base cut : ℕ) (some : 1 ≤ cut) (short : cut ≤ 31) (hm : m < 2147483648) (hc : c < 2147483648) where
-  pub up-quicker : (m + c) * 2147483648 ≡ base * 2 ^ cut → Same (Short (pos m) (pos c) cut) (Up m c base cut)
-  up-quicker tied = record {
-    same = λ own x y. refl;
-    safe = λ own x y s. record { some = some; short = omega arith; room = omega arith; tied = tied; sum = s .sum; turned = s .turned; result = s .wide .result };
-  }
+pub near-same : (down : Bool) (rise c base cut : ℕ) → 1 ≤ cut → cut ≤ 31 → rise < 32 → c < 2147483648 → c * 2147483648 ≡ base * 2 ^ cut → Same (Scaled (cut + rise) (signed down c) cut) (Near down rise c base cut)
+near-same down rise c base cut some short steep room tied = record {
+  same = λ own x y. refl;
+  safe = λ own x y s. record { some = some; short = short; steep = steep; room = room; tied = tied; sides = s .sides; risen = s .risen rise refl; result = s .result };
+}
 
-  pub down-quicker : (m + c) * 2147483648 ≡ base * 2 ^ cut → Same (Short (pos m) (negℤ (pos c)) cut) (Down m c base cut)
-  down-quicker tied = record {
-    same = λ own x y. refl;
-    safe = λ own x y s. record { some = some; short = omega arith; room = omega arith; tied = tied; sum = s .sum; turned = s .turned; result = s .wide .result };
-  }
+pub far-same : (down : Bool) (k c pad base cut : ℕ) → 1 ≤ cut → cut < 64 → k ≤ 30 → c < 2147483648 → pad ≤ 4611686018427387904 → (2 ^ k + c) * 2147483648 + pad ≡ base * 2 ^ cut → Same (Scaled k (signed down c) cut) (Far down k c pad base cut)
+far-same down k c pad base cut some short few room more tied = record {
+  same = λ own x y. refl;
+  safe = λ own x y s. record { some = some; short = short; few = few; room = room; more = more; tied = tied; sides = s .sides; result = s .result };
+}
 
-  pub plus-quicker : m ≡ 2 ^ cut → c * 2147483648 ≡ base * 2 ^ cut → Same (Short (pos m) (pos c) cut) (Plus c base cut)
-  plus-quicker e tied = record {
-    same = λ own x y. ap (λ (k : ℕ). scaled (pos k) (pos c) cut own x y) (sym e);
-    safe = λ own x y s. record {
-      some = some;
-      short = omega arith;
-      room = omega arith;
-      tied = omega arith;
-      sum = s .sum;
-      turned = s .turned;
-      result = subst (λ (k : ℕ). SFits w32 (scaled (pos k) (pos c) cut own x y)) e (s .wide .result);
-    };
-  }
-
-  pub minus-quicker : m ≡ 2 ^ cut → c * 2147483648 ≡ base * 2 ^ cut → Same (Short (pos m) (negℤ (pos c)) cut) (Minus c base cut)
-  minus-quicker e tied = record {
-    same = λ own x y. ap (λ (k : ℕ). scaled (pos k) (negℤ (pos c)) cut own x y) (sym e);
-    safe = λ own x y s. record {
-      some = some;
-      short = omega arith;
-      room = omega arith;
-      tied = omega arith;
-      sum = s .sum;
-      turned = s .turned;
-      result = subst (λ (k : ℕ). SFits w32 (scaled (pos k) (negℤ (pos c)) cut own x y)) e (s .wide .result);
-    };
-  }
-
--- ---- the forms that a wide step is run in
-
-pub plus-two-quicker : (c base cut : ℕ) → 1 ≤ cut → cut ≤ 31 → c < 2147483648 → (c + c) * 2147483648 ≡ base * 2 ^ cut → Same (Wide (pos (2 ^ cut)) (pos c) cut) (PlusTwo c base cut)
-plus-two-quicker c base cut some short hc tied = record { same = λ own x y. refl; safe = λ own x y s. record { some = some; short = omega arith; room = hc; tied = tied; result = s .result } }
-
-pub minus-two-quicker : (c base cut : ℕ) → 1 ≤ cut → cut ≤ 31 → c < 2147483648 → (c + c) * 2147483648 ≡ base * 2 ^ cut → Same (Wide (pos (2 ^ cut)) (negℤ (pos c)) cut) (MinusTwo c base cut)
-minus-two-quicker c base cut some short hc tied = record { same = λ own x y. refl; safe = λ own x y s. record { some = some; short = omega arith; room = hc; tied = tied; result = s .result } }
+pub raised-same : (c pad base cut : ℕ) → 1 ≤ cut → cut < 64 → c < 2147483648 → pad ≤ 4611686018427387904 → c * 2147483648 + pad ≡ base * 2 ^ cut → SameFactor (Plain (pos c) cut) (Raised c pad base cut)
+raised-same c pad base cut some short room more tied = record {
+  same = λ x. refl;
+  safe = λ x s. record { some = some; short = short; room = room; more = more; tied = tied; result = s .result };
+}

@@ -8,8 +8,11 @@ use lib.Signed.{shrZ}
 use mir.Syntax.{w32, w64}
 use mir.Val.{SFits}
 use Rattle.lifting.specs.declared.Step.{Step}
+use Rattle.lifting.specs.declared.Step.the-variants.{Predict, Update, Unpredict, Unupdate, Scaled, Near, Far}
 use Rattle.lifting.specs.declared.Factor.{Factor}
-use Rattle.lifting.specs.declared.Step.the-variants.{Predict, Update, Unpredict, Unupdate, Wide, Short, Up, Down, Plus, Minus, PlusTwo, MinusTwo}
+use Rattle.lifting.specs.declared.Factor.the-variants.{Plain, Raised}
+
+-- ---- steps
 
 -- ⌊z / 2⌋ and ⌊(z + 2) / 4⌋
 abbrev pub half : ℤ → ℤ
@@ -18,22 +21,23 @@ half z = shrZ z 2
 abbrev pub quarter : ℤ → ℤ
 quarter z = shrZ (z +ℤ pos 2) 4
 
-abbrev pub scaled : ℤ → ℤ → ℕ → ℤ → ℤ → ℤ → ℤ
-scaled m c cut own x y = shrZ (m *ℤ own +ℤ c *ℤ (x +ℤ y)) (2 ^ cut)
+-- ⌊(2 ^ k own + c (x + y)) / 2 ^ cut⌋
+abbrev pub scaled : ℕ → ℤ → ℕ → ℤ → ℤ → ℤ → ℤ
+scaled k c cut own x y = shrZ (pos (2 ^ k) *ℤ own +ℤ c *ℤ (x +ℤ y)) (2 ^ cut)
+
+-- a constant by its size and its sign
+abbrev pub signed : Bool → ℕ → ℤ
+signed true c = negℤ (pos c)
+signed false c = pos c
 
 abbrev pub applied : Step → ℤ → ℤ → ℤ → ℤ
 applied Predict own x y = own -ℤ half (x +ℤ y)
 applied Update own x y = own +ℤ quarter (x +ℤ y)
 applied Unpredict own x y = own +ℤ half (x +ℤ y)
 applied Unupdate own x y = own -ℤ quarter (x +ℤ y)
-applied (Wide m c cut) own x y = scaled m c cut own x y
-applied (Short m c cut) own x y = scaled m c cut own x y
-applied (Up m c base cut) own x y = scaled (pos m) (pos c) cut own x y
-applied (Down m c base cut) own x y = scaled (pos m) (negℤ (pos c)) cut own x y
-applied (Plus c base cut) own x y = scaled (pos (2 ^ cut)) (pos c) cut own x y
-applied (Minus c base cut) own x y = scaled (pos (2 ^ cut)) (negℤ (pos c)) cut own x y
-applied (PlusTwo c base cut) own x y = scaled (pos (2 ^ cut)) (pos c) cut own x y
-applied (MinusTwo c base cut) own x y = scaled (pos (2 ^ cut)) (negℤ (pos c)) cut own x y
+applied (Scaled k c cut) own x y = scaled k c cut own x y
+applied (Near down rise c base cut) own x y = scaled (cut + rise) (signed down c) cut own x y
+applied (Far down k c pad base cut) own x y = scaled k (signed down c) cut own x y
 
 -- a step that is not in a raised form
 abbrev pub plain : Step → Bool
@@ -41,31 +45,29 @@ plain Predict = true
 plain Update = true
 plain Unpredict = true
 plain Unupdate = true
-plain (Wide m c cut) = true
-plain (Short m c cut) = true
-plain (Up m c base cut) = false
-plain (Down m c base cut) = false
-plain (Plus c base cut) = false
-plain (Minus c base cut) = false
-plain (PlusTwo c base cut) = false
-plain (MinusTwo c base cut) = false
+plain (Scaled k c cut) = true
+plain (Near down rise c base cut) = false
+plain (Far down k c pad base cut) = false
 
-abbrev pub Plain : Step → Type 0
-Plain s = T (plain s)
+abbrev pub PlainStep : Step → Type 0
+PlainStep s = T (plain s)
 
--- every number on the way fits: i64 for the scaled steps, i32 for the others; the neighbours' sum of a short step, and its negative, fit an i32 too
-pub record ScaledSafe (m c : ℤ) (cut : ℕ) (own x y : ℤ) : Type 0 where
-  pub short : cut < 64
-  pub sides : SFits w64 (x +ℤ y)
-  pub left : SFits w64 (m *ℤ own)
-  pub right : SFits w64 (c *ℤ (x +ℤ y))
-  pub both : SFits w64 (m *ℤ own +ℤ c *ℤ (x +ℤ y))
-  pub result : SFits w32 (scaled m c cut own x y)
+-- the two raised forms by number
+abbrev pub raisedStep : Bool → Bool → ℕ → ℕ → ℕ → ℕ → ℕ → Step
+raisedStep true down by c pad base cut = Near down by c base cut
+raisedStep false down by c pad base cut = Far down by c pad base cut
 
-pub record ShortSafe (m c : ℤ) (cut : ℕ) (own x y : ℤ) : Type 0 where
-  pub wide : ScaledSafe m c cut own x y
+-- ---- every number on the way fits
+
+-- the neighbours' sum and its negative fit an i32
+pub record SumSafe (x y : ℤ) : Type 0 where
   pub sum : SFits w32 (x +ℤ y)
   pub turned : SFits w32 (pos 0 -ℤ (x +ℤ y))
+
+-- the sum, turned where the constant is negative
+abbrev pub turnedSum : Bool → ℤ → ℤ → ℤ
+turnedSum true x y = pos 0 -ℤ (x +ℤ y)
+turnedSum false x y = x +ℤ y
 
 pub record HalfSafe (x y r : ℤ) : Type 0 where
   pub sides : SFits w32 (x +ℤ y)
@@ -76,48 +78,77 @@ pub record QuarterSafe (x y r : ℤ) : Type 0 where
   pub more : SFits w32 (x +ℤ y +ℤ pos 2)
   pub result : SFits w32 r
 
--- Unsigned numbers: each value is raised by 2 ^ 31, m times one and c times another is at most 64 bits, and the sum, cut, is too large by `base`.
-pub record RaisedSafe (m c base cut : ℕ) (x y r : ℤ) : Type 0 where
-  pub some : 1 ≤ cut
+-- products in i64; the own value at the result's bits, where these are no fewer than its own, fits an i32
+pub record ScaledSafe (k : ℕ) (c : ℤ) (cut : ℕ) (own x y : ℤ) : Type 0 where
+  pub few : k ≤ 62
   pub short : cut < 64
-  pub room : m + c < 4294967296
-  pub tied : (m + c) * 2147483648 ≡ base * 2 ^ cut
-  pub sum : SFits w32 (x +ℤ y)
-  pub turned : SFits w32 (pos 0 -ℤ (x +ℤ y))
-  pub result : SFits w32 r
+  pub sides : SumSafe x y
+  pub left : SFits w64 (pos (2 ^ k) *ℤ own)
+  pub right : SFits w64 (c *ℤ (x +ℤ y))
+  pub both : SFits w64 (pos (2 ^ k) *ℤ own +ℤ c *ℤ (x +ℤ y))
+  pub risen : (r : ℕ) → k ≡ cut + r → SFits w32 (own *ℤ pos (2 ^ r))
+  pub result : SFits w32 (scaled k c cut own x y)
 
--- The same where each neighbour is raised by itself.
-pub record TwoSafe (c base cut : ℕ) (r : ℤ) : Type 0 where
+-- Unsigned numbers: the sum is raised by 2 ^ 31, c times it is below 2 ^ 63 and, cut, too large by `base`.
+pub record NearSafe (down : Bool) (rise c base cut : ℕ) (own x y : ℤ) : Type 0 where
+  pub some : 1 ≤ cut
+  pub short : cut ≤ 31
+  pub steep : rise < 32
+  pub room : c < 2147483648
+  pub tied : c * 2147483648 ≡ base * 2 ^ cut
+  pub sides : SumSafe x y
+  pub risen : SFits w32 (own *ℤ pos (2 ^ rise))
+  pub result : SFits w32 (scaled (cut + rise) (signed down c) cut own x y)
+
+-- The own value is raised too. `pad` more makes what the sum is too large by a multiple of 2 ^ cut.
+pub record FarSafe (down : Bool) (k c pad base cut : ℕ) (own x y : ℤ) : Type 0 where
   pub some : 1 ≤ cut
   pub short : cut < 64
+  pub few : k ≤ 30
   pub room : c < 2147483648
-  pub tied : (c + c) * 2147483648 ≡ base * 2 ^ cut
-  pub result : SFits w32 r
+  pub more : pad ≤ 4611686018427387904
+  pub tied : (2 ^ k + c) * 2147483648 + pad ≡ base * 2 ^ cut
+  pub sides : SumSafe x y
+  pub result : SFits w32 (scaled k (signed down c) cut own x y)
 
 abbrev pub Safe : Step → ℤ → ℤ → ℤ → Type 0
 Safe Predict own x y = HalfSafe x y (own -ℤ half (x +ℤ y))
 Safe Update own x y = QuarterSafe x y (own +ℤ quarter (x +ℤ y))
 Safe Unpredict own x y = HalfSafe x y (own +ℤ half (x +ℤ y))
 Safe Unupdate own x y = QuarterSafe x y (own -ℤ quarter (x +ℤ y))
-Safe (Wide m c cut) own x y = ScaledSafe m c cut own x y
-Safe (Short m c cut) own x y = ShortSafe m c cut own x y
-Safe (Up m c base cut) own x y = RaisedSafe m c base cut x y (applied (Up m c base cut) own x y)
-Safe (Down m c base cut) own x y = RaisedSafe m c base cut x y (applied (Down m c base cut) own x y)
-Safe (Plus c base cut) own x y = RaisedSafe 0 c base cut x y (applied (Plus c base cut) own x y)
-Safe (Minus c base cut) own x y = RaisedSafe 0 c base cut x y (applied (Minus c base cut) own x y)
-Safe (PlusTwo c base cut) own x y = TwoSafe c base cut (applied (PlusTwo c base cut) own x y)
-Safe (MinusTwo c base cut) own x y = TwoSafe c base cut (applied (MinusTwo c base cut) own x y)
+Safe (Scaled k c cut) own x y = ScaledSafe k c cut own x y
+Safe (Near down rise c base cut) own x y = NearSafe down rise c base cut own x y
+Safe (Far down k c pad base cut) own x y = FarSafe down k c pad base cut own x y
 
 -- r does what s does, wherever s may be taken
 pub record Same (s r : Step) : Type 0 where
   pub same : (own x y : ℤ) → applied r own x y ≡ applied s own x y
   pub safe : (own x y : ℤ) → Safe s own x y → Safe r own x y
 
+-- ---- scalings
+
 -- a value times a constant, cut once
 abbrev pub scaledBy : Factor → ℤ → ℤ
-scaledBy g x = shrZ (g .c *ℤ x) (2 ^ g .cut)
+scaledBy (Plain c cut) x = shrZ (c *ℤ x) (2 ^ cut)
+scaledBy (Raised c pad base cut) x = shrZ (pos c *ℤ x) (2 ^ cut)
 
-pub record FactorSafe (g : Factor) (x : ℤ) : Type 0 where
-  pub short : g .cut < 64
-  pub product : SFits w64 (g .c *ℤ x)
-  pub result : SFits w32 (scaledBy g x)
+pub record PlainSafe (c : ℤ) (cut : ℕ) (x : ℤ) : Type 0 where
+  pub short : cut < 64
+  pub product : SFits w64 (c *ℤ x)
+  pub result : SFits w32 (shrZ (c *ℤ x) (2 ^ cut))
+
+pub record RaisedSafe (c pad base cut : ℕ) (x : ℤ) : Type 0 where
+  pub some : 1 ≤ cut
+  pub short : cut < 64
+  pub room : c < 2147483648
+  pub more : pad ≤ 4611686018427387904
+  pub tied : c * 2147483648 + pad ≡ base * 2 ^ cut
+  pub result : SFits w32 (shrZ (pos c *ℤ x) (2 ^ cut))
+
+abbrev pub FactorSafe : Factor → ℤ → Type 0
+FactorSafe (Plain c cut) x = PlainSafe c cut x
+FactorSafe (Raised c pad base cut) x = RaisedSafe c pad base cut x
+
+pub record SameFactor (g r : Factor) : Type 0 where
+  pub same : (x : ℤ) → scaledBy r x ≡ scaledBy g x
+  pub safe : (x : ℤ) → FactorSafe g x → FactorSafe r x

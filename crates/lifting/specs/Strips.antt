@@ -6,16 +6,16 @@ use Prim.Native.Nat.{ℕ, suc, _+_, _*_, _-_, _/_, _<_, _≤_}
 use native.Mathlib.Nat.{mul-le-mul-left, mul-le-mul-right, mul-comm, add-mul, mul-one, div-mul-le-self, le-div-iff-mul-le}
 use native.Mathlib.Omega.{arith}
 use native.Mathlib.Decide.{decLt, ℕ-discrete}
-use lib.IntN.{ℤ}
-use lib.ListN.{length}
+use lib.IntN.{ℤ, pos, _-ℤ_}
+use lib.ListN.{length, getD}
 use Rattle.lines.specs.Lines.{lows, highs}
 use Rattle.lifting.specs.declared.Kernel.{Kernel}
 use Rattle.lifting.specs.Patch.{patch}
 use Rattle.lifting.specs.PatchLines.{lineAt, Lying, patchLines, packed-is, lines-apart, lines-out, lines-more, lines-in, lines-is, lines-ext, lines-then}
 use Rattle.lifting.specs.Runs.{as-type}
-use Rattle.lifting.specs.Passes.{Liftable}
-use Rattle.lifting.specs.Kernels.{worked, rowOf, columnOf, columnsWorked}
-use Rattle.lifting.specs.Tiles.{Tile, sizes}
+use Rattle.lifting.specs.Passes.{Liftable, evens, odds}
+use Rattle.lifting.specs.Kernels.{worked, SafeKernel, rowOf, columnOf, columnsWorked}
+use Rattle.lifting.specs.Tiles.{Tile, sizes, Held}
 
 -- n lines of s values in the plane, line i from place from + i * stride on, and a tile with room for them
 pub record Strip (plane tile : List ℤ) (stride from s n : ℕ) : Type 0 where
@@ -23,6 +23,24 @@ pub record Strip (plane tile : List ℤ) (stride from s n : ℕ) : Type 0 where
   pub some : 1 ≤ s
   pub two : Liftable n
   pub room : n * s ≤ length tile
+
+-- the tile y holds lines, split, that are safe for a kernel
+pub record Ready (k : Kernel) (s n : ℕ) (y : ℕ → ℤ) : Type 0 where
+  pub line : ℕ → ℕ → ℤ
+  pub held : Held s n (λ j. evens (line j)) (λ j. odds (line j)) y
+  pub safe : (j : ℕ) → j < s → SafeKernel k n (line j)
+
+-- z is the plane x with a strip in it: the lines that the tile y holds, worked
+abbrev pub Finished : Kernel → ℕ → ℕ → ℕ → ℕ → (ℕ → ℤ) → (ℕ → ℤ) → (ℕ → ℤ) → Type 0
+Finished k stride from s n y x z =
+    (line : ℕ → ℕ → ℤ) → Held s n (λ j. evens (line j)) (λ j. odds (line j)) y → z ≡ patchLines (lineAt from stride) s n (λ i j. worked k n (line j) i) x
+
+-- pixels from a place on, each less the middle of its range
+abbrev pub pixelLine : List ℕ → ℕ → ℕ → ℕ → ℤ
+pixelLine pixels middle from i = pos (getD pixels (from + i) 0) -ℤ pos middle
+
+pub pixel-at : (pixels : List ℕ) (middle a b i j : ℕ) → a + i ≡ b + j → pixelLine pixels middle a i ≡ pixelLine pixels middle b j
+pixel-at pixels middle a b i j e = ap (λ (k : ℕ). pos (getD pixels k 0) -ℤ pos middle) e
 
 -- the same strip, of slices as long
 pub strip-of : {plane tile : List ℤ} {stride from s n : ℕ} → Strip plane tile stride from s n → (p t : List ℤ) → length p ≡ length plane → length t ≡ length tile → Strip p t stride from s n
@@ -126,12 +144,19 @@ module _ (k : Kernel) (stride w r b : ℕ) (narrow : w ≤ stride) (new : ℕ �
   row-as-was = fun-ext λ i. ap y (let e : b + i * 1 + 0 ≡ lineAt 0 stride r + i = omega arith in e) ∙ ap (λ (g : ℕ → ℤ). g (lineAt 0 stride r + i)) is
       ∙ lines-out (lineAt 0 stride) w new x r _ (λ u v a g e. omega (arith, mul-le-mul-right {m = suc u} {n = r} stride (omega arith)))
 
+-- a row put into the plane, value by value
+pub row-put : (stride w r b : ℕ) (new : ℕ → ℕ → ℤ) (row x y z : ℕ → ℤ) → y ≡ patchLines (lineAt 0 stride) w r new x → b ≡ lineAt 0 stride r
+    → z ≡ patchLines (lineAt b 1) 1 w (λ i j. row i) y → row ≡ new r → z ≡ patchLines (lineAt 0 stride) w (r + 1) new x
+row-put stride w r b new row x y z is start e same = lines-more (lineAt 0 stride) w new x r y z row is
+    (e ∙ sym (packed-is b 1 w 1 row _ y refl (λ i j p g. ap row (let u : i * 1 + j ≡ i = omega arith in u))) ∙ (λ u. patch (start u) (mul-one w u) row y))
+    (λ j h. ap (λ (f : ℕ → ℤ). f j) same)
+
 pub row-done : (k : Kernel) (stride w r b : ℕ) → w ≤ stride → (x y z : ℕ → ℤ) → y ≡ patchLines (lineAt 0 stride) w r (λ r. worked k w (rowOf stride 0 x r)) x → b ≡ lineAt 0 stride r
     → z ≡ columnsWorked k 1 b 1 w y → z ≡ patchLines (lineAt 0 stride) w (r + 1) (λ r. worked k w (rowOf stride 0 x r)) x
-row-done k stride w r b narrow x y z is start e = lines-more (lineAt 0 stride) w _ x r y z _ is
-    (e ∙ sym (packed-is b 1 w 1 (worked k w (columnOf 1 b y 0)) _ y refl (λ i j p g. let q : 0 ≡ j = omega arith in let u : i * 1 + j ≡ i = omega arith in λ v. worked k w (columnOf 1 b y (q v)) (u v)))
-    ∙ (λ u. patch (start u) (mul-one w u) (worked k w (row-as-was k stride w r b narrow _ x y is start u)) y))
-    (λ j h. refl)
+row-done k stride w r b narrow x y z is start e =
+    row-put stride w r b _ (worked k w (columnOf 1 b y 0)) x y z is start
+    (e ∙ lines-ext (lineAt b 1) 1 _ _ y w (λ i j p g. let q : j ≡ 0 = omega arith in ap (λ (j : ℕ). worked k w (columnOf 1 b y j) i) q))
+    (ap (worked k w) (row-as-was k stride w r b narrow _ x y is start))
 
 -- ---- strip by strip: the first d columns are done, and the next s are as they were
 

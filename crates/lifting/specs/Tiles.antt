@@ -8,14 +8,15 @@ use native.Mathlib.Decide.{decLt}
 use native.Mathlib.Nat.{mul-comm, add-mul, mod-lt, div-add-mod', div-lt-iff-lt-mul, mul-add-div-right, mul-add-mod-self-right, div-eq-of-lt, mod-eq-of-lt, mul-le-mul-right}
 use lib.IntN.{ℤ}
 use lib.ListN.{length}
-use Rattle.lines.specs.Lines.{lows, highs, lowAfter, highBefore, highAfter, onHighs, onLows, lowsFirst, interleaved}
-use Rattle.lines.specs.LineLaws.{first-low, first-high, even-place, odd-place, by-half, by-parity}
+use Rattle.lines.specs.Lines.{lows, highs, Liftable, lowAfter, highBefore, highAfter, onHighs, onLows, lowsFirst, interleaved}
+use Rattle.lines.specs.LineLaws.{some-lows, some-highs, first-low, first-high, even-place, odd-place, by-half, by-parity}
+use Rattle.lines.specs.Neighbours.{low-after-in, high-before-in, high-after-in, low-after-next, high-before-next, high-after-next, low-after-last, high-before-first, high-after-last}
 use Rattle.lifting.specs.Patch.{patch, patch-in, patch-below, patch-above, patch-out}
 use Rattle.lifting.specs.Runs.{as-type}
 use Rattle.lifting.specs.PatchLines.{lineAt, patchLines, lines-apart, lines-in}
-use Rattle.lifting.specs.declared.Step.{Step}
+use Rattle.lifting.specs.declared.Pair.{Pair}
 use Rattle.lifting.specs.Steps.{applied, Safe}
-use Rattle.lifting.specs.Passes.{Liftable}
+use Rattle.lifting.specs.Passes.{liftedHighs, liftedLows, SafePair}
 
 -- n lines of s values have room
 pub record Tile (l : List ℤ) (s n : ℕ) : Type 0 where
@@ -86,8 +87,8 @@ pub record Sizes (s n : ℕ) : Type 0 where
 pub sizes : (s n : ℕ) → Liftable n → Sizes s n
 sizes s n two = record {
   all = times (omega arith) ∙ add-mul (lows n) (highs n) s;
-  of-lows = more (lows n - 1) (omega arith);
-  of-highs = more (highs n - 1) (omega arith);
+  of-lows = more (lows n - 1) (omega (arith, some-lows n two));
+  of-highs = more (highs n - 1) (omega (arith, some-highs n two));
   fewer = mul-le-mul-right {m = highs n} {n = lows n} s (omega arith);
   most = mul-le-mul-right {m = lows n - 1} {n = highs n} s (omega arith);
   even = λ h. times (omega arith);
@@ -122,29 +123,29 @@ module _ {ℓ} {A : Type 0} {B : Type ℓ} (f : A → A → A → B) (s n : ℕ)
   pub highs-middle : (p : ℕ) → p < (lows n - 1) * s → packed s newHighs p ≡ f (x (top + p)) (x (0 + p)) (x (s + p))
   unfolding onHighs
   highs-middle = by-line (λ p. packed s newHighs p ≡ f (x (top + p)) (x (0 + p)) (x (s + p))) s (lows n - 1) λ i j h g.
-      packed-at s newHighs i j g ∙ at3 f x _ _ _ _ _ _ (let e : lowAfter n i * s ≡ suc i * s = times (omega arith) in omega arith)
+      packed-at s newHighs i j g ∙ at3 f x _ _ _ _ _ _ (let e : lowAfter n i * s ≡ suc i * s = times (omega (arith, low-after-next n i (omega arith))) in omega arith)
 
   pub highs-last : lows n - 1 < highs n → (j : ℕ) → j < s → packed s newHighs ((lows n - 1) * s + j) ≡ f (x (top + (lows n - 1) * s + j)) (x ((lows n - 1) * s + j)) (x ((lows n - 1) * s + j))
   unfolding onHighs
-  highs-last even j g = packed-at s newHighs (lows n - 1) j g ∙ at3 f x _ _ _ _ _ _ (let e : lowAfter n (lows n - 1) * s ≡ (lows n - 1) * s = times (omega arith) in omega arith)
+  highs-last even j g = packed-at s newHighs (lows n - 1) j g ∙ at3 f x _ _ _ _ _ _ (let e : lowAfter n (lows n - 1) * s ≡ (lows n - 1) * s = times (low-after-last n (lows n - 1) even (omega arith)) in omega arith)
 
   pub lows-first : (j : ℕ) → j < s → packed s newLows j ≡ f (x (0 + j)) (x (top + j)) (x (top + j))
   unfolding onLows
   lows-first j g =
       let e : j ≡ 0 * s + j = omega arith in
-      ap (packed s newLows) e ∙ packed-at s newLows 0 j g ∙ at3 f x _ _ _ _ _ _ (let e : highAfter n 0 * s ≡ 0 * s = times (omega arith) in omega arith)
+      ap (packed s newLows) e ∙ packed-at s newLows 0 j g ∙ at3 f x _ _ _ _ _ _ (let d : highBefore 0 * s ≡ 0 * s = times high-before-first in let e : highAfter n 0 * s ≡ 0 * s = times (high-after-next n 0 (some-highs n two)) in omega arith)
 
   pub lows-middle : (p : ℕ) → p < (highs n - 1) * s → packed s newLows (s + p) ≡ f (x (s + p)) (x (top + p)) (x (top + s + p))
   unfolding onLows
   lows-middle = by-line (λ p. packed s newLows (s + p) ≡ f (x (s + p)) (x (top + p)) (x (top + s + p))) s (highs n - 1) λ i j h g.
       let e : s + (i * s + j) ≡ suc i * s + j = omega arith in
       ap (packed s newLows) e ∙ packed-at s newLows (suc i) j g ∙ at3 f x _ _ _ _ _ _
-      (let d : highBefore (suc i) * s ≡ i * s = times (omega arith) in let e : highAfter n (suc i) * s ≡ suc i * s = times (omega arith) in omega arith)
+      (let d : highBefore (suc i) * s ≡ i * s = times (omega (arith, high-before-next (suc i) (omega arith))) in let e : highAfter n (suc i) * s ≡ suc i * s = times (high-after-next n (suc i) (omega arith)) in omega arith)
 
   pub lows-last : highs n < lows n → (j : ℕ) → j < s → packed s newLows (highs n * s + j)
       ≡ f (x (highs n * s + j)) (x (top + (highs n - 1) * s + j)) (x (top + (highs n - 1) * s + j))
   unfolding onLows
-  lows-last odd j g = packed-at s newLows (highs n) j g ∙ at3 f x _ _ _ _ _ _ (let e : highAfter n (highs n) * s ≡ (highs n - 1) * s = times (omega arith) in omega arith)
+  lows-last odd j g = packed-at s newLows (highs n) j g ∙ at3 f x _ _ _ _ _ _ (let d : highBefore (highs n) * s ≡ (highs n - 1) * s = times (high-before-next (highs n) (some-highs n two)) in let e : highAfter n (highs n) * s ≡ (highs n - 1) * s = times (high-after-last n (highs n) odd (omega arith)) in omega arith)
 
 module _ {A : Type 0} (P : A → A → A → Type 0) (s n : ℕ) (x : ℕ → A) (two : Liftable n) where
   pub at-highs : AtHighs P s n x → (p : ℕ) → p < highs n * s → packed s (newHighs P s n x two) p
@@ -202,11 +203,11 @@ module _ {A : Type 0} {s top a b : ℕ} {l h : ℕ → ℕ → A} {y : ℕ → A
 module _ {ℓ} {A : Type 0} {B : Type ℓ} (f : A → A → A → B) {s n : ℕ} {l h : ℕ → ℕ → A} {y : ℕ → A} (two : Liftable n) (held : Held s n l h y) (i j : ℕ) (g : j < s) where
   high-reads : i < highs n → newHighs f s n y two j i ≡ onHighs f n (l j) (h j) i
   unfolding onHighs
-  high-reads p = λ u. f (held .high i j p g u) (held .low i j (omega arith) g u) (held .low (lowAfter n i) j (omega arith) g u)
+  high-reads p = λ u. f (held .high i j p g u) (held .low i j (omega arith) g u) (held .low (lowAfter n i) j (low-after-in n i p) g u)
 
   low-reads : i < lows n → newLows f s n y two j i ≡ onLows f n (l j) (h j) i
   unfolding onLows
-  low-reads p = λ u. f (held .low i j p g u) (held .high (highBefore i) j (omega arith) g u) (held .high (highAfter n i) j (omega arith) g u)
+  low-reads p = λ u. f (held .low i j p g u) (held .high (highBefore i) j (high-before-in n i (some-highs n two) p) g u) (held .high (highAfter n i) j (high-after-in n i (some-highs n two) p) g u)
 
 module _ {A : Type 0} {s n : ℕ} {l h : ℕ → ℕ → A} {y : ℕ → A} (two : Liftable n) (held : Held s n l h y) where
   high-asked : (P : A → A → A → Type 0) → ((i j : ℕ) → i < highs n → j < s → onHighs P n (l j) (h j) i) → AtHighs P s n y
@@ -227,36 +228,38 @@ module _ {A : Type 0} {s n : ℕ} {l h : ℕ → ℕ → A} {y : ℕ → A} (two
     high = λ i j p g. patch-above 0 _ _ y _ (omega arith) ∙ held .high i j p g;
   }
 
--- ---- a pair of steps: the highs, then the lows; and the other way round
+-- ---- a pair of steps: the highs, then the lows; undone, the other way round
 
-abbrev pub liftedTile : {A : Type 0} → (A → A → A → A) → (A → A → A → A) → ℕ → ℕ → (ℕ → A) → ℕ → A
-liftedTile f g s n x = lowsDone g s n (highsDone f s n x)
+abbrev pub liftedTile : Pair → ℕ → ℕ → (ℕ → ℤ) → ℕ → ℤ
+liftedTile pair s n x = lowsDone (applied (pair .lows)) s n (highsDone (applied (pair .highs)) s n x)
 
-abbrev pub unliftedTile : {A : Type 0} → (A → A → A → A) → (A → A → A → A) → ℕ → ℕ → (ℕ → A) → ℕ → A
-unliftedTile g f s n x = highsDone f s n (lowsDone g s n x)
+abbrev pub unliftedTile : Pair → ℕ → ℕ → (ℕ → ℤ) → ℕ → ℤ
+unliftedTile pair s n x = highsDone (applied (pair .highs)) s n (lowsDone (applied (pair .lows)) s n x)
 
-pub record LiftSafe (first second : Step) (s n : ℕ) (x : ℕ → ℤ) : Type 0 where
-  pub on-highs : AtHighs (Safe first) s n x
-  pub on-lows : AtLows (Safe second) s n (highsDone (applied first) s n x)
+pub record LiftSafe (pair : Pair) (s n : ℕ) (x : ℕ → ℤ) : Type 0 where
+  pub on-highs : AtHighs (Safe (pair .highs)) s n x
+  pub on-lows : AtLows (Safe (pair .lows)) s n (highsDone (applied (pair .highs)) s n x)
 
-pub record UnliftSafe (second first : Step) (s n : ℕ) (x : ℕ → ℤ) : Type 0 where
-  pub on-lows : AtLows (Safe second) s n x
-  pub on-highs : AtHighs (Safe first) s n (lowsDone (applied second) s n x)
+pub record UnliftSafe (pair : Pair) (s n : ℕ) (x : ℕ → ℤ) : Type 0 where
+  pub on-lows : AtLows (Safe (pair .lows)) s n x
+  pub on-highs : AtHighs (Safe (pair .highs)) s n (lowsDone (applied (pair .lows)) s n x)
 
-module _ {s n : ℕ} {l h : ℕ → ℕ → ℤ} {y : ℕ → ℤ} (two : Liftable n) (held : Held s n l h y) where
-  pub lift-held : (f g : ℤ → ℤ → ℤ → ℤ) (z : ℕ → ℤ) → z ≡ liftedTile f g s n y → Held s n (λ j. onLows g n (l j) (onHighs f n (l j) (h j))) (λ j. onHighs f n (l j) (h j)) z
-  lift-held f g z e = subst (Held s n _ _) (sym e) (low-held two (high-held two held f) g)
+module _ (pair : Pair) {s n : ℕ} {l h : ℕ → ℕ → ℤ} {y : ℕ → ℤ} (two : Liftable n) (held : Held s n l h y) where
+  pub lift-held : (z : ℕ → ℤ) → z ≡ liftedTile pair s n y → Held s n (λ j. liftedLows pair n (l j) (h j)) (λ j. liftedHighs pair n (l j) (h j)) z
+  lift-held z e = subst (Held s n _ _) (sym e) (low-held two (high-held two held (applied (pair .highs))) (applied (pair .lows)))
 
-  pub lift-asked : (first second : Step) → ((i j : ℕ) → i < highs n → j < s → onHighs (Safe first) n (l j) (h j) i)
-      → ((i j : ℕ) → i < lows n → j < s → onLows (Safe second) n (l j) (onHighs (applied first) n (l j) (h j)) i) → LiftSafe first second s n y
-  lift-asked first second p q = record { on-highs = high-asked two held (Safe first) p; on-lows = low-asked two (high-held two held (applied first)) (Safe second) q }
+  pub lift-asked : ((j : ℕ) → j < s → SafePair pair n (l j) (h j)) → LiftSafe pair s n y
+  lift-asked safe = record {
+    on-highs = high-asked two held (Safe (pair .highs)) (λ i j p g. safe j g .on-highs i p);
+    on-lows = low-asked two (high-held two held (applied (pair .highs))) (Safe (pair .lows)) (λ i j p g. safe j g .on-lows i p);
+  }
 
-  pub unlift-held : (g f : ℤ → ℤ → ℤ → ℤ) (z : ℕ → ℤ) → z ≡ unliftedTile g f s n y → Held s n (λ j. onLows g n (l j) (h j)) (λ j. onHighs f n (onLows g n (l j) (h j)) (h j)) z
-  unlift-held g f z e = subst (Held s n _ _) (sym e) (high-held two (low-held two held g) f)
+  pub unlift-held : (z : ℕ → ℤ) → z ≡ unliftedTile pair s n y → Held s n (λ j. onLows (applied (pair .lows)) n (l j) (h j)) (λ j. onHighs (applied (pair .highs)) n (onLows (applied (pair .lows)) n (l j) (h j)) (h j)) z
+  unlift-held z e = subst (Held s n _ _) (sym e) (high-held two (low-held two held (applied (pair .lows))) (applied (pair .highs)))
 
-  pub unlift-asked : (second first : Step) → ((i j : ℕ) → i < lows n → j < s → onLows (Safe second) n (l j) (h j) i)
-      → ((i j : ℕ) → i < highs n → j < s → onHighs (Safe first) n (onLows (applied second) n (l j) (h j)) (h j) i) → UnliftSafe second first s n y
-  unlift-asked second first p q = record { on-lows = low-asked two held (Safe second) p; on-highs = high-asked two (low-held two held (applied second)) (Safe first) q }
+  pub unlift-asked : ((i j : ℕ) → i < lows n → j < s → onLows (Safe (pair .lows)) n (l j) (h j) i)
+      → ((i j : ℕ) → i < highs n → j < s → onHighs (Safe (pair .highs)) n (onLows (applied (pair .lows)) n (l j) (h j)) (h j) i) → UnliftSafe pair s n y
+  unlift-asked p q = record { on-lows = low-asked two held (Safe (pair .lows)) p; on-highs = high-asked two (low-held two held (applied (pair .lows))) (Safe (pair .highs)) q }
 
 -- line i of such a tile
 pub held-at : {A : Type 0} {s n : ℕ} {l h : ℕ → ℕ → A} {y : ℕ → A} → Held s n l h y → (i j : ℕ) → i < n → j < s → y (0 + i * s + j) ≡ lowsFirst n (l j) (h j) i

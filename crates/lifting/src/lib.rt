@@ -7,52 +7,78 @@ ghost use lib.IntN.{pos, negℤ, natAbs, _+ℤ_, _-ℤ_, _*ℤ_};
 ghost use mir.Syntax.{w32, w64};
 ghost use mir.Val.{SFits};
 ghost use Rattle.lines.specs.Lines.{interleaved};
-ghost use Rattle.lifting.specs.Steps.{applied, Plain, Safe, Same, scaledBy, FactorSafe};
-ghost use Rattle.lifting.specs.Raise.{raised, Raises};
+ghost use Rattle.lifting.specs.Steps.{applied, PlainStep, Safe, Same, SumSafe, turnedSum, signed, raisedStep, scaledBy, FactorSafe, SameFactor};
+ghost use Rattle.lifting.specs.Raise.{raised};
 ghost use Rattle.lifting.specs.Patch.{at, patch};
 ghost use Rattle.lifting.specs.Runs.{ran, Runs, SafeRun};
 ghost use Rattle.lifting.specs.PatchLines.{lineAt, patchLines, Lying};
 ghost use Rattle.lifting.specs.Passes.{evens, odds, Liftable};
 ghost use Rattle.lifting.specs.Tiles.{Tile, column, highColumn, highsDone, lowsDone, AtHighs, AtLows, liftedTile, unliftedTile, LiftSafe, UnliftSafe, Held};
-ghost use Rattle.lifting.specs.Kernels.{SafeKernel, SameKernel, Part, rowOf, columnOf, rowsWorked, columnsWorked};
-ghost use Rattle.lifting.specs.Strips.{Strip};
+ghost use Rattle.lifting.specs.Kernels.{worked, Forward, SafeKernel, SamePair, SameKernel, Part, rowOf, columnOf, rowsWorked, columnsWorked};
+ghost use Rattle.lifting.specs.Strips.{Strip, Ready, Finished, pixelLine};
 
-// A lifting step: what it makes of a value and two neighbours is `applied` of specs/Steps. `Short` is `Wide` where the neighbours' sum
-// fits an i32; `Up`, `Down`, `Plus` and `Minus` are the forms that it is run in,
-// and `PlusTwo` and `MinusTwo` those of `Wide`.
+// A lifting step: what it makes of a value and two neighbours is `applied` of specs/Steps. `Near` and `Far` are the forms in which a
+// scaled step is run: by products of unsigned numbers, the neighbours' sum turned where the constant is negative.
 pub enum Step {
     Predict,
     Update,
     Unpredict,
     Unupdate,
-    Wide { m: i64, c: i64, cut: u32 },
-    Short { m: i64, c: i64, cut: u32 },
-    Up { m: u32, c: u32, base: u64, cut: u32 },
-    Down { m: u32, c: u32, base: u64, cut: u32 },
-    Plus { c: u32, base: u64, cut: u32 },
-    Minus { c: u32, base: u64, cut: u32 },
-    PlusTwo { c: u32, base: u64, cut: u32 },
-    MinusTwo { c: u32, base: u64, cut: u32 },
+    Scaled {
+        k: u32,
+        c: i64,
+        cut: u32,
+    },
+    Near {
+        down: bool,
+        rise: u32,
+        c: u32,
+        base: u64,
+        cut: u32,
+    },
+    Far {
+        down: bool,
+        k: u32,
+        c: u32,
+        pad: u64,
+        base: u64,
+        cut: u32,
+    },
 }
 
-// A scaling by a constant: `scaledBy` of specs/Steps.
-pub struct Factor {
-    pub c: i64,
-    pub cut: u32,
+// A scaling by a constant: `scaledBy` of specs/Steps. `Raised` is the form in which it is run.
+pub enum Factor {
+    Plain {
+        c: i64,
+        cut: u32,
+    },
+    Raised {
+        c: u32,
+        pad: u64,
+        base: u64,
+        cut: u32,
+    },
+}
+
+// A pair of lifting steps: one at the highs, then one at the lows; undone, the other way round.
+pub struct Pair {
+    pub highs: Step,
+    pub lows: Step,
 }
 
 // What a pass does with a line: `worked` of specs/Kernels.
 pub enum Kernel {
-    Pair(Step, Step),
-    Four {
-        p1: Step,
-        u1: Step,
-        p2: Step,
-        u2: Step,
-        g1: Factor,
-        g2: Factor,
+    // a pair (5/3)
+    One(Pair),
+    // two pairs and a scaling (9/7)
+    Two {
+        first: Pair,
+        second: Pair,
+        low: Factor,
+        high: Factor,
     },
-    Undo(Step, Step),
+    // a pair undone
+    Undo(Pair),
 }
 
 // ---- one value
@@ -121,12 +147,20 @@ fn narrowed(z: i64, cut: u32) -> i32
     (z >> cut) as i32
 }
 
-// The step `Wide`, in i64.
-fn wide_of(m: i64, c: i64, cut: u32, own: i32, x: i32, y: i32) -> i32
-    requires { ⌜ Safe (Step.Wide m c cut) own x y ⌝ }
-    ensures { λ r. ⌜ r ≡ applied (Step.Wide m c cut) own x y ⌝ }
+// 2 to a power.
+fn power(k: u32) -> u64
+    requires { ⌜ k ≤ 62 ⌝ }
+    ensures { λ r. ⌜ r ≡ 2 ^ k ⌝ }
 {
-    let left = times(m, wide(own));
+    1u64 << k
+}
+
+// The step `Scaled`, in i64.
+fn scaled_of(k: u32, c: i64, cut: u32, own: i32, x: i32, y: i32) -> i32
+    requires { ⌜ Safe (Step.Scaled k c cut) own x y ⌝ }
+    ensures { λ r. ⌜ r ≡ applied (Step.Scaled k c cut) own x y ⌝ }
+{
+    let left = times(power(k) as i64, wide(own));
     let right = times(c, plus(wide(x), wide(y)));
     narrowed(plus(left, right), cut)
 }
@@ -170,71 +204,85 @@ fn moved(own: i32, z: i64) -> i32
     ((own as i64) + z) as i32
 }
 
-// The step `Up`: raised values, so that each product is one of unsigned 32-bit numbers.
-fn up_of(m: u32, c: u32, base: u64, cut: u32, own: i32, x: i32, y: i32) -> i32
-    requires { ⌜ Safe (Step.Up m c base cut) own x y ⌝ }
-    ensures { λ r. ⌜ r ≡ applied (Step.Up m c base cut) own x y ⌝ }
+// A value times a power of two.
+fn risen(own: i32, rise: u32) -> i32
+    requires { ⌜ (rise < 32) × SFits w32 (own *ℤ pos (2 ^ rise)) ⌝ }
+    ensures { λ r. ⌜ r ≡ own *ℤ pos (2 ^ rise) ⌝ }
 {
-    let part = fused(c, raise(x + y), 0);
-    narrow(settled(fused(m, raise(own), part), cut, base))
+    own << rise
 }
 
-// The step `Down`: the neighbours' sum is turned before it is raised.
-fn down_of(m: u32, c: u32, base: u64, cut: u32, own: i32, x: i32, y: i32) -> i32
-    requires { ⌜ Safe (Step.Down m c base cut) own x y ⌝ }
-    ensures { λ r. ⌜ r ≡ applied (Step.Down m c base cut) own x y ⌝ }
+// A sum of two neighbours; its negative where the constant is negative.
+fn turned(down: bool, x: i32, y: i32) -> i32
+    requires { ⌜ SumSafe x y ⌝ }
+    ensures { λ r. ⌜ r ≡ turnedSum down x y ⌝ }
 {
-    let part = fused(c, raise(0 - (x + y)), 0);
-    narrow(settled(fused(m, raise(own), part), cut, base))
+    let sum = x + y;
+    if down { 0 - sum } else { sum }
 }
 
-// The step `Plus`.
-fn plus_of(c: u32, base: u64, cut: u32, own: i32, x: i32, y: i32) -> i32
-    requires { ⌜ Safe (Step.Plus c base cut) own x y ⌝ }
-    ensures { λ r. ⌜ r ≡ applied (Step.Plus c base cut) own x y ⌝ }
+// The product of a constant and a raised sum, and pad more.
+fn product(down: bool, c: u32, pad: u64, x: i32, y: i32) -> u64
+    requires { ⌜ SumSafe x y × (c < 2147483648) × (pad ≤ 4611686018427387904) ⌝ }
+    ensures { λ r. ⌜ (r ≡ c * raised (turnedSum down x y) + pad) × (r ≤ 13835058055282163712) ⌝ }
 {
-    let part = fused(c, raise(x + y), 0);
-    moved(own, settled(part, cut, base))
+    fused(c, raise(turned(down, x, y)), pad)
 }
 
-// The step `Minus`.
-fn minus_of(c: u32, base: u64, cut: u32, own: i32, x: i32, y: i32) -> i32
-    requires { ⌜ Safe (Step.Minus c base cut) own x y ⌝ }
-    ensures { λ r. ⌜ r ≡ applied (Step.Minus c base cut) own x y ⌝ }
+// The step `Near`: the own value is taken out of the cut.
+fn near_of(down: bool, rise: u32, c: u32, base: u64, cut: u32, own: i32, x: i32, y: i32) -> i32
+    requires { ⌜ Safe (Step.Near down rise c base cut) own x y ⌝ }
+    ensures { λ r. ⌜ r ≡ applied (Step.Near down rise c base cut) own x y ⌝ }
 {
-    let part = fused(c, raise(0 - (x + y)), 0);
-    moved(own, settled(part, cut, base))
+    let part = settled(product(down, c, 0, x, y), cut, base);
+    moved(risen(own, rise), part)
 }
 
-// c times the sum of two raised values.
-fn fused_two(c: u32, x: i32, y: i32) -> u64
-    requires { ⌜ c < 2147483648 ⌝ }
-    ensures { λ r. ⌜ (r ≡ c * raised y + (c * raised x + 0)) × (r ≤ c * 8589934592) ⌝ }
+// The step `Far`: the own value is cut with the product.
+fn far_of(
+    down: bool,
+    k: u32,
+    c: u32,
+    pad: u64,
+    base: u64,
+    cut: u32,
+    own: i32,
+    x: i32,
+    y: i32,
+) -> i32
+    requires { ⌜ Safe (Step.Far down k c pad base cut) own x y ⌝ }
+    ensures { λ r. ⌜ r ≡ applied (Step.Far down k c pad base cut) own x y ⌝ }
 {
-    fused(c, raise(y), fused(c, raise(x), 0))
+    let part = product(down, c, pad, x, y);
+    narrow(settled(fused(1u32 << k, raise(own), part), cut, base))
 }
 
-// The step `PlusTwo`: each neighbour is raised by itself.
-fn plus_two_of(c: u32, base: u64, cut: u32, own: i32, x: i32, y: i32) -> i32
-    requires { ⌜ Safe (Step.PlusTwo c base cut) own x y ⌝ }
-    ensures { λ r. ⌜ r ≡ applied (Step.PlusTwo c base cut) own x y ⌝ }
+// Both, by number: `raisedStep` of specs/Steps.
+fn raised_of(
+    near: bool,
+    down: bool,
+    by: u32,
+    c: u32,
+    pad: u64,
+    base: u64,
+    cut: u32,
+    own: i32,
+    x: i32,
+    y: i32,
+) -> i32
+    requires { ⌜ Safe (raisedStep near down by c pad base cut) own x y ⌝ }
+    ensures { λ r. ⌜ r ≡ applied (raisedStep near down by c pad base cut) own x y ⌝ }
 {
-    let part = fused_two(c, x, y);
-    moved(own, settled(part, cut, base))
-}
-
-// The step `MinusTwo`: what is left of 2 ^ 33 times c.
-fn minus_two_of(c: u32, base: u64, cut: u32, own: i32, x: i32, y: i32) -> i32
-    requires { ⌜ Safe (Step.MinusTwo c base cut) own x y ⌝ }
-    ensures { λ r. ⌜ r ≡ applied (Step.MinusTwo c base cut) own x y ⌝ }
-{
-    let part = fused_two(c, x, y);
-    moved(own, settled((c as u64) * 8589934592 - part, cut, base))
+    if near {
+        near_of(down, by, c, base, cut, own, x, y)
+    } else {
+        far_of(down, by, c, pad, base, cut, own, x, y)
+    }
 }
 
 // One step of one value, not in a raised form.
 fn apply(step: Step, own: i32, x: i32, y: i32) -> i32
-    requires { ⌜ Plain step × Safe step own x y ⌝ }
+    requires { ⌜ PlainStep step × Safe step own x y ⌝ }
     ensures { λ r. ⌜ r ≡ applied step own x y ⌝ }
 {
     match step {
@@ -242,29 +290,23 @@ fn apply(step: Step, own: i32, x: i32, y: i32) -> i32
         Step::Update => updated(own, x, y),
         Step::Unpredict => unpredicted(own, x, y),
         Step::Unupdate => unupdated(own, x, y),
-        Step::Wide { m, c, cut } => wide_of(m, c, cut, own, x, y),
-        Step::Short { m, c, cut } => wide_of(m, c, cut, own, x, y),
-        Step::Up { m, c, base, cut } => own,
-        Step::Down { m, c, base, cut } => own,
-        Step::Plus { c, base, cut } => own,
-        Step::Minus { c, base, cut } => own,
-        Step::PlusTwo { c, base, cut } => own,
-        Step::MinusTwo { c, base, cut } => own,
+        Step::Scaled { k, c, cut } => scaled_of(k, c, cut, own, x, y),
+        _ => own,
     }
 }
 
 // A value times a constant.
-fn scaled_by(g: Factor, x: i32) -> i32
-    requires { ⌜ FactorSafe g x ⌝ }
-    ensures { λ r. ⌜ r ≡ scaledBy g x ⌝ }
+fn scaled_by(c: i64, cut: u32, x: i32) -> i32
+    requires { ⌜ FactorSafe (Factor.Plain c cut) x ⌝ }
+    ensures { λ r. ⌜ r ≡ scaledBy (Factor.Plain c cut) x ⌝ }
 {
-    narrowed(times(g.c, wide(x)), g.cut)
+    narrowed(times(c, wide(x)), cut)
 }
 
 // The same of raised values.
 fn raised_by(c: u32, pad: u64, base: u64, cut: u32, x: i32) -> i32
-    requires { ⌜ Raises c pad base cut × SFits w32 (shrZ (pos c *ℤ x) (2 ^ cut)) ⌝ }
-    ensures { λ r. ⌜ r ≡ shrZ (pos c *ℤ x) (2 ^ cut) ⌝ }
+    requires { ⌜ FactorSafe (Factor.Raised c pad base cut) x ⌝ }
+    ensures { λ r. ⌜ r ≡ scaledBy (Factor.Raised c pad base cut) x ⌝ }
 {
     narrow(settled(fused(c, raise(x), pad), cut, base))
 }
@@ -273,7 +315,7 @@ fn raised_by(c: u32, pad: u64, base: u64, cut: u32, x: i32) -> i32
 
 // A step at each of n places from t on, each with the places as far from a and from b.
 fn run(buf: &mut [i32], t: usize, a: usize, b: usize, n: usize, step: Step)
-    requires { ⌜ Plain step × Runs (now buf) t a b n ⌝ }
+    requires { ⌜ PlainStep step × Runs (now buf) t a b n ⌝ }
     requires { ⌜ SafeRun step t a b n (at (now buf)) ⌝ }
     ensures { λ _. ⌜ at (now (buf .exit)) ≡ ran (applied step) t a b n (at (now (buf .entry))) ⌝ }
 {
@@ -283,55 +325,128 @@ fn run(buf: &mut [i32], t: usize, a: usize, b: usize, n: usize, step: Step)
     }
 }
 
-// What k raised values are too large by, once cut.
-fn base_of(k: u64, cut: u32) -> u64
-    requires { ⌜ (cut ≤ 31) × (k < 4294967296) ⌝ }
-    ensures { λ r. ⌜ k * 2147483648 ≡ r * 2 ^ cut ⌝ }
+// A run of a raised step. Each call with a constant in place of a flag is compiled to a loop of its own.
+fn raised_run(
+    buf: &mut [i32],
+    t: usize,
+    a: usize,
+    b: usize,
+    n: usize,
+    near: bool,
+    down: bool,
+    by: u32,
+    c: u32,
+    pad: u64,
+    base: u64,
+    cut: u32,
+)
+    requires { ⌜ Runs (now buf) t a b n ⌝ }
+    requires { ⌜ SafeRun (raisedStep near down by c pad base cut) t a b n (at (now buf)) ⌝ }
+    ensures { λ _. ⌜ at (now (buf .exit)) ≡ ran (applied (raisedStep near down by c pad base cut)) t a b n (at (now (buf .entry))) ⌝ }
 {
-    k * (2147483648 >> cut)
-}
-
-// A short step of positive numbers in the form that is fastest.
-fn rising(m: u32, c: u32, cut: u32) -> Step
-    requires { ⌜ (1 ≤ cut) × (cut ≤ 31) × (m < 2147483648) × (c < 2147483648) ⌝ }
-    ensures { λ r. ⌜ Same (Step.Short (pos m) (pos c) cut) r ⌝ }
-{
-    if (m as u64) == (1u64 << cut) {
-        Step::Plus {
+    for j in 0..n {
+        let v = raised_of(
+            near,
+            down,
+            by,
             c,
-            base: base_of(c as u64, cut),
+            pad,
+            base,
             cut,
-        }
-    } else {
-        Step::Up {
-            m,
-            c,
-            base: base_of((m as u64) + (c as u64), cut),
-            cut,
-        }
+            buf[t + j],
+            buf[a + j],
+            buf[b + j],
+        );
+        buf[t + j] = v;
     }
 }
 
-// The same, of a negative c.
-fn falling(m: u32, c: u32, cut: u32) -> Step
-    requires { ⌜ (1 ≤ cut) × (cut ≤ 31) × (m < 2147483648) × (c < 2147483648) ⌝ }
-    ensures { λ r. ⌜ Same (Step.Short (pos m) (negℤ (pos c)) cut) r ⌝ }
+// A run of the step `Near`.
+fn near_run(
+    buf: &mut [i32],
+    t: usize,
+    a: usize,
+    b: usize,
+    n: usize,
+    down: bool,
+    rise: u32,
+    c: u32,
+    base: u64,
+    cut: u32,
+)
+    requires { ⌜ Runs (now buf) t a b n ⌝ }
+    requires { ⌜ SafeRun (Step.Near down rise c base cut) t a b n (at (now buf)) ⌝ }
+    ensures { λ _. ⌜ at (now (buf .exit)) ≡ ran (applied (Step.Near down rise c base cut)) t a b n (at (now (buf .entry))) ⌝ }
 {
-    if (m as u64) == (1u64 << cut) {
-        Step::Minus {
-            c,
-            base: base_of(c as u64, cut),
-            cut,
+    if rise == 0 {
+        if down {
+            raised_run(buf, t, a, b, n, true, true, 0, c, 0, base, cut);
+        } else {
+            raised_run(buf, t, a, b, n, true, false, 0, c, 0, base, cut);
         }
+    } else if down {
+        raised_run(buf, t, a, b, n, true, true, rise, c, 0, base, cut);
     } else {
-        Step::Down {
-            m,
-            c,
-            base: base_of((m as u64) + (c as u64), cut),
-            cut,
-        }
+        raised_run(buf, t, a, b, n, true, false, rise, c, 0, base, cut);
     }
 }
+
+// A run of the step `Far`.
+fn far_run(
+    buf: &mut [i32],
+    t: usize,
+    a: usize,
+    b: usize,
+    n: usize,
+    down: bool,
+    k: u32,
+    c: u32,
+    pad: u64,
+    base: u64,
+    cut: u32,
+)
+    requires { ⌜ Runs (now buf) t a b n ⌝ }
+    requires { ⌜ SafeRun (Step.Far down k c pad base cut) t a b n (at (now buf)) ⌝ }
+    ensures { λ _. ⌜ at (now (buf .exit)) ≡ ran (applied (Step.Far down k c pad base cut)) t a b n (at (now (buf .entry))) ⌝ }
+{
+    if down {
+        raised_run(buf, t, a, b, n, false, true, k, c, pad, base, cut);
+    } else {
+        raised_run(buf, t, a, b, n, false, false, k, c, pad, base, cut);
+    }
+}
+
+// A step at each place of a run, dispatched once: each arm's loop is compiled for its own step.
+pub fn lift_run(buf: &mut [i32], t: usize, a: usize, b: usize, n: usize, step: Step)
+    requires { ⌜ Runs (now buf) t a b n ⌝ }
+    requires { ⌜ SafeRun step t a b n (at (now buf)) ⌝ }
+    ensures { λ _. ⌜ at (now (buf .exit)) ≡ ran (applied step) t a b n (at (now (buf .entry))) ⌝ }
+{
+    match step {
+        Step::Predict => run(buf, t, a, b, n, Step::Predict),
+        Step::Update => run(buf, t, a, b, n, Step::Update),
+        Step::Unpredict => run(buf, t, a, b, n, Step::Unpredict),
+        Step::Unupdate => run(buf, t, a, b, n, Step::Unupdate),
+        Step::Scaled { k, c, cut } => run(buf, t, a, b, n, Step::Scaled { k, c, cut }),
+        Step::Near {
+            down,
+            rise,
+            c,
+            base,
+            cut,
+        } => near_run(buf, t, a, b, n, down, rise, c, base, cut),
+        Step::Far {
+            down,
+            k,
+            c,
+            pad,
+            base,
+            cut,
+        } => far_run(buf, t, a, b, n, down, k, c, pad, base, cut),
+    }
+}
+
+// ---- the forms in which steps and scalings are run
 
 // The size of a number, where it is below 2 ^ 31.
 fn size(z: i64) -> u32
@@ -346,87 +461,74 @@ fn size(z: i64) -> u32
     if z < 0 { (0 - z) as u32 } else { z as u32 }
 }
 
-// A short step in the form that is fastest.
-fn quick(m: i64, c: i64, cut: u32) -> Step
-    ensures { λ r. ⌜ Same (Step.Short m c cut) r ⌝ }
+// How often 2 ^ cut goes into more than total.
+fn multiple(total: u64, cut: u32) -> u64
+    requires { ⌜ (total < 9223372036854775808) × (cut ≤ 62) ⌝ }
+    ensures { λ r. ⌜ (total ≤ r * 2 ^ cut) × (r * 2 ^ cut ≤ total + 2 ^ cut) ⌝ }
 {
-    let k = size(m);
-    let f = size(c);
-    if cut == 0 {
-        return Step::Wide { m, c, cut };
-    }
-    if 31 < cut {
-        return Step::Wide { m, c, cut };
-    }
-    if m < 0 {
-        return Step::Wide { m, c, cut };
-    }
-    if 2147483647 < k {
-        return Step::Wide { m, c, cut };
-    }
-    if 2147483647 < f {
-        return Step::Wide { m, c, cut };
-    }
-    if c < 0 {
-        falling(k, f, cut)
-    } else {
-        rising(k, f, cut)
-    }
+    (total >> cut) + 1
 }
 
-// A wide step of the own value and a positive constant, in the form that is fastest.
-fn more_two(c: u32, cut: u32) -> Step
-    requires { ⌜ (1 ≤ cut) × (cut ≤ 31) × (c < 2147483648) ⌝ }
-    ensures { λ r. ⌜ Same (Step.Wide (pos (2 ^ cut)) (pos c) cut) r ⌝ }
+// A scaled step in the form `Near`.
+fn near(down: bool, rise: u32, c: u32, cut: u32) -> Step
+    requires { ⌜ (1 ≤ cut) × (cut ≤ 31) × (rise < 32) × (c < 2147483648) ⌝ }
+    ensures { λ r. ⌜ Same (Step.Scaled (cut + rise) (signed down c) cut) r ⌝ }
 {
-    Step::PlusTwo {
+    Step::Near {
+        down,
+        rise,
         c,
-        base: base_of(2 * (c as u64), cut),
+        base: (c as u64) * (2147483648 >> cut),
         cut,
     }
 }
 
-// The same, of a negative one.
-fn less_two(c: u32, cut: u32) -> Step
-    requires { ⌜ (1 ≤ cut) × (cut ≤ 31) × (c < 2147483648) ⌝ }
-    ensures { λ r. ⌜ Same (Step.Wide (pos (2 ^ cut)) (negℤ (pos c)) cut) r ⌝ }
+// A scaled step in the form `Far`.
+fn far(down: bool, k: u32, c: u32, cut: u32) -> Step
+    requires { ⌜ (1 ≤ cut) × (cut ≤ 61) × (k ≤ 30) × (c < 2147483648) ⌝ }
+    ensures { λ r. ⌜ Same (Step.Scaled k (signed down c) cut) r ⌝ }
 {
-    Step::MinusTwo {
+    let total = (power(k) + (c as u64)) * 2147483648;
+    let base = multiple(total, cut);
+    Step::Far {
+        down,
+        k,
         c,
-        base: base_of(2 * (c as u64), cut),
+        pad: base * power(cut) - total,
+        base,
         cut,
     }
 }
 
-// A wide step in the form that is fastest.
-fn quick_wide(m: i64, c: i64, cut: u32) -> Step
-    ensures { λ r. ⌜ Same (Step.Wide m c cut) r ⌝ }
+// A scaled step in the form in which it is run.
+fn quick(k: u32, c: i64, cut: u32) -> Step
+    ensures { λ r. ⌜ Same (Step.Scaled k c cut) r ⌝ }
 {
-    let k = size(m);
     let f = size(c);
+    if 2147483647 < f {
+        return Step::Scaled { k, c, cut };
+    }
     if cut == 0 {
-        return Step::Wide { m, c, cut };
+        return Step::Scaled { k, c, cut };
+    }
+    if 61 < cut {
+        return Step::Scaled { k, c, cut };
+    }
+    if k <= 30 {
+        if k < cut {
+            return far(c < 0, k, f, cut);
+        }
+    }
+    if k < cut {
+        return Step::Scaled { k, c, cut };
     }
     if 31 < cut {
-        return Step::Wide { m, c, cut };
+        return Step::Scaled { k, c, cut };
     }
-    if m < 0 {
-        return Step::Wide { m, c, cut };
+    if 31 < k - cut {
+        return Step::Scaled { k, c, cut };
     }
-    if 2147483647 < k {
-        return Step::Wide { m, c, cut };
-    }
-    if 2147483647 < f {
-        return Step::Wide { m, c, cut };
-    }
-    if (k as u64) == (1u64 << cut) {} else {
-        return Step::Wide { m, c, cut };
-    }
-    if c < 0 {
-        less_two(f, cut)
-    } else {
-        more_two(f, cut)
-    }
+    near(c < 0, k - cut, f, cut)
 }
 
 // The form in which a step is run.
@@ -434,167 +536,81 @@ fn quickest(step: Step) -> Step
     ensures { λ r. ⌜ Same step r ⌝ }
 {
     match step {
-        Step::Short { m, c, cut } => quick(m, c, cut),
-        Step::Wide { m, c, cut } => quick_wide(m, c, cut),
+        Step::Scaled { k, c, cut } => quick(k, c, cut),
         _ => step,
     }
 }
 
-// A kernel whose steps are in the forms in which they are run.
-fn readied(kernel: Kernel) -> Kernel
+// A scaling in the form in which it is run.
+fn quick_factor(c: i64, cut: u32) -> Factor
+    ensures { λ r. ⌜ SameFactor (Factor.Plain c cut) r ⌝ }
+{
+    let f = size(c);
+    if 2147483647 < f {
+        return Factor::Plain { c, cut };
+    }
+    if c < 0 {
+        return Factor::Plain { c, cut };
+    }
+    if cut == 0 {
+        return Factor::Plain { c, cut };
+    }
+    if 61 < cut {
+        return Factor::Plain { c, cut };
+    }
+    let total = (f as u64) * 2147483648;
+    let base = multiple(total, cut);
+    Factor::Raised {
+        c: f,
+        pad: base * power(cut) - total,
+        base,
+        cut,
+    }
+}
+
+// The form in which a scaling is run.
+fn quickest_factor(g: Factor) -> Factor
+    ensures { λ r. ⌜ SameFactor g r ⌝ }
+{
+    match g {
+        Factor::Plain { c, cut } => quick_factor(c, cut),
+        _ => g,
+    }
+}
+
+// The forms in which a pair is run.
+fn quickest_pair(pair: Pair) -> Pair
+    ensures { λ r. ⌜ SamePair pair r ⌝ }
+{
+    let highs = pair.highs;
+    let lows = pair.lows;
+    Pair {
+        highs: quickest(highs),
+        lows: quickest(lows),
+    }
+}
+
+// A kernel in the forms in which it is run.
+pub fn readied(kernel: Kernel) -> Kernel
     ensures { λ r. ⌜ SameKernel kernel r ⌝ }
 {
     match kernel {
-        Kernel::Four {
-            p1,
-            u1,
-            p2,
-            u2,
-            g1,
-            g2,
-        } => Kernel::Four {
-            p1: quickest(p1),
-            u1: quickest(u1),
-            p2: quickest(p2),
-            u2: quickest(u2),
-            g1,
-            g2,
+        Kernel::Two {
+            first,
+            second,
+            low,
+            high,
+        } => Kernel::Two {
+            first: quickest_pair(first),
+            second: quickest_pair(second),
+            low: quickest_factor(low),
+            high: quickest_factor(high),
         },
         _ => kernel,
     }
 }
 
-// A run of the step `Up`.
-fn up_run(
-    buf: &mut [i32],
-    t: usize,
-    a: usize,
-    b: usize,
-    n: usize,
-    m: u32,
-    c: u32,
-    base: u64,
-    cut: u32,
-)
-    requires { ⌜ Runs (now buf) t a b n ⌝ }
-    requires { ⌜ SafeRun (Step.Up m c base cut) t a b n (at (now buf)) ⌝ }
-    ensures { λ _. ⌜ at (now (buf .exit)) ≡ ran (applied (Step.Up m c base cut)) t a b n (at (now (buf .entry))) ⌝ }
-{
-    for j in 0..n {
-        let v = up_of(m, c, base, cut, buf[t + j], buf[a + j], buf[b + j]);
-        buf[t + j] = v;
-    }
-}
-
-// A run of the step `Down`.
-fn down_run(
-    buf: &mut [i32],
-    t: usize,
-    a: usize,
-    b: usize,
-    n: usize,
-    m: u32,
-    c: u32,
-    base: u64,
-    cut: u32,
-)
-    requires { ⌜ Runs (now buf) t a b n ⌝ }
-    requires { ⌜ SafeRun (Step.Down m c base cut) t a b n (at (now buf)) ⌝ }
-    ensures { λ _. ⌜ at (now (buf .exit)) ≡ ran (applied (Step.Down m c base cut)) t a b n (at (now (buf .entry))) ⌝ }
-{
-    for j in 0..n {
-        let v = down_of(m, c, base, cut, buf[t + j], buf[a + j], buf[b + j]);
-        buf[t + j] = v;
-    }
-}
-
-// A run of the step `Plus`.
-fn plus_run(buf: &mut [i32], t: usize, a: usize, b: usize, n: usize, c: u32, base: u64, cut: u32)
-    requires { ⌜ Runs (now buf) t a b n ⌝ }
-    requires { ⌜ SafeRun (Step.Plus c base cut) t a b n (at (now buf)) ⌝ }
-    ensures { λ _. ⌜ at (now (buf .exit)) ≡ ran (applied (Step.Plus c base cut)) t a b n (at (now (buf .entry))) ⌝ }
-{
-    for j in 0..n {
-        let v = plus_of(c, base, cut, buf[t + j], buf[a + j], buf[b + j]);
-        buf[t + j] = v;
-    }
-}
-
-// A run of the step `Minus`.
-fn minus_run(buf: &mut [i32], t: usize, a: usize, b: usize, n: usize, c: u32, base: u64, cut: u32)
-    requires { ⌜ Runs (now buf) t a b n ⌝ }
-    requires { ⌜ SafeRun (Step.Minus c base cut) t a b n (at (now buf)) ⌝ }
-    ensures { λ _. ⌜ at (now (buf .exit)) ≡ ran (applied (Step.Minus c base cut)) t a b n (at (now (buf .entry))) ⌝ }
-{
-    for j in 0..n {
-        let v = minus_of(c, base, cut, buf[t + j], buf[a + j], buf[b + j]);
-        buf[t + j] = v;
-    }
-}
-
-// A run of the step `PlusTwo`.
-fn plus_two_run(
-    buf: &mut [i32],
-    t: usize,
-    a: usize,
-    b: usize,
-    n: usize,
-    c: u32,
-    base: u64,
-    cut: u32,
-)
-    requires { ⌜ Runs (now buf) t a b n ⌝ }
-    requires { ⌜ SafeRun (Step.PlusTwo c base cut) t a b n (at (now buf)) ⌝ }
-    ensures { λ _. ⌜ at (now (buf .exit)) ≡ ran (applied (Step.PlusTwo c base cut)) t a b n (at (now (buf .entry))) ⌝ }
-{
-    for j in 0..n {
-        let v = plus_two_of(c, base, cut, buf[t + j], buf[a + j], buf[b + j]);
-        buf[t + j] = v;
-    }
-}
-
-// A run of the step `MinusTwo`.
-fn minus_two_run(
-    buf: &mut [i32],
-    t: usize,
-    a: usize,
-    b: usize,
-    n: usize,
-    c: u32,
-    base: u64,
-    cut: u32,
-)
-    requires { ⌜ Runs (now buf) t a b n ⌝ }
-    requires { ⌜ SafeRun (Step.MinusTwo c base cut) t a b n (at (now buf)) ⌝ }
-    ensures { λ _. ⌜ at (now (buf .exit)) ≡ ran (applied (Step.MinusTwo c base cut)) t a b n (at (now (buf .entry))) ⌝ }
-{
-    for j in 0..n {
-        let v = minus_two_of(c, base, cut, buf[t + j], buf[a + j], buf[b + j]);
-        buf[t + j] = v;
-    }
-}
-
-// A step at each place of a run, dispatched once: each arm's loop is compiled for its own step.
-fn lift_run(buf: &mut [i32], t: usize, a: usize, b: usize, n: usize, step: Step)
-    requires { ⌜ Runs (now buf) t a b n ⌝ }
-    requires { ⌜ SafeRun step t a b n (at (now buf)) ⌝ }
-    ensures { λ _. ⌜ at (now (buf .exit)) ≡ ran (applied step) t a b n (at (now (buf .entry))) ⌝ }
-{
-    match step {
-        Step::Predict => run(buf, t, a, b, n, Step::Predict),
-        Step::Update => run(buf, t, a, b, n, Step::Update),
-        Step::Unpredict => run(buf, t, a, b, n, Step::Unpredict),
-        Step::Unupdate => run(buf, t, a, b, n, Step::Unupdate),
-        Step::Wide { m, c, cut } => run(buf, t, a, b, n, Step::Wide { m, c, cut }),
-        Step::Short { m, c, cut } => run(buf, t, a, b, n, Step::Short { m, c, cut }),
-        Step::Up { m, c, base, cut } => up_run(buf, t, a, b, n, m, c, base, cut),
-        Step::Down { m, c, base, cut } => down_run(buf, t, a, b, n, m, c, base, cut),
-        Step::Plus { c, base, cut } => plus_run(buf, t, a, b, n, c, base, cut),
-        Step::Minus { c, base, cut } => minus_run(buf, t, a, b, n, c, base, cut),
-        Step::PlusTwo { c, base, cut } => plus_two_run(buf, t, a, b, n, c, base, cut),
-        Step::MinusTwo { c, base, cut } => minus_two_run(buf, t, a, b, n, c, base, cut),
-    }
-}
+// ---- values copied and scaled
 
 // The n values of src from place `from` on go to dst from place `to` on.
 fn copy_run(src: &[i32], from: usize, dst: &mut [i32], to: usize, n: usize)
@@ -608,19 +624,19 @@ fn copy_run(src: &[i32], from: usize, dst: &mut [i32], to: usize, n: usize)
 }
 
 // The same, each value scaled on the way.
-fn wide_run(src: &[i32], from: usize, dst: &mut [i32], to: usize, n: usize, g: Factor)
+fn plain_scale_run(src: &[i32], from: usize, dst: &mut [i32], to: usize, n: usize, c: i64, cut: u32)
     requires { ⌜ (from + n ≤ length (now src)) × (to + n ≤ length (now dst)) ⌝ }
-    requires { ⌜ ((j : ℕ) → j < n → FactorSafe g (at (now src) (from + j))) ⌝ }
-    ensures { λ _. ⌜ at (now (dst .exit)) ≡ patch to n (λ j. scaledBy g (at (now (src .entry)) (from + j))) (at (now (dst .entry))) ⌝ }
+    requires { ⌜ ((j : ℕ) → j < n → FactorSafe (Factor.Plain c cut) (at (now src) (from + j))) ⌝ }
+    ensures { λ _. ⌜ at (now (dst .exit)) ≡ patch to n (λ j. scaledBy (Factor.Plain c cut) (at (now (src .entry)) (from + j))) (at (now (dst .entry))) ⌝ }
 {
     for j in 0..n {
-        let v = scaled_by(g, src[from + j]);
+        let v = scaled_by(c, cut, src[from + j]);
         dst[to + j] = v;
     }
 }
 
 // The same by raised values.
-fn raised_run(
+fn raised_scale_run(
     src: &[i32],
     from: usize,
     dst: &mut [i32],
@@ -632,44 +648,13 @@ fn raised_run(
     cut: u32,
 )
     requires { ⌜ (from + n ≤ length (now src)) × (to + n ≤ length (now dst)) ⌝ }
-    requires { ⌜ Raises c pad base cut ⌝ }
-    requires { ⌜ ((j : ℕ) → j < n → SFits w32 (shrZ (pos c *ℤ at (now src) (from + j)) (2 ^ cut))) ⌝ }
-    ensures { λ _. ⌜ at (now (dst .exit)) ≡ patch to n (λ j. shrZ (pos c *ℤ at (now (src .entry)) (from + j)) (2 ^ cut)) (at (now (dst .entry))) ⌝ }
+    requires { ⌜ ((j : ℕ) → j < n → FactorSafe (Factor.Raised c pad base cut) (at (now src) (from + j))) ⌝ }
+    ensures { λ _. ⌜ at (now (dst .exit)) ≡ patch to n (λ j. scaledBy (Factor.Raised c pad base cut) (at (now (src .entry)) (from + j))) (at (now (dst .entry))) ⌝ }
 {
     for j in 0..n {
         let v = raised_by(c, pad, base, cut, src[from + j]);
         dst[to + j] = v;
     }
-}
-
-// What a factor's values may be raised by: its constant, or 2 ^ 31 where they may not.
-fn raisable(g: Factor) -> u32
-    ensures { λ r. ⌜ (r < 2147483648 → (1 ≤ g .cut) × (g .cut ≤ 62) × (g .c ≡ pos r)) ⌝ }
-{
-    let k = size(g.c);
-    if g.cut == 0 {
-        return 2147483648;
-    }
-    if 62 < g.cut {
-        return 2147483648;
-    }
-    if g.c < 0 { 2147483648 } else { k }
-}
-
-// 2 to a power.
-fn power(cut: u32) -> u64
-    requires { ⌜ cut ≤ 62 ⌝ }
-    ensures { λ r. ⌜ r ≡ 2 ^ cut ⌝ }
-{
-    1u64 << cut
-}
-
-// How often 2 ^ cut goes into more than total.
-fn multiple(total: u64, cut: u32) -> u64
-    requires { ⌜ (total < 4611686018427387904) × (cut ≤ 62) ⌝ }
-    ensures { λ r. ⌜ (total ≤ r * 2 ^ cut) × (r * 2 ^ cut ≤ total + 2 ^ cut) ⌝ }
-{
-    (total >> cut) + 1
 }
 
 // The n values of src from place `from` on, scaled, go to dst from place `to` on.
@@ -678,14 +663,11 @@ fn scale_run(src: &[i32], from: usize, dst: &mut [i32], to: usize, n: usize, g: 
     requires { ⌜ ((j : ℕ) → j < n → FactorSafe g (at (now src) (from + j))) ⌝ }
     ensures { λ _. ⌜ at (now (dst .exit)) ≡ patch to n (λ j. scaledBy g (at (now (src .entry)) (from + j))) (at (now (dst .entry))) ⌝ }
 {
-    let c = raisable(g);
-    if c < 2147483648 {
-        let total = (c as u64) * 2147483648;
-        let base = multiple(total, g.cut);
-        let pad = base * power(g.cut) - total;
-        raised_run(src, from, dst, to, n, c, pad, base, g.cut);
-    } else {
-        wide_run(src, from, dst, to, n, g);
+    match g {
+        Factor::Plain { c, cut } => plain_scale_run(src, from, dst, to, n, c, cut),
+        Factor::Raised { c, pad, base, cut } => {
+            raised_scale_run(src, from, dst, to, n, c, pad, base, cut)
+        }
     }
 }
 
@@ -723,24 +705,28 @@ fn on_lows(tile: &mut [i32], s: usize, n: usize, step: Step)
     }
 }
 
-// A pair of steps: the highs, then the lows.
-fn lift(tile: &mut [i32], s: usize, n: usize, first: Step, second: Step)
+// A pair: the highs, then the lows.
+fn lift(tile: &mut [i32], s: usize, n: usize, pair: Pair)
     requires { ⌜ Tile (now tile) s n ⌝ }
-    requires { ⌜ LiftSafe first second s n (at (now tile)) ⌝ }
-    ensures { λ _. ⌜ at (now (tile .exit)) ≡ liftedTile (applied first) (applied second) s n (at (now (tile .entry))) ⌝ }
+    requires { ⌜ LiftSafe pair s n (at (now tile)) ⌝ }
+    ensures { λ _. ⌜ at (now (tile .exit)) ≡ liftedTile pair s n (at (now (tile .entry))) ⌝ }
 {
-    on_highs(tile, s, n, first);
-    on_lows(tile, s, n, second);
+    let highs = pair.highs;
+    let lows = pair.lows;
+    on_highs(tile, s, n, highs);
+    on_lows(tile, s, n, lows);
 }
 
-// A pair of steps undone: the lows, then the highs.
-fn unlift(tile: &mut [i32], s: usize, n: usize, second: Step, first: Step)
+// A pair undone: the lows, then the highs.
+fn unlift(tile: &mut [i32], s: usize, n: usize, pair: Pair)
     requires { ⌜ Tile (now tile) s n ⌝ }
-    requires { ⌜ UnliftSafe second first s n (at (now tile)) ⌝ }
-    ensures { λ _. ⌜ at (now (tile .exit)) ≡ unliftedTile (applied second) (applied first) s n (at (now (tile .entry))) ⌝ }
+    requires { ⌜ UnliftSafe pair s n (at (now tile)) ⌝ }
+    ensures { λ _. ⌜ at (now (tile .exit)) ≡ unliftedTile pair s n (at (now (tile .entry))) ⌝ }
 {
-    on_lows(tile, s, n, second);
-    on_highs(tile, s, n, first);
+    let highs = pair.highs;
+    let lows = pair.lows;
+    on_lows(tile, s, n, lows);
+    on_highs(tile, s, n, highs);
 }
 
 // ---- lines in and out
@@ -864,63 +850,102 @@ fn merge(tile: &[i32], plane: &mut [i32], stride: usize, from: usize, s: usize, 
 
 // ---- a strip: s neighbouring columns of n lines, line i from place from + i * stride on; a row is one column with stride 1
 
-// The strip, worked by a pair of steps.
-fn strip_pair(
+// A tile that holds lines, worked by a pair on their way into the plane.
+fn finish_one(
     plane: &mut [i32],
     tile: &mut [i32],
     stride: usize,
     from: usize,
     s: usize,
     n: usize,
-    first: Step,
-    second: Step,
+    pair: Pair,
 )
     requires { ⌜ Strip (now plane) (now tile) stride from s n ⌝ }
-    requires { ⌜ ((j : ℕ) → j < s → SafeKernel (Kernel.Pair first second) n (columnOf stride from (at (now plane)) j)) ⌝ }
-    ensures { λ _. ⌜ at (now (plane .exit)) ≡ columnsWorked (Kernel.Pair first second) stride from s n (at (now (plane .entry))) ⌝ }
+    requires { ⌜ Ready (Kernel.One pair) s n (at (now tile)) ⌝ }
+    ensures { λ _. ⌜ Finished (Kernel.One pair) stride from s n (at (now (tile .entry))) (at (now (plane .entry))) (at (now (plane .exit))) ⌝ }
 {
-    split(plane, tile, stride, from, s, n);
-    lift(tile, s, n, first, second);
+    lift(tile, s, n, pair);
     copy_lines(tile, 0, s, plane, from, stride, n, s);
 }
 
 // The same, by two pairs and a scaling.
-fn strip_four(
+fn finish_two(
     plane: &mut [i32],
     tile: &mut [i32],
     stride: usize,
     from: usize,
     s: usize,
     n: usize,
-    p1: Step,
-    u1: Step,
-    p2: Step,
-    u2: Step,
-    g1: Factor,
-    g2: Factor,
+    first: Pair,
+    second: Pair,
+    low: Factor,
+    high: Factor,
 )
     requires { ⌜ Strip (now plane) (now tile) stride from s n ⌝ }
-    requires { ⌜ ((j : ℕ) → j < s → SafeKernel (Kernel.Four p1 u1 p2 u2 g1 g2) n (columnOf stride from (at (now plane)) j)) ⌝ }
-    ensures { λ _. ⌜ at (now (plane .exit)) ≡ columnsWorked (Kernel.Four p1 u1 p2 u2 g1 g2) stride from s n (at (now (plane .entry))) ⌝ }
+    requires { ⌜ Ready (Kernel.Two first second low high) s n (at (now tile)) ⌝ }
+    ensures { λ _. ⌜ Finished (Kernel.Two first second low high) stride from s n (at (now (tile .entry))) (at (now (plane .entry))) (at (now (plane .exit))) ⌝ }
 {
-    split(plane, tile, stride, from, s, n);
-    lift(tile, s, n, p1, u1);
-    lift(tile, s, n, p2, u2);
-    let low = (n + 1) / 2;
-    scale_lines(tile, 0, plane, from, stride, low, s, g1);
+    lift(tile, s, n, first);
+    lift(tile, s, n, second);
+    let half = (n + 1) / 2;
+    scale_lines(tile, 0, plane, from, stride, half, s, low);
     scale_lines(
         tile,
-        low * s,
+        half * s,
         plane,
-        from + low * stride,
+        from + half * stride,
         stride,
         n / 2,
         s,
-        g2,
+        high,
     );
 }
 
-// The same, a pair of steps undone.
+// The same, by a kernel that is worked forward.
+fn finish(
+    plane: &mut [i32],
+    tile: &mut [i32],
+    stride: usize,
+    from: usize,
+    s: usize,
+    n: usize,
+    kernel: Kernel,
+)
+    requires { ⌜ Strip (now plane) (now tile) stride from s n × Forward kernel ⌝ }
+    requires { ⌜ Ready kernel s n (at (now tile)) ⌝ }
+    ensures { λ _. ⌜ Finished kernel stride from s n (at (now (tile .entry))) (at (now (plane .entry))) (at (now (plane .exit))) ⌝ }
+{
+    match kernel {
+        Kernel::One(pair) => finish_one(plane, tile, stride, from, s, n, pair),
+        Kernel::Two {
+            first,
+            second,
+            low,
+            high,
+        } => finish_two(plane, tile, stride, from, s, n, first, second, low, high),
+        Kernel::Undo(_) => {}
+    }
+}
+
+// The strip, worked forward through the tile.
+fn strip_forward(
+    plane: &mut [i32],
+    tile: &mut [i32],
+    stride: usize,
+    from: usize,
+    s: usize,
+    n: usize,
+    kernel: Kernel,
+)
+    requires { ⌜ Strip (now plane) (now tile) stride from s n × Forward kernel ⌝ }
+    requires { ⌜ ((j : ℕ) → j < s → SafeKernel kernel n (columnOf stride from (at (now plane)) j)) ⌝ }
+    ensures { λ _. ⌜ at (now (plane .exit)) ≡ columnsWorked kernel stride from s n (at (now (plane .entry))) ⌝ }
+{
+    split(plane, tile, stride, from, s, n);
+    finish(plane, tile, stride, from, s, n, kernel);
+}
+
+// The strip, a pair undone.
 fn strip_undo(
     plane: &mut [i32],
     tile: &mut [i32],
@@ -928,15 +953,14 @@ fn strip_undo(
     from: usize,
     s: usize,
     n: usize,
-    second: Step,
-    first: Step,
+    pair: Pair,
 )
     requires { ⌜ Strip (now plane) (now tile) stride from s n ⌝ }
-    requires { ⌜ ((j : ℕ) → j < s → SafeKernel (Kernel.Undo second first) n (columnOf stride from (at (now plane)) j)) ⌝ }
-    ensures { λ _. ⌜ at (now (plane .exit)) ≡ columnsWorked (Kernel.Undo second first) stride from s n (at (now (plane .entry))) ⌝ }
+    requires { ⌜ ((j : ℕ) → j < s → SafeKernel (Kernel.Undo pair) n (columnOf stride from (at (now plane)) j)) ⌝ }
+    ensures { λ _. ⌜ at (now (plane .exit)) ≡ columnsWorked (Kernel.Undo pair) stride from s n (at (now (plane .entry))) ⌝ }
 {
     copy_lines(plane, from, stride, tile, 0, s, n, s);
-    unlift(tile, s, n, second, first);
+    unlift(tile, s, n, pair);
     merge(tile, plane, stride, from, s, n);
 }
 
@@ -955,16 +979,64 @@ fn strip(
     ensures { λ _. ⌜ at (now (plane .exit)) ≡ columnsWorked kernel stride from s n (at (now (plane .entry))) ⌝ }
 {
     match kernel {
-        Kernel::Pair(first, second) => strip_pair(plane, tile, stride, from, s, n, first, second),
-        Kernel::Four {
-            p1,
-            u1,
-            p2,
-            u2,
-            g1,
-            g2,
-        } => strip_four(plane, tile, stride, from, s, n, p1, u1, p2, u2, g1, g2),
-        Kernel::Undo(second, first) => strip_undo(plane, tile, stride, from, s, n, second, first),
+        Kernel::Undo(pair) => strip_undo(plane, tile, stride, from, s, n, pair),
+        Kernel::One(_) => strip_forward(plane, tile, stride, from, s, n, kernel),
+        Kernel::Two { .. } => strip_forward(plane, tile, stride, from, s, n, kernel),
+    }
+}
+
+// ---- rows and columns of a plane
+
+// A pixel less the middle of its range.
+fn centred(pixel: u16, middle: u16) -> i32
+    ensures { λ r. ⌜ r ≡ pos pixel -ℤ pos middle ⌝ }
+{
+    (pixel as i32) - (middle as i32)
+}
+
+// One pixel goes to the tile.
+fn put_pixel(pixels: &[u16], from: usize, tile: &mut [i32], to: usize, middle: u16)
+    requires { ⌜ (from < length (now pixels)) × (to < length (now tile)) ⌝ }
+    ensures { λ _. ⌜ at (now (tile .exit)) ≡ patch to 1 (pixelLine (now (pixels .entry)) middle from) (at (now (tile .entry))) ⌝ }
+{
+    tile[to] = centred(pixels[from], middle);
+}
+
+// n pixels go to the tile, the even ones first.
+fn split_pixels(pixels: &[u16], from: usize, tile: &mut [i32], n: usize, middle: u16)
+    requires { ⌜ (n < 2 ^ 31) × (from + n ≤ length (now pixels)) × (n ≤ length (now tile)) ⌝ }
+    ensures { λ _. ⌜ Held 1 n (λ j. evens (pixelLine (now (pixels .entry)) middle from)) (λ j. odds (pixelLine (now (pixels .entry)) middle from)) (at (now (tile .exit))) ⌝ }
+{
+    let low = (n + 1) / 2;
+    let high = n / 2;
+    for i in 0..high {
+        let a = from + 2 * i;
+        put_pixel(pixels, a, tile, i, middle);
+        put_pixel(pixels, a + 1, tile, low + i, middle);
+    }
+    if high < low {
+        put_pixel(pixels, from + 2 * high, tile, high, middle);
+    }
+}
+
+// h rows of w pixels, each less the middle of its range, worked on their way into a plane as wide.
+pub fn pixel_rows(
+    pixels: &[u16],
+    middle: u16,
+    plane: &mut [i32],
+    tile: &mut [i32],
+    w: usize,
+    h: usize,
+    kernel: Kernel,
+)
+    requires { ⌜ Part (now plane) w 0 w h × Liftable w × (w ≤ length (now tile)) × Forward kernel × (w * h ≤ length (now pixels)) ⌝ }
+    requires { ⌜ ((r : ℕ) → r < h → SafeKernel kernel w (pixelLine (now pixels) middle (r * w))) ⌝ }
+    ensures { λ _. ⌜ at (now (plane .exit)) ≡ patchLines (lineAt 0 w) w h (λ r. worked kernel w (pixelLine (now (pixels .entry)) middle (r * w))) (at (now (plane .entry))) ⌝ }
+{
+    for r in 0..h {
+        let from = r * w;
+        split_pixels(pixels, from, tile, w, middle);
+        finish(plane, tile, 1, from, 1, w, kernel);
     }
 }
 
@@ -974,9 +1046,8 @@ pub fn rows(plane: &mut [i32], tile: &mut [i32], stride: usize, w: usize, h: usi
     requires { ⌜ ((r : ℕ) → r < h → SafeKernel kernel w (rowOf stride 0 (at (now plane)) r)) ⌝ }
     ensures { λ _. ⌜ at (now (plane .exit)) ≡ rowsWorked kernel stride w h (at (now (plane .entry))) ⌝ }
 {
-    let ready = readied(kernel);
     for r in 0..h {
-        strip(plane, tile, 1, r * stride, 1, w, ready);
+        strip(plane, tile, 1, r * stride, 1, w, kernel);
     }
 }
 
@@ -1001,12 +1072,11 @@ pub fn columns(
     requires { ⌜ ((j : ℕ) → j < w → SafeKernel kernel h (columnOf stride from (at (now plane)) j)) ⌝ }
     ensures { λ _. ⌜ at (now (plane .exit)) ≡ columnsWorked kernel stride from w h (at (now (plane .entry))) ⌝ }
 {
-    let ready = readied(kernel);
     let most = smaller(64, tile.len() / h);
     let mut done = 0;
     while done < w {
         let s = smaller(most, w - done);
-        strip(plane, tile, stride, from + done, s, h, ready);
+        strip(plane, tile, stride, from + done, s, h, kernel);
         done += s;
     }
 }

@@ -5,26 +5,26 @@ use Prim.Native.Nat.{ℕ, _+_, _*_, _-_, _≤_}
 use native.Mathlib.Omega.{arith}
 use lib.ListN.{length}
 use Rattle.lifting.specs.Patch.{at}
-use Rattle.lifting.specs.Kernels.{SafeKernel, columnsWorked, columns-same}
+use Rattle.lifting.specs.Kernels.{SafeKernel, columnsWorked}
 use Rattle.lifting.specs.Strips.{column-as-was, columns-more, columns-none, some-width, enough-room}
 use Rattle.lifting.proofs.columns.Statement.{statement}
 use Rattle.lifting.proofs.columns.Tie as tie
 
 abbrev Inv-loop : tie.InvT-loop
-Inv-loop plane₀ tile₀ stride from w h ready most done₀ plane tile done =
-    (done ≤ w) × (length plane ≡ length plane₀) × (length tile ≡ length tile₀) × (at plane ≡ columnsWorked ready stride from done h (at plane₀))
+Inv-loop plane₀ tile₀ stride from w h kernel most done₀ plane tile done =
+    (done ≤ w) × (length plane ≡ length plane₀) × (length tile ≡ length tile₀) × (at plane ≡ columnsWorked kernel stride from done h (at plane₀))
 
 abbrev μ-loop : tie.MeasureT-loop
-μ-loop plane₀ tile₀ stride from w h ready most done₀ plane tile done = w - done
+μ-loop plane₀ tile₀ stride from w h kernel most done₀ plane tile done = w - done
 
 loop-holds : tie.Need-loop-holds Inv-loop μ-loop
 loop-holds c = (omega arith, refl, refl, columns-none _ _ _ _ _)
 
 -- the strip's width
-width : (c : tie.After-smaller2 Inv-loop μ-loop) → let a = c .before .before .before .before .before .args in
+width : (c : tie.After-smaller2 Inv-loop μ-loop) → let a = c .before .before .before .before .args in
     (1 ≤ c .smaller2 .result) × (c .before .before .loop .done + c .smaller2 .result ≤ a .w) × (a .h * c .smaller2 .result ≤ length (a .tile .now))
 width c =
-    let a = c .before .before .before .before .before in
+    let a = c .before .before .before .before in
     let one = some-width (length (a .args .tile .now)) (a .args .h) (omega arith) (omega arith) in
     (omega arith, omega arith, enough-room (length (a .args .tile .now)) (a .args .h) (c .smaller2 .result) (omega arith))
 
@@ -32,9 +32,9 @@ strip-requires : tie.Need-strip-requires Inv-loop μ-loop
 strip-requires c κs =
     let m = c .before .before in
     let t = m .before .before in
-    let a = t .before .before .before in
+    let a = t .before .before in
     let p = a .pre .0 .0 in
-    let ready = t .before .before .readied .result in
+    let kernel = a .args .kernel in
     let wide = width m in (
       record {
         lines = record { some = omega (arith, a .pre .0 .1); few = omega (arith, p .few); narrow = omega (arith, p .narrow); fits = λ r h. omega (arith, p .fits r h) };
@@ -42,9 +42,9 @@ strip-requires c κs =
         two = a .pre .0 .1;
         room = omega arith;
       },
-      λ j g. subst (SafeKernel ready (a .args .h))
-          (sym (column-as-was ready (a .args .stride) (a .args .from) (t .loop .done) (m .smaller2 .result) (a .args .h) (omega (arith, p .narrow)) (at (a .args .plane .now)) _ (t .loop .inv .3) j g))
-          (t .before .before .readied .ensures .safe _ _ (a .pre .1 (t .loop .done + j) (omega arith))),
+      λ j g. subst (SafeKernel kernel (a .args .h))
+          (sym (column-as-was kernel (a .args .stride) (a .args .from) (t .loop .done) (m .smaller2 .result) (a .args .h) (omega (arith, p .narrow)) (at (a .args .plane .now)) _ (t .loop .inv .3) j g))
+          (a .pre .1 (t .loop .done + j) (omega arith)),
     )
 
 loop-again : tie.Need-loop-again Inv-loop μ-loop
@@ -52,16 +52,16 @@ loop-again c =
     let f = c .before .before in
     let m = f .before .before .before in
     let t = m .before .before in
-    let a = t .before .before .before in
+    let a = t .before .before in
     let wide = width m in (
       omega arith,
       omega arith,
       omega arith,
-      columns-more (t .before .before .readied .result) (a .args .stride) (a .args .from) (t .loop .done) (m .smaller2 .result) (a .args .h) (omega (arith, a .pre .0 .0 .narrow)) (at (a .args .plane .now)) _ (t .loop .inv .3) _ (f .strip .ensures),
+      columns-more (a .args .kernel) (a .args .stride) (a .args .from) (t .loop .done) (m .smaller2 .result) (a .args .h) (omega (arith, a .pre .0 .0 .narrow)) (at (a .args .plane .now)) _ (t .loop .inv .3) _ (f .strip .ensures),
     )
 
 add-strip : tie.Need-add-strip Inv-loop μ-loop
-add-strip c = omega (arith, c .before .before .before .before .before .before .before .pre .0 .0 .narrow)
+add-strip c = omega (arith, c .before .before .before .before .before .before .pre .0 .0 .narrow)
 
 add-done : tie.Need-add-done Inv-loop μ-loop
 add-done c = omega (arith, width (c .before .before .before .before .before))
@@ -71,10 +71,9 @@ loop-less c = omega (arith, width (c .before .before .before .before .before))
 
 returns : tie.Need-returns Inv-loop μ-loop
 returns c =
-    let made = c .before .before .before .readied in
-    let a = c .before .before .before .before .args in
+    let a = c .before .before .before .args in
     let e : c .before .loop .done ≡ a .w = omega arith in
-    c .before .loop .inv .3 ∙ ap (λ (w : ℕ). columnsWorked (made .result) (a .stride) (a .from) w (a .h) (at (a .plane .now))) e ∙ columns-same (made .ensures) (a .stride) (a .from) (a .w) (a .h) (at (a .plane .now))
+    c .before .loop .inv .3 ∙ ap (λ (w : ℕ). columnsWorked (a .kernel) (a .stride) (a .from) w (a .h) (at (a .plane .now))) e
 
 pub columns-spec : {M : Type 1} → statement M
 columns-spec =
@@ -82,7 +81,6 @@ columns-spec =
     (tie.spec
     Inv-loop
     μ-loop
-    (λ c κs. tt)
     (λ c. omega arith)
     (λ c κs. omega arith)
     loop-holds

@@ -14,14 +14,14 @@ on-lows-requires : tie.Need-on-lows-requires
 on-lows-requires c κs =
     let f = c .before .before in
     let a = f .before .before in
-    (tile-as (a .pre .0) _ (omega arith), subst (AtLows (Safe (a .args .second)) (a .args .s) (a .args .n)) (sym (f .on-highs .ensures)) (a .pre .1 .on-lows))
+    (tile-as (a .pre .0) _ (omega arith), subst (AtLows (Safe (a .args .pair .lows)) (a .args .s) (a .args .n)) (sym (f .on-highs .ensures)) (a .pre .1 .on-lows))
 
 returns : tie.Need-returns
 returns c =
     let g = c .before in
     let f = g .before .before .before in
     let a = f .before .before in
-    g .on-lows .ensures ∙ ap (lowsDone (applied (a .args .second)) (a .args .s) (a .args .n)) (f .on-highs .ensures)
+    g .on-lows .ensures ∙ ap (lowsDone (applied (a .args .pair .lows)) (a .args .s) (a .args .n)) (f .on-highs .ensures)
 
 pub lift-spec : {M : Type 1} → statement M
 lift-spec = tie.close (tie.spec on-highs-requires on-lows-requires (λ c. omega arith) returns)

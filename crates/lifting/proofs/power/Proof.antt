@@ -6,4 +6,4 @@ use Rattle.lifting.proofs.power.Statement.{statement}
 use Rattle.lifting.proofs.power.Tie as tie
 
 pub power-spec : {M : Type 1} → statement M
-power-spec = tie.close (tie.spec (λ c. omega arith) (λ c. omega (arith, shl-exact {a = 1} 1 (c .args .cut) 64 (omega arith) (omega arith))))
+power-spec = tie.close (tie.spec (λ c. omega arith) (λ c. omega (arith, shl-exact {a = 1} 1 (c .args .k) 64 (omega arith) (omega arith))))

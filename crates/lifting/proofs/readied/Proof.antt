@@ -2,21 +2,28 @@
 -- Assumes nothing.
 use mathlib.Core.Path.{sym}
 use borrow.Author.Needs.{needs}
-use Rattle.lifting.specs.declared.Kernel.the-variants.{Four}
+use Rattle.lifting.specs.declared.Kernel.the-variants.{Two}
 use Rattle.lifting.specs.Runs.{as-type}
-use Rattle.lifting.specs.Kernels.{SameKernel, same-four, as-it-is}
+use Rattle.lifting.specs.Kernels.{SameKernel, same-two, as-it-is}
 use Rattle.lifting.proofs.readied.Statement.{statement}
 use Rattle.lifting.proofs.readied.Tie as tie
 
 returns : tie.Need-returns
 returns c =
-    let d = c .before in
-    let e = d .before in
-    let f = e .before in
-    let k = f .before .before .kernel .given in
-    let g1 = k .0 .1 .1 .1 .1 .0 in
-    let g2 = k .0 .1 .1 .1 .1 .1 .0 in
-    as-type (λ u. SameKernel (sym (k .1) u) (Four (f .quickest .result) (e .quickest2 .result) (d .quickest3 .result) (c .quickest4 .result) g1 g2)) (same-four g1 g2 (f .quickest .ensures) (e .quickest2 .ensures) (d .quickest3 .ensures) (c .quickest4 .ensures))
+    let g = c .before in
+    let d = g .before in
+    let f = d .before in
+    as-type (λ u. SameKernel (sym (f .before .before .kernel .given .1) u) (Two (f .quickest-pair .result) (d .quickest-pair2 .result) (g .quickest-factor .result) (c .quickest-factor2 .result)))
+    (same-two (f .quickest-pair .ensures) (d .quickest-pair2 .ensures) (g .quickest-factor .ensures) (c .quickest-factor2 .ensures))
 
 pub readied-spec : {M : Type 1} → statement M
-readied-spec = tie.close (tie.spec (λ c. search needs) (λ c κs. search needs) (λ c κs. search needs) (λ c κs. search needs) (λ c κs. search needs) returns (λ c. as-it-is _))
+readied-spec =
+    tie.close
+    (tie.spec
+    (λ c. search needs)
+    (λ c κs. search needs)
+    (λ c κs. search needs)
+    (λ c κs. search needs)
+    (λ c κs. search needs)
+    returns
+    (λ c. as-it-is _))

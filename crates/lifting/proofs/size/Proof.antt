@@ -12,12 +12,12 @@ use mir.Syntax.{w32, w64}
 use mir.Val.{SFits, Fits}
 use mir.Facts.{toZ-ofZ}
 use Rattle.lifting.specs.Raise.{below-zero, above-zero}
-use Rattle.lifting.proofs.Read.{back64}
+use Rattle.lifting.proofs.Read.{back}
 use Rattle.lifting.proofs.size.Statement.{statement}
 use Rattle.lifting.proofs.size.Tie as tie
 
 -- a number below 0, turned
-turned : (c : tie.Then3) → let z = c .before .before .before .args .z in (pos 0 -ℤ back64 z ≡ pos (natAbs z)) × (natAbs z < 2147483648)
+turned : (c : tie.Then3) → let z = c .before .before .before .args .z in (pos 0 -ℤ back w64 z ≡ pos (natAbs z)) × (natAbs z < 2147483648)
 turned c =
     let a = c .before .before .before in
     let e = toZ-ofZ (a .fits .z) in
@@ -27,7 +27,7 @@ turned c =
 sub-result : tie.Need-sub-result
 sub-result c = let l = turned c in subst (SFits w64) (sym (l .0)) (record { sfits = omega arith })
 
-same : (c : tie.Then3) → let z = c .before .before .before .args .z in back64 (pos 0 -ℤ back64 z) ≡ pos (natAbs z)
+same : (c : tie.Then3) → let z = c .before .before .before .args .z in back w64 (pos 0 -ℤ back w64 z) ≡ pos (natAbs z)
 same c = let l = turned c in toZ-ofZ (sub-result c) ∙ l .0
 
 cast-result : tie.Need-cast-result

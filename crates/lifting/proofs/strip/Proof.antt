@@ -6,7 +6,7 @@ use borrow.Author.Needs.{needs}
 use lib.IntN.{ℤ}
 use Rattle.lifting.specs.declared.Kernel.{Kernel}
 use Rattle.lifting.specs.Patch.{at}
-use Rattle.lifting.specs.Kernels.{SafeKernel, columnOf, columnsWorked}
+use Rattle.lifting.specs.Kernels.{Forward, SafeKernel, columnOf, columnsWorked}
 use Rattle.lifting.specs.Strips.{Strip}
 use Rattle.lifting.proofs.strip.Statement.{statement}
 use Rattle.lifting.proofs.strip.Tie as tie
@@ -26,40 +26,37 @@ asks a k e = (a .pre .0, subst (Safe a) e (a .pre .1))
 gives : (a : tie.Start) (k : Kernel) (y : ℕ → ℤ) → a .args .kernel ≡ k → y ≡ done a k → y ≡ done a (a .args .kernel)
 gives a k y e is = is ∙ ap (done a) (sym e)
 
-strip-pair-requires : tie.Need-strip-pair-requires
-strip-pair-requires c κs = asks (c .before .before .before .before .before) _ (c .before .before .before .kernel .given .1)
-
-strip-four-requires : tie.Need-strip-four-requires
-strip-four-requires c κs = asks (c .before .before .before .before .before) _ (c .before .before .before .kernel2 .given .1)
-
 strip-undo-requires : tie.Need-strip-undo-requires
-strip-undo-requires c κs = asks (c .before .before .before .before .before) _ (c .before .before .before .kernel3 .given .1)
+strip-undo-requires c κs = asks (c .before .before .before .before .before) _ (c .before .before .before .kernel .given .1)
+
+forward-asks : (a : tie.Start) → Forward (a .args .kernel) → (Strip (a .args .plane .now) (a .args .tile .now) (a .args .stride) (a .args .from) (a .args .s) (a .args .n) × Forward (a .args .kernel)) × Safe a (a .args .kernel)
+forward-asks a h = ((a .pre .0, h), a .pre .1)
+
+strip-forward-requires : tie.Need-strip-forward-requires
+strip-forward-requires c κs = forward-asks (c .before .before .before .before) (subst Forward (sym (c .before .before .enum-told .given .1)) tt)
+
+strip-forward-requires-2 : tie.Need-strip-forward-requires-2
+strip-forward-requires-2 c κs = forward-asks (c .before .before .before .before) (subst Forward (sym (c .before .before .enum-told2 .given .1)) tt)
 
 returns : tie.Need-returns
-returns c = let f = c .before .before in gives (f .before .before .before .before .before .before) _ _ (f .before .before .before .before .kernel .given .1) (f .strip-pair .ensures)
-
-returns-2 : tie.Need-returns-2
-returns-2 c = let f = c .before .before in gives (f .before .before .before .before .before .before) _ _ (f .before .before .before .before .kernel2 .given .1) (f .strip-four .ensures)
-
-returns-3 : tie.Need-returns-3
-returns-3 c = let f = c .before .before in gives (f .before .before .before .before .before .before) _ _ (f .before .before .before .before .kernel3 .given .1) (f .strip-undo .ensures)
+returns c = let f = c .before .before in gives (f .before .before .before .before .before .before) _ _ (f .before .before .before .before .kernel .given .1) (f .strip-undo .ensures)
 
 pub strip-spec : {M : Type 1} → statement M
 strip-spec =
     tie.close
     (tie.spec
     (λ c. search needs)
-    strip-pair-requires
-    (λ c. search needs)
-    strip-four-requires
-    (λ c. search needs)
     strip-undo-requires
+    (λ c. search needs)
+    strip-forward-requires
+    (λ c. search needs)
+    strip-forward-requires-2
     (λ c. search needs)
     (λ c. search needs)
     returns
     (λ c. search needs)
     (λ c. search needs)
-    returns-2
+    (λ c. c .before .before .strip-forward .ensures)
     (λ c. search needs)
     (λ c. search needs)
-    returns-3)
+    (λ c. c .before .before .strip-forward2 .ensures))

@@ -4,7 +4,6 @@ use mathlib.Core.Path.{_∙_}
 use Prim.Native.Nat.{_+_}
 use native.Mathlib.Omega.{arith}
 use Rattle.lines.specs.Lines.{lows}
-use Rattle.lifting.specs.Steps.{applied}
 use Rattle.lifting.specs.Patch.{at}
 use Rattle.lifting.specs.PatchLines.{lines-ext}
 use Rattle.lifting.specs.Kernels.{worked, columnOf}
@@ -26,7 +25,7 @@ unlift-requires : tie.Need-unlift-requires
 unlift-requires c κs =
     let f = c .before .before in
     let a = f .before .before .before in
-    (tile-of (a .pre .0) _ (omega arith), unlift-asked (a .pre .0 .two) (loaded f) (a .args .second) (a .args .first) (λ i j p g. a .pre .1 j g .on-lows i p) (λ i j p g. a .pre .1 j g .on-highs i p))
+    (tile-of (a .pre .0) _ (omega arith), unlift-asked (a .args .pair) (a .pre .0 .two) (loaded f) (λ i j p g. a .pre .1 j g .on-lows i p) (λ i j p g. a .pre .1 j g .on-highs i p))
 
 merge-requires : tie.Need-merge-requires
 merge-requires c κs =
@@ -39,7 +38,7 @@ returns c =
     let l = c .before .before .before .before .before in
     let f = l .before .before .before in
     let a = f .before .before .before in
-    c .before .merge .ensures ∙ lines-ext _ _ _ _ _ (a .args .n) (held-woven (unlift-held (a .pre .0 .two) (loaded f) (applied (a .args .second)) (applied (a .args .first)) _ (l .unlift .ensures)))
+    c .before .merge .ensures ∙ lines-ext _ _ _ _ _ (a .args .n) (held-woven (unlift-held (a .args .pair) (a .pre .0 .two) (loaded f) _ (l .unlift .ensures)))
 
 pub strip-undo-spec : {M : Type 1} → statement M
 strip-undo-spec = tie.close (tie.spec copy-lines-requires unlift-requires merge-requires (λ c. omega arith) (λ c. omega arith) returns)

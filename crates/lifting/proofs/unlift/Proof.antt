@@ -14,14 +14,14 @@ on-highs-requires : tie.Need-on-highs-requires
 on-highs-requires c κs =
     let f = c .before .before in
     let a = f .before .before in
-    (tile-as (a .pre .0) _ (omega arith), subst (AtHighs (Safe (a .args .first)) (a .args .s) (a .args .n)) (sym (f .on-lows .ensures)) (a .pre .1 .on-highs))
+    (tile-as (a .pre .0) _ (omega arith), subst (AtHighs (Safe (a .args .pair .highs)) (a .args .s) (a .args .n)) (sym (f .on-lows .ensures)) (a .pre .1 .on-highs))
 
 returns : tie.Need-returns
 returns c =
     let g = c .before in
     let f = g .before .before .before in
     let a = f .before .before in
-    g .on-highs .ensures ∙ ap (highsDone (applied (a .args .first)) (a .args .s) (a .args .n)) (f .on-lows .ensures)
+    g .on-highs .ensures ∙ ap (highsDone (applied (a .args .pair .highs)) (a .args .s) (a .args .n)) (f .on-lows .ensures)
 
 pub unlift-spec : {M : Type 1} → statement M
 unlift-spec = tie.close (tie.spec on-lows-requires on-highs-requires (λ c. omega arith) returns)

@@ -1,0 +1,46 @@
+-- `lifting::near_of` meets its contract: the raised product, shifted and lowered, is the shifted product.
+-- Assumes nothing.
+use mathlib.Core.Path.{_≡_, sym, ap, ap₂, _∙_}
+use Prim.Native.Nat.{ℕ, _+_, _*_, _/_, _^_}
+use native.Mathlib.Omega.{arith}
+use borrow.Author.Needs.{needs}
+use lib.IntN.{ℤ, pos, _+ℤ_, _-ℤ_, _*ℤ_}
+use mir.Syntax.{w32, w64}
+use mir.Facts.{toZ-ofZ}
+use Rattle.lifting.specs.Steps.{scaled, signed, turnedSum}
+use Rattle.lifting.specs.Raise.{raised, near-is, base-small}
+use Rattle.lifting.proofs.Read.{back, got, fits-at}
+use Rattle.lifting.proofs.near_of.Statement.{statement}
+use Rattle.lifting.proofs.near_of.Tie as tie
+
+settled-requires : tie.Need-settled-requires
+settled-requires c κs =
+    let a = c .before in
+    (a .pre .some, omega (arith, a .pre .short), base-small (a .args .c * 2147483648) (a .args .base) (a .args .cut) (omega (arith, a .pre .room)) (a .pre .some) (a .pre .tied))
+
+value : (c : tie.After-risen) → let a = c .before .before .before .args in back w32 (c .risen .result) +ℤ back w64 (c .before .settled .result) ≡ scaled (a .cut + a .rise) (signed (a .down) (a .c)) (a .cut) (a .own) (a .x) (a .y)
+value c =
+    let s = c .before in
+    let p = s .before in
+    let a = p .before in
+    let part : p .product .result ≡ a .args .c * raised (turnedSum (a .args .down) (a .args .x) (a .args .y)) + 0 =
+    p .product .ensures .0 ∙ (λ u. a .args .c * raised (turnedSum (a .args .down) (toZ-ofZ (a .fits .x) u) (toZ-ofZ (a .fits .y) u)) + 0) in
+    ap₂ _+ℤ_ (got w32 (c .risen .ok) (c .risen .ensures ∙ ap (λ (z : ℤ). z *ℤ pos (2 ^ a .args .rise)) (toZ-ofZ (a .fits .own))))
+    (got w64 (s .settled .ok) (s .settled .ensures ∙ ap (λ (n : ℕ). pos (n / 2 ^ a .args .cut) -ℤ pos (a .args .base)) part))
+    ∙ sym (near-is (a .args .down) (a .args .rise) (a .args .c) (a .args .base) (a .args .cut) (a .pre .tied) (a .args .own) (a .args .x) (a .args .y) (a .pre .sides))
+
+moved-requires : tie.Need-moved-requires
+moved-requires c κs = fits-at (value c) (c .before .before .before .pre .result)
+
+returns : tie.Need-returns
+returns c = got w32 (c .moved .ok) (c .moved .ensures ∙ value (c .before))
+
+pub near-of-spec : {M : Type 1} → statement M
+near-of-spec =
+    tie.close
+    (tie.spec
+    (λ c κs. search needs)
+    settled-requires
+    (λ c κs. search needs)
+    moved-requires
+    returns)

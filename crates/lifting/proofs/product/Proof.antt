@@ -1,0 +1,30 @@
+-- `lifting::product` meets its contract.
+-- Assumes nothing.
+use mathlib.Core.Path.{_≡_, ap, _∙_}
+use Prim.Native.Nat.{ℕ, _+_, _*_}
+use native.Mathlib.Omega.{arith}
+use borrow.Author.Needs.{needs}
+use mir.Syntax.{w32}
+use mir.Facts.{toZ-ofZ}
+use Rattle.lifting.specs.Steps.{turnedSum}
+use Rattle.lifting.specs.Raise.{raised, fused-small, fused-most}
+use Rattle.lifting.proofs.Read.{got}
+use Rattle.lifting.proofs.product.Statement.{statement}
+use Rattle.lifting.proofs.product.Tie as tie
+
+fused-requires : tie.Need-fused-requires
+fused-requires c κs = let a = c .before .before in fused-small (a .args .c) (c .raise .result) (a .args .pad) 4611686018427387904 (c .raise .ok) (a .pre .2) (omega (arith, a .pre .1))
+
+returns : tie.Need-returns
+returns c =
+    let s = c .before in
+    let t = s .before in
+    let a = t .before in
+    let sum : s .raise .result ≡ raised (turnedSum (a .args .down) (a .args .x) (a .args .y)) =
+    s .raise .ensures ∙ ap raised (got w32 (t .turned .ok) (t .turned .ensures ∙ (λ u. turnedSum (a .args .down) (toZ-ofZ (a .fits .x) u) (toZ-ofZ (a .fits .y) u)))) in (
+      c .fused .ensures ∙ ap (λ (n : ℕ). a .args .c * n + a .args .pad) sum,
+      omega (arith, c .fused .ensures, fused-most (a .args .c) (s .raise .result) (a .args .pad) (s .raise .ok), a .pre .1, a .pre .2),
+    )
+
+pub product-spec : {M : Type 1} → statement M
+product-spec = tie.close (tie.spec (λ c κs. search needs) (λ c κs. search needs) fused-requires returns)

@@ -2,30 +2,34 @@
 -- Assumes nothing.
 use Prim.Native.Nat.{ℕ, _+_, _*_, _-_, _/_, _%_, _<_, _≤_}
 use mathlib.Core.Bool.{Bool, true, false, _&&_}
-use mathlib.Core.List.{List}
-use mathlib.Core.Path.{_≡_, sym, _∙_, ap, subst}
+use mathlib.Core.List.{List, _++_}
+use mathlib.Core.Path.{_≡_, refl, sym, _∙_, ap, subst}
 use native.Mathlib.Omega.{arith}
 use native.Mathlib.Decide.{decLt, ℕ-discrete}
 use native.Mathlib.Nat.{mul-comm, mod-lt, div-add-mod', div-lt-iff-lt-mul}
+use borrow.Author.Tests.{lt-ltb, le-ltb, le-leb, lt-leb}
 use lib.Dec.{leb, ltb}
-use lib.IntN.{ℤ, pos}
+use lib.IntN.{ℤ, pos, _-ℤ_}
 use lib.ListN.{length, getD, set, drop, replicate, length-replicate, getD-replicate, length-append, length-drop, List·getD-append}
-use lib.Seq.{ext-getD, getD-append-add, getD-drop}
+use lib.Seq.{ext-getD, getD-append-add, getD-drop, drop-at}
 use Rattle.numbers.specs.Tests.{by-ltb, by-leb}
 use Rattle.numbers.specs.Lists.{over}
-use Rattle.lines.specs.Lines.{lows, highs, lowAfter, highBefore, highAfter, onHighs, onLows, lowsFirst, interleaved}
-use Rattle.lines.specs.LineLaws.{first-low, first-high, even-place, odd-place, by-half, by-parity}
+use Rattle.lines.specs.Lines.{lows, highs, Liftable}
+use Rattle.lines.specs.LineLaws.{some-highs, Equal, first-equal, interleaved-equal, evens-equal, odds-equal, lows-equal, highs-equal}
+use Rattle.lines.specs.Neighbours.{on-highs-equal, on-lows-equal}
 use Rattle.lines.specs.Planes.{Plane, rows, within, rowByRow}
 use Rattle.lines.specs.PlaneLaws.{by-part, within-in, within-below, within-beyond}
 use Rattle.lines.specs.RowLaws.{place-in, rows-length, rows-at}
+use Rattle.lifting.specs.declared.Pair.{Pair}
 use Rattle.lifting.specs.declared.Kernel.{Kernel}
-use Rattle.lifting.specs.declared.Kernel.the-variants.{Pair, Four, Undo}
+use Rattle.lifting.specs.declared.Kernel.the-variants.{One, Two, Undo}
 use Rattle.lifting.specs.Steps.{applied, scaledBy}
+use Rattle.lifting.specs.Passes.{liftedHighs, liftedLows}
 use Rattle.lifting.specs.Patch.{at, patch, patch-in, patch-above, patch-ext, patch-set}
-use Rattle.lifting.specs.PatchLines.{lineAt, lines-apart, lines-out, lines-in}
-use Rattle.lifting.specs.Passes.{evens, odds}
+use Rattle.lifting.specs.PatchLines.{lineAt, patchLines, lines-apart, lines-out, lines-in, lines-is}
+use Rattle.lifting.specs.Strips.{pixelLine}
 use Rattle.pictures.specs.Pictures.{zeroed}
-use Rattle.lifting.specs.Kernels.{worked, rowsWorked, columnsWorked}
+use Rattle.lifting.specs.Kernels.{worked, rowOf, rowsWorked, columnsWorked}
 
 -- the first w columns and h rows of a plane stand row by row
 abbrev pub Stands : ℕ → ℕ → (ℕ → ℤ) → Plane ℤ → Type 0
@@ -33,49 +37,57 @@ Stands w h x p = (r c : ℕ) → r < h → c < w → x (r * w + c) ≡ p r c
 
 -- ---- a kernel reads a line's own values only
 
--- equal at the places below n
-abbrev Same : ℕ → (ℕ → ℤ) → (ℕ → ℤ) → Type 0
-Same n x y = (i : ℕ) → i < n → x i ≡ y i
+-- so does a pair
+lifted-same : (pair : Pair) (n : ℕ) → Liftable n → {l l′ h h′ : ℕ → ℤ} → Equal (lows n) l l′ → Equal (highs n) h h′
+    → Equal (lows n) (liftedLows pair n l h) (liftedLows pair n l′ h′) × Equal (highs n) (liftedHighs pair n l h) (liftedHighs pair n l′ h′)
+lifted-same pair n works el eh =
+    let h = on-highs-equal n el eh (applied (pair .highs)) in
+    (on-lows-equal n el h (applied (pair .lows)) (some-highs n works), h)
 
-module _ (n : ℕ) (two : 2 ≤ n) {l h m g : ℕ → ℤ} (at-lows : Same (lows n) l m) (at-highs : Same (highs n) h g) where
-  on-highs : (f : ℤ → ℤ → ℤ → ℤ) → Same (highs n) (onHighs f n l h) (onHighs f n m g)
-  unfolding onHighs
-  on-highs f i p = λ u. f (at-highs i p u) (at-lows i (omega arith) u) (at-lows (lowAfter n i) (omega arith) u)
-
-  on-lows : (f : ℤ → ℤ → ℤ → ℤ) → Same (lows n) (onLows f n l h) (onLows f n m g)
-  unfolding onLows
-  on-lows f i p = λ u. f (at-lows i p u) (at-highs (highBefore i) (omega arith) u) (at-highs (highAfter n i) (omega arith) u)
-
-  in-halves : Same n (lowsFirst n l h) (lowsFirst n m g)
-  in-halves = by-half (λ i. lowsFirst n l h i ≡ lowsFirst n m g i) n
-      (λ i p. first-low n l h i p ∙ at-lows i p ∙ sym (first-low n m g i p))
-      (λ i p. first-high n l h i ∙ at-highs i p ∙ sym (first-high n m g i))
-
-  in-turns : Same n (interleaved l h) (interleaved m g)
-  in-turns = by-parity (λ i. interleaved l h i ≡ interleaved m g i) n
-      (λ i p. even-place l h i ∙ at-lows i p ∙ sym (even-place m g i))
-      (λ i p. odd-place l h i ∙ at-highs i p ∙ sym (odd-place m g i))
-
-pub worked-same : (k : Kernel) (n : ℕ) → 2 ≤ n → (x y : ℕ → ℤ) → ((i : ℕ) → i < n → x i ≡ y i) → (i : ℕ) → i < n → worked k n x i ≡ worked k n y i
+pub worked-same : (k : Kernel) (n : ℕ) → Liftable n → (x y : ℕ → ℤ) → Equal n x y → Equal n (worked k n x) (worked k n y)
 unfolding worked
-worked-same (Pair s t) n two x y e =
-    let l : Same (lows n) (evens x) (evens y) = λ i p. e (2 * i) (omega arith) in
-    let h0 : Same (highs n) (odds x) (odds y) = λ i p. e (2 * i + 1) (omega arith) in
-    let h = on-highs n two l h0 (applied s) in
-    in-halves n two (on-lows n two l h (applied t)) h
-worked-same (Four p1 u1 p2 u2 g1 g2) n two x y e =
-    let l0 : Same (lows n) (evens x) (evens y) = λ i p. e (2 * i) (omega arith) in
-    let h0 : Same (highs n) (odds x) (odds y) = λ i p. e (2 * i + 1) (omega arith) in
-    let h1 = on-highs n two l0 h0 (applied p1) in
-    let l1 = on-lows n two l0 h1 (applied u1) in
-    let h2 = on-highs n two l1 h1 (applied p2) in
-    let l2 = on-lows n two l1 h2 (applied u2) in
-    in-halves n two (λ i p. ap (scaledBy g1) (l2 i p)) (λ i p. ap (scaledBy g2) (h2 i p))
-worked-same (Undo t s) n two x y e =
-    let h : Same (highs n) (λ i. x (lows n + i)) (λ i. y (lows n + i)) = λ i p. e (lows n + i) (omega arith) in
-    let l0 : Same (lows n) x y = λ i p. e i (omega arith) in
-    let l = on-lows n two l0 h (applied t) in
-    in-turns n two l (on-highs n two l h (applied s))
+worked-same (One pair) n works x y e =
+    let new = lifted-same pair n works (evens-equal n e) (odds-equal n e) in
+    first-equal n (new .0) (new .1)
+worked-same (Two first second low high) n works x y e =
+    let mid = lifted-same first n works (evens-equal n e) (odds-equal n e) in
+    let new = lifted-same second n works (mid .0) (mid .1) in
+    first-equal n (λ i p. ap (scaledBy low) (new .0 i p)) (λ i p. ap (scaledBy high) (new .1 i p))
+worked-same (Undo pair) n works x y e =
+    let h = highs-equal n e in
+    let l = on-lows-equal n (lows-equal n e) h (applied (pair .lows)) (some-highs n works) in
+    interleaved-equal n l (on-highs-equal n l h (applied (pair .highs)))
+
+-- ---- pixels, worked on their way into a plane
+
+-- a plane with pixels at its front, each less the middle of its range
+abbrev pub loaded : List ℕ → ℕ → ℕ → ℕ → (ℕ → ℤ) → ℕ → ℤ
+loaded pixels middle w h x = patch 0 (w * h) (λ k. pos (getD pixels k 0) -ℤ pos middle) x
+
+module _ (k : Kernel) (pixels : List ℕ) (middle w h : ℕ) (x : ℕ → ℤ) (works : Liftable w) where
+  some : 1 ≤ w
+  some = omega (arith, works)
+
+  -- rows do not meet
+  rows-apart : (i j : ℕ) → i < j → (p q : ℕ) → p < w → q < w → lineAt 0 w i + p ≡ lineAt 0 w j + q → ⊥
+  rows-apart i j l = lines-apart 0 w w i j (omega arith) (omega arith)
+
+  -- what is on no row is past the plane
+  past : (p : ℕ) → ((i j : ℕ) → i < h → j < w → lineAt 0 w i + j ≡ p → ⊥) → w * h ≤ p
+  past p off = go (decLt p (w * h))
+    where
+      go : Dec (p < w * h) → w * h ≤ p
+      go (yes l) = absurd (off (p / w) (p % w) (div-lt-iff-lt-mul some .1 (subst (λ (n : ℕ). p < n) (mul-comm w h) l)) (mod-lt p some) (let e : lineAt 0 w (p / w) + p % w ≡ p / w * w + p % w = omega arith in e ∙ div-add-mod' p w))
+      go (no f) = omega arith
+
+  sample-at : (i c : ℕ) → i < h → c < w → pixelLine pixels middle (i * w) c ≡ rowOf w 0 (loaded pixels middle w h x) i c
+  sample-at i c a b = sym (ap (loaded pixels middle w h x) (let e : lineAt 0 w i + c ≡ 0 + (i * w + c) = omega arith in e) ∙ patch-in 0 (w * h) _ x (i * w + c) (place-in w h some i c a b))
+
+  -- the rows that the pixels give are those of the plane that holds them
+  pub pixel-rows-worked : patchLines (lineAt 0 w) w h (λ r. worked k w (pixelLine pixels middle (r * w))) x ≡ rowsWorked k w w h (loaded pixels middle w h x)
+  pixel-rows-worked = lines-is (lineAt 0 w) w _ (loaded pixels middle w h x) rows-apart h _
+      (λ i j a b. lines-in (lineAt 0 w) w _ x rows-apart h i j a b ∙ worked-same k w works _ _ (λ c d. sample-at i c a d) j b)
+      (λ p off. lines-out (lineAt 0 w) w _ x h p off ∙ sym (patch-above 0 (w * h) _ x p (omega (arith, past p off))))
 
 -- ---- rows and columns worked
 
@@ -87,7 +99,7 @@ same-place W i j r c p q e = go (ℕ-discrete i r)
     go (yes s) = (s, omega (arith, ap (λ (t : ℕ). t * W) s))
     go (no f) = absurd (lines-apart 0 W W i r (omega arith) f j c p q (omega arith))
 
-module _ (k : Kernel) (W H w h : ℕ) (x : ℕ → ℤ) (p : Plane ℤ) (two : 2 ≤ w) (wide : w ≤ W) (tall : h ≤ H) where
+module _ (k : Kernel) (W H w h : ℕ) (x : ℕ → ℤ) (p : Plane ℤ) (works : Liftable w) (wide : w ≤ W) (tall : h ≤ H) where
   off : (i j r c : ℕ) → j < w → c < W → lineAt 0 W i + j ≡ r * W + c → (i ≡ r) × (j ≡ c)
   off i j r c g q e = same-place W i j r c (omega arith) q (omega arith)
 
@@ -96,13 +108,13 @@ module _ (k : Kernel) (W H w h : ℕ) (x : ℕ → ℤ) (p : Plane ℤ) (two : 2
   rows-stand s = by-part (λ r c. r < H → c < W → rowsWorked k W w h x (r * W + c) ≡ within w h (rows (worked k) w p) p r c) w h
       (λ r c i j a b. ap (rowsWorked k W w h x) (omega arith)
       ∙ lines-in (lineAt 0 W) w _ x (λ u v l. lines-apart 0 W w u v wide (omega arith)) h r c i j
-      ∙ worked-same k w two _ _ (λ m q. ap x (omega arith) ∙ s r m a (omega arith)) c j
+      ∙ worked-same k w works _ _ (λ m q. ap x (omega arith) ∙ s r m a (omega arith)) c j
       ∙ sym (within-in w h _ p r c i j))
       (λ r c i a b. lines-out (lineAt 0 W) w _ x h _ (λ u v l q e. let z = off u v r c q b e in omega arith) ∙ s r c a b ∙ sym (within-below w h _ p r c i))
       (λ r c j a b. lines-out (lineAt 0 W) w _ x h _ (λ u v l q e. let z = off u v r c q b e in omega arith) ∙ s r c a b ∙ sym (within-beyond w h _ p r c j))
 
-pub rows-beyond : (k : Kernel) (W H w h : ℕ) (x : ℕ → ℤ) → 2 ≤ w → w ≤ W → h ≤ H → (q : ℕ) → W * H ≤ q → rowsWorked k W w h x q ≡ x q
-rows-beyond k W H w h x two wide tall q far = lines-out (lineAt 0 W) w _ x h q (λ u v l b e. omega (arith, place-in W H (omega arith) u v (omega arith) (omega arith)))
+pub rows-beyond : (k : Kernel) (W H w h : ℕ) (x : ℕ → ℤ) → Liftable w → w ≤ W → h ≤ H → (q : ℕ) → W * H ≤ q → rowsWorked k W w h x q ≡ x q
+rows-beyond k W H w h x works wide tall q far = lines-out (lineAt 0 W) w _ x h q (λ u v l b e. omega (arith, place-in W H (omega arith) u v (omega arith) (omega arith)))
 
 -- columns `from` to `from + w - 1` of the first h rows worked, all else as it was
 unfoldable pub columnsPlane : Kernel → ℕ → ℕ → ℕ → Plane ℤ → Plane ℤ
@@ -111,7 +123,29 @@ columnsPlane k from w h p r c = elim (ltb r h && (leb from c && ltb c (from + w)
 abbrev pick : {A : Type 0} → A → A → Bool → A
 pick a b t = elim t [ true ↦ a | false ↦ b ]
 
-module _ (k : Kernel) (W H from w h : ℕ) (x : ℕ → ℤ) (p : Plane ℤ) (two : 2 ≤ h) (wide : from + w ≤ W) (tall : h ≤ H) where
+and-false : (t : Bool) → t && false ≡ false
+and-false true = refl
+and-false false = refl
+
+-- a place inside the columns, below them, left and right of them
+module _ (k : Kernel) (from w h : ℕ) (p : Plane ℤ) (r c : ℕ) where
+  pub columns-in : r < h → from ≤ c → c < from + w → columnsPlane k from w h p r c ≡ worked k h (λ m. p m c) r
+  unfolding columnsPlane
+  columns-in i a b = ap (pick (worked k h (λ m. p m c) r) (p r c)) ((λ u. lt-ltb r h i u && (le-leb from c a u && ltb c (from + w))) ∙ lt-ltb c (from + w) b)
+
+  pub columns-below : h ≤ r → columnsPlane k from w h p r c ≡ p r c
+  unfolding columnsPlane
+  columns-below i = ap (pick (worked k h (λ m. p m c) r) (p r c)) (λ u. le-ltb r h i u && (leb from c && ltb c (from + w)))
+
+  pub columns-left : c < from → columnsPlane k from w h p r c ≡ p r c
+  unfolding columnsPlane
+  columns-left a = ap (pick (worked k h (λ m. p m c) r) (p r c)) ((λ u. ltb r h && (lt-leb from c a u && ltb c (from + w))) ∙ and-false (ltb r h))
+
+  pub columns-right : from + w ≤ c → columnsPlane k from w h p r c ≡ p r c
+  unfolding columnsPlane
+  columns-right b = ap (pick (worked k h (λ m. p m c) r) (p r c)) ((λ u. ltb r h && (leb from c && le-ltb c (from + w) b u)) ∙ (λ u. ltb r h && and-false (leb from c) u) ∙ and-false (ltb r h))
+
+module _ (k : Kernel) (W H from w h : ℕ) (x : ℕ → ℤ) (p : Plane ℤ) (works : Liftable h) (wide : from + w ≤ W) (tall : h ≤ H) where
   apart : (i j r c : ℕ) → j < w → c < W → lineAt from W i + j ≡ r * W + c → (i ≡ r) × (from + j ≡ c)
   apart i j r c g q e = same-place W i (from + j) r c (omega arith) q (omega arith)
 
@@ -123,7 +157,7 @@ module _ (k : Kernel) (W H from w h : ℕ) (x : ℕ → ℤ) (p : Plane ℤ) (tw
       (λ l. by-ltb (λ t. columnsWorked k W from w h x (r * W + c) ≡ pick (worked k h (λ m. p m c) r) (p r c) t) c (from + w)
       (λ u. ap (columnsWorked k W from w h x) (omega arith)
       ∙ lines-in (lineAt from W) w _ x (λ u v l. lines-apart from W w u v (omega arith) (omega arith)) h r (c - from) i (omega arith)
-      ∙ worked-same k h two _ _ (λ m q. ap x (omega arith) ∙ s m c (omega arith) b) r i)
+      ∙ worked-same k h works _ _ (λ m q. ap x (omega arith) ∙ s m c (omega arith) b) r i)
       (λ u. old (λ m j g q e. let z = apart m j r c q b e in omega arith)))
       (λ l. old (λ m j g q e. let z = apart m j r c q b e in omega arith)))
       (λ i. old (λ m j l q e. let z = apart m j r c q b e in omega arith))
@@ -131,8 +165,8 @@ module _ (k : Kernel) (W H from w h : ℕ) (x : ℕ → ℤ) (p : Plane ℤ) (tw
       old : ((i j : ℕ) → i < h → j < w → lineAt from W i + j ≡ r * W + c → ⊥) → columnsWorked k W from w h x (r * W + c) ≡ p r c
       old none = lines-out (lineAt from W) w _ x h _ none ∙ s r c a b
 
-pub columns-beyond : (k : Kernel) (W H from w h : ℕ) (x : ℕ → ℤ) → 2 ≤ h → from + w ≤ W → h ≤ H → (q : ℕ) → W * H ≤ q → columnsWorked k W from w h x q ≡ x q
-columns-beyond k W H from w h x two wide tall q far = lines-out (lineAt from W) w _ x h q (λ u v l b e. omega (arith, place-in W H (omega arith) u (from + v) (omega arith) (omega arith)))
+pub columns-beyond : (k : Kernel) (W H from w h : ℕ) (x : ℕ → ℤ) → Liftable h → from + w ≤ W → h ≤ H → (q : ℕ) → W * H ≤ q → columnsWorked k W from w h x q ≡ x q
+columns-beyond k W H from w h x works wide tall q far = lines-out (lineAt from W) w _ x h q (λ u v l b e. omega (arith, place-in W H (omega arith) u (from + v) (omega arith) (omega arith)))
 
 -- ---- what is written over the front of a list
 
@@ -176,3 +210,9 @@ pub patch-zeroed : (i n : ℕ) (l l′ : List ℤ) → at l′ ≡ patch 0 i (λ
 patch-zeroed i n l l′ is same room e =
     patch-over (pos 0) i (replicate n (pos 0)) l l′ (is ∙ patch-ext 0 i _ _ (at l) (λ k h. sym (getD-replicate n k (pos 0) (pos 0) (omega arith)))) same
     (omega (arith, length-replicate n (pos 0))) (omega (arith, length-replicate n (pos 0)))
+
+-- the work area is cleared, whatever its front was used for
+pub zeroed-part : (n : ℕ) (part work : List ℤ) → length part ≡ n → zeroed n (part ++ drop n work) ≡ zeroed n work
+zeroed-part n part work e =
+    let l = length-replicate n (pos 0) in
+    ap (λ (t : List ℤ). replicate n (pos 0) ++ t) (ap (λ (m : ℕ). drop m (part ++ drop n work)) l ∙ drop-at part (drop n work) n e ∙ ap (λ (m : ℕ). drop m work) (sym l))

@@ -1,8 +1,8 @@
 -- What refusals 8, 9 and 10 say where they are not given; and what is written over the front of a list.
 use Prim.Native.Nat.{ℕ, _+_, _*_, _-_, _^_, _<_, _≤_}
-use mathlib.Core.Bool.{Bool, true, false, _&&_}
+use mathlib.Core.Bool.{_&&_}
 use mathlib.Core.List.{List}
-use mathlib.Core.Path.{_≡_, sym, _∙_, subst}
+use mathlib.Core.Path.{_≡_, refl, sym, _∙_, subst}
 use native.Mathlib.Omega.{arith}
 use lib.Dec.{T, leb, ltb, le→leb, leb→le, lt→ltb, ltb→lt}
 use lib.ListN.{length, getD, take, drop, length-append}
@@ -10,11 +10,11 @@ use lib.Seq.{take-at, getD-take, length-take-le}
 use Rattle.numbers.specs.Tests.{every, both, and-intro}
 use Rattle.numbers.specs.Lists.{over}
 use Rattle.refusals.specs.declared.Outcome.{Outcome}
-use Rattle.refusals.specs.declared.Outcome.the-variants.{Done}
-use Rattle.refusals.specs.Refusals.{asks}
-use Rattle.refusals.specs.RefusalLaws.{asks-done, asks-right}
+use Rattle.refusals.specs.declared.Outcome.the-variants.{Done, Refused}
+use Rattle.refusals.specs.Refusals.{_then_}
+use Rattle.refusals.specs.RefusalLaws.{asks-done, asks-right, then-done, then-right}
 use Rattle.lines.specs.RowLaws.{place-in, every-at}
-use Rattle.pictures.specs.Pictures.{maxSide, sideRight, Admitted, sized, pixelsRight}
+use Rattle.pictures.specs.Pictures.{maxSide, sideRight, Admitted, sided, holds, pixelsRight}
 
 -- sides are admitted, and three slices of a, b and c elements are long enough
 pub record Room (L w h a b c : ℕ) : Type 0 where
@@ -24,35 +24,59 @@ pub record Room (L w h a b c : ℕ) : Type 0 where
   pub second : w * h ≤ b
   pub third : w * h ≤ c
 
-all3 : (a b c : Bool) → T (a && b && c) → T a × T b × T c
-all3 true true true h = (tt, tt, tt)
-all3 true true false h = absurd h
-all3 true false c h = absurd h
-all3 false b c h = absurd h
-
-three : (a b c : Bool) → T a → T b → T c → T (a && b && c)
-three a b c x y z = and-intro (a && b) c (and-intro a b x y) z
-
 pub side-is : (L n : ℕ) → T (sideRight L n) → Admitted L n
 side-is L n h = let x = both (ltb (2 ^ (L - 1)) n) (leb n maxSide) h in (ltb→lt _ _ (x .0), leb→le n maxSide (x .1))
 
 pub side-right : (L n : ℕ) → Admitted L n → T (sideRight L n)
 side-right L n x = and-intro (ltb (2 ^ (L - 1)) n) (leb n maxSide) (lt→ltb _ _ (x .0)) (le→leb _ _ (x .1))
 
-pub sized-done : (L w h a b c : ℕ) → sized L w h a b c ≡ Done → Room L w h a b c
-unfolding sized
-sized-done L w h a b c e =
-    let x = asks-done (sideRight L w && sideRight L h) _ _ e in
-    let y = asks-done (leb (w * h) a && leb (w * h) b && leb (w * h) c) _ _ (x .1) in
-    let s = both (sideRight L w) (sideRight L h) (x .0) in
-    let r = all3 (leb (w * h) a) (leb (w * h) b) (leb (w * h) c) (y .0) in
-    record { wide = side-is L w (s .0); tall = side-is L h (s .1); first = leb→le _ _ (r .0); second = leb→le _ _ (r .1); third = leb→le _ _ (r .2) }
+pub sided-done : (L w h : ℕ) → sided L w h ≡ Done → Admitted L w × Admitted L h
+unfolding sided
+sided-done L w h e =
+    let s = both (sideRight L w) (sideRight L h) (asks-done (sideRight L w && sideRight L h) _ _ e .0) in
+    (side-is L w (s .0), side-is L h (s .1))
 
-pub sized-right : (L w h a b c : ℕ) → Room L w h a b c → sized L w h a b c ≡ Done
-unfolding sized
-sized-right L w h a b c r =
-    asks-right (sideRight L w && sideRight L h) _ _ (and-intro (sideRight L w) (sideRight L h) (side-right L w (r .wide)) (side-right L h (r .tall)))
-    ∙ asks-right (leb (w * h) a && leb (w * h) b && leb (w * h) c) _ _ (three (leb (w * h) a) (leb (w * h) b) (leb (w * h) c) (le→leb _ _ (r .first)) (le→leb _ _ (r .second)) (le→leb _ _ (r .third)))
+pub sided-right : (L w h : ℕ) → Admitted L w → Admitted L h → sided L w h ≡ Done
+unfolding sided
+sided-right L w h a b = asks-right (sideRight L w && sideRight L h) _ _ (and-intro (sideRight L w) (sideRight L h) (side-right L w a) (side-right L h b))
+
+pub holds-done : (n k : ℕ) → holds n k ≡ Done → n ≤ k
+unfolding holds
+holds-done n k e = leb→le n k (asks-done (leb n k) _ _ e .0)
+
+pub holds-right : (n k : ℕ) → n ≤ k → holds n k ≡ Done
+unfolding holds
+holds-right n k h = asks-right (leb n k) _ _ (le→leb n k h)
+
+-- 8, and 9 of three slices
+module _ (L w h a b c : ℕ) where
+  abbrev pub sized : Outcome
+  sized = sided L w h then holds (w * h) a then holds (w * h) b then holds (w * h) c
+
+  -- and what is judged after them
+  pub sized-then : (after : Outcome) → sided L w h then holds (w * h) a then holds (w * h) b then holds (w * h) c then after ≡ sized then after
+  sized-then after = go (sided L w h) (holds (w * h) a) (holds (w * h) b) (holds (w * h) c)
+    where
+      go : (s x y z : Outcome) → s then x then y then z then after ≡ (s then x then y then z) then after
+      go (Refused r) x y z = refl
+      go Done (Refused r) y z = refl
+      go Done Done (Refused r) z = refl
+      go Done Done Done z = refl
+
+  pub sized-done : sized ≡ Done → Room L w h a b c
+  sized-done e =
+      let s = then-done (sided L w h) _ e in
+      let x = then-done (holds (w * h) a) _ (s .1) in
+      let y = then-done (holds (w * h) b) _ (x .1) in
+      let d = sided-done L w h (s .0) in
+      record { wide = d .0; tall = d .1; first = holds-done _ _ (x .0); second = holds-done _ _ (y .0); third = holds-done _ _ (y .1) }
+
+  pub sized-right : Room L w h a b c → sized ≡ Done
+  sized-right r =
+      then-right (sided L w h) _ (sided-right L w h (r .wide) (r .tall))
+      ∙ then-right (holds (w * h) a) _ (holds-right _ _ (r .first))
+      ∙ then-right (holds (w * h) b) _ (holds-right _ _ (r .second))
+      ∙ holds-right _ _ (r .third)
 
 pub pixels-done : (B w h : ℕ) (pixels : List ℕ) → pixelsRight B w h pixels ≡ Done → T (every (λ p. ltb p (2 ^ B)) (take (w * h) pixels))
 unfolding pixelsRight

@@ -25,12 +25,13 @@ sideRight L n = ltb (2 ^ (L - 1)) n && leb n maxSide
 abbrev pub Admitted : ℕ → ℕ → Type 0
 Admitted L n = (2 ^ (L - 1) < n) × (n ≤ maxSide)
 
--- 8, then 9: pixels, plane and work area, of a, b and c elements, need w * h each.
-unfoldable pub sized : ℕ → ℕ → ℕ → ℕ → ℕ → ℕ → Outcome
-sized L w h a b c =
-    asks (sideRight L w && sideRight L h) SideNotAdmitted
-    (asks (leb (w * h) a && leb (w * h) b && leb (w * h) c) SliceTooShort
-    Done)
+-- 8: both sides are admitted.
+unfoldable pub sided : ℕ → ℕ → ℕ → Outcome
+sided L w h = asks (sideRight L w && sideRight L h) SideNotAdmitted Done
+
+-- 9: a lent slice of k elements holds n.
+unfoldable pub holds : ℕ → ℕ → Outcome
+holds n k = asks (leb n k) SliceTooShort Done
 
 -- 10: the first w * h pixels are below 2^B.
 unfoldable pub pixelsRight : ℕ → ℕ → ℕ → List ℕ → Outcome

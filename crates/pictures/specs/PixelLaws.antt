@@ -3,11 +3,11 @@
 use Prim.Native.Nat.{ℕ, suc, _+_, _*_, _-_, _%_, _^_, _<_, _≤_}
 use mathlib.Core.Bool.{Bool, true, false, _&&_}
 use mathlib.Core.List.{List, [], _∷_, _++_}
-use mathlib.Core.Path.{_≡_, refl, sym, _∙_, ap, subst}
+use mathlib.Core.Path.{_≡_, refl, sym, _∙_, ap}
 use native.Mathlib.Omega.{arith}
 use native.Mathlib.Nat.{mul-le-mul}
 use borrow.Author.Tests.{lt-ltb, le-ltb, le-leb, lt-leb}
-use lib.Dec.{T, leb, ltb}
+use lib.Dec.{leb, ltb}
 use lib.ListN.{length, getD, take}
 use lib.Pow.{pow-mono, pow-pos, shl-exact}
 use lib.Seq.{take-suc, take-all}
@@ -16,8 +16,8 @@ use Rattle.refusals.specs.declared.Refusal.the-variants.{SideNotAdmitted, Slice
 use Rattle.refusals.specs.declared.Outcome.the-variants.{Done, Refused}
 use Rattle.refusals.specs.Refusals.{asks}
 use Rattle.width_table.specs.Table.{depthRight, levelsRight}
-use Rattle.pictures.specs.PictureLaws.{side-is}
-use Rattle.pictures.specs.Pictures.{sideRight, sized, pixelsRight}
+use Rattle.pictures.specs.PictureLaws.{sided-done}
+use Rattle.pictures.specs.Pictures.{sideRight, sided, holds, pixelsRight}
 
 -- 1, shifted
 pub one-shifted : (k w : ℕ) → 1 + k ≤ w → (1 * 2 ^ k) % 2 ^ w ≡ 2 ^ k
@@ -48,39 +48,29 @@ module _ (L n : ℕ) where
       and-true true = refl
       and-true false = refl
 
-pub side-most : (L n : ℕ) → sideRight L n ≡ true → n ≤ 4096
-side-most L n e = side-is L n (subst T (sym e) tt) .1
-
 -- two sides make a size that fits a machine word
-pub size-fits : (w h : ℕ) → w ≤ 4096 → h ≤ 4096 → w * h ≤ 16777216
-size-fits w h a b = mul-le-mul a b
+pub size-fits : (L w h : ℕ) → sided L w h ≡ Done → w * h ≤ 16777216
+size-fits L w h e = let d = sided-done L w h e in mul-le-mul (d .0 .1) (d .1 .1)
 
 -- ---- refusals 8 and 9
 
-module _ (L w h a b c : ℕ) where
-  asked : (s t u v x : Bool) → sideRight L w ≡ s → sideRight L h ≡ t → leb (w * h) a ≡ u → leb (w * h) b ≡ v → leb (w * h) c ≡ x
-      → sized L w h a b c ≡ asks (s && t) SideNotAdmitted (asks (u && v && x) SliceTooShort Done)
-  unfolding sized
-  asked s t u v x d e f g i = λ j. asks (d j && e j) SideNotAdmitted (asks (f j && g j && i j) SliceTooShort Done)
+module _ (L w h : ℕ) where
+  asked : (s t : Bool) → sideRight L w ≡ s → sideRight L h ≡ t → sided L w h ≡ asks (s && t) SideNotAdmitted Done
+  unfolding sided
+  asked s t d e = λ j. asks (d j && e j) SideNotAdmitted Done
 
-  pub wide-wrong : sideRight L w ≡ false → sized L w h a b c ≡ Refused SideNotAdmitted
-  wide-wrong e = asked false (sideRight L h) _ _ _ e refl refl refl refl
+  pub wide-wrong : sideRight L w ≡ false → sided L w h ≡ Refused SideNotAdmitted
+  wide-wrong d = asked false (sideRight L h) d refl
 
-  pub tall-wrong : sideRight L w ≡ true → sideRight L h ≡ false → sized L w h a b c ≡ Refused SideNotAdmitted
-  tall-wrong d e = asked true false _ _ _ d e refl refl refl
+  pub tall-wrong : sideRight L w ≡ true → sideRight L h ≡ false → sided L w h ≡ Refused SideNotAdmitted
+  tall-wrong d e = asked true false d e
 
-  module _ (d : sideRight L w ≡ true) (e : sideRight L h ≡ true) where
-    pub first-short : a < w * h → sized L w h a b c ≡ Refused SliceTooShort
-    first-short f = asked true true false (leb (w * h) b) (leb (w * h) c) d e (lt-leb _ _ f) refl refl
+  pub both-right : sideRight L w ≡ true → sideRight L h ≡ true → sided L w h ≡ Done
+  both-right d e = asked true true d e
 
-    pub second-short : w * h ≤ a → b < w * h → sized L w h a b c ≡ Refused SliceTooShort
-    second-short f g = asked true true true false (leb (w * h) c) d e (le-leb _ _ f) (lt-leb _ _ g) refl
-
-    pub third-short : w * h ≤ a → w * h ≤ b → c < w * h → sized L w h a b c ≡ Refused SliceTooShort
-    third-short f g i = asked true true true true false d e (le-leb _ _ f) (le-leb _ _ g) (lt-leb _ _ i)
-
-    pub room-for : w * h ≤ a → w * h ≤ b → w * h ≤ c → sized L w h a b c ≡ Done
-    room-for f g i = asked true true true true true d e (le-leb _ _ f) (le-leb _ _ g) (le-leb _ _ i)
+pub slice-short : (n k : ℕ) → k < n → holds n k ≡ Refused SliceTooShort
+unfolding holds
+slice-short n k h = ap (λ (t : Bool). asks t SliceTooShort Done) (lt-leb n k h)
 
 -- ---- refusal 10
 

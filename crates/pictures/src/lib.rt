@@ -1,12 +1,11 @@
-// Pictures and planes in memory: refusals 8, 9 and 10, samples in, the work area cleared.
+// Pictures and planes in memory: refusals 8, 9 and 10, the middle of the pixels, the work area cleared.
 ghost use mathlib.Core.Path.{_≡_};
 ghost use mathlib.Core.Bool.{_&&_};
 ghost use Prim.Native.Nat.{_*_, _-_, _<_, _≤_, _^_};
-ghost use lib.ListN.{length, getD};
-ghost use lib.IntN.{pos, _-ℤ_};
-ghost use Rattle.lifting.specs.Patch.{at, patch};
+ghost use lib.ListN.{length};
 ghost use Rattle.width_table.specs.Table.{depthRight, levelsRight};
-ghost use Rattle.pictures.specs.Pictures.{sideRight, sized, pixelsRight, zeroed};
+ghost use Rattle.refusals.specs.Refusals.{_then_};
+ghost use Rattle.pictures.specs.Pictures.{sideRight, sided, holds, pixelsRight, zeroed};
 ghost use Rattle.pictures.specs.PixelLaws.{Largest};
 use refusals::Outcome;
 use refusals::Refusal;
@@ -50,16 +49,9 @@ pub fn side_admitted(levels: u8, side: usize) -> bool
     (1usize << (levels - 1)) < side
 }
 
-// Refusals 8 and 9, for slices of so many elements.
-pub fn sizes_right(
-    levels: u8,
-    w: usize,
-    h: usize,
-    first: usize,
-    second: usize,
-    third: usize,
-) -> Outcome
-    ensures { λ r. ⌜ r ≡ sized levels w h first second third ⌝ }
+// Refusal 8.
+pub fn sides_right(levels: u8, w: usize, h: usize) -> Outcome
+    ensures { λ r. ⌜ r ≡ sided levels w h ⌝ }
 {
     if side_admitted(levels, w) {} else {
         return Outcome::Refused(Refusal::SideNotAdmitted);
@@ -67,17 +59,45 @@ pub fn sizes_right(
     if side_admitted(levels, h) {} else {
         return Outcome::Refused(Refusal::SideNotAdmitted);
     }
-    let n = w * h;
-    if first < n {
-        return Outcome::Refused(Refusal::SliceTooShort);
-    }
-    if second < n {
-        return Outcome::Refused(Refusal::SliceTooShort);
-    }
-    if third < n {
+    Outcome::Done
+}
+
+// Refusal 9, for a slice of so many elements that is to hold n.
+pub fn slice_holds(n: usize, length: usize) -> Outcome
+    ensures { λ r. ⌜ r ≡ holds n length ⌝ }
+{
+    if length < n {
         return Outcome::Refused(Refusal::SliceTooShort);
     }
     Outcome::Done
+}
+
+// Refusals 8 and 9, for three slices of so many elements.
+pub fn room_right(
+    levels: u8,
+    w: usize,
+    h: usize,
+    first: usize,
+    second: usize,
+    third: usize,
+) -> Outcome
+    ensures { λ r. ⌜ r ≡ sided levels w h then holds (w * h) first then holds (w * h) second then holds (w * h) third ⌝ }
+{
+    match sides_right(levels, w, h) {
+        Outcome::Refused(why) => Outcome::Refused(why),
+        Outcome::Done => {
+            let n = w * h;
+            match slice_holds(n, first) {
+                Outcome::Refused(why) => Outcome::Refused(why),
+                Outcome::Done => {
+                    match slice_holds(n, second) {
+                        Outcome::Refused(why) => Outcome::Refused(why),
+                        Outcome::Done => slice_holds(n, third),
+                    }
+                }
+            }
+        }
+    }
 }
 
 // The largest of some pixels; 0 of none.
@@ -108,22 +128,12 @@ pub fn pixels_right(depth: u8, w: usize, h: usize, pixels: &[u16]) -> Outcome
     }
 }
 
-// A pixel less the middle of its range.
-fn centred(pixel: u16, middle: u16) -> i32
-    ensures { λ r. ⌜ r ≡ pos pixel -ℤ pos middle ⌝ }
+// The middle of the pixels' range.
+pub fn middle(depth: u8) -> u16
+    requires { ⌜ (1 ≤ depth) × (depth ≤ 12) ⌝ }
+    ensures { λ r. ⌜ r ≡ 2 ^ (depth - 1) ⌝ }
 {
-    (pixel as i32) - (middle as i32)
-}
-
-// The first n pixels go to the plane, each less 2^(depth - 1).
-pub fn load_samples(pixels: &[u16], plane: &mut [i32], n: usize, depth: u8)
-    requires { ⌜ (1 ≤ depth) × (depth ≤ 12) × (n ≤ length (now pixels)) × (n ≤ length (now plane)) ⌝ }
-    ensures { λ _. ⌜ at (now (plane .exit)) ≡ patch 0 n (λ k. pos (getD (now (pixels .entry)) k 0) -ℤ pos (2 ^ (depth - 1))) (at (now (plane .entry))) ⌝ }
-{
-    let middle = 1u16 << (depth - 1);
-    for i in 0..n {
-        plane[i] = centred(pixels[i], middle);
-    }
+    1u16 << (depth - 1)
 }
 
 // The first n elements become 0.

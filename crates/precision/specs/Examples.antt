@@ -13,11 +13,11 @@ use Rattle.stages.specs.Stages.{made, bits}
 use Rattle.stages.specs.Gains.{gain, exactGain, sumFrom, sumTo, inputAnswer, nodeAnswer, held}
 use Rattle.stages.specs.Rule as Rule
 use Rattle.precision.specs.Bounds
-use Rattle.refusals.specs.declared.Refusal.{Refusal}
 use Rattle.refusals.specs.declared.Refusal.the-variants.{OutsideLimits, DoesNotFit, ErrorTooLarge}
 use Rattle.refusals.specs.declared.Outcome.{Outcome}
 use Rattle.refusals.specs.declared.Outcome.the-variants.{Done, Refused}
 use Rattle.precision.specs.Verdict.{judged, firstRefusal, verdict, Accepted}
+use Rattle.precision.specs.BoundCalls.{boundable, boundAnswer}
 
 -- The nodes of a pass, IB then f: IB of P1, IB of the others, f of P1 to U2, of G1, of G2.
 abbrev pass : ℕ → ℕ → ℕ → ℕ → ℕ → List ℕ
@@ -87,3 +87,10 @@ rough-refused = ap (nth 6) verdicts
 -- Refused 4.
 pub wide-refused : verdict wide ≡ Refused OutsideLimits
 wide-refused = ap (nth 7) verdicts
+
+-- The first refused node has its bound told, no node after it; a table of one level lacks level 2.
+bounds-told :
+    boundAnswer narrow 1 1 1 ∷ boundAnswer narrow 1 1 2 ∷ boundAnswer narrow 2 1 1 ∷ []
+    ≡ record { outcome = Done; range = 8959885312; error = 4224 } ∷ record { outcome = Refused (DoesNotFit (record { level = 1; pass = 1; node = 1 })); range = 0; error = 0 } ∷ record { outcome = Refused OutsideLimits; range = 0; error = 0 } ∷ []
+unfolding boundAnswer boundable formRight every firstRefusal judged Bounds.boundOf Bounds.entering Bounds.passBound Bounds.rowBound Bounds.boundAt Rule.boundAt Rule.rangeAt Rule.errorAt Rule.owns Rule.ownsBring Rule.ownFrom Rule.brought Rule.ownLift Rule.ownScale Rule.loss Rule.timesGain bits upDiv gain exactGain sumFrom sumTo inputAnswer nodeAnswer held made wholesOf lift _⊕_ _⊗_ whole magnitude
+bounds-told = refl

@@ -1,40 +1,36 @@
 -- What the program reads of a table, what it computes for a pass, and how its steps make the verdict.
 use Prim.Native.Nat.{ℕ, zero, suc, _+_, _*_, _-_, _^_, _<_, _≤_}
 use mathlib.Core.Bool.{Bool, true, false, _||_, not}
-use mathlib.Core.List.{List, [], _∷_, _++_}
+use mathlib.Core.List.{List, [], _∷_}
 use mathlib.Core.Path.{_≡_, refl, sym, _∙_, ap, subst, subst₂}
 use native.Mathlib.Omega.{arith}
-use native.Mathlib.Nat.{le-trans, mul-le-mul-right}
-use native.Mathlib.Decide.{decLt}
-use native.Mathlib.Numerals.{add-one}
+use native.Mathlib.Nat.{mul-le-mul-right}
 use lib.Dec.{T, eqb, leb, leb→le, le→leb, ltb, lt→ltb, lit≤}
 use lib.ListN.{getD, set}
 use lib.Pow.{pow-mono}
 use borrow.Author.Tests.{lt-leb, le-ltb}
 use Rattle.refusals.specs.declared.NodePlace.{NodePlace}
 use Rattle.refusals.specs.declared.Refusal.{Refusal}
-use Rattle.refusals.specs.declared.Refusal.the-variants.{OutsideLimits, DoesNotFit, ErrorTooLarge}
+use Rattle.refusals.specs.declared.Refusal.the-variants.{DoesNotFit, ErrorTooLarge}
 use Rattle.refusals.specs.declared.Outcome.{Outcome}
 use Rattle.refusals.specs.declared.Outcome.the-variants.{Done, Refused}
-use Rattle.refusals.specs.Refusals.{asks, _then_}
-use Rattle.refusals.specs.RefusalLaws.{asks-done, asks-right, then-right, then-refused}
+use Rattle.refusals.specs.Refusals.{asks}
+use Rattle.refusals.specs.RefusalLaws.{asks-done, asks-right, asks-wrong}
 use Rattle.width_table.specs.declared.WidthTable.{WidthTable}
-use Rattle.width_table.specs.Nodes.{Node, G1, G2, Pass, Rows, LowColumns, HighColumns, nodeAt, passNumber, nodeNumber, passNodes, levelNodes, bookOrder}
-use Rattle.width_table.specs.Table.{constantBits, integerBits, fractionBits, inputBits, formRight}
-use Rattle.width_table.specs.Readers.{constantBitsAt, integerBitsAt, fractionBitsAt, constant-bits, integer-bits, fraction-bits}
+use Rattle.width_table.specs.Nodes.{Node, G1, G2, Pass, Rows, LowColumns, HighColumns, nodeAt, nodeNumber, passNodes}
+use Rattle.width_table.specs.Table.{constantBits, integerBits, fractionBits, inputBits}
+use Rattle.width_table.specs.Readers.{integerBitsAt, fractionBitsAt, inputBitsAt}
+use Rattle.width_table.specs.Limits.{in-nodes, form-constants, form-widths, integer-read, fraction-read, input-read}
 use Rattle.stages.specs.Rule.{Bound, timesGain}
-use Rattle.precision.specs.Bounds.{boundAt, rowBound, passBound, entering, boundOf}
-use Rattle.precision.specs.Verdict.{fits, keptColumn, keptAt, judged, firstRefusal, verdict}
-use Rattle.precision.specs.Promise.{each-accepts, in-nodes, form-depth, form-levels, form-constants, form-widths, refusal-++}
-use Rattle.precision.specs.Places.{gainAt, carriedTo, multiplied, ownAt, ownsBelow, fed, bitsOf, ownErrorOf, ownsOf, nodesFrom, told, judgedAs, boundFrom, boundOfNode, At, Enters, LevelJudged}
-use Rattle.width_table.specs.Numbered.{nodeOf, passOf}
+use Rattle.precision.specs.Bounds.{boundAt, rowBound, passBound, boundOf}
+use Rattle.precision.specs.Verdict.{fits, keptColumn, keptAt, judged, firstRefusal}
+use Rattle.precision.specs.Promise.{each-accepts}
+use Rattle.precision.specs.Places.{gainAt, carriedTo, multiplied, ownAt, ownsBelow, fed, bitsOf, ownErrorOf, ownsOf, told, judgedAs, boundFrom, boundOfNode, At, Enters}
+use Rattle.width_table.specs.Numbered.{nodeOf, passOf, IsPass, node-number, pass-number}
 use Rattle.precision.specs.PlaceLaws.{largest, by-place, owns-next, own-is, range-is, error-is, total-is, owns-most}
 use Rattle.precision.specs.declared.Bound as Code
 
--- ---- numbers of nodes and passes
-
-pub node-number : (k : ℕ) → 1 ≤ k → k ≤ 6 → nodeNumber (nodeOf k) ≡ k
-node-number = by-place _ refl refl refl refl refl refl
+-- ---- passes
 
 pub by-pass : (P : ℕ → Type 0) → P 1 → P 2 → P 3 → (p : ℕ) → 1 ≤ p → p ≤ 3 → P p
 by-pass P a b c zero i j = absurd (omega arith)
@@ -43,77 +39,25 @@ by-pass P a b c (suc (suc zero)) i j = b
 by-pass P a b c (suc (suc (suc zero))) i j = c
 by-pass P a b c (suc (suc (suc (suc p)))) i j = absurd (omega arith)
 
-pass-number : (p : ℕ) → 1 ≤ p → p ≤ 3 → passNumber (passOf p) ≡ p
-pass-number = by-pass _ refl refl refl
+-- another pass of the level
+pub at-pass : {t : WidthTable} {l p : ℕ} → At t l p → (q : ℕ) → 1 ≤ q → q ≤ 3 → At t l q
+at-pass h q i j = record { form = h .form; level-from = h .level-from; level-to = h .level-to; pass-from = i; pass-to = j }
 
 -- ---- what is read
 
-module _ {t : WidthTable} {l p : ℕ} (h : At t l p) where
-  few-levels : l ≤ 5
-  few-levels = omega (arith, h .level-to, form-levels t (h .form) .1)
-
-  pub read-constant : (n : ℕ) → 1 ≤ n → n ≤ 6 → (constantBitsAt t n ≡ constantBits t (nodeOf n)) × (1 ≤ constantBitsAt t n) × (constantBitsAt t n ≤ 24)
-  read-constant n i j =
-      let e = subst (λ (k : ℕ). constantBitsAt t k ≡ constantBits t (nodeOf n)) (node-number n i j) (constant-bits t (nodeOf n)) in
-      let r = form-constants t (h .form) (nodeOf n) in
-      (e, omega (arith, e, r .0), omega (arith, e, r .1))
-
-  pub read-fraction : (n : ℕ) → 1 ≤ n → n ≤ 6 → (fractionBitsAt t l p n ≡ fractionBits t l (passOf p) (nodeOf n)) × (fractionBitsAt t l p n ≤ 20)
-  read-fraction n i j =
-      let e = subst₂ (λ (q k : ℕ). fractionBitsAt t l q k ≡ fractionBits t l (passOf p) (nodeOf n)) (pass-number p (h .pass-from) (h .pass-to)) (node-number n i j) (fraction-bits t l (passOf p) (nodeOf n) (h .level-from) few-levels) in
-      (e, omega (arith, e, form-widths t (h .form) l (h .level-from) (h .level-to) (passOf p) (nodeOf n) .2))
-
-  pub read-integer : (n : ℕ) → 1 ≤ n → n ≤ 6 → (integerBitsAt t l p n ≡ integerBits t l (passOf p) (nodeOf n)) × (1 ≤ integerBitsAt t l p n) × (integerBitsAt t l p n ≤ 12)
-  read-integer n i j =
-      let e = subst₂ (λ (q k : ℕ). integerBitsAt t l q k ≡ integerBits t l (passOf p) (nodeOf n)) (pass-number p (h .pass-from) (h .pass-to)) (node-number n i j) (integer-bits t l (passOf p) (nodeOf n) (h .level-from) few-levels) in
-      let r = form-widths t (h .form) l (h .level-from) (h .level-to) (passOf p) (nodeOf n) in
-      (e, omega (arith, e, r .0), omega (arith, e, r .1))
-
--- what enters a pass
-input-columns : (t : WidthTable) (l : ℕ) → (inputBits t l LowColumns ≡ fractionBits t l Rows G1) × (inputBits t l HighColumns ≡ fractionBits t l Rows G2)
-input-columns t zero = (refl, refl)
-input-columns t (suc zero) = (refl, refl)
-input-columns t (suc (suc l)) = (refl, refl)
-
--- another pass of the level
-at-pass : {t : WidthTable} {l p : ℕ} → At t l p → (q : ℕ) → 1 ≤ q → q ≤ 3 → At t l q
-at-pass h q i j = record { form = h .form; level-from = h .level-from; level-to = h .level-to; pass-from = i; pass-to = j }
-
-abbrev pub ReadInput : WidthTable → ℕ → ℕ → ℕ → Type 0
-ReadInput t l p x = (x ≡ inputBits t l (passOf p)) × (x ≤ 20)
-
-module _ {t : WidthTable} {l p : ℕ} (h : At t l p) where
-  pub input-low : p ≡ 2 → ReadInput t l p (fractionBitsAt t l 1 5)
-  input-low e =
-      let r = read-fraction (at-pass h 1 (lit≤ tt) (lit≤ tt)) 5 (lit≤ tt) (lit≤ tt) in
-      subst (λ (q : ℕ). ReadInput t l q (fractionBitsAt t l 1 5)) (sym e) (r .0 ∙ sym (input-columns t l .0), r .1)
-
-  pub input-high : p ≡ 3 → ReadInput t l p (fractionBitsAt t l 1 6)
-  input-high e =
-      let r = read-fraction (at-pass h 1 (lit≤ tt) (lit≤ tt)) 6 (lit≤ tt) (lit≤ tt) in
-      subst (λ (q : ℕ). ReadInput t l q (fractionBitsAt t l 1 6)) (sym e) (r .0 ∙ sym (input-columns t l .1), r .1)
-
-  pub input-first : p ≡ 1 → l ≡ 1 → ReadInput t l p (t .depth)
-  input-first e d = subst₂ (λ (q m : ℕ). ReadInput t m q (t .depth)) (sym e) (sym d) (refl, le-trans (form-depth t (h .form) .1) (lit≤ tt))
-
-  pub input-later : p ≡ 1 → (l ≡ 1 → ⊥) → ReadInput t l p (fractionBitsAt t (l - 1) 2 5)
-  input-later e d = subst (λ (q : ℕ). ReadInput t l q (fractionBitsAt t (l - 1) 2 5)) (sym e) (go l h d)
-    where
-      go : (l : ℕ) → At t l p → (l ≡ 1 → ⊥) → ReadInput t l 1 (fractionBitsAt t (l - 1) 2 5)
-      go zero h d = absurd (omega (arith, h .level-from))
-      go (suc zero) h d = absurd (d refl)
-      go (suc (suc m)) h d =
-          let z : suc (suc m) - 1 ≡ suc m = omega arith in
-          subst (λ (k : ℕ). ReadInput t (suc (suc m)) 1 (fractionBitsAt t k 2 5)) (sym z)
-          (read-fraction {t = t} {l = suc m} {p = 2} (record { form = h .form; level-from = omega arith; level-to = omega (arith, h .level-to); pass-from = lit≤ tt; pass-to = lit≤ tt }) 5 (lit≤ tt) (lit≤ tt))
+is-pass : {t : WidthTable} {l p : ℕ} → At t l p → IsPass p
+is-pass h = (h .pass-from, h .pass-to)
 
 -- the fractional bits at a place
-pub place-input : (t : WidthTable) (l p k : ℕ) {x : ℕ} → k ≡ 0 → ReadInput t l p x → (x ≡ bitsOf t l (passOf p) k) × (x ≤ 20)
-place-input t l p k e r = (r .0 ∙ ap (bitsOf t l (passOf p)) (sym e), r .1)
+module _ {t : WidthTable} {l p : ℕ} (h : At t l p) where
+  pub place-input : (k : ℕ) → k ≡ 0 → (inputBitsAt t l p ≡ bitsOf t l (passOf p) k) × (inputBitsAt t l p ≤ 20)
+  place-input k e =
+      let r = input-read t (h .form) l (h .level-from) (h .level-to) p (is-pass h) in
+      (r .0 ∙ ap (bitsOf t l (passOf p)) (sym e), r .1)
 
-pub place-node : {t : WidthTable} {l p : ℕ} → At t l p → (k : ℕ) → (k ≡ 0 → ⊥) → k ≤ 6 → (fractionBitsAt t l p k ≡ bitsOf t l (passOf p) k) × (fractionBitsAt t l p k ≤ 20)
-place-node h zero i j = absurd (i refl)
-place-node h (suc k) i j = read-fraction h (suc k) (omega arith) j
+  pub place-node : (k : ℕ) → (k ≡ 0 → ⊥) → k ≤ 6 → (fractionBitsAt t l p k ≡ bitsOf t l (passOf p) k) × (fractionBitsAt t l p k ≤ 20)
+  place-node zero i j = absurd (i refl)
+  place-node (suc k) i j = fraction-read t (h .form) l (h .level-from) (h .level-to) p (suc k) (is-pass h) (omega arith, j)
 
 -- ---- what is computed for a pass
 
@@ -175,15 +119,6 @@ module _ {t : WidthTable} {l p : ℕ} {b : Code.Bound} (h : Enters t l p b) wher
   pub node-bound : (k : ℕ) → 1 ≤ k → k ≤ 6 → {own : List ℕ} → own ≡ ownsOf t l (passOf p) 7 → boundFrom (b .range) own k ≡ boundOfNode t l p k
   node-bound k i j e = ap (λ (own : List ℕ). boundFrom (b .range) own k) e ∙ bound-is k i j
 
--- ---- the verdict
-
-pub nodes-next : (t : WidthTable) (l : ℕ) (p : Pass) (k : ℕ) → 1 ≤ k → k ≤ 6 → firstRefusal t (nodesFrom t l p k) ≡ judged t (nodeAt l p (nodeOf k)) then firstRefusal t (nodesFrom t l p (k + 1))
-unfolding firstRefusal
-nodes-next t l p = by-place _ refl refl refl refl refl refl
-
-pub level-is : (t : WidthTable) (l : ℕ) → firstRefusal t (levelNodes l) ≡ firstRefusal t (passNodes l Rows) then firstRefusal t (passNodes l LowColumns) then firstRefusal t (passNodes l HighColumns)
-level-is t l = refusal-++ t (passNodes l Rows) (passNodes l LowColumns ++ passNodes l HighColumns) ∙ ap (λ (o : Outcome). firstRefusal t (passNodes l Rows) then o) (refusal-++ t (passNodes l LowColumns) (passNodes l HighColumns))
-
 -- ---- kept nodes
 
 module _ (L l : ℕ) where
@@ -203,9 +138,6 @@ module _ (L l : ℕ) where
   kept-last p n d e = subst₂ (λ (p n : ℕ). keptAt L l (passOf p) (nodeOf n) ≡ eqb l L) (sym d) (sym e) refl
 
 -- ---- one node
-
-asks-wrong : (t : Bool) (r : Refusal) (o : Outcome) → t ≡ false → asks t r o ≡ Refused r
-asks-wrong t r o e = ap (λ (x : Bool). asks x r o) e
 
 module _ (b : Code.Bound) (IB f : ℕ) (kept : Bool) (q : NodePlace) where
   abbrev reach : ℕ
@@ -238,9 +170,9 @@ judged-is {t} {l} {p} h n i j =
     let J : ℕ → ℕ → ℕ → ℕ → Outcome = λ IB f q m. judgedAs (boundOfNode t l p n) IB f (keptAt (t .levels) l (passOf p) (nodeOf n)) (record { level = l; pass = q; node = m }) in
     let IB = integerBits t l (passOf p) (nodeOf n) in
     let f = fractionBits t l (passOf p) (nodeOf n) in
-    ap (λ (x : ℕ). J x (fractionBitsAt t l p n) p n) (read-integer h n i j .0)
-    ∙ ap (λ (x : ℕ). J IB x p n) (read-fraction h n i j .0)
-    ∙ sym (ap (λ (x : ℕ). J IB f x (nodeNumber (nodeOf n))) (pass-number p (h .pass-from) (h .pass-to)) ∙ ap (λ (x : ℕ). J IB f p x) (node-number n i j))
+    ap (λ (x : ℕ). J x (fractionBitsAt t l p n) p n) (integer-read t (h .form) l (h .level-from) (h .level-to) p n (is-pass h) (i, j) .0)
+    ∙ ap (λ (x : ℕ). J IB x p n) (fraction-read t (h .form) l (h .level-from) (h .level-to) p n (is-pass h) (i, j) .0)
+    ∙ sym (ap (λ (x : ℕ). J IB f x (nodeNumber (nodeOf n))) (pass-number p (is-pass h)) ∙ ap (λ (x : ℕ). J IB f p x) (node-number n (i, j)))
 
 -- an accepted node is small
 pub accepted-small : {t : WidthTable} {l p : ℕ} → At t l p → (n : Node) → firstRefusal t (passNodes l (passOf p)) ≡ Done → boundOf t (nodeAt l (passOf p) n) .range + boundOf t (nodeAt l (passOf p) n) .error ≤ 2 ^ 43
@@ -253,94 +185,3 @@ accepted-small {t} {l} {p} h n e =
     let m = pow-mono {i = IB - 1} {j = 11} (omega (arith, w .1)) in
     let x = leb→le (boundOf t q .range + boundOf t q .error + 2 ^ (32 - f)) (2 ^ (IB - 1) * 2 ^ 32) (asks-done (fits (boundOf t q) IB f) _ _ (each-accepts t (in-nodes l (passOf p) n) e) .0) in
     omega (arith, x, mul-le-mul-right (2 ^ 32) m)
-
--- what an accepted row pass feeds
-module _ {t : WidthTable} {l : ℕ} (h : At t l 1) {b : Code.Bound} (e : firstRefusal t (passNodes l Rows) ≡ Done) where
-  pub low-enters : b ≡ boundOfNode t l 1 5 → Enters t l 2 b
-  low-enters d = record {
-    place = at-pass h 2 (lit≤ tt) (lit≤ tt);
-    is = d;
-    small = subst (λ (x : Code.Bound). x .range + x .error ≤ 2 ^ 43) (sym d) (accepted-small h G1 e);
-  }
-
-  pub high-enters : b ≡ boundOfNode t l 1 6 → Enters t l 3 b
-  high-enters d = record {
-    place = at-pass h 3 (lit≤ tt) (lit≤ tt);
-    is = d;
-    small = subst (λ (x : Code.Bound). x .range + x .error ≤ 2 ^ 43) (sym d) (accepted-small h G2 e);
-  }
-
--- ---- levels
-
-module _ (t : WidthTable) (l : ℕ) where
-  pub rows-refused : (r : Refusal) → firstRefusal t (passNodes l Rows) ≡ Refused r → firstRefusal t (levelNodes l) ≡ Refused r
-  rows-refused r e = level-is t l ∙ then-refused _ _ r e
-
-  pub low-refused : (r : Refusal) → firstRefusal t (passNodes l Rows) ≡ Done → firstRefusal t (passNodes l LowColumns) ≡ Refused r → firstRefusal t (levelNodes l) ≡ Refused r
-  low-refused r d e = level-is t l ∙ then-right _ _ d ∙ then-refused _ _ r e
-
-  high-decides : firstRefusal t (passNodes l Rows) ≡ Done → firstRefusal t (passNodes l LowColumns) ≡ Done → firstRefusal t (levelNodes l) ≡ firstRefusal t (passNodes l HighColumns)
-  high-decides d e = level-is t l ∙ then-right _ _ d ∙ then-right _ _ e
-
-  -- a refused level has no next one
-  pub level-stops : (r : Refusal) (b : Code.Bound) → firstRefusal t (levelNodes l) ≡ Refused r → LevelJudged t l (record { outcome = Refused r; next = b })
-  level-stops r b e = record {
-    outcome = sym e;
-    next = λ d. cc;
-    small = λ d. let z : _≡_ {A = ℕ} 0 1 = cc in absurd (omega arith);
-  }
-
-  -- a level whose first two passes are accepted
-  pub level-goes : (o : Outcome) (b : Code.Bound) → At t l 1 → firstRefusal t (passNodes l Rows) ≡ Done → firstRefusal t (passNodes l LowColumns) ≡ Done → o ≡ firstRefusal t (passNodes l HighColumns) → b ≡ boundOfNode t l 2 5 → LevelJudged t l (record { outcome = o; next = b })
-  level-goes o b h d e f n = record {
-    outcome = f ∙ sym (high-decides d e);
-    next = λ x. n;
-    small = λ x. subst (λ (c : Code.Bound). c .range + c .error ≤ 2 ^ 43) (sym n) (accepted-small (at-pass h 2 (lit≤ tt) (lit≤ tt)) G1 e);
-  }
-
--- one level more
-pub book-next : (t : WidthTable) (k : ℕ) → firstRefusal t (bookOrder k) ≡ Done → firstRefusal t (bookOrder (suc k)) ≡ firstRefusal t (levelNodes (suc k))
-book-next t k e = refusal-++ t (bookOrder k) (levelNodes (suc k)) ∙ then-right _ _ e
-
--- a refusal stays
-pub book-refused : (t : WidthTable) (r : Refusal) (k L : ℕ) → k ≤ L → firstRefusal t (bookOrder k) ≡ Refused r → firstRefusal t (bookOrder L) ≡ Refused r
-book-refused t r k zero h e = let z : k ≡ 0 = omega arith in subst (λ (j : ℕ). firstRefusal t (bookOrder j) ≡ Refused r) z e
-book-refused t r k (suc L) h e = go (decLt k (suc L)) (λ i. book-refused t r k L i e)
-  where
-    go : Dec (k < suc L) → (k ≤ L → firstRefusal t (bookOrder L) ≡ Refused r) → firstRefusal t (bookOrder (suc L)) ≡ Refused r
-    go (yes i) before = refusal-++ t (bookOrder L) (levelNodes (suc L)) ∙ then-refused _ _ r (before (omega arith))
-    go (no i) before = let z : k ≡ suc L = omega arith in subst (λ (j : ℕ). firstRefusal t (bookOrder j) ≡ Refused r) z e
-
--- a refused level
-pub level-refused : (t : WidthTable) (r : Refusal) (k : ℕ) → k < t .levels → firstRefusal t (bookOrder k) ≡ Done → firstRefusal t (levelNodes (k + 1)) ≡ Refused r → formRight t ≡ true → verdict t ≡ Refused r
-unfolding verdict
-level-refused t r k h d e f =
-    asks-right (formRight t) _ _ (subst T (sym f) tt)
-    ∙ book-refused t r (suc k) (t .levels) (omega arith) (book-next t k d ∙ subst (λ (j : ℕ). firstRefusal t (levelNodes j) ≡ Refused r) (add-one k) e)
-
--- an accepted level
-pub level-accepted : (t : WidthTable) (k : ℕ) → firstRefusal t (bookOrder k) ≡ Done → firstRefusal t (levelNodes (k + 1)) ≡ Done → firstRefusal t (bookOrder (k + 1)) ≡ Done
-level-accepted t k d e =
-    subst (λ (j : ℕ). firstRefusal t (levelNodes j) ≡ Done → firstRefusal t (bookOrder j) ≡ Done) (sym (add-one k)) (λ e. book-next t k d ∙ e) e
-
--- all levels
-pub all-accepted : (t : WidthTable) (k : ℕ) → k ≡ t .levels → firstRefusal t (bookOrder k) ≡ Done → formRight t ≡ true → verdict t ≡ Done
-unfolding verdict
-all-accepted t k e d f = asks-right (formRight t) _ _ (subst T (sym f) tt) ∙ subst (λ (j : ℕ). firstRefusal t (bookOrder j) ≡ Done) e d
-
-pub not-formed : (t : WidthTable) → formRight t ≡ false → verdict t ≡ Refused OutsideLimits
-unfolding verdict
-not-formed t e = asks-wrong (formRight t) _ _ e
-
--- what enters the first level, and the next one
-pub enters-first : (t : WidthTable) → record { range = 2147483648; error = 0 } ≡ told (entering t 1)
-unfolding entering
-enters-first t = refl
-
-pub enters-next : (t : WidthTable) (k : ℕ) → 1 ≤ k → boundOfNode t k 2 5 ≡ told (entering t (k + 1))
-unfolding entering boundOf
-enters-next t zero h = absurd (omega arith)
-enters-next t (suc k) h = ap (λ (j : ℕ). told (entering t j)) (sym (add-one (suc k)))
-
-pub level-at : (t : WidthTable) (k : ℕ) → k < t .levels → formRight t ≡ true → At t (k + 1) 1
-level-at t k h e = record { form = subst T (sym e) tt; level-from = omega arith; level-to = omega arith; pass-from = lit≤ tt; pass-to = lit≤ tt }

@@ -1,17 +1,21 @@
 -- The precision analysis of a width table (document 01: the judge).
 --   Bounds      range and error of each node, by the rule of the crate stages
 --   Verdict     the verdict: form, then the nodes in book order; and what acceptance promises
+--   BoundCalls  the call that tells range and error of a node
 -- Proved of them:
 --   Promise     promise : Accepted t → AcceptPromise t, accept : AcceptPromise t → Accepted t
---   Examples    tables that are accepted, and tables that are refused 4, 6 and 7
+--   Examples    tables that are accepted, tables that are refused 4, 6 and 7, and bounds of nodes
 -- For the program:
 --   Places      nodes, passes and bounds by number
 --   PlaceLaws   these are the bounds of Bounds, and small where what enters a pass is small
---   JudgeLaws   what the program reads, computes and answers step by step is the verdict
+--   JudgeLaws   what the program reads and computes for a pass, and its verdict on a node
+--   OrderLaws   the first refusal of a part of the book order; what the program answers step by step
 pub mod Bounds
 pub mod Verdict
+pub mod BoundCalls
 pub mod Promise
 pub mod Examples
 pub mod Places
 pub mod PlaceLaws
 pub mod JudgeLaws
+pub mod OrderLaws

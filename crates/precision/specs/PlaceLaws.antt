@@ -1,5 +1,5 @@
 -- The bounds of a pass by place numbers are those of Bounds, and are small where what enters the pass is small.
-use Prim.Native.Nat.{ℕ, zero, suc, _+_, _*_, _-_, _/_, _^_, _<_, _≤_, zero-le, max}
+use Prim.Native.Nat.{ℕ, zero, suc, _+_, _*_, _-_, _/_, _^_, _<_, _≤_, max}
 use mathlib.Core.Bool.{Bool, true, false}
 use mathlib.Core.List.{List, [], _∷_}
 use mathlib.Core.Path.{_≡_, refl, sym, _∙_, ap}
@@ -9,21 +9,18 @@ use lib.Dec.{T, eqb, ltb, leb, leb→le, lit≤}
 use lib.ListN.{getD, set}
 use lib.Pow.{pow-mono}
 use Rattle.numbers.specs.Tests.{every, both, ltb-true, ltb-false}
-use Rattle.exact.specs.Fractions.{_⊕_, _⊗_, whole, magnitude, upDiv, wholesOf}
+use Rattle.exact.specs.Fractions.{upDiv}
 use Rattle.width_table.specs.Nodes.{Node}
-use Rattle.exact.specs.Exact.{lift}
-use Rattle.lines.specs.Planes.{tabulate}
-use Rattle.lines.specs.RowLaws.{tabulate-at}
-use Rattle.stages.specs.Stages.{low, high, stage, forward, made, bits}
-use Rattle.stages.specs.Gains as G
-use Rattle.stages.specs.Gains.{Source, samples, node, sumTo, inputAnswer, nodeAnswer, sumFrom, exactGain, gain}
+use Rattle.stages.specs.Stages.{low, high, stage, forward, bits}
+use Rattle.stages.specs.Gains.{samples, node, gain}
+use Rattle.stages.specs.GainTable.{forwardGains, forward-gain}
 use Rattle.stages.specs.Rule as Rule
 use Rattle.stages.specs.Rule.{Bound, together, timesGain, loss, ownLift, ownScale, brought}
 use Rattle.stages.specs.Held.{weighed}
 use Rattle.stages.specs.RuleLaws as RuleLaws
 use Rattle.stages.specs.RuleLaws.{timesGain-zero, timesGain-none, timesGain-one, weighed-ext, error-sum, bound-start, bound-kept}
 use Rattle.precision.specs.Bounds.{boundAt}
-use Rattle.precision.specs.Places.{gains, gainAt, carriedTo, multiplied, other, bitsAt, ownAt, totalAt, ownFrom, ownsBelow}
+use Rattle.precision.specs.Places.{gainAt, carriedTo, multiplied, other, bitsAt, ownAt, totalAt, ownFrom, ownsBelow}
 use Rattle.width_table.specs.Numbered.{nodeOf}
 
 -- an own error is at most this: 7.5 times 2^43
@@ -55,42 +52,22 @@ pub times-most : (x g : ℕ) → timesGain x g * 65536 ≤ x * g + 65535
 unfolding timesGain upDiv
 times-most x g = omega arith
 
-all-most : (m : ℕ) (xs : List ℕ) → T (every (λ x. leb x m) xs) → (k : ℕ) → getD xs k 0 ≤ m
+-- what holds of each entry and of what stands for a missing one
+at-any : {A : Type 0} (test : A → Bool) (d : A) → T (test d) → (l : List A) → T (every test l) → (k : ℕ) → T (test (getD l k d))
 unfolding every
-all-most m [] h k = zero-le
-all-most m (x ∷ xs) h zero = leb→le x m (both (leb x m) (every (λ y. leb y m) xs) h .0)
-all-most m (x ∷ xs) h (suc k) = all-most m xs (both (leb x m) (every (λ y. leb y m) xs) h .1) k
-
--- no row, no gain
-rows-most : (m : ℕ) (rows : List (List ℕ)) → T (every (every (λ x. leb x m)) rows) → (i j : ℕ) → getD (getD rows i []) j 0 ≤ m
-unfolding every
-rows-most m [] h i j = zero-le
-rows-most m (r ∷ rows) h zero j = all-most m r (both (every (λ x. leb x m) r) (every (every (λ x. leb x m)) rows) h .0) j
-rows-most m (r ∷ rows) h (suc i) j = rows-most m rows (both (every (λ x. leb x m) r) (every (every (λ x. leb x m)) rows) h .1) i j
+at-any test d h [] e k = h
+at-any test d h (x ∷ xs) e zero = both (test x) (every test xs) e .0
+at-any test d h (x ∷ xs) e (suc k) = at-any test d h xs (both (test x) (every test xs) e .1) k
 
 pub gain-most : (i j : ℕ) → gainAt i j ≤ 273434
 unfolding every
-gain-most = rows-most 273434 gains tt
+gain-most i j =
+    let small : ℕ → Bool = λ g. leb g 273434 in
+    leb→le _ _ (at-any small 0 tt (getD forwardGains i []) (at-any (every small) [] tt forwardGains tt i) j)
 
 -- a product by a gain fits, and stays below 2^48
 pub product-most : (x g : ℕ) → x ≤ largest → g ≤ 273434 → x * g ≤ largest * 273434
 product-most x g h k = le-trans (mul-le-mul-right g h) (mul-le-mul-left largest k)
-
--- ---- the gains by number
-
--- what comes from place i
-abbrev from : ℕ → Source
-from zero = samples
-from (suc i) = node i
-
-gains-are : tabulate 7 (λ i. tabulate 7 (λ j. gain forward (stage forward (j - 1) .side) j (from i))) ≡ gains
-unfolding tabulate gain exactGain sumFrom sumTo inputAnswer nodeAnswer G.held made wholesOf upDiv lift _⊕_ _⊗_ whole magnitude
-gains-are = refl
-
-pub gain-is : (i j : ℕ) → i < 7 → j < 7 → gain forward (stage forward (j - 1) .side) j (from i) ≡ gainAt i j
-gain-is i j h k =
-    sym (ap (λ (row : List ℕ). getD row j 0) (tabulate-at 7 (λ i. tabulate 7 (λ j. gain forward (stage forward (j - 1) .side) j (from i))) [] i h) ∙ tabulate-at 7 (λ j. gain forward (stage forward (j - 1) .side) j (from i)) 0 j k)
-    ∙ ap (λ (rows : List (List ℕ)). getD (getD rows i []) j 0) gains-are
 
 -- ---- the bounds by number
 
@@ -119,7 +96,7 @@ module _ (F : Node → ℕ) (fi : ℕ) (b : Bound) (f : Node → ℕ) where
   range-is = by-place _ (at 1 (lit≤ tt)) (at 2 (lit≤ tt)) (at 3 (lit≤ tt)) (at 4 (lit≤ tt)) (at 5 (lit≤ tt)) (at 6 (lit≤ tt))
     where
       at : (k : ℕ) → k ≤ 6 → timesGain (b .range) (gainAt 0 k) ≡ timesGain (b .range) (gain forward (stage forward (k - 1) .side) k samples)
-      at k h = ap (timesGain (b .range)) (sym (gain-is 0 k (omega arith) (omega arith)))
+      at k h = ap (timesGain (b .range)) (sym (forward-gain 0 k (omega arith) (omega arith)))
 
   -- the error of a node by numbers
   error-at : (k : ℕ) → k ≤ 6 → Rule.errorAt forward (together b) Fs (λ s. fi) fs (stage forward (k - 1) .side) k ≡ timesGain (b .error) (gainAt 0 k) + weighed (λ i. gainAt (suc i) k) (RuleLaws.ownAt forward (together b) Fs (λ s. fi) fs) k
@@ -128,8 +105,8 @@ module _ (F : Node → ℕ) (fi : ℕ) (b : Bound) (f : Node → ℕ) where
       omega (
         arith,
         error-sum forward (together b) Fs (λ s. fi) fs (stage forward (k - 1) .side) k,
-        ap (timesGain (b .error)) (gain-is 0 k (omega arith) (omega arith)),
-        weighed-ext (λ i. gain forward (stage forward (k - 1) .side) k (node i)) (λ i. gainAt (suc i) k) (RuleLaws.ownAt forward (together b) Fs (λ s. fi) fs) k (λ i l. gain-is (suc i) k (omega arith) (omega arith)),
+        ap (timesGain (b .error)) (forward-gain 0 k (omega arith) (omega arith)),
+        weighed-ext (λ i. gain forward (stage forward (k - 1) .side) k (node i)) (λ i. gainAt (suc i) k) (RuleLaws.ownAt forward (together b) Fs (λ s. fi) fs) k (λ i l. forward-gain (suc i) k (omega arith) (omega arith)),
       )
 
   pub error-is : (k : ℕ) → 1 ≤ k → k ≤ 6 → carriedTo (ownsBelow F fi b f 7) k 7 ≡ boundAt F fi b f (nodeOf k) .error
@@ -148,7 +125,7 @@ module _ (F : Node → ℕ) (fi : ℕ) (b : Bound) (f : Node → ℕ) where
   unfolding carriedTo ownsBelow ownAt totalAt boundAt Rule.boundAt weighed
   total-is =
       by-place _
-      (simp (timesGain-zero, timesGain-none, timesGain-one) (omega arith))
+      (simp (timesGain-zero, timesGain-one) (omega arith))
       (simp timesGain-zero (omega (arith, range-is 1 (lit≤ tt) (lit≤ tt), error-at 1 (lit≤ tt))))
       (simp timesGain-zero (omega (arith, range-is 2 (lit≤ tt) (lit≤ tt), error-at 2 (lit≤ tt))))
       (simp timesGain-zero (omega (arith, range-is 3 (lit≤ tt) (lit≤ tt), error-at 3 (lit≤ tt))))

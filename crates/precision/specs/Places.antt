@@ -1,42 +1,30 @@
 -- The places of a pass by number, as the program counts them: 0 the input, 1 to 6 the nodes.
-use Prim.Native.Nat.{ℕ, zero, suc, _+_, _*_, _-_, _^_, _≤_}
-use mathlib.Core.Bool.{Bool, true, false, not, _||_}
+use Prim.Native.Nat.{ℕ, zero, suc, _+_, _-_, _^_, _≤_}
+use mathlib.Core.Bool.{Bool, true, false}
 use mathlib.Core.List.{List, [], _∷_}
-use lib.Dec.{T, ltb, leb, eqb}
+use lib.Dec.{T, ltb, eqb}
 use mathlib.Core.Path.{_≡_}
-use lib.ListN.{getD, drop}
+use lib.ListN.{getD}
 use Rattle.refusals.specs.declared.NodePlace.{NodePlace}
-use Rattle.refusals.specs.declared.Refusal.the-variants.{DoesNotFit, ErrorTooLarge}
 use Rattle.refusals.specs.declared.Outcome.{Outcome}
 use Rattle.refusals.specs.declared.Outcome.the-variants.{Done}
-use Rattle.refusals.specs.Refusals.{asks}
 use Rattle.width_table.specs.Numbered.{nodeOf, passOf}
-use Rattle.width_table.specs.Nodes.{Node, G1, G2, Pass, Rows, LowColumns, HighColumns, TableNode, nodeAt, passNodes, levelNodes}
+use Rattle.width_table.specs.Nodes.{Node, G1, G2, Pass, Rows, LowColumns, HighColumns, TableNode, nodeAt, passNodes}
 use Rattle.width_table.specs.declared.WidthTable.{WidthTable}
 use Rattle.width_table.specs.Table.{constantBits, fractionBits, inputBits, formRight}
 use Rattle.stages.specs.Stages.{forward}
+use Rattle.stages.specs.GainTable.{forwardGains}
 use Rattle.stages.specs.RuleLaws as RuleLaws
 use Rattle.stages.specs.Rule.{Bound, together, timesGain, ownLift, ownScale}
 use Rattle.precision.specs.Bounds.{boundAt, boundOf, entering}
 use Rattle.precision.specs.declared.Bound as Code
 use Rattle.precision.specs.declared.PassAnswer.{PassAnswer}
-use Rattle.precision.specs.declared.LevelAnswer.{LevelAnswer}
-use Rattle.precision.specs.Verdict.{firstRefusal}
+use Rattle.precision.specs.declared.Entered.{Entered}
+use Rattle.precision.specs.Verdict.{judgedBy, firstRefusal}
 
--- The gain from each place, in a line of its own, to each place, in whole numbers of 2^-16. The input's to itself is 1.
-abbrev pub gains : List (List ℕ)
-gains =
-    (65536 ∷ 273434 ∷ 94510 ∷ 138260 ∷ 111285 ∷ 127934 ∷ 120267 ∷ [])
-    ∷ (0 ∷ 65536 ∷ 6945 ∷ 65536 ∷ 45749 ∷ 52593 ∷ 57008 ∷ [])
-    ∷ (0 ∷ 0 ∷ 65536 ∷ 115725 ∷ 168186 ∷ 193347 ∷ 100665 ∷ [])
-    ∷ (0 ∷ 0 ∷ 0 ∷ 65536 ∷ 58132 ∷ 66829 ∷ 57008 ∷ [])
-    ∷ (0 ∷ 0 ∷ 0 ∷ 0 ∷ 65536 ∷ 75341 ∷ 0 ∷ [])
-    ∷ (0 ∷ 0 ∷ 0 ∷ 0 ∷ 0 ∷ 65536 ∷ 0 ∷ [])
-    ∷ (0 ∷ 0 ∷ 0 ∷ 0 ∷ 0 ∷ 0 ∷ 65536 ∷ [])
-    ∷ []
-
+-- the gain from place i to place j, in whole numbers of 2^-16
 abbrev pub gainAt : ℕ → ℕ → ℕ
-gainAt i j = getD (getD gains i []) j 0
+gainAt i j = getD (getD forwardGains i []) j 0
 
 -- what the first n places carry to place j, where x has what each has of its own
 unfoldable pub carriedTo : List ℕ → ℕ → ℕ → ℕ
@@ -88,6 +76,13 @@ fed t l Rows = entering t l
 fed t l LowColumns = boundOf t (nodeAt l Rows G1)
 fed t l HighColumns = boundOf t (nodeAt l Rows G2)
 
+-- what enters the pass that follows the first k passes of level l; after all three it is the rows of the next level
+abbrev pub fedAfter : WidthTable → ℕ → ℕ → Bound
+fedAfter t l zero = entering t l
+fedAfter t l (suc zero) = boundOf t (nodeAt l Rows G1)
+fedAfter t l (suc (suc zero)) = boundOf t (nodeAt l Rows G2)
+fedAfter t l (suc (suc (suc k))) = boundOf t (nodeAt l LowColumns G1)
+
 module _ (t : WidthTable) (l : ℕ) (p : Pass) where
   abbrev pub bitsOf : ℕ → ℕ
   bitsOf = bitsAt (constantBits t) (inputBits t l p) (fed t l p) (fractionBits t l p)
@@ -97,10 +92,6 @@ module _ (t : WidthTable) (l : ℕ) (p : Pass) where
 
   abbrev pub ownsOf : ℕ → List ℕ
   ownsOf = ownsBelow (constantBits t) (inputBits t l p) (fed t l p) (fractionBits t l p)
-
-  -- the nodes of a pass from node k on
-  abbrev pub nodesFrom : ℕ → List TableNode
-  nodesFrom k = drop (k - 1) (passNodes l p)
 
 -- a bound as the program holds it
 abbrev pub told : Bound → Code.Bound
@@ -113,12 +104,9 @@ boundOfNode t l p n = told (boundOf t (nodeAt l (passOf p) (nodeOf n)))
 abbrev pub boundFrom : ℕ → List ℕ → ℕ → Code.Bound
 boundFrom range own place = record { range = timesGain range (gainAt 0 place); error = carriedTo own place 7 }
 
--- the verdict on a node of given bound, widths and place
+-- the verdict on a node whose bound is so held
 unfoldable pub judgedAs : Code.Bound → ℕ → ℕ → Bool → NodePlace → Outcome
-judgedAs b IB f kept place =
-    asks (leb (b .range + b .error + 2 ^ (32 - f)) (2 ^ (IB - 1) * 2 ^ 32)) (DoesNotFit place)
-    (asks (not kept || ltb (b .error) (2 * 2 ^ (32 - f))) (ErrorTooLarge place)
-    Done)
+judgedAs b = judgedBy (record { range = b .range; error = b .error })
 
 -- level l and pass p are ones of a table of right form
 pub record At (t : WidthTable) (l p : ℕ) : Type 0 where
@@ -140,8 +128,8 @@ pub record PassJudged (t : WidthTable) (l p : ℕ) (r : PassAnswer) : Type 0 whe
   pub low : r .low ≡ boundOfNode t l p 5
   pub high : r .high ≡ boundOfNode t l p 6
 
--- the verdict on a level; where it is accepted, with the bound of its low-low, which is small
-pub record LevelJudged (t : WidthTable) (l : ℕ) (r : LevelAnswer) : Type 0 where
-  pub outcome : r .outcome ≡ firstRefusal t (levelNodes l)
-  pub next : r .outcome ≡ Done → r .next ≡ boundOfNode t l 2 5
-  pub small : r .outcome ≡ Done → r .next .range + r .next .error ≤ 2 ^ 43
+-- the first refusal of the nodes before; where there is none, b enters next, and is small
+pub record Reached (t : WidthTable) (before : List TableNode) (b : Bound) (r : Entered) : Type 0 where
+  pub outcome : r .outcome ≡ firstRefusal t before
+  pub is : r .outcome ≡ Done → r .bound ≡ told b
+  pub small : r .outcome ≡ Done → r .bound .range + r .bound .error ≤ 2 ^ 43

@@ -1,65 +1,22 @@
 -- A table is accepted where the accept promise holds of it, and nowhere else (`promise`, `accept`).
-use Prim.Native.Nat.{ℕ, zero, suc, _<_, _≤_}
+use Prim.Native.Nat.{ℕ, zero, suc, _≤_}
 use mathlib.Core.Bool.{Bool, true, false, _&&_, _||_, not}
-use mathlib.Core.List.{List, [], _∷_, _++_}
+use mathlib.Core.List.{List, [], _∷_, _++_, map}
 use mathlib.Core.Path.{_≡_, refl, sym, _∙_, ap, subst}
 use native.Mathlib.Omega.{arith}
-use native.Mathlib.Decide.{decLt}
-use lib.Dec.{T, leb, leb→le, le→leb, ltb→lt, lt→ltb, eqb, eqb→eq}
-use Rattle.numbers.specs.Tests.{between, every, both, four, by-leb, and-intro, between-≤, to-between}
+use lib.Dec.{T, leb→le, le→leb, ltb→lt, lt→ltb, eqb}
+use Rattle.numbers.specs.Tests.{between, every, by-leb, and-intro, to-between}
+use Rattle.numbers.specs.Lists.{In, here, there}
 use Rattle.width_table.specs.Nodes.{Node, P1, U1, P2, U2, G1, G2, Pass, Rows, LowColumns, HighColumns, TableNode, nodeAt, passNodes, levelNodes, bookOrder}
 use Rattle.width_table.specs.declared.WidthTable.{WidthTable}
-use Rattle.refusals.specs.declared.Refusal.{Refusal}
 use Rattle.refusals.specs.declared.Outcome.{Outcome}
 use Rattle.refusals.specs.declared.Outcome.the-variants.{Done, Refused}
-use Rattle.refusals.specs.Refusals.{asks, _then_}
+use Rattle.refusals.specs.Refusals.{_then_}
 use Rattle.refusals.specs.RefusalLaws.{asks-done, asks-right, then-done, then-right}
 use Rattle.width_table.specs.Table.{maxDepth, maxLevels, maxConstantBits, maxIntegerBits, maxFractionBits, constantRight, constantBits, integerBits, fractionBits, nodeRight, formRight}
+use Rattle.width_table.specs.Limits.{in-order, form-depth, form-levels, form-constants, form-widths, form-unused}
 use Rattle.precision.specs.Bounds.{boundOf}
-use Rattle.precision.specs.Verdict.{fits, belowTwoSteps, keptAt, numbered, judged, firstRefusal, verdict, Accepted, AcceptPromise}
-
--- ---- places of a list
-
-pub data In {A : Type 0} (x : A) : List A → Type 0 where
-  here : {xs : List A} → In x (x ∷ xs)
-  there : {y : A} {xs : List A} → In x xs → In x (y ∷ xs)
-
-in-left : {A : Type 0} {x : A} {xs : List A} (ys : List A) → In x xs → In x (xs ++ ys)
-in-left ys here = here
-in-left ys (there i) = there (in-left ys i)
-
-in-right : {A : Type 0} {x : A} (xs : List A) {ys : List A} → In x ys → In x (xs ++ ys)
-in-right [] i = i
-in-right (y ∷ xs) i = there (in-right xs i)
-
-pub in-nodes : (l : ℕ) (p : Pass) (n : Node) → In (nodeAt l p n) (passNodes l p)
-in-nodes l p P1 = here
-in-nodes l p U1 = there here
-in-nodes l p P2 = there (there here)
-in-nodes l p U2 = there (there (there here))
-in-nodes l p G1 = there (there (there (there here)))
-in-nodes l p G2 = there (there (there (there (there here))))
-
-in-level : (l : ℕ) (p : Pass) (n : Node) → In (nodeAt l p n) (levelNodes l)
-in-level l Rows n = in-left _ (in-nodes l Rows n)
-in-level l LowColumns n = in-right (passNodes l Rows) (in-left _ (in-nodes l LowColumns n))
-in-level l HighColumns n = in-right (passNodes l Rows) (in-right (passNodes l LowColumns) (in-nodes l HighColumns n))
-
--- book order holds each pass and node of levels 1 to L
-pub in-order : (L l : ℕ) → 1 ≤ l → l ≤ L → (p : Pass) (n : Node) → In (nodeAt l p n) (bookOrder L)
-in-order zero l a b p n = absurd (omega arith)
-in-order (suc k) l a b p n = go (decLt l (suc k)) (λ i. in-order k l a i p n)
-  where
-    go : Dec (l < suc k) → (l ≤ k → In (nodeAt l p n) (bookOrder k)) → In (nodeAt l p n) (bookOrder (suc k))
-    go (yes i) before = in-left _ (before (omega arith))
-    go (no i) before =
-        let e : suc k ≡ l = omega arith in
-        in-right (bookOrder k) (subst (λ (j : ℕ). In (nodeAt l p n) (levelNodes j)) (sym e) (in-level l p n))
-
-every-in : {A : Type 0} (test : A → Bool) {x : A} {xs : List A} → In x xs → T (every test xs) → T (test x)
-unfolding every
-every-in test {x} (here {xs = ys}) h = both (test x) (every test ys) h .0
-every-in test (there {y = y} {xs = ys} i) h = every-in test i (both (test y) (every test ys) h .1)
+use Rattle.precision.specs.Verdict.{fits, belowTwoSteps, keptAt, judged, firstRefusal, verdict, Accepted, AcceptPromise}
 
 -- ---- the verdict
 
@@ -77,53 +34,10 @@ needs-kept : (kept low : Bool) → (T kept → T low) → T (not kept || low)
 needs-kept true low h = h tt
 needs-kept false low h = tt
 
-in-nodes-list : (n : Node) → In n (P1 ∷ U1 ∷ P2 ∷ U2 ∷ G1 ∷ G2 ∷ [])
-in-nodes-list P1 = here
-in-nodes-list U1 = there here
-in-nodes-list P2 = there (there here)
-in-nodes-list U2 = there (there (there here))
-in-nodes-list G1 = there (there (there (there here)))
-in-nodes-list G2 = there (there (there (there (there here))))
-
-width-right : (used : Bool) (IB f : ℕ) → T used → T (elim used [ true ↦ between 1 maxIntegerBits IB && between 0 maxFractionBits f | false ↦ eqb IB 0 && eqb f 0 ]) → (1 ≤ IB) × (IB ≤ 12) × (f ≤ 20)
-width-right true IB f u h =
-    let (i, j) = both (between 1 maxIntegerBits IB) (between 0 maxFractionBits f) h in
-    let (a, b) = between-≤ 1 maxDepth IB i in
-    (a, b, between-≤ 0 20 f j .1)
-width-right false IB f u h = absurd u
-
-width-unused : (IB f l L : ℕ) → L < l → T (elim (leb l L) [ true ↦ between 1 maxIntegerBits IB && between 0 maxFractionBits f | false ↦ eqb IB 0 && eqb f 0 ]) → (IB ≡ 0) × (f ≡ 0)
-width-unused IB f l L h =
-    by-leb (λ q. T (elim q [ true ↦ between 1 maxIntegerBits IB && between 0 maxFractionBits f | false ↦ eqb IB 0 && eqb f 0 ]) → (IB ≡ 0) × (f ≡ 0)) l L
-    (λ i. absurd (under i h))
-    (λ i r. let (x, y) = both (eqb IB 0) (eqb f 0) r in (eqb→eq IB 0 x, eqb→eq f 0 y))
-  where
-    under : {a b : ℕ} → a ≤ b → b < a → ⊥
-    under i j = omega arith
-
-module _ (t : WidthTable) (form : T (formRight t)) where
-  parts : T (between 1 maxDepth (t .depth)) × T (between 1 maxLevels (t .levels)) × T (every (λ n. constantRight (constantBits t n)) (P1 ∷ U1 ∷ P2 ∷ U2 ∷ G1 ∷ G2 ∷ [])) × T (every (nodeRight t) (bookOrder maxLevels))
-  unfolding formRight
-  parts = four (between 1 maxDepth (t .depth)) (between 1 maxLevels (t .levels)) (every (λ n. constantRight (constantBits t n)) (P1 ∷ U1 ∷ P2 ∷ U2 ∷ G1 ∷ G2 ∷ [])) (every (nodeRight t) (bookOrder maxLevels)) form
-
-  pub form-depth : (1 ≤ t .depth) × (t .depth ≤ 12)
-  form-depth = between-≤ 1 maxDepth (t .depth) (parts .0)
-
-  pub form-levels : (1 ≤ t .levels) × (t .levels ≤ 5)
-  form-levels = between-≤ 1 maxLevels (t .levels) (parts .1)
-
-  pub form-constants : (n : Node) → (1 ≤ constantBits t n) × (constantBits t n ≤ 24)
-  form-constants n = between-≤ 1 maxConstantBits (constantBits t n) (every-in (λ n. constantRight (constantBits t n)) (in-nodes-list n) (parts .2))
-
-  pub form-widths : (l : ℕ) → 1 ≤ l → l ≤ t .levels → (p : Pass) (n : Node) → (1 ≤ integerBits t l p n) × (integerBits t l p n ≤ 12) × (fractionBits t l p n ≤ 20)
-  form-widths l a b p n =
-      width-right (leb l (t .levels)) (integerBits t l p n) (fractionBits t l p n) (le→leb l (t .levels) b)
-      (every-in (nodeRight t) (in-order 5 l a (omega (arith, form-levels .1)) p n) (parts .3))
-
-  form-unused : (l : ℕ) → t .levels < l → l ≤ 5 → (p : Pass) (n : Node) → (integerBits t l p n ≡ 0) × (fractionBits t l p n ≡ 0)
-  form-unused l a b p n =
-      width-unused (integerBits t l p n) (fractionBits t l p n) l (t .levels) a
-      (every-in (nodeRight t) (in-order 5 l (omega arith) b p n) (parts .3))
+-- an accepted table has a right form
+pub accepted-form : (t : WidthTable) → Accepted t → T (formRight t)
+unfolding verdict
+accepted-form t e = asks-done (formRight t) _ _ e .0
 
 -- The accept promise.
 pub promise : (t : WidthTable) → Accepted t → AcceptPromise t
@@ -140,7 +54,7 @@ promise t e = record {
 }
   where
     form : T (formRight t)
-    form = asks-done (formRight t) _ _ e .0
+    form = accepted-form t e
 
     at : (l : ℕ) → 1 ≤ l → l ≤ t .levels → (p : Pass) (n : Node) → T (fits (boundOf t (nodeAt l p n)) (integerBits t l p n) (fractionBits t l p n)) × (T (keptAt (t .levels) l p n) → T (belowTwoSteps (boundOf t (nodeAt l p n)) (fractionBits t l p n)))
     at l a b p n =

@@ -7,7 +7,7 @@ use lib.Dec.{T, leb, ltb, eqb}
 use Rattle.refusals.specs.declared.NodePlace.{NodePlace}
 use Rattle.refusals.specs.declared.Refusal.the-variants.{OutsideLimits, DoesNotFit, ErrorTooLarge}
 use Rattle.refusals.specs.declared.Outcome.{Outcome}
-use Rattle.refusals.specs.declared.Outcome.the-variants.{Done, Refused}
+use Rattle.refusals.specs.declared.Outcome.the-variants.{Done}
 use Rattle.refusals.specs.Refusals.{asks, _then_}
 use Rattle.width_table.specs.declared.WidthTable.{WidthTable}
 use Rattle.width_table.specs.Nodes.{Node, P1, U1, P2, U2, G1, G2, Pass, Rows, LowColumns, HighColumns, TableNode, nodeAt, passNumber, nodeNumber, bookOrder}
@@ -42,14 +42,14 @@ abbrev pub numbered : TableNode → NodePlace
 numbered p = record { level = p .level; pass = passNumber (p .pass); node = nodeNumber (p .node) }
 
 -- At one node fit comes first (6); a kept node also needs its error below two steps (7).
-unfoldable pub judged : WidthTable → TableNode → Outcome
-judged t p =
-    let b = boundOf t p in
-    let IB = integerBits t (p .level) (p .pass) (p .node) in
-    let f = fractionBits t (p .level) (p .pass) (p .node) in
-    asks (fits b IB f) (DoesNotFit (numbered p))
-    (asks (not (keptAt (t .levels) (p .level) (p .pass) (p .node)) || belowTwoSteps b f) (ErrorTooLarge (numbered p))
+abbrev pub judgedBy : Bound → ℕ → ℕ → Bool → NodePlace → Outcome
+judgedBy b IB f kept place =
+    asks (fits b IB f) (DoesNotFit place)
+    (asks (not kept || belowTwoSteps b f) (ErrorTooLarge place)
     Done)
+
+unfoldable pub judged : WidthTable → TableNode → Outcome
+judged t p = judgedBy (boundOf t p) (integerBits t (p .level) (p .pass) (p .node)) (fractionBits t (p .level) (p .pass) (p .node)) (keptAt (t .levels) (p .level) (p .pass) (p .node)) (numbered p)
 
 -- the first refusal, in the order of the list
 unfoldable pub firstRefusal : WidthTable → List TableNode → Outcome

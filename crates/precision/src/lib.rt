@@ -6,15 +6,19 @@ use refusals::Refusal;
 use width_table::WidthTable;
 ghost use mathlib.Core.Path.{_≡_};
 ghost use Prim.Native.Nat.{ℕ, _+_, _*_, _-_, _^_, _<_, _≤_, max};
-ghost use lib.ListN.{getD};
+ghost use lib.Dec.{T};
+ghost use lib.ListN.{getD, take};
 ghost use Rattle.exact.specs.Fractions.{upDiv};
 ghost use Rattle.stages.specs.Rule.{timesGain, loss, ownLift, ownScale};
 ghost use Rattle.precision.specs.Verdict.{keptAt, judged, firstRefusal, verdict};
-ghost use Rattle.precision.specs.Places.{gainAt, carriedTo, multiplied, other, bitsOf, ownErrorOf, ownsOf, boundOfNode, boundFrom, judgedAs, At, Enters, PassJudged, LevelJudged};
+ghost use Rattle.precision.specs.Places.{gainAt, carriedTo, multiplied, other, bitsOf, ownErrorOf, ownsOf, boundOfNode, boundFrom, judgedAs, fedAfter, At, Enters, PassJudged, Reached};
 ghost use Rattle.width_table.specs.Numbered.{nodeOf, passOf};
 ghost use Rattle.precision.specs.PlaceLaws.{largest};
-ghost use Rattle.width_table.specs.Table.{inputBits};
-ghost use Rattle.width_table.specs.Nodes.{nodeAt, passNodes};
+ghost use Rattle.precision.specs.Bounds.{entering, boundOf};
+ghost use Rattle.precision.specs.BoundCalls.{nodesBefore, boundTold, boundAnswer};
+ghost use Rattle.refusals.specs.declared.Outcome.the-variants.{Refused};
+ghost use Rattle.width_table.specs.Table.{formRight};
+ghost use Rattle.width_table.specs.Nodes.{nodeAt, passNodes, levelNodes, bookOrder};
 
 // Range and error of a place.
 struct Bound {
@@ -121,24 +125,6 @@ fn bound_at(range: u64, own: [u64; 7], place: u8) -> Bound
     }
 }
 
-// The fractional bits of what enters a pass: columns take those of G1 or G2 of the rows; the first rows have the pixels' depth, later
-// rows those of G1 of the columns of row-low, one level before.
-fn input_bits(table: WidthTable, level: u8, pass: u8) -> u8
-    requires { ⌜ At table level pass ⌝ }
-    ensures { λ r. ⌜ (r ≡ inputBits table level (passOf pass)) × (r ≤ 20) ⌝ }
-{
-    if pass == 2 {
-        return table.fraction_bits(level, 1, 5);
-    }
-    if pass == 3 {
-        return table.fraction_bits(level, 1, 6);
-    }
-    if level == 1 {
-        return table.depth;
-    }
-    table.fraction_bits(level - 1, 2, 5)
-}
-
 // The fractional bits at a place of a pass.
 fn bits_at(table: WidthTable, level: u8, pass: u8, place: u8) -> u8
     requires { ⌜ At table level pass ⌝ }
@@ -146,7 +132,7 @@ fn bits_at(table: WidthTable, level: u8, pass: u8, place: u8) -> u8
     ensures { λ r. ⌜ (r ≡ bitsOf table level (passOf pass) place) × (r ≤ 20) ⌝ }
 {
     if place == 0 {
-        return input_bits(table, level, pass);
+        return table.input_bits(level, pass);
     }
     table.fraction_bits(level, pass, place)
 }
@@ -249,13 +235,21 @@ fn judge_node(table: WidthTable, level: u8, pass: u8, node: u8, bound: Bound) ->
     )
 }
 
-// The verdict on the nodes of a pass, the first refusal first.
-fn judge_nodes(table: WidthTable, level: u8, pass: u8, input: Bound, own: [u64; 7]) -> Outcome
+// The verdict on the first nodes of a pass, as many as `count` says; the first refusal first.
+fn judge_nodes(
+    table: WidthTable,
+    level: u8,
+    pass: u8,
+    input: Bound,
+    own: [u64; 7],
+    count: u8,
+) -> Outcome
     requires { ⌜ Enters table level pass input ⌝ }
-    requires { ⌜ own ≡ ownsOf table level (passOf pass) 7 ⌝ }
-    ensures { λ r. ⌜ r ≡ firstRefusal table (passNodes level (passOf pass)) ⌝ }
+    requires { ⌜ (own ≡ ownsOf table level (passOf pass) 7) × (count ≤ 6) ⌝ }
+    ensures { λ r. ⌜ r ≡ firstRefusal table (take count (passNodes level (passOf pass))) ⌝ }
 {
-    for node in 1..7 {
+    for done in 0..count {
+        let node = done + 1;
         let bound = bound_at(input.range, own, node);
         match judge_node(table, level, pass, node, bound) {
             Outcome::Refused(why) => return Outcome::Refused(why),
@@ -279,73 +273,169 @@ fn judge_pass(table: WidthTable, level: u8, pass: u8, input: Bound) -> PassAnswe
 {
     let own = own_errors(table, level, pass, input);
     PassAnswer {
-        outcome: judge_nodes(table, level, pass, input, own),
+        outcome: judge_nodes(table, level, pass, input, own, 6),
         low: bound_at(input.range, own, 5),
         high: bound_at(input.range, own, 6),
     }
 }
 
-// The answer on a level, with what enters the next one.
-struct LevelAnswer {
+// The first refusal of what comes before a pass in book order; where there is none, what enters the pass.
+struct Entered {
     outcome: Outcome,
-    next: Bound,
+    bound: Bound,
 }
 
-// The verdict on a level: rows, columns of row-low, columns of row-high. The next level takes its low-low; where it is refused, what
-// entered comes back.
-fn judge_level(table: WidthTable, level: u8, input: Bound) -> LevelAnswer
+// Into the pass that follows the first passes of a level, as many as `done` says: columns take what the rows leave; after all three
+// come the rows of the next level, which take the low-low.
+fn enter_pass(table: WidthTable, level: u8, done: u8, input: Bound) -> Entered
     requires { ⌜ Enters table level 1 input ⌝ }
-    ensures { λ r. ⌜ LevelJudged table level r ⌝ }
+    requires { ⌜ done ≤ 3 ⌝ }
+    ensures { λ r. ⌜ Reached table (take (done * 6) (levelNodes level)) (fedAfter table level done) r ⌝ }
 {
+    if done == 0 {
+        return Entered {
+            outcome: Outcome::Done,
+            bound: input,
+        };
+    }
     let rows = judge_pass(table, level, 1, input);
     let first = rows.outcome;
+    let low = rows.low;
+    if done == 1 {
+        return Entered {
+            outcome: first,
+            bound: low,
+        };
+    }
     match first {
-        Outcome::Refused(why) => LevelAnswer {
+        Outcome::Refused(why) => return Entered {
             outcome: Outcome::Refused(why),
-            next: input,
+            bound: low,
         },
-        Outcome::Done => {
-            let low_columns = judge_pass(table, level, 2, rows.low);
-            let second = low_columns.outcome;
-            match second {
-                Outcome::Refused(why) => LevelAnswer {
-                    outcome: Outcome::Refused(why),
-                    next: input,
-                },
-                Outcome::Done => {
-                    let high_columns = judge_pass(table, level, 3, rows.high);
-                    let third = high_columns.outcome;
-                    let next = low_columns.low;
-                    LevelAnswer {
-                        outcome: third,
-                        next,
-                    }
-                }
-            }
-        }
+        Outcome::Done => {}
+    }
+    let low_columns = judge_pass(table, level, 2, low);
+    let second = low_columns.outcome;
+    let high = rows.high;
+    if done == 2 {
+        return Entered {
+            outcome: second,
+            bound: high,
+        };
+    }
+    match second {
+        Outcome::Refused(why) => return Entered {
+            outcome: Outcome::Refused(why),
+            bound: high,
+        },
+        Outcome::Done => {}
+    }
+    let high_columns = judge_pass(table, level, 3, high);
+    let third = high_columns.outcome;
+    let low_low = low_columns.low;
+    Entered {
+        outcome: third,
+        bound: low_low,
     }
 }
 
-// The verdict on a width table: its form (else 4), then its nodes in book order (else 6 or 7). The first level starts with range 1/2
-// and no error.
+// Into the rows of the level that follows the first `done` levels. The first level starts with range 1/2 and no error.
+fn enter_level(table: WidthTable, done: u8) -> Entered
+    requires { ⌜ T (formRight table) × (done ≤ table .levels) ⌝ }
+    ensures { λ r. ⌜ Reached table (bookOrder done) (entering table (done + 1)) r ⌝ }
+{
+    let mut input = Bound {
+        range: 2147483648,
+        error: 0,
+    };
+    for before in 0..done {
+        let answer = enter_pass(table, before + 1, 3, input);
+        let outcome = answer.outcome;
+        match outcome {
+            Outcome::Refused(why) => return Entered {
+                outcome: Outcome::Refused(why),
+                bound: input,
+            },
+            Outcome::Done => {}
+        }
+        input = answer.bound;
+    }
+    Entered {
+        outcome: Outcome::Done,
+        bound: input,
+    }
+}
+
+// The verdict on a width table: its form (else 4), then its nodes in book order (else 6 or 7).
 pub fn judge(table: WidthTable) -> Outcome
     ensures { λ r. ⌜ r ≡ verdict table ⌝ }
 {
     if table.form_right() {} else {
         return Outcome::Refused(Refusal::OutsideLimits);
     }
-    let mut input = Bound {
-        range: 2147483648,
+    let answer = enter_level(table, table.levels);
+    answer.outcome
+}
+
+// Range and error of a node, where the outcome is Done.
+pub struct BoundAnswer {
+    pub outcome: Outcome,
+    pub range: u64,
+    pub error: u64,
+}
+
+// The answer with no bound.
+fn no_bound(why: Refusal) -> BoundAnswer
+    ensures { λ r. ⌜ r ≡ record { outcome = Refused why; range = 0; error = 0 } ⌝ }
+{
+    BoundAnswer {
+        outcome: Outcome::Refused(why),
+        range: 0,
         error: 0,
-    };
-    for done in 0..table.levels {
-        let answer = judge_level(table, done + 1, input);
-        let outcome = answer.outcome;
-        match outcome {
-            Outcome::Refused(why) => return Outcome::Refused(why),
-            Outcome::Done => {}
-        }
-        input = answer.next;
     }
-    Outcome::Done
+}
+
+// The bound of a node of a table of right form.
+fn bound_in(table: WidthTable, level: u8, pass: u8, node: u8) -> BoundAnswer
+    requires { ⌜ At table level pass ⌝ }
+    requires { ⌜ (1 ≤ node) × (node ≤ 6) ⌝ }
+    ensures { λ r. ⌜ r ≡ boundTold (firstRefusal table (nodesBefore (table .levels) level pass node)) (boundOf table (nodeAt level (passOf pass) (nodeOf node))) ⌝ }
+{
+    let rows = enter_level(table, level - 1);
+    let earlier = rows.outcome;
+    match earlier {
+        Outcome::Refused(why) => return no_bound(why),
+        Outcome::Done => {}
+    }
+    let entered = enter_pass(table, level, pass - 1, rows.bound);
+    let passes = entered.outcome;
+    match passes {
+        Outcome::Refused(why) => return no_bound(why),
+        Outcome::Done => {}
+    }
+    let input = entered.bound;
+    let own = own_errors(table, level, pass, input);
+    match judge_nodes(table, level, pass, input, own, node - 1) {
+        Outcome::Refused(why) => return no_bound(why),
+        Outcome::Done => {}
+    }
+    let bound = bound_at(input.range, own, node);
+    BoundAnswer {
+        outcome: Outcome::Done,
+        range: bound.range,
+        error: bound.error,
+    }
+}
+
+// Range and error of a node: 4 where the form is not right or the table lacks the node, then 6 or 7 of the nodes before it.
+pub fn bound_of(table: WidthTable, level: u8, pass: u8, node: u8) -> BoundAnswer
+    ensures { λ r. ⌜ r ≡ boundAnswer table level pass node ⌝ }
+{
+    if table.form_right() {} else {
+        return no_bound(Refusal::OutsideLimits);
+    }
+    if width_table::has_node(table.levels, level, pass, node) {} else {
+        return no_bound(Refusal::OutsideLimits);
+    }
+    bound_in(table, level, pass, node)
 }

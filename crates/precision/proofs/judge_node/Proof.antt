@@ -1,5 +1,7 @@
 use native.Mathlib.Omega.{arith}
-use Rattle.precision.specs.JudgeLaws.{read-integer, read-fraction, judged-is}
+use Rattle.precision.specs.JudgeLaws.{judged-is}
+use Rattle.width_table.specs.Numbered.{IsNode, IsPass}
+use Rattle.width_table.specs.Limits.{integer-read, fraction-read}
 use Rattle.precision.proofs.judge_node.Statement.{statement}
 use Rattle.precision.proofs.judge_node.Tie as tie
 
@@ -7,8 +9,18 @@ judge-bound-requires : tie.Need-judge-bound-requires
 judge-bound-requires c κs =
     let f = c .before in
     let s = f .before .before in
-    let n = s .args .node in
-    omega (arith, s .pre .1, f .before .integer-bits .ensures, f .fraction-bits .ensures, read-integer (s .pre .0) n (s .pre .1 .0) (s .pre .1 .1), read-fraction (s .pre .0) n (s .pre .1 .0) (s .pre .1 .1))
+    let a = s .args in
+    let h = s .pre .0 in
+    let pass : IsPass (a .pass) = (h .pass-from, h .pass-to) in
+    let node : IsNode (a .node) = (s .pre .1 .0, s .pre .1 .1) in
+    omega (
+      arith,
+      s .pre .1,
+      f .before .integer-bits .ensures,
+      f .fraction-bits .ensures,
+      integer-read (a .table) (h .form) (a .level) (h .level-from) (h .level-to) (a .pass) (a .node) pass node,
+      fraction-read (a .table) (h .form) (a .level) (h .level-from) (h .level-to) (a .pass) (a .node) pass node,
+    )
 
 returns : tie.Need-returns
 returns c =

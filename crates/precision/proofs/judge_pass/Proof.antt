@@ -25,4 +25,4 @@ returns c =
     }
 
 pub judge-pass-spec : {M : Type 1} → statement M
-judge-pass-spec = tie.close (tie.spec (λ c κs. c .pre) (λ c κs. (c .before .pre, c .own-errors .ensures)) bound-at-requires bound-at-requires-2 returns)
+judge-pass-spec = tie.close (tie.spec (λ c κs. c .pre) (λ c κs. (c .before .pre, (c .own-errors .ensures, lit≤ tt))) bound-at-requires bound-at-requires-2 returns)

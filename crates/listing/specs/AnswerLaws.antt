@@ -19,8 +19,8 @@ use Rattle.refusals.specs.RefusalLaws.{asks-right, then-right, answered-done}
 use Rattle.lines.specs.Planes.{Plane, rowByRow}
 use Rattle.lines.specs.RowLaws.{place-in, rows-length, rows-at, tabulate-same}
 use Rattle.width_table.specs.Table.{depthRight, levelsRight}
-use Rattle.pictures.specs.Pictures.{sized, pixelsRight, sample, planeOf}
-use Rattle.pictures.specs.PictureLaws.{sized-right, over-take}
+use Rattle.pictures.specs.Pictures.{pixelsRight, sample, planeOf}
+use Rattle.pictures.specs.PictureLaws.{sized, sized-then, sized-right, over-take}
 use Rattle.reversible.specs.Reversible.{forward}
 use Rattle.reversible.specs.Calls.{limited, forwardAnswer, forwardPlane}
 use Rattle.listing.specs.declared.Head.{Head}
@@ -47,10 +47,11 @@ module _ (bytes : List ℕ) where
   unfolding forwardAnswer
   forward-judges plane work f p q =
       let e = count f in
-      let z = f .room .first in
+      let z = f .few in
       then-right (limited (copyDepth bytes) (copyLevels bytes)) _ (asks-right (depthRight (copyDepth bytes) && levelsRight (copyLevels bytes)) _ _ (f .limited))
+      ∙ sized-then (copyLevels bytes) (copyWidth bytes) (copyHeight bytes) (length (copyPixels bytes)) (length plane) (length work) _
       ∙ then-right (sized (copyLevels bytes) (copyWidth bytes) (copyHeight bytes) (length (copyPixels bytes)) (length plane) (length work)) _
-      (sized-right _ _ _ _ _ _ (record { wide = f .room .wide; tall = f .room .tall; first = omega arith; second = omega arith; third = omega arith }))
+      (sized-right _ _ _ _ _ _ (record { wide = f .wide; tall = f .tall; first = omega arith; second = omega arith; third = omega arith }))
 
   -- ---- the text of each answer
 
@@ -93,7 +94,7 @@ module _ (bytes : List ℕ) (head : Head) (is : head ≡ headIn bytes) (right : 
 
   -- the sizes that the code counts with
   pub area : (head .w * head .h ≡ copySize bytes) × (copySize bytes ≤ maxPixels) × (length bytes ≡ 6 + 2 * copySize bytes) × (1 ≤ head .w)
-  area = (ap (λ (t : Head). t .w * t .h) is, formed .room .first, formed .exact, subst (λ (t : Head). 1 ≤ t .w) (sym is) (omega (arith, formed .room .wide .0)))
+  area = (ap (λ (t : Head). t .w * t .h) is, formed .few, formed .exact, subst (λ (t : Head). 1 ≤ t .w) (sym is) (omega (arith, formed .wide .0)))
 
   module _ (old after : List ℕ) (plane work : List ℤ) (o : Outcome) (read : after ≡ over (copyPixels bytes) old)
       (told : o ≡ forwardAnswer (head .depth) (head .levels) (head .w) (head .h) (take (head .w * head .h) after) plane work)
@@ -114,7 +115,7 @@ module _ (bytes : List ℕ) (head : Head) (is : head ≡ headIn bytes) (right : 
         let written = e ∙ (λ i. forwardPlane (is i .depth) (is i .levels) (is i .w) (is i .h) (same-pixels i) plane work)
         ∙ plane-written _ _ _ _ _ _ _ (forward-judges bytes plane work formed for-plane for-work ∙ v) in
         (λ i. headText (is i) ++ rowLines (is i .w) (planeOf (is i .w) new) 0 (is i .h))
-        ∙ ap (λ (t : List ℕ). headText (headIn bytes) ++ t) (rows-written (copyWidth bytes) (copyHeight bytes) _ new plane (omega (arith, formed .room .wide .0)) written)
+        ∙ ap (λ (t : List ℕ). headText (headIn bytes) ++ t) (rows-written (copyWidth bytes) (copyHeight bytes) _ new plane (omega (arith, formed .wide .0)) written)
         ∙ sym (text-done bytes right v)
 
 -- ---- what is written

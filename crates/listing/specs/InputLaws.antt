@@ -16,8 +16,8 @@ use Rattle.refusals.specs.declared.Outcome.the-variants.{Done, Refused}
 use Rattle.refusals.specs.Refusals.{asks, _then_}
 use Rattle.refusals.specs.RefusalLaws.{asks-done, then-done}
 use Rattle.width_table.specs.Table.{depthRight, levelsRight}
-use Rattle.pictures.specs.Pictures.{sideRight, sized}
-use Rattle.pictures.specs.PictureLaws.{Room, sized-done}
+use Rattle.pictures.specs.Pictures.{sideRight, Admitted, sided, holds}
+use Rattle.pictures.specs.PictureLaws.{sided-done, holds-done}
 use Rattle.listing.specs.Listing.{pairs, maxPixels, copyDepth, copyLevels, copyWidth, copyHeight, copySize, copyPixels, copyForm}
 
 -- ---- pixels
@@ -52,17 +52,23 @@ module _ (bytes : List ℕ) where
 
 -- ---- the form
 
--- 8 and 9 for three slices of as many elements
-alike : (s t : Bool) (o : Outcome) → asks s SideNotAdmitted (asks t SliceTooShort o) ≡ asks s SideNotAdmitted (asks (t && t && t) SliceTooShort Done) then o
-alike true true o = refl
-alike true false o = refl
-alike false t o = refl
+-- 8 and 9 apart from what is judged after them
+apart : (s t : Bool) (o : Outcome) → asks s SideNotAdmitted (asks t SliceTooShort o) ≡ (asks s SideNotAdmitted Done then asks t SliceTooShort Done) then o
+apart true true o = refl
+apart true false o = refl
+apart false t o = refl
 
 abbrev limits : List ℕ → Bool
 limits bytes = depthRight (copyDepth bytes) && levelsRight (copyLevels bytes)
 
 abbrev sizes : List ℕ → Outcome
-sizes bytes = sized (copyLevels bytes) (copyWidth bytes) (copyHeight bytes) maxPixels maxPixels maxPixels
+sizes bytes = sided (copyLevels bytes) (copyWidth bytes) (copyHeight bytes) then holds (copySize bytes) maxPixels
+
+pub sizes-done : (bytes : List ℕ) → sizes bytes ≡ Done → Admitted (copyLevels bytes) (copyWidth bytes) × Admitted (copyLevels bytes) (copyHeight bytes) × (copySize bytes ≤ maxPixels)
+sizes-done bytes e =
+    let s = then-done (sided (copyLevels bytes) (copyWidth bytes) (copyHeight bytes)) _ e in
+    let d = sided-done _ _ _ (s .0) in
+    (d .0, d .1, holds-done _ _ (s .1))
 
 -- what is left when the sizes are right
 abbrev body : List ℕ → Outcome
@@ -70,9 +76,9 @@ body bytes = asks (leb (2 * copySize bytes) (length bytes - 6)) CutShort (asks (
 
 module _ (bytes : List ℕ) where
   in-parts : copyForm bytes ≡ asks (leb 6 (length bytes)) CutShort (asks (limits bytes) OutsideLimits (sizes bytes then body bytes))
-  unfolding copyForm sized
+  unfolding copyForm sided holds
   in-parts = ap (λ (o : Outcome). asks (leb 6 (length bytes)) CutShort (asks (limits bytes) OutsideLimits o))
-      (alike (sideRight (copyLevels bytes) (copyWidth bytes) && sideRight (copyLevels bytes) (copyHeight bytes)) (leb (copySize bytes) maxPixels) (body bytes))
+      (apart (sideRight (copyLevels bytes) (copyWidth bytes) && sideRight (copyLevels bytes) (copyHeight bytes)) (leb (copySize bytes) maxPixels) (body bytes))
 
   pub form-short : length bytes < 6 → copyForm bytes ≡ Refused CutShort
   form-short h = in-parts ∙ ap (λ (t : Bool). asks t CutShort (asks (limits bytes) OutsideLimits (sizes bytes then body bytes))) (lt-leb 6 (length bytes) h)
@@ -107,7 +113,9 @@ module _ (bytes : List ℕ) where
 -- what a right form says
 pub record Formed (bytes : List ℕ) : Type 0 where
   pub limited : T (limits bytes)
-  pub room : Room (copyLevels bytes) (copyWidth bytes) (copyHeight bytes) maxPixels maxPixels maxPixels
+  pub wide : Admitted (copyLevels bytes) (copyWidth bytes)
+  pub tall : Admitted (copyLevels bytes) (copyHeight bytes)
+  pub few : copySize bytes ≤ maxPixels
   pub exact : length bytes ≡ 6 + 2 * copySize bytes
 
 pub form-done : (bytes : List ℕ) → copyForm bytes ≡ Done → Formed bytes
@@ -115,11 +123,14 @@ form-done bytes e =
     let a = asks-done (leb 6 (length bytes)) _ _ (sym (in-parts bytes) ∙ e) in
     let b = asks-done (limits bytes) _ _ (a .1) in
     let c = then-done (sizes bytes) _ (b .1) in
+    let s = sizes-done bytes (c .0) in
     let d = asks-done (leb (2 * copySize bytes) (length bytes - 6)) _ _ (c .1) in
     let f = asks-done (leb (length bytes - 6) (2 * copySize bytes)) _ _ (d .1) in
     record {
       limited = b .0;
-      room = sized-done _ _ _ _ _ _ (c .0);
+      wide = s .0;
+      tall = s .1;
+      few = s .2;
       exact = omega (arith, leb→le 6 (length bytes) (a .0), leb→le (2 * copySize bytes) (length bytes - 6) (d .0), leb→le (length bytes - 6) (2 * copySize bytes) (f .0));
     }
 
@@ -139,7 +150,7 @@ abbrev pub whyLong : List ℕ → Refusal
 whyLong bytes = refusalOf (limits bytes) (sizes bytes)
 
 pub form-too-long : (bytes : List ℕ) → maxInput ≤ length bytes → copyForm bytes ≡ Refused (whyLong bytes)
-form-too-long bytes h = past-head bytes (omega arith) ∙ go (limits bytes) (sizes bytes) (body bytes) (λ e. past (sized-done _ _ _ _ _ _ e .first))
+form-too-long bytes h = past-head bytes (omega arith) ∙ go (limits bytes) (sizes bytes) (body bytes) (λ e. past (sizes-done bytes e .2))
   where
     past : copySize bytes ≤ maxPixels → body bytes ≡ Refused TrailingBytes
     past m = λ i. asks (le-leb (2 * copySize bytes) (length bytes - 6) (omega arith) i) CutShort (asks (lt-leb (length bytes - 6) (2 * copySize bytes) (omega arith) i) TrailingBytes Done)
@@ -152,7 +163,9 @@ form-too-long bytes h = past-head bytes (omega arith) ∙ go (limits bytes) (siz
 -- the first of them have the same head
 pub why-same : (bytes : List ℕ) (n : ℕ) → 6 ≤ n → whyLong (take n bytes) ≡ whyLong bytes
 why-same bytes n h = λ i. refusalOf (depthRight (same 0 (omega arith) i) && levelsRight (same 1 (omega arith) i))
-    (sized (same 1 (omega arith) i) (same 2 (omega arith) i * 256 + same 3 (omega arith) i) (same 4 (omega arith) i * 256 + same 5 (omega arith) i) maxPixels maxPixels maxPixels)
+    (let w = same 2 (omega arith) i * 256 + same 3 (omega arith) i in
+    let h = same 4 (omega arith) i * 256 + same 5 (omega arith) i in
+    sided (same 1 (omega arith) i) w h then holds (w * h) maxPixels)
   where
     same : (k : ℕ) → k < 6 → getD (take n bytes) k 0 ≡ getD bytes k 0
     same k g = getD-take n bytes k 0 (omega arith)

@@ -5,13 +5,14 @@ ghost use Prim.Native.Nat.{_+_, _*_, _-_, _<_, _≤_};
 ghost use lib.ListN.{length};
 ghost use lib.IntN.{pos, natAbs};
 ghost use Rattle.numbers.specs.Lists.{over};
-ghost use Rattle.refusals.specs.Refusals.{number};
-ghost use Rattle.pictures.specs.Pictures.{planeOf};
-ghost use Rattle.listing.specs.Listing.{natural, decimal, line, rowLines, refusedLine, copyPixels, copyForm, headIn, headText, copyText, listed};
+ghost use Rattle.refusals.specs.Refusals.{number, _then_};
+ghost use Rattle.pictures.specs.Pictures.{sided, holds, planeOf};
+ghost use Rattle.listing.specs.Listing.{natural, decimal, line, rowLines, refusedLine, copyPixels, copyForm, headIn, headText, copyText, listed, maxPixels};
 ghost use Rattle.listing.specs.Writing.{Put};
 ghost use Rattle.listing.specs.AnswerLaws.{Memory};
 use pictures::limits_right;
-use pictures::sizes_right;
+use pictures::sides_right;
+use pictures::slice_holds;
 use refusals::Outcome;
 use refusals::Refusal;
 
@@ -182,6 +183,16 @@ fn head_of(bytes: &[u8]) -> Head
     }
 }
 
+// Refusals 8 and 9: admitted sides, and no more pixels than there is memory for.
+fn size_right(levels: u8, w: usize, h: usize) -> Outcome
+    ensures { λ r. ⌜ r ≡ sided levels w h then holds (w * h) maxPixels ⌝ }
+{
+    match sides_right(levels, w, h) {
+        Outcome::Refused(why) => Outcome::Refused(why),
+        Outcome::Done => slice_holds(w * h, MAX_PIXELS),
+    }
+}
+
 // All that is judged before the pixels' values: refusals 1, 4, 8, 9, 1 and 5, in that order.
 fn form_of(bytes: &[u8]) -> Outcome
     ensures { λ r. ⌜ r ≡ copyForm (now (bytes .entry)) ⌝ }
@@ -195,7 +206,7 @@ fn form_of(bytes: &[u8]) -> Outcome
     }
     let w = head.w as usize;
     let h = head.h as usize;
-    match sizes_right(head.levels, w, h, MAX_PIXELS, MAX_PIXELS, MAX_PIXELS) {
+    match size_right(head.levels, w, h) {
         Outcome::Refused(why) => Outcome::Refused(why),
         Outcome::Done => {
             let body = bytes.len() - HEAD;

@@ -16,8 +16,8 @@ use Rattle.width_table.specs.Table.{depthRight, levelsRight, maxDepth, maxLevel
 use Rattle.numbers.specs.Lists.{over}
 use Rattle.refusals.specs.RefusalLaws.{asks-done, then-done, then-right, then-refused, answered-done}
 use Rattle.lines.specs.Planes.{rowByRow}
-use Rattle.pictures.specs.Pictures.{sized, pixelsRight, sample, zeroed}
-use Rattle.pictures.specs.PictureLaws.{sized-done, pixels-done}
+use Rattle.pictures.specs.Pictures.{pixelsRight, sample, zeroed}
+use Rattle.pictures.specs.PictureLaws.{sized, sized-then, sized-done, pixels-done}
 use Rattle.reversible.specs.Reversible.{forward}
 use Rattle.reversible.specs.Calls.{limited, forwardAnswer, forwardPlane, forwardWork, hasPicture, backAllowed, backAnswer, backPixels, backWork}
 use Rattle.reversible.specs.FoundLaws.{TakenBack}
@@ -53,7 +53,7 @@ pub allowed-room : (B L w h a b c : ℕ) → limited B L then sized L w h a b c 
 allowed-room B L w h a b c e =
     let (d, s) = then-done (limited B L) (sized L w h a b c) e in
     let (x, y) = both (depthRight B) (levelsRight L) (asks-done (depthRight B && levelsRight L) OutsideLimits Done d .0) in
-    record { depth = between-≤ 1 maxDepth B x; few = between-≤ 1 maxLevels L y .1; room = sized-done L w h a b c s }
+    record { depth = between-≤ 1 maxDepth B x; some = between-≤ 1 maxLevels L y .0; few = between-≤ 1 maxLevels L y .1; room = sized-done L w h a b c s }
 
 -- ---- forward
 
@@ -71,7 +71,7 @@ module _ (B L w h : ℕ) (pixels : List ℕ) (plane work : List ℤ) where
 
   chain : forwardAnswer B L w h pixels plane work ≡ allowed then pixelsRight B w h pixels
   unfolding forwardAnswer
-  chain = then-assoc (limited B L) _ _
+  chain = ap (λ (o : Outcome). limited B L then o) (sized-then L w h (length pixels) (length plane) (length work) _) ∙ then-assoc (limited B L) _ _
 
   pub forward-not-allowed : (r : Refusal) → allowed ≡ Refused r → Forwarded (Refused r) plane work
   forward-not-allowed r e = refused r (chain ∙ then-refused allowed _ r e)

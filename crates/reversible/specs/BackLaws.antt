@@ -10,7 +10,7 @@ use lib.Signed.{_≤ℤ_}
 use Rattle.numbers.specs.Abs.{abs-≤}
 use Rattle.numbers.specs.Dif.{by-dif, difs}
 use Rattle.numbers.specs.Tests.{both, and-intro}
-use Rattle.lines.specs.Planes.{side}
+use Rattle.lines.specs.Planes.{side, levelsBack}
 use Rattle.lines.specs.PlaneLaws.{Agree}
 use Rattle.reversible.specs.Reversible.{back}
 use Rattle.reversible.specs.LevelLaws.{Sized, planeAt}
@@ -84,5 +84,5 @@ module _ {L w h n m : ℕ} (p : LevelsRoom L w h n m) (k : ℕ) (i : k < L) (x y
   }
 
 pub back-all : (L w h : ℕ) (x y : ℕ → ℤ) → BackLeft L w h 0 x y → BackDone L w h x y true
-unfolding back
+unfolding back levelsBack
 back-all L w h x y f = record { done = λ t. f .left; none = λ s. tt }

@@ -17,11 +17,11 @@ use Rattle.lines.specs.Planes.{Plane, rowByRow}
 use Rattle.lines.specs.PlaneLaws.{Roomy, roomy, Agree}
 use Rattle.lines.specs.RowLaws.{place-in, rows-length, rows-same, rows-take, every-row, rows-map}
 use Rattle.width_table.specs.Table.{depthRight, levelsRight}
-use Rattle.pictures.specs.Pictures.{sized, pixelsRight, sample, planeOf}
-use Rattle.pictures.specs.PictureLaws.{Room, sized-done, sized-right, pixels-done, pixel-below, over-take, over-length}
+use Rattle.pictures.specs.Pictures.{pixelsRight, sample, planeOf}
+use Rattle.pictures.specs.PictureLaws.{Room, sized, sized-then, sized-done, sized-right, pixels-done, pixel-below, over-take, over-length}
 use Rattle.reversible.specs.Reversible.{forward, back}
-use Rattle.reversible.specs.ReversibleLaws.{forward-agrees}
-use Rattle.reversible.specs.PictureLaws.{Picture, planeIn, goes-back, found-picture, found-plane, pixel-is, take-add}
+use Rattle.reversible.specs.ReversibleLaws.{take-add, forward-agrees}
+use Rattle.reversible.specs.PictureLaws.{Picture, planeIn, goes-back, found-picture, found-plane, pixel-is}
 use Rattle.reversible.specs.Calls.{limited, forwardAnswer, forwardPlane, pixelsBack, isPixel, hasPicture, backAllowed, backAnswer, backPixels}
 
 -- ---- there and back
@@ -39,7 +39,7 @@ forward-done : (B L w h : ℕ) (pixels : List ℕ) (plane work : List ℤ) → f
 unfolding forwardAnswer
 forward-done B L w h pixels plane work e =
     let a = then-done (limited B L) _ e in
-    let b = then-done (sized L w h (length pixels) (length plane) (length work)) _ (a .1) in
+    let b = then-done (sized L w h (length pixels) (length plane) (length work)) _ (sym (sized-then L w h (length pixels) (length plane) (length work) _) ∙ a .1) in
     record {
       limits = asks-done (depthRight B && levelsRight L) _ _ (a .0) .0;
       room = sized-done L w h (length pixels) (length plane) (length work) (b .0);
@@ -172,7 +172,7 @@ module _ (B L w h : ℕ) (plane : List ℤ) (pixels : List ℕ) (work : List ℤ
 
   same-plane : planeIn B L w h picture ≡ take (w * h) plane
   same-plane =
-      rows-same w h big-w (forward L w h (sample picture B w)) (forward L w h (sample came B w)) (forward-agrees w h big-w big-h L wide-w wide-h (sample picture B w) (sample came B w) same-samples)
+      rows-same w h big-w (forward L w h (sample picture B w)) (forward L w h (sample came B w)) (forward-agrees L w h wide-w wide-h (sample picture B w) (sample came B w) same-samples)
       ∙ found-plane B L w h wide-w wide-h big-w big-h plane (known .room .second) (known .right)
 
   pub comes-forward-done : forwardAnswer B L w h picture plane' work' ≡ Done
@@ -181,6 +181,7 @@ module _ (B L w h : ℕ) (plane : List ℤ) (pixels : List ℕ) (work : List ℤ
       let k = known in
       let a = then-done (limited B L) _ (allowed B L w h (length picture) (length plane') (length work') (k .limits) (record { wide = k .room .wide; tall = k .room .tall; first = room-picture; second = rp; third = rw' })) in
       then-right (limited B L) _ (a .0)
+      ∙ sized-then L w h (length picture) (length plane') (length work') _
       ∙ then-right (sized L w h (length picture) (length plane') (length work')) _ (a .1)
       ∙ asks-right (every (λ p. ltb p (2 ^ B)) (take (w * h) picture)) _ _ (subst (λ (l : List ℕ). T (every (λ p. ltb p (2 ^ B)) l)) (sym front-came) (right-came .right))
 

@@ -13,7 +13,7 @@ use Rattle.refusals.specs.declared.Outcome.the-variants.{Done, Refused}
 use Rattle.refusals.specs.Refusals.{asks, _then_, answered}
 use Rattle.lines.specs.Planes.{Plane, rowByRow}
 use Rattle.width_table.specs.Table.{depthRight, levelsRight}
-use Rattle.pictures.specs.Pictures.{sized, pixelsRight, sample, planeOf, zeroed}
+use Rattle.pictures.specs.Pictures.{sided, holds, pixelsRight, sample, planeOf, zeroed}
 use Rattle.reversible.specs.Reversible.{forward, back}
 
 -- 4: depth and levels are within their limits
@@ -26,7 +26,10 @@ module _ (B L w h : ℕ) (pixels : List ℕ) (plane work : List ℤ) where
   unfoldable pub forwardAnswer : Outcome
   forwardAnswer =
       limited B L
-      then sized L w h (length pixels) (length plane) (length work)
+      then sided L w h
+      then holds (w * h) (length pixels)
+      then holds (w * h) (length plane)
+      then holds (w * h) (length work)
       then pixelsRight B w h pixels
 
   unfoldable pub forwardPlane : List ℤ
@@ -53,7 +56,10 @@ module _ (B L w h : ℕ) (plane : List ℤ) (pixels : List ℕ) (work : List ℤ
   unfoldable pub backAllowed : Outcome
   backAllowed =
       limited B L
-      then sized L w h (length pixels) (length plane) (length work)
+      then sided L w h
+      then holds (w * h) (length pixels)
+      then holds (w * h) (length plane)
+      then holds (w * h) (length work)
 
   unfoldable pub backAnswer : Outcome
   backAnswer = backAllowed then asks (hasPicture B L w h plane) NoPicture Done

@@ -79,7 +79,7 @@ module _ {B L w h a b c : ℕ} (room : CallRoom B L w h a b c) (plane : List ℤ
   sampleAt = back L w h (planeOf w plane)
 
   same : Agree w h (back L w h (planeAt w mid)) sampleAt
-  same = back-agrees w h some-w some-h L (roomy L w (room .room .wide .0)) (roomy L h (room .room .tall .0)) (planeAt w mid) (planeOf w plane)
+  same = back-agrees L w h (roomy L w (room .room .wide .0)) (roomy L h (room .room .tall .0)) (planeAt w mid) (planeOf w plane)
       (λ r c i j. ap (λ (f : ℕ → ℤ). f (r * w + c)) copied ∙ ap (patch 0 (w * h) (at plane) x) (omega arith) ∙ patch-in 0 (w * h) (at plane) x (r * w + c) (place-in w h some-w r c i j))
 
   abbrev pixelAt : Plane ℤ

@@ -4,8 +4,8 @@ use mathlib.Core.Path.{_≡_, refl, sym, _∙_, ap, subst}
 use native.Mathlib.Numerals.{add-one}
 use native.Mathlib.Omega.{arith}
 use lib.IntN.{ℤ, natAbs}
-use Rattle.lines.specs.Lines.{lows}
-use Rattle.lines.specs.Planes.{Plane, levels, side}
+use Rattle.lines.specs.Lines.{lows, Liftable}
+use Rattle.lines.specs.Planes.{Plane, levels, levelsBack, side}
 use Rattle.lines.specs.PlaneLaws.{Roomy, roomy, side-le, Agree}
 use Rattle.pictures.specs.Pictures.{Admitted}
 use Rattle.pictures.specs.MemoryLaws.{Stands}
@@ -27,14 +27,18 @@ pub side-none : (n : ℕ) → side 0 n ≡ n
 unfolding side
 side-none n = refl
 
+pub side-one : (n : ℕ) → lows n ≡ side 1 n
+unfolding side
+side-one n = refl
+
 pub side-more : (k n : ℕ) → lows (side k n) ≡ side (k + 1) n
 unfolding side
 side-more k n = ap (λ (j : ℕ). side j n) (sym (add-one k))
 
 -- what is known of the sides at level k + 1 of L
 pub record Sides (L w h k : ℕ) : Type 0 where
-  pub wide : 2 ≤ side k w
-  pub tall : 2 ≤ side k h
+  pub wide : Liftable (side k w)
+  pub tall : Liftable (side k h)
   pub in-w : side k w ≤ w
   pub in-h : side k h ≤ h
 
@@ -59,7 +63,7 @@ module _ (L w h : ℕ) (aw : Admitted L w) (ah : Admitted L h) where
     in-h = side-le k h (omega (arith, ah .0));
   }
 
-  pub forward-none : (x : ℕ → ℤ) → ForwardDone w h 0 x x
+  forward-none : (x : ℕ → ℤ) → ForwardDone w h 0 x x
   unfolding forward levels
   forward-none x = record { stands = λ r c i j. refl; beyond = λ q i. refl }
 
@@ -68,27 +72,31 @@ module _ (L w h : ℕ) (aw : Admitted L w) (ah : Admitted L h) where
   forward-more k i x y z f e =
       let s = sides k i in
       subst (λ (n : ℕ). ForwardDone w h n x z) (sym (add-one k)) (subst (λ (m : ℕ → ℤ). ForwardDone w h (suc k) x m) (sym e) (record {
-        stands = forward-stands w h (side k w) (side k h) (s .wide) (s .tall) (s .in-w) (s .in-h) y (forward k w h (planeAt w x)) (f .stands) (suc k);
+        stands = forward-stands w h (side k w) (side k h) (s .wide) (s .tall) (s .in-w) (s .in-h) y (forward k w h (planeAt w x)) (f .stands);
         beyond = λ q far. forward-beyond w h (side k w) (side k h) (s .wide) (s .tall) (s .in-w) (s .in-h) y q far ∙ f .beyond q far;
       }))
+
+  pub forward-first : 1 ≤ L → (x z : ℕ → ℤ) → z ≡ levelForward w w h x → ForwardDone w h 1 x z
+  unfolding side
+  forward-first some x z e = forward-more 0 (omega arith) x x z (forward-none x) e
 
   pub forward-part : (k : ℕ) → k < L → L ≤ 5 → (x y : ℕ → ℤ) → ForwardDone w h k x y → Sized (2 ^ 11) w h (planeAt w x) → Sized (2 ^ 21) (side k w) (side k h) (planeAt w y)
   forward-part k i five x y f small r c a b =
       let s = sides k i in
       subst (λ (t : ℤ). natAbs t ≤ 2 ^ 21) (sym (f .stands r c (omega (arith, s .in-h)) (omega (arith, s .in-w))))
-      (omega (arith, four-pow k (omega arith), forward-sized w h (omega (arith, aw .0)) (omega (arith, ah .0)) k (λ j t. roomy L w (aw .0) j (omega arith)) (λ j t. roomy L h (ah .0) j (omega arith)) (planeAt w x) small r c (omega (arith, s .in-h)) (omega (arith, s .in-w))))
+      (omega (arith, four-pow k (omega arith), forward-sized w h k (λ j t. roomy L w (aw .0) j (omega arith)) (λ j t. roomy L h (ah .0) j (omega arith)) (planeAt w x) small r c (omega (arith, s .in-h)) (omega (arith, s .in-w))))
 
   pub back-none : (x : ℕ → ℤ) → BackLeft L w h L x x
   back-none x = record { left = λ r c i j. refl }
 
   pub back-more : (k : ℕ) → k < L → (x y z : ℕ → ℤ) → BackLeft L w h (k + 1) x y → z ≡ levelBack w (side k w) (side k h) y → BackLeft L w h k x z
-  unfolding back
+  unfolding back levelsBack
   back-more k i x y z f e =
       let s = sides k i in
       let g = subst (λ (n : ℕ). BackLeft L w h n x y) (add-one k) f in
       subst (λ (m : ℕ → ℤ). BackLeft L w h k x m) (sym e) (record {
         left = λ r c a b.
-            back-agrees w h (omega (arith, aw .0)) (omega (arith, ah .0)) k (λ j t. roomy L w (aw .0) j (omega arith)) (λ j t. roomy L h (ah .0) j (omega arith)) _ (backLevel (side k w) (side k h) (planeAt w y))
+            back-agrees k w h (λ j t. roomy L w (aw .0) j (omega arith)) (λ j t. roomy L h (ah .0) j (omega arith)) _ (backLevel (side k w) (side k h) (planeAt w y))
             (back-stands w h (side k w) (side k h) (s .wide) (s .tall) (s .in-w) (s .in-h) y (planeAt w y) (λ r c i j. refl)) r c a b
             ∙ g .left r c a b;
       })
@@ -100,4 +108,4 @@ module _ (L w h : ℕ) (aw : Admitted L w) (ah : Admitted L h) where
       let tall : Roomy k h = λ j t. roomy L h (ah .0) j (omega arith) in
       let found : Sized (2 ^ 11) w h (back k w h (planeAt w y)) = λ r c a b. subst (λ (t : ℤ). natAbs t ≤ 2 ^ 11) (sym (f .left r c a b)) (small r c a b) in
       subst (λ (p : Plane ℤ). natAbs (p r c) ≤ 2 ^ 21) (back-forward k w h wide tall (planeAt w y))
-      (omega (arith, four-pow k (omega arith), forward-sized w h (omega (arith, aw .0)) (omega (arith, ah .0)) k wide tall (back k w h (planeAt w y)) found r c a b))
+      (omega (arith, four-pow k (omega arith), forward-sized w h k wide tall (back k w h (planeAt w y)) found r c a b))

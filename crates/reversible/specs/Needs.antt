@@ -1,30 +1,46 @@
 -- What the functions of the code ask of their callers.
-use Prim.Native.Nat.{ℕ, _+_, _*_, _<_, _≤_, _^_}
+use Prim.Native.Nat.{ℕ, _+_, _*_, _-_, _<_, _≤_, _^_}
 use mathlib.Core.List.{List}
-use mathlib.Core.Path.{_≡_, sym, subst, subst₂}
+use mathlib.Core.Path.{_≡_, sym, _∙_, ap, subst, subst₂}
 use native.Mathlib.Omega.{arith}
 use native.Mathlib.Nat.{mul-le-mul-right, mul-comm}
 use lib.Dec.{T, ltb}
-use lib.IntN.{ℤ}
-use lib.ListN.{length, take}
+use lib.IntN.{ℤ, pos, natAbs, _-ℤ_}
+use lib.ListN.{length, getD, take}
 use Rattle.numbers.specs.Tests.{every}
-use Rattle.lifting.specs.Kernels.{Part, SafeKernel, rowOf, columnOf, rowsWorked, columnsWorked}
-use Rattle.lifting.specs.Patch.{at}
+use Rattle.lifting.specs.Kernels.{Part, worked, SafeKernel, rowOf, columnOf, rowsWorked, columnsWorked}
+use Rattle.lifting.specs.Patch.{at, patch-in}
+use Rattle.lifting.specs.PatchLines.{lineAt, patchLines}
+use Rattle.lifting.specs.Strips.{pixelLine}
 use Rattle.pictures.specs.Pictures.{Admitted}
 use Rattle.pictures.specs.PictureLaws.{Room}
+use Rattle.pictures.specs.MemoryLaws.{loaded, pixel-rows-worked}
+use Rattle.lines.specs.Lines.{Liftable}
 use Rattle.lines.specs.Planes.{side}
+use Rattle.lines.specs.RowLaws.{place-in}
 use Rattle.reversible.specs.LevelLaws.{Sized, planeAt, forward-rows-safe, forward-columns-safe, rows-sized, back-rows-safe, back-columns-safe, columns-sized}
-use Rattle.reversible.specs.Sizes.{forwardKernel, backKernel}
+use Rattle.reversible.specs.Sizes.{forwardKernel, backKernel, forward-safe}
 use Rattle.reversible.specs.LoopLaws.{Sides, sides}
 
 -- a part of w columns and h rows, with values of size b at most, and a tile for its lines
 pub record LevelRoom (b : ℕ) (plane : List ℤ) (tile W w h : ℕ) : Type 0 where
   pub part : Part plane W 0 w h
-  pub wide : 2 ≤ w
-  pub tall : 2 ≤ h
+  pub wide : Liftable w
+  pub tall : Liftable h
   pub row : w ≤ tile
   pub column : h ≤ tile
   pub small : Sized b w h (planeAt W (at plane))
+
+-- a picture of w columns and h rows with samples of size 2^11 at most, a plane for it, and a tile for its lines
+pub record FirstRoom (B : ℕ) (pixels : List ℕ) (plane : List ℤ) (tile w h : ℕ) : Type 0 where
+  pub depth : (1 ≤ B) × (B ≤ 12)
+  pub part : Part plane w 0 w h
+  pub wide : Liftable w
+  pub tall : Liftable h
+  pub row : w ≤ tile
+  pub column : h ≤ tile
+  pub held : w * h ≤ length pixels
+  pub small : (k : ℕ) → k < w * h → natAbs (pos (getD pixels k 0) -ℤ pos (2 ^ (B - 1))) ≤ 2 ^ 11
 
 -- admitted sides, and room for w * h values in the plane and for a line in the tile
 pub record LevelsRoom (L w h plane tile : ℕ) : Type 0 where
@@ -38,6 +54,7 @@ pub record LevelsRoom (L w h plane tile : ℕ) : Type 0 where
 -- a call that is allowed: depth and levels within their limits, admitted sides, slices of a, b and c elements that are long enough
 pub record CallRoom (B L w h a b c : ℕ) : Type 0 where
   pub depth : (1 ≤ B) × (B ≤ 12)
+  pub some : 1 ≤ L
   pub few : L ≤ 5
   pub room : Room L w h a b c
 
@@ -49,6 +66,10 @@ pub record ForwardRoom (B L w h : ℕ) (pixels : List ℕ) (plane work : ℕ) : 
 -- a line fits where the whole plane does
 pub lines-fit : (w h : ℕ) → 1 ≤ w → 1 ≤ h → (w ≤ w * h) × (h ≤ w * h)
 lines-fit w h a b = (omega (arith, mul-le-mul-right w b, mul-comm w h), omega (arith, mul-le-mul-right h a))
+
+-- the same call with other slices that are long enough
+pub other-slices : {B L w h a b c : ℕ} → CallRoom B L w h a b c → (k l m : ℕ) → w * h ≤ k → w * h ≤ l → w * h ≤ m → CallRoom B L w h k l m
+other-slices p k l m x y z = record { depth = p .depth; some = p .some; few = p .few; room = record { wide = p .room .wide; tall = p .room .tall; first = x; second = y; third = z } }
 
 pub levels-room : {B L w h a b c : ℕ} → CallRoom B L w h a b c → (plane tile : ℕ) → w * h ≤ plane → w * h ≤ tile → LevelsRoom L w h plane tile
 levels-room {w} {h} p plane tile e f =
@@ -89,13 +110,40 @@ part-here {L} {w} {h} r k i plane across down e ea ed =
 
 -- ---- the steps of a level fit
 
+-- a plane that holds a picture's samples
+pub loaded-at : (pixels : List ℕ) (middle w h : ℕ) (x : ℕ → ℤ) → 1 ≤ w → (r c : ℕ) → r < h → c < w → planeAt w (loaded pixels middle w h x) r c ≡ pos (getD pixels (r * w + c) 0) -ℤ pos middle
+loaded-at pixels middle w h x some r c i j = ap (loaded pixels middle w h x) (let e : r * w + c ≡ 0 + (r * w + c) = omega arith in e) ∙ patch-in 0 (w * h) _ x (r * w + c) (place-in w h some r c i j)
+
+pub loaded-sized : (b : ℕ) (pixels : List ℕ) (middle w h : ℕ) (x : ℕ → ℤ) → 1 ≤ w → ((k : ℕ) → k < w * h → natAbs (pos (getD pixels k 0) -ℤ pos middle) ≤ b) → Sized b w h (planeAt w (loaded pixels middle w h x))
+loaded-sized b pixels middle w h x some small r c i j = subst (λ (z : ℤ). natAbs z ≤ b) (sym (loaded-at pixels middle w h x some r c i j)) (small (r * w + c) (place-in w h some r c i j))
+
+-- the columns, after the rows
+columns-after : (W w h : ℕ) → Liftable w → Liftable h → w ≤ W → (y : ℕ → ℤ) → Sized (2 ^ 21) w h (planeAt W y) → (x : ℕ → ℤ) → x ≡ rowsWorked forwardKernel W w h y → (c : ℕ) → c < w → SafeKernel forwardKernel h (columnOf W 0 x c)
+columns-after W w h wide tall narrow y small x e = subst (λ (z : ℕ → ℤ). (c : ℕ) → c < w → SafeKernel forwardKernel h (columnOf W 0 z c)) (sym e)
+    (forward-columns-safe W w h (2 * 2 ^ 21) wide tall narrow (rowsWorked forwardKernel W w h y) (rows-sized W w h (2 ^ 21) wide tall narrow y small) (omega arith))
+
+module _ {B : ℕ} {pixels : List ℕ} {plane : List ℤ} {tile w h : ℕ} (p : FirstRoom B pixels plane tile w h) where
+  some-columns : 1 ≤ w
+  some-columns = omega (arith, p .wide)
+
+  pub first-rows : (m : ℕ) → m ≡ 2 ^ (B - 1) → (r : ℕ) → r < h → SafeKernel forwardKernel w (pixelLine pixels m (r * w))
+  first-rows m e = subst (λ (n : ℕ). (r : ℕ) → r < h → SafeKernel forwardKernel w (pixelLine pixels n (r * w))) (sym e)
+      (λ r i. forward-safe w (2 ^ 11) (pixelLine pixels (2 ^ (B - 1)) (r * w)) (p .wide) (λ c j. p .small (r * w + c) (place-in w h some-columns r c i j)) (omega arith))
+
+  -- the rows that the pixels give are those of the samples
+  pub first-worked : (m : ℕ) → m ≡ 2 ^ (B - 1) → (x : ℕ → ℤ) → x ≡ patchLines (lineAt 0 w) w h (λ r. worked forwardKernel w (pixelLine pixels m (r * w))) (at plane)
+      → x ≡ rowsWorked forwardKernel w w h (loaded pixels (2 ^ (B - 1)) w h (at plane))
+  first-worked m e x f = f ∙ pixel-rows-worked forwardKernel pixels m w h (at plane) (p .wide) ∙ ap (λ (n : ℕ). rowsWorked forwardKernel w w h (loaded pixels n w h (at plane))) e
+
+  pub first-columns : (x : ℕ → ℤ) → x ≡ rowsWorked forwardKernel w w h (loaded pixels (2 ^ (B - 1)) w h (at plane)) → (c : ℕ) → c < w → SafeKernel forwardKernel h (columnOf w 0 x c)
+  first-columns = columns-after w w h (p .wide) (p .tall) (omega arith) (loaded pixels (2 ^ (B - 1)) w h (at plane)) (loaded-sized (2 ^ 21) pixels (2 ^ (B - 1)) w h (at plane) some-columns (λ k i. omega (arith, p .small k i)))
+
 module _ {plane : List ℤ} {tile W w h : ℕ} where
   pub forward-rows : LevelRoom (2 ^ 21) plane tile W w h → (r : ℕ) → r < h → SafeKernel forwardKernel w (rowOf W 0 (at plane) r)
   forward-rows p = forward-rows-safe W w h (2 ^ 21) (p .wide) (p .tall) (omega (arith, p .part .narrow)) (at plane) (p .small) (omega arith)
 
   pub forward-columns : LevelRoom (2 ^ 21) plane tile W w h → (x : ℕ → ℤ) → x ≡ rowsWorked forwardKernel W w h (at plane) → (c : ℕ) → c < w → SafeKernel forwardKernel h (columnOf W 0 x c)
-  forward-columns p x e = subst (λ (y : ℕ → ℤ). (c : ℕ) → c < w → SafeKernel forwardKernel h (columnOf W 0 y c)) (sym e)
-      (forward-columns-safe W w h (2 * 2 ^ 21) (p .wide) (p .tall) (omega (arith, p .part .narrow)) (rowsWorked forwardKernel W w h (at plane)) (rows-sized W w h (2 ^ 21) (p .wide) (p .tall) (omega (arith, p .part .narrow)) (at plane) (p .small)) (omega arith))
+  forward-columns p = columns-after W w h (p .wide) (p .tall) (omega (arith, p .part .narrow)) (at plane) (p .small)
 
   pub back-columns : LevelRoom (2 ^ 22) plane tile W w h → (c : ℕ) → c < w → SafeKernel backKernel h (columnOf W 0 (at plane) c)
   back-columns p = back-columns-safe W w h (2 ^ 22) (p .wide) (p .tall) (omega (arith, p .part .narrow)) (at plane) (p .small) (omega arith)

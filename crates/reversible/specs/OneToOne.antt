@@ -10,7 +10,8 @@ use Rattle.lines.specs.PlaneLaws.{roomy, Agree}
 use Rattle.lines.specs.RowLaws.{rows-length}
 use Rattle.pictures.specs.Pictures.{Admitted, sample, planeOf}
 use Rattle.reversible.specs.Reversible.{forward, back}
-use Rattle.reversible.specs.PictureLaws.{Picture, planeIn, goes-back, take-add}
+use Rattle.reversible.specs.PictureLaws.{Picture, planeIn, goes-back}
+use Rattle.reversible.specs.ReversibleLaws.{take-add}
 use Rattle.reversible.specs.FoundLaws.{by-place}
 
 module _ (B L w h : ℕ) (aw : Admitted L w) (ah : Admitted L h) (p q : List ℕ) (same : planeIn B L w h p ≡ planeIn B L w h q) where

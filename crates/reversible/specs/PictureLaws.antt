@@ -10,13 +10,12 @@ use lib.ListN.{length, getD, take, length-map, List·getD-map}
 use lib.Seq.{getD-take}
 use lib.IntN.{ℤ, pos, negsuc, natAbs, _+ℤ_, _-ℤ_}
 use lib.Signed.{leZ, ltZ, leZ-yes, yes-nonNeg, pos-natAbs}
-use Rattle.numbers.specs.Dif.{by-dif, difs}
 use Rattle.lines.specs.Planes.{Plane, rowByRow}
 use Rattle.pictures.specs.Pictures.{sample, planeOf}
 use Rattle.numbers.specs.Tests.{every, both, and-intro}
 use Rattle.reversible.specs.Reversible.{forward, back}
 use Rattle.lines.specs.PlaneLaws.{Roomy, Agree}
-use Rattle.reversible.specs.ReversibleLaws.{forward-back, back-forward, forward-agrees, back-agrees}
+use Rattle.reversible.specs.ReversibleLaws.{take-add, add-take, forward-back, back-forward, forward-agrees, back-agrees}
 use Rattle.lines.specs.RowLaws.{place-in, rows-length, rows-at, rows-same, rows-take, every-at, every-row, every-row-at}
 use Rattle.reversible.specs.Calls.{pixelsBack, isPixel, hasPicture}
 
@@ -28,12 +27,6 @@ pub record Picture (B w h : ℕ) (pixels : List ℕ) : Type 0 where
 -- its 5/3 plane, row by row
 abbrev pub planeIn : ℕ → ℕ → ℕ → ℕ → List ℕ → List ℤ
 planeIn B L w h pixels = rowByRow w h (forward L w h (sample pixels B w))
-
-pub take-add : (a s : ℤ) → a -ℤ s +ℤ s ≡ a
-take-add = by-dif _ λ a b. by-dif _ λ c d. simp difs (omega arith)
-
-add-take : (a s : ℤ) → a +ℤ s -ℤ s ≡ a
-add-take = by-dif _ λ a b. by-dif _ λ c d. simp difs (omega arith)
 
 every-map : {A C : Type 0} (k : A → C) (f : A → Bool) (g : C → Bool) → ((a : A) → T (f a) → T (g (k a))) → (l : List A) → T (every f l) → T (every g (map k l))
 unfolding every
@@ -58,7 +51,7 @@ module _ (B L w h : ℕ) (wide : Roomy L w) (tall : Roomy L h) (some-w : 1 ≤ w
   -- a list that is the plane of samples s goes back to them
   pub goes-back : (s : Plane ℤ) → rowByRow w h (forward L w h s) ≡ take (w * h) plane → Agree w h (back L w h (planeOf w plane)) s
   goes-back s e r c i j =
-      back-agrees w h some-w some-h L wide tall (planeOf w plane) (forward L w h s) same r c i j ∙ ap (λ (p : Plane ℤ). p r c) (forward-back L w h wide tall s)
+      back-agrees L w h wide tall (planeOf w plane) (forward L w h s) same r c i j ∙ ap (λ (p : Plane ℤ). p r c) (forward-back L w h wide tall s)
     where
       same : Agree w h (planeOf w plane) (forward L w h s)
       same r c i j =
@@ -101,7 +94,7 @@ module _ (B L w h : ℕ) (wide : Roomy L w) (tall : Roomy L h) (some-w : 1 ≤ w
     pub found-plane : planeIn B L w h found ≡ take (w * h) plane
     found-plane =
         rows-same w h some-w (forward L w h (sample found B w)) (planeOf w plane)
-        (λ r c i j. forward-agrees w h some-w some-h L wide tall (sample found B w) (back L w h (planeOf w plane)) sampled r c i j ∙ ap (λ (p : Plane ℤ). p r c) (back-forward L w h wide tall (planeOf w plane)))
+        (λ r c i j. forward-agrees L w h wide tall (sample found B w) (back L w h (planeOf w plane)) sampled r c i j ∙ ap (λ (p : Plane ℤ). p r c) (back-forward L w h wide tall (planeOf w plane)))
         ∙ rows-take w h some-w plane (pos 0) room
 
   -- 11 is refused exactly where no picture has the plane

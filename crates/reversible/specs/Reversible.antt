@@ -1,9 +1,9 @@
 -- The reversible 5/3 transform and its way back (document 01: the lifting; pictures and planes). Values are whole numbers without limit.
-use Prim.Native.Nat.{ℕ, zero, suc, _+_, _*_}
+use Prim.Native.Nat.{ℕ, _+_, _*_}
 use lib.IntN.{ℤ, pos, _+ℤ_, _-ℤ_}
 use Rattle.numbers.specs.Floor.{floorDiv}
 use Rattle.lines.specs.Lines.{lows, onHighs, onLows, lowsFirst, interleaved}
-use Rattle.lines.specs.Planes.{Plane, rows, columns, within, levels, side}
+use Rattle.lines.specs.Planes.{OnPart, rowsFirst, columnsFirst, levels, levelsBack}
 
 -- ---- forward: source document 004, equations 1 and 2
 
@@ -27,9 +27,12 @@ module _ (n : ℕ) (x : ℕ → ℤ) where
   unfoldable pub reversiblePass : ℕ → ℤ
   reversiblePass = lowsFirst n low high
 
--- rows, then columns, of each level's low-low
-unfoldable pub forward : ℕ → ℕ → ℕ → Plane ℤ → Plane ℤ
-forward = levels (λ l. reversiblePass) (λ l low. reversiblePass)
+-- a level: the rows, then the columns
+abbrev pub forwardLevel : OnPart ℤ
+forwardLevel = rowsFirst reversiblePass (λ low. reversiblePass)
+
+unfoldable pub forward : ℕ → OnPart ℤ
+forward = levels (λ l. forwardLevel)
 
 -- ---- back: the same steps taken back, in reverse
 
@@ -51,10 +54,9 @@ module _ (n : ℕ) (y : ℕ → ℤ) where
   backPass = interleaved lowBack highBack
 
 -- a level taken back: the columns, then the rows
-unfoldable pub backLevel : ℕ → ℕ → Plane ℤ → Plane ℤ
-backLevel w h p = within w h (rows backPass w (columns (λ c. backPass) h p)) p
+abbrev pub backLevel : OnPart ℤ
+backLevel = columnsFirst backPass (λ low. backPass)
 
 -- the last level comes first
-unfoldable pub back : ℕ → ℕ → ℕ → Plane ℤ → Plane ℤ
-back zero w h p = p
-back (suc k) w h p = back k w h (backLevel (side k w) (side k h) p)
+unfoldable pub back : ℕ → OnPart ℤ
+back = levelsBack (λ l. backLevel)

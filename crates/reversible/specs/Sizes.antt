@@ -9,11 +9,13 @@ use mir.Syntax.{w32}
 use mir.Val.{SFits}
 use Rattle.numbers.specs.Abs.{abs-add, abs-sub, mag-of-abs}
 use Rattle.numbers.specs.Dif.{plus, minus, is-self, is-pos, is-add, is-abs}
-use Rattle.lines.specs.Lines.{lows, highs, lowAfter, highBefore, highAfter, onHighs, onLows}
-use Rattle.lines.specs.LineLaws.{first-low, first-high, even-place, odd-place, by-parity, by-half}
+use Rattle.lines.specs.Lines.{lows, highs, Liftable, lowAfter, highBefore, highAfter, onHighs, onLows}
+use Rattle.lines.specs.LineLaws.{some-highs, first-low, first-high, even-place, odd-place, by-parity, by-half}
+use Rattle.lines.specs.Neighbours.{low-after-in, high-before-in, high-after-in}
 use Rattle.lifting.specs.declared.Step.the-variants.{Predict, Update, Unpredict, Unupdate}
+use Rattle.lifting.specs.declared.Pair.{Pair}
 use Rattle.lifting.specs.declared.Kernel.{Kernel}
-use Rattle.lifting.specs.declared.Kernel.the-variants.{Pair, Undo}
+use Rattle.lifting.specs.declared.Kernel.the-variants.{One, Undo}
 use Rattle.lifting.specs.Steps.{applied, Safe, half, quarter}
 use Rattle.lifting.specs.Passes.{evens, odds}
 use Rattle.lifting.specs.Kernels.{worked, SafeKernel, lowsUndone, highsUndone}
@@ -22,10 +24,13 @@ use Rattle.reversible.specs.Reversible.{predict, update, unpredict, unup
 -- ---- the kernels of the code are the passes
 
 abbrev pub forwardKernel : Kernel
-forwardKernel = Pair Predict Update
+forwardKernel = One (record { highs = Predict; lows = Update })
+
+abbrev backPair : Pair
+backPair = record { highs = Unpredict; lows = Unupdate }
 
 abbrev pub backKernel : Kernel
-backKernel = Undo Unupdate Unpredict
+backKernel = Undo backPair
 
 pub forward-kernel : (n : ℕ) (x : ℕ → ℤ) → worked forwardKernel n x ≡ reversiblePass n x
 unfolding worked reversiblePass low high predict update
@@ -91,18 +96,18 @@ module _ (own x y : ℤ) (a b : ℕ) (ho : natAbs own ≤ a) where
 
 -- ---- lines of n values of size b at most
 
-module _ (n b : ℕ) (x : ℕ → ℤ) (two : 2 ≤ n) (le : (k : ℕ) → k < n → natAbs (x k) ≤ b) where
+module _ (n b : ℕ) (x : ℕ → ℤ) (works : Liftable n) (le : (k : ℕ) → k < n → natAbs (x k) ≤ b) where
   -- forward
   abbrev highIn : ℕ → ℤ
   highIn = onHighs (applied Predict) n (evens x) (odds x)
 
   high-size : (i : ℕ) → i < highs n → natAbs (highIn i) ≤ 2 * b
   unfolding onHighs
-  high-size i h = omega (arith, predict-size (odds x i) (evens x i) (evens x (lowAfter n i)) b b (le (2 * i + 1) (omega arith)) (le (2 * i) (omega arith)) (le (2 * lowAfter n i) (omega arith)))
+  high-size i h = omega (arith, predict-size (odds x i) (evens x i) (evens x (lowAfter n i)) b b (le (2 * i + 1) (omega arith)) (le (2 * i) (omega arith)) (le (2 * lowAfter n i) (omega (arith, low-after-in n i h))))
 
   low-size : (i : ℕ) → i < lows n → natAbs (onLows (applied Update) n (evens x) highIn i) ≤ 2 * b
   unfolding onLows
-  low-size i h = omega (arith, update-size (evens x i) (highIn (highBefore i)) (highIn (highAfter n i)) b b (le (2 * i) (omega arith)) (high-size (highBefore i) (omega arith)) (high-size (highAfter n i) (omega arith)))
+  low-size i h = omega (arith, update-size (evens x i) (highIn (highBefore i)) (highIn (highAfter n i)) b b (le (2 * i) (omega arith)) (high-size (highBefore i) (high-before-in n i (some-highs n works) h)) (high-size (highAfter n i) (high-after-in n i (some-highs n works) h)))
 
   pub forward-size : (k : ℕ) → k < n → natAbs (worked forwardKernel n x k) ≤ 2 * b
   unfolding worked
@@ -113,24 +118,24 @@ module _ (n b : ℕ) (x : ℕ → ℤ) (two : 2 ≤ n) (le : (k : ℕ) → k < n
   pub forward-safe : 5 * b + 2 < 2 ^ 31 → SafeKernel forwardKernel n x
   unfolding onHighs onLows
   forward-safe fits = record {
-    on-highs = λ i h. predict-safe (odds x i) (evens x i) (evens x (lowAfter n i)) b b (le (2 * i + 1) (omega arith)) (le (2 * i) (omega arith)) (le (2 * lowAfter n i) (omega arith)) (omega arith);
-    on-lows = λ i h. update-safe (evens x i) (highIn (highBefore i)) (highIn (highAfter n i)) b b (le (2 * i) (omega arith)) (high-size (highBefore i) (omega arith)) (high-size (highAfter n i) (omega arith)) (omega arith);
+    on-highs = λ i h. predict-safe (odds x i) (evens x i) (evens x (lowAfter n i)) b b (le (2 * i + 1) (omega arith)) (le (2 * i) (omega arith)) (le (2 * lowAfter n i) (omega (arith, low-after-in n i h))) (omega arith);
+    on-lows = λ i h. update-safe (evens x i) (highIn (highBefore i)) (highIn (highAfter n i)) b b (le (2 * i) (omega arith)) (high-size (highBefore i) (high-before-in n i (some-highs n works) h)) (high-size (highAfter n i) (high-after-in n i (some-highs n works) h)) (omega arith);
   }
 
   -- back
   abbrev lowIn : ℕ → ℤ
-  lowIn = lowsUndone Unupdate Unpredict n x
+  lowIn = lowsUndone backPair n x
 
   abbrev highOut : ℕ → ℤ
-  highOut = highsUndone Unupdate Unpredict n x
+  highOut = highsUndone backPair n x
 
   lowBack-size : (i : ℕ) → i < lows n → natAbs (lowIn i) ≤ 2 * b
   unfolding onLows
-  lowBack-size i h = omega (arith, unupdate-size (x i) (x (lows n + highBefore i)) (x (lows n + highAfter n i)) b b (le i (omega arith)) (omega (arith, le (lows n + highBefore i) (omega arith))) (omega (arith, le (lows n + highAfter n i) (omega arith))))
+  lowBack-size i h = omega (arith, unupdate-size (x i) (x (lows n + highBefore i)) (x (lows n + highAfter n i)) b b (le i (omega arith)) (omega (arith, le (lows n + highBefore i) (omega (arith, high-before-in n i (some-highs n works) h)))) (omega (arith, le (lows n + highAfter n i) (omega (arith, high-after-in n i (some-highs n works) h)))))
 
   highBack-size : (i : ℕ) → i < highs n → natAbs (highOut i) ≤ 3 * b
   unfolding onHighs
-  highBack-size i h = omega (arith, unpredict-size (x (lows n + i)) (lowIn i) (lowIn (lowAfter n i)) b (2 * b) (le (lows n + i) (omega arith)) (lowBack-size i (omega arith)) (lowBack-size (lowAfter n i) (omega arith)))
+  highBack-size i h = omega (arith, unpredict-size (x (lows n + i)) (lowIn i) (lowIn (lowAfter n i)) b (2 * b) (le (lows n + i) (omega arith)) (lowBack-size i (omega arith)) (lowBack-size (lowAfter n i) (low-after-in n i h)))
 
   pub back-size : (k : ℕ) → k < n → natAbs (worked backKernel n x k) ≤ 3 * b
   unfolding worked
@@ -141,6 +146,6 @@ module _ (n b : ℕ) (x : ℕ → ℤ) (two : 2 ≤ n) (le : (k : ℕ) → k < n
   pub back-safe : 5 * b + 2 < 2 ^ 31 → SafeKernel backKernel n x
   unfolding onHighs onLows
   back-safe fits = record {
-    on-lows = λ i h. unupdate-safe (x i) (x (lows n + highBefore i)) (x (lows n + highAfter n i)) b b (le i (omega arith)) (omega (arith, le (lows n + highBefore i) (omega arith))) (omega (arith, le (lows n + highAfter n i) (omega arith))) (omega arith);
-    on-highs = λ i h. unpredict-safe (x (lows n + i)) (lowIn i) (lowIn (lowAfter n i)) b (2 * b) (le (lows n + i) (omega arith)) (lowBack-size i (omega arith)) (lowBack-size (lowAfter n i) (omega arith)) (omega arith);
+    on-lows = λ i h. unupdate-safe (x i) (x (lows n + highBefore i)) (x (lows n + highAfter n i)) b b (le i (omega arith)) (omega (arith, le (lows n + highBefore i) (omega (arith, high-before-in n i (some-highs n works) h)))) (omega (arith, le (lows n + highAfter n i) (omega (arith, high-after-in n i (some-highs n works) h)))) (omega arith);
+    on-highs = λ i h. unpredict-safe (x (lows n + i)) (lowIn i) (lowIn (lowAfter n i)) b (2 * b) (le (lows n + i) (omega arith)) (lowBack-size i (omega arith)) (lowBack-size (lowAfter n i) (low-after-in n i h)) (omega arith);
   }

@@ -8,15 +8,17 @@ ghost use Rattle.refusals.specs.Refusals.{_then_};
 ghost use Rattle.lines.specs.Planes.{rowByRow, side};
 ghost use Rattle.lifting.specs.Patch.{at, patch};
 ghost use Rattle.lifting.specs.Kernels.{Part};
-ghost use Rattle.pictures.specs.Pictures.{sized, sample, zeroed};
+ghost use Rattle.pictures.specs.Pictures.{sided, holds, sample, zeroed};
+ghost use Rattle.pictures.specs.MemoryLaws.{loaded};
 ghost use Rattle.reversible.specs.Reversible.{forward};
 ghost use Rattle.reversible.specs.Calls.{limited, forwardAnswer, forwardPlane, forwardWork, backAnswer, backPixels, backWork};
-ghost use Rattle.reversible.specs.LevelLaws.{Sized, planeAt, levelForward, levelBack};
+ghost use Rattle.reversible.specs.LevelLaws.{planeAt, levelForward, levelBack};
 ghost use Rattle.reversible.specs.LoopLaws.{ForwardDone};
-ghost use Rattle.reversible.specs.Needs.{LevelRoom, ForwardRoom, LevelsRoom, CallRoom};
+ghost use Rattle.reversible.specs.Needs.{LevelRoom, FirstRoom, ForwardRoom, LevelsRoom, CallRoom};
 ghost use Rattle.reversible.specs.BackLaws.{Tells, Between, BackDone};
 ghost use Rattle.reversible.specs.FoundLaws.{IsSample, Found, TakenBack};
 use lifting::Kernel;
+use lifting::Pair;
 use lifting::Step;
 use refusals::Outcome;
 use refusals::Refusal;
@@ -32,7 +34,7 @@ fn allowed(
     second: usize,
     third: usize,
 ) -> Outcome
-    ensures { λ r. ⌜ r ≡ limited depth levels then sized levels w h first second third ⌝ }
+    ensures { λ r. ⌜ r ≡ limited depth levels then sided levels w h then holds (w * h) first then holds (w * h) second then holds (w * h) third ⌝ }
 {
     if depth < 1 {
         return Outcome::Refused(Refusal::OutsideLimits);
@@ -46,7 +48,7 @@ fn allowed(
     if WidthTable::MAX_LEVELS < levels {
         return Outcome::Refused(Refusal::OutsideLimits);
     }
-    pictures::sizes_right(levels, w, h, first, second, third)
+    pictures::room_right(levels, w, h, first, second, third)
 }
 
 // One level forward, of a part of w columns and h rows: the rows, then the columns.
@@ -60,7 +62,10 @@ fn level_forward(plane: &mut [i32], tile: &mut [i32], stride: usize, w: usize, h
         stride,
         w,
         h,
-        Kernel::Pair(Step::Predict, Step::Update),
+        Kernel::One(Pair {
+            highs: Step::Predict,
+            lows: Step::Update,
+        }),
     );
     lifting::columns(
         plane,
@@ -69,19 +74,62 @@ fn level_forward(plane: &mut [i32], tile: &mut [i32], stride: usize, w: usize, h
         0,
         w,
         h,
-        Kernel::Pair(Step::Predict, Step::Update),
+        Kernel::One(Pair {
+            highs: Step::Predict,
+            lows: Step::Update,
+        }),
     );
 }
 
-// All levels forward, of samples that stand in the plane.
-fn levels_forward(plane: &mut [i32], tile: &mut [i32], w: usize, h: usize, levels: u8)
-    requires { ⌜ LevelsRoom levels w h (length (now plane)) (length (now tile)) ⌝ }
-    requires { ⌜ Sized (2 ^ 11) w h (planeAt w (at (now plane))) ⌝ }
-    ensures { λ _. ⌜ ForwardDone w h levels (at (now (plane .entry))) (at (now (plane .exit))) ⌝ }
+// The first level forward, whose rows are those of the picture.
+fn first_level(pixels: &[u16], depth: u8, plane: &mut [i32], tile: &mut [i32], w: usize, h: usize)
+    requires { ⌜ FirstRoom depth (now pixels) (now plane) (length (now tile)) w h ⌝ }
+    ensures { λ _. ⌜ at (now (plane .exit)) ≡ levelForward w w h (loaded (now (pixels .entry)) (2 ^ (depth - 1)) w h (at (now (plane .entry)))) ⌝ }
 {
-    let mut across = w;
-    let mut down = h;
-    for k in 0..levels {
+    let middle = pictures::middle(depth);
+    lifting::pixel_rows(
+        pixels,
+        middle,
+        plane,
+        tile,
+        w,
+        h,
+        Kernel::One(Pair {
+            highs: Step::Predict,
+            lows: Step::Update,
+        }),
+    );
+    lifting::columns(
+        plane,
+        tile,
+        w,
+        0,
+        w,
+        h,
+        Kernel::One(Pair {
+            highs: Step::Predict,
+            lows: Step::Update,
+        }),
+    );
+}
+
+// All levels forward, of a picture.
+fn levels_forward(
+    pixels: &[u16],
+    depth: u8,
+    plane: &mut [i32],
+    tile: &mut [i32],
+    w: usize,
+    h: usize,
+    levels: u8,
+)
+    requires { ⌜ ForwardRoom depth levels w h (now pixels) (length (now plane)) (length (now tile)) ⌝ }
+    ensures { λ _. ⌜ ForwardDone w h levels (loaded (now (pixels .entry)) (2 ^ (depth - 1)) w h (at (now (plane .entry)))) (at (now (plane .exit))) ⌝ }
+{
+    first_level(pixels, depth, plane, tile, w, h);
+    let mut across = (w + 1) / 2;
+    let mut down = (h + 1) / 2;
+    for k in 1..levels {
         level_forward(plane, tile, w, across, down);
         across = (across + 1) / 2;
         down = (down + 1) / 2;
@@ -103,8 +151,7 @@ fn transform(
     ensures work { λ _. ⌜ now (work .exit) ≡ zeroed (w * h) (now (work .entry)) ⌝ }
 {
     let size = w * h;
-    pictures::load_samples(pixels, plane, size, depth);
-    levels_forward(plane, &mut work[..size], w, h, levels);
+    levels_forward(pixels, depth, plane, &mut work[..size], w, h, levels);
     pictures::clear(work, size);
 }
 
@@ -195,7 +242,10 @@ fn level_back(values: &mut [i32], tile: &mut [i32], stride: usize, w: usize, h: 
         0,
         w,
         h,
-        Kernel::Undo(Step::Unupdate, Step::Unpredict),
+        Kernel::Undo(Pair {
+            highs: Step::Unpredict,
+            lows: Step::Unupdate,
+        }),
     );
     lifting::rows(
         values,
@@ -203,7 +253,10 @@ fn level_back(values: &mut [i32], tile: &mut [i32], stride: usize, w: usize, h: 
         stride,
         w,
         h,
-        Kernel::Undo(Step::Unupdate, Step::Unpredict),
+        Kernel::Undo(Pair {
+            highs: Step::Unpredict,
+            lows: Step::Unupdate,
+        }),
     );
 }
 
@@ -241,7 +294,7 @@ fn middle(depth: u8) -> i32
     requires { ⌜ (1 ≤ depth) × (depth ≤ 12) ⌝ }
     ensures { λ r. ⌜ r ≡ pos (2 ^ (depth - 1)) ⌝ }
 {
-    (1u16 << (depth - 1)) as i32
+    pictures::middle(depth) as i32
 }
 
 // Whether n samples are those of pixels of that depth.

@@ -7,11 +7,11 @@ use native.Mathlib.Omega.{arith}
 use borrow.Author.Needs.{needs}
 use lib.ListN.{length}
 use Rattle.width_table.specs.Table.{depthRight, levelsRight}
-use Rattle.pictures.specs.Pictures.{sized}
-use Rattle.pictures.specs.PictureLaws.{sized-done}
+use Rattle.refusals.specs.Refusals.{_then_}
+use Rattle.pictures.specs.Pictures.{sided, holds}
 use Rattle.listing.specs.declared.Head.{Head}
 use Rattle.listing.specs.Listing.{copyDepth, copyLevels, copyWidth, copyHeight, copySize, maxPixels}
-use Rattle.listing.specs.InputLaws.{form-short, form-limits, form-size, form-cut, form-long, form-right}
+use Rattle.listing.specs.InputLaws.{sizes-done, form-short, form-limits, form-size, form-cut, form-long, form-right}
 use Rattle.listing.proofs.form_of.Statement.{statement}
 use Rattle.listing.proofs.form_of.Tie as tie
 
@@ -25,16 +25,16 @@ limited : (c : tie.Then2) → let b = c .before .before .before .before .before 
 limited c = (c .before .before .before .if1 .left, sym (limits (c .before)) ∙ c .if2 .taken)
 
 -- the answer on the sizes is that on the head's
-judged : (c : tie.After-sizes-right) → let b = c .before .before .before .before .before .before .before .before .args .bytes .now in
-    c .sizes-right .result ≡ sized (copyLevels b) (copyWidth b) (copyHeight b) maxPixels maxPixels maxPixels
-judged c = c .sizes-right .ensures ∙ ap (λ (t : Head). sized (t .levels) (t .w) (t .h) maxPixels maxPixels maxPixels) (c .before .before .before .before .before .head-of .ensures)
+judged : (c : tie.After-size-right) → let b = c .before .before .before .before .before .before .before .before .args .bytes .now in
+    c .size-right .result ≡ (sided (copyLevels b) (copyWidth b) (copyHeight b) then holds (copySize b) maxPixels)
+judged c = c .size-right .ensures ∙ ap (λ (t : Head). sided (t .levels) (t .w) (t .h) then holds (t .w * t .h) maxPixels) (c .before .before .before .before .before .head-of .ensures)
 
 -- where they are right, the code's product is the number of pixels, and small
 size : (c : tie.After-enum-told) → let h = c .before .before .before .before .before .before .before in let b = h .before .before .before .args .bytes .now in
     (h .head-of .result .w * h .head-of .result .h ≡ copySize b) × (copySize b ≤ maxPixels)
 size c =
     let h = c .before .before .before .before .before .before .before in
-    (ap (λ (t : Head). t .w * t .h) (h .head-of .ensures), sized-done _ _ _ _ _ _ (sym (judged (c .before .before)) ∙ c .enum-told .given .1) .first)
+    (ap (λ (t : Head). t .w * t .h) (h .head-of .ensures), sizes-done (h .before .before .before .args .bytes .now) (sym (judged (c .before .before)) ∙ c .enum-told .given .1) .2)
 
 pub form-of-spec : {M : Type 1} → statement M
 form-of-spec =

@@ -8,7 +8,7 @@ use Rattle.reversible.proofs.allowed.Statement.{statement}
 use Rattle.reversible.proofs.allowed.Tie as tie
 
 returns-5 : tie.Need-returns-5
-returns-5 c = let a = c .before .before .before .before .before .args in c .sizes-right .ensures ∙ sym (limits-kept (a .depth) (a .levels) _ (omega arith))
+returns-5 c = let a = c .before .before .before .before .before .args in c .room-right .ensures ∙ sym (limits-kept (a .depth) (a .levels) _ (omega arith))
 
 pub allowed-spec : {M : Type 1} → statement M
 allowed-spec =

@@ -1,68 +1,78 @@
--- `reversible::levels_forward` meets its contract. The loop's invariant: so many levels are done, and the sides are those of the next.
+-- `reversible::levels_forward` meets its contract. The loop's invariant: where the first level was done so many are, and the sides are those of the next.
 -- Assumes nothing.
-use mathlib.Core.Path.{_≡_, refl, sym, ap, _∙_, subst}
+use mathlib.Core.Path.{_≡_, refl, ap, _∙_, subst}
 use Prim.Native.Nat.{ℕ, _-_, _≤_, _^_}
 use native.Mathlib.Omega.{arith}
+use lib.IntN.{ℤ}
 use lib.ListN.{length}
 use Rattle.lines.specs.Lines.{lows}
 use Rattle.lines.specs.Planes.{side}
 use Rattle.lifting.specs.Patch.{at}
+use Rattle.pictures.specs.MemoryLaws.{loaded}
 use Rattle.reversible.specs.LevelLaws.{levelForward}
-use Rattle.reversible.specs.LoopLaws.{ForwardDone, Sides, sides, side-none, side-more, forward-none, forward-more, forward-part}
-use Rattle.reversible.specs.Needs.{level-room}
+use Rattle.reversible.specs.LoopLaws.{ForwardDone, sides, side-one, side-more, forward-first, forward-more, forward-part}
+use Rattle.reversible.specs.Needs.{levels-room, level-room}
+use Rattle.reversible.specs.StepLaws.{first-room, loaded-small}
 use Rattle.reversible.proofs.levels_forward.Statement.{statement}
 use Rattle.reversible.proofs.levels_forward.Tie as tie
 
 abbrev Inv-loop : tie.InvT-loop
-Inv-loop plane₀ tile₀ w h levels across₀ down₀ k₀ plane tile across down k =
-    (k ≤ levels) × (length plane ≡ length plane₀) × (length tile ≡ length tile₀) × (across ≡ side k w) × (down ≡ side k h) × ForwardDone w h k (at plane₀) (at plane)
+Inv-loop pixels depth plane₀ tile₀ w h levels across₀ down₀ k₀ plane tile across down k =
+    (k ≤ levels) × (length plane ≡ length plane₀) × (length tile ≡ length tile₀) × (across ≡ side k w) × (down ≡ side k h) × ((x : ℕ → ℤ) → ForwardDone w h 1 x (at plane₀) → ForwardDone w h k x (at plane))
 
 abbrev μ-loop : tie.MeasureT-loop
-μ-loop plane₀ tile₀ w h levels across₀ down₀ k₀ plane tile across down k = levels - k
+μ-loop pixels depth plane₀ tile₀ w h levels across₀ down₀ k₀ plane tile across down k = levels - k
+
+first-level-requires : tie.Need-first-level-requires Inv-loop μ-loop
+first-level-requires c κs = let p = c .before .before .before .pre in first-room p _ _ refl (p .call .room .third)
 
 loop-holds : tie.Need-loop-holds Inv-loop μ-loop
-loop-holds c = (omega arith, refl, refl, sym (side-none _), sym (side-none _), forward-none _ _ _ (c .pre .0 .across) (c .pre .0 .down) _)
+loop-holds c = let s = c .before .before .before .before .before .before in (omega (arith, s .pre .call .some), refl, refl, side-one (s .args .w), side-one (s .args .h), λ x f. f)
+
+-- the first level is done
+first-done : (c : tie.After-tile Inv-loop μ-loop) → let a = c .before .before .before .before .before .before .args in ForwardDone (a .w) (a .h) 1 (loaded (a .pixels .now) (2 ^ (a .depth - 1)) (a .w) (a .h) (at (a .plane .now))) (at (c .before .before .first-level .last .1 .1 .0))
+first-done c =
+    let p = c .before .before .before .before .before .before .pre .call in
+    forward-first _ _ _ (p .room .wide) (p .room .tall) (p .some) _ _ (c .before .before .first-level .ensures)
 
 level-forward-requires : tie.Need-level-forward-requires Inv-loop μ-loop
 level-forward-requires c κs =
-    let s = c .before .before .before .before in
+    let s = c .before .before .before .before .before .before .before .before .before .before in
     let t = c .before .before .before .loop in
-    let p = s .pre .0 in
+    let p = s .pre .call in
     let more = c .before .before .loop-test .taken in
-    level-room (2 ^ 21) _ _ _ p (t .k) more _ _ _ _ (t .inv .1) (t .inv .2) (t .inv .3) (t .inv .4)
-    (forward-part _ _ _ (p .across) (p .down) (t .k) more (p .few) _ _ (t .inv .5) (s .pre .1))
+    level-room (2 ^ 21) _ _ _ (levels-room p (length (t .plane)) (length (t .tile)) (omega (arith, p .room .second)) (omega (arith, p .room .third))) (t .k) more _ _ _ _ refl refl (t .inv .3) (t .inv .4)
+    (forward-part _ _ _ (p .room .wide) (p .room .tall) (t .k) more (p .few) _ _ (t .inv .5 _ (first-done (c .before .before .before .before))) (loaded-small (s .pre) _))
 
-sides-here : (c : tie.After-tile Inv-loop μ-loop) → Sides (c .before .before .before .before .before .before .before .args .levels) (c .before .before .before .before .before .before .before .args .w) (c .before .before .before .before .before .before .before .args .h) (c .before .before .before .before .before .before .loop .k)
-sides-here c =
-    let p = c .before .before .before .before .before .before .before .pre .0 in
-    sides _ _ _ (p .across) (p .down) _ (c .before .before .before .before .before .loop-test .taken)
-
-add-across : tie.Need-add-across Inv-loop μ-loop
-add-across c = omega (arith, sides-here c .in-w, c .before .before .before .before .before .before .before .pre .0 .across .1)
-
-add-down : tie.Need-add-down Inv-loop μ-loop
-add-down c = omega (arith, sides-here c .in-h, c .before .before .before .before .before .before .before .pre .0 .down .1)
+-- the sides of the level that was worked are at most those of a picture
+small-sides : (c : tie.After-tile2 Inv-loop μ-loop) → (c .before .before .before .before .before .before .loop .across ≤ 4096) × (c .before .before .before .before .before .before .loop .down ≤ 4096)
+small-sides c =
+    let p = c .before .before .before .before .before .before .before .before .before .before .before .before .before .pre .call .room in
+    let t = c .before .before .before .before .before .before .loop in
+    let s = sides _ _ _ (p .wide) (p .tall) (t .k) (c .before .before .before .before .before .loop-test .taken) in
+    (omega (arith, s .in-w, p .wide .1, t .inv .3), omega (arith, s .in-h, p .tall .1, t .inv .4))
 
 loop-again : tie.Need-loop-again Inv-loop μ-loop
 loop-again c =
-    let s = c .before .before .before .before .before .before .before in
+    let s = c .before .before .before .before .before .before .before .before .before .before .before .before .before in
     let t = c .before .before .before .before .before .before .loop in
-    let p = s .pre .0 in
+    let p = s .pre .call .room in
     let more = c .before .before .before .before .before .loop-test .taken in (
       omega arith,
       omega arith,
       omega arith,
       ap lows (t .inv .3) ∙ side-more (t .k) (s .args .w),
       ap lows (t .inv .4) ∙ side-more (t .k) (s .args .h),
-      forward-more _ _ _ (p .across) (p .down) (t .k) more _ _ _ (t .inv .5)
+      λ x f. forward-more _ _ _ (p .wide) (p .tall) (t .k) more _ _ _ (t .inv .5 x f)
           (c .before .before .level-forward .ensures ∙ (λ i. levelForward (s .args .w) (t .inv .3 i) (t .inv .4 i) (at (t .plane)))),
     )
 
 returns : tie.Need-returns Inv-loop μ-loop
 returns c =
-    let s = c .before .before in
-    let e : c .before .loop .k ≡ s .args .levels = omega arith in
-    subst (λ (k : ℕ). ForwardDone (s .args .w) (s .args .h) k (at (s .args .plane .now)) (at (c .before .loop .plane))) e (c .before .loop .inv .5)
+    let a = c .before .before .before .before .before .before .before .before .args in
+    let e : c .before .loop .k ≡ a .levels = omega arith in
+    let x : ℕ → ℤ = loaded (a .pixels .now) (2 ^ (a .depth - 1)) (a .w) (a .h) (at (a .plane .now)) in
+    subst (λ (k : ℕ). ForwardDone (a .w) (a .h) k x (at (c .before .loop .plane))) e (c .before .loop .inv .5 x (first-done (c .before .before)))
 
 pub levels-forward-spec : {M : Type 1} → statement M
 levels-forward-spec =
@@ -70,10 +80,13 @@ levels-forward-spec =
     (tie.spec
     Inv-loop
     μ-loop
+    first-level-requires
+    (λ c. omega (arith, c .before .before .before .before .before .before .pre .call .room .wide .1))
+    (λ c. omega (arith, c .before .before .before .before .before .before .pre .call .room .tall .1))
     loop-holds
     level-forward-requires
-    add-across
-    add-down
+    (λ c. omega (arith, small-sides c))
+    (λ c. omega (arith, small-sides c))
     (λ c. omega arith)
     (λ c. omega arith)
     loop-again

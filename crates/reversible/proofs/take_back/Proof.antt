@@ -11,7 +11,8 @@ use lib.ListN.{length, drop}
 use lib.Seq.{length-take-le, length-front}
 use Rattle.lifting.specs.Patch.{at}
 use Rattle.reversible.specs.FoundLaws.{Found, found-front, taken, taken-none}
-use Rattle.reversible.specs.StepLaws.{zeroed-part}
+use Rattle.pictures.specs.MemoryLaws.{zeroed-part}
+use Rattle.reversible.specs.Needs.{other-slices}
 use Rattle.reversible.proofs.take_back.Statement.{statement}
 use Rattle.reversible.proofs.take_back.Tie as tie
 
@@ -40,7 +41,7 @@ found-requires : tie.Need-found-requires
 found-requires c κs =
     let s = c .before .before .before in
     let l = length-take-le (s .args .w * s .args .h) (s .args .work .now) (s .pre .room .third) in
-    record { depth = s .pre .depth; few = s .pre .few; room = record { wide = s .pre .room .wide; tall = s .pre .room .tall; first = omega arith; second = s .pre .room .second; third = omega arith } }
+    other-slices (s .pre) _ _ _ (omega arith) (s .pre .room .second) (omega arith)
 
 write-pixels-requires : tie.Need-write-pixels-requires
 write-pixels-requires c κs =

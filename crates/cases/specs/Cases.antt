@@ -4,7 +4,7 @@ use mathlib.Core.List.{List, [], _∷_, map}
 use mathlib.Core.Path.{_≡_, refl}
 use lib.IntN.{ℤ, pos, negsuc}
 use lib.ListN.{getD, length}
-use Rattle.lines.specs.Lines.{onHighs, onLows, lowsFirst}
+use Rattle.lines.specs.Lines.{lowAfter, highBefore, highAfter, onHighs, onLows, lowsFirst}
 use Rattle.lines.specs.Planes.{tabulate}
 use Rattle.exact.specs.Fractions.{_⊕_, _⊗_, whole, magnitude, upDiv, wholesOf}
 use Rattle.exact.specs.Exact.{alpha, lift}
@@ -44,5 +44,5 @@ pub record Table : Type 0 where
   pub gains : gain forward S.high 1 samples ∷ gain forward S.low 2 (node 0) ∷ gain forward S.low 5 (node 3) ∷ [] ≡ 273434 ∷ 6945 ∷ 75341 ∷ []
 
 pub table : Table
-unfolding reversiblePass low high onHighs onLows lowsFirst predict update tabulate step cut nearest gain exactGain sumFrom sumTo inputAnswer nodeAnswer held made wholesOf upDiv lift _⊕_ _⊗_ whole magnitude
+unfolding reversiblePass low high onHighs onLows lowAfter highBefore highAfter lowsFirst predict update tabulate step cut nearest gain exactGain sumFrom sumTo inputAnswer nodeAnswer held made wholesOf upDiv lift _⊕_ _⊗_ whole magnitude
 table = record { passes = refl; alpha-one = refl; stage-0 = refl; stage-2 = refl; stage-down = refl; listing = document; gains = refl }

@@ -12,8 +12,8 @@ use Rattle.lines.specs.Planes.{rowByRow}
 use Rattle.lines.specs.RowLaws.{place-in, rows-length, rows-at}
 use Rattle.width_table.specs.declared.WidthTable.{WidthTable}
 use Rattle.exact.specs.Picture.{exactPlane}
-use Rattle.pictures.specs.Pictures.{sized}
-use Rattle.pictures.specs.PictureLaws.{Room, sized-done, pixels-done, pixel-below}
+use Rattle.pictures.specs.Pictures.{pixelsRight}
+use Rattle.pictures.specs.PictureLaws.{Room, sized, sized-then, sized-done, pixels-done, pixel-below}
 use Rattle.precision.specs.Verdict.{verdict, Accepted}
 use Rattle.irreversible.specs.Transforms.{fixedPlane}
 use Rattle.irreversible.specs.Claims.{Picture, bitsPlane, Near}
@@ -26,17 +26,20 @@ module _ (t : WidthTable) (w h : ℕ) (pixels : List ℕ) (plane work : List ℤ
   unfolding fixedAnswer
   accepted = then-done (verdict t) _ e .0
 
-  pub room : Room (t .levels) w h (length pixels) (length plane) (length work)
+  -- the slices have room, and the pixels are right
+  judged : (sized (t .levels) w h (length pixels) (length plane) (length work) ≡ Done) × (pixelsRight (t .depth) w h pixels ≡ Done)
   unfolding fixedAnswer
-  room = sized-done (t .levels) w h (length pixels) (length plane) (length work) (then-done (sized (t .levels) w h (length pixels) (length plane) (length work)) _ (then-done (verdict t) _ e .1) .0)
+  judged = then-done (sized (t .levels) w h (length pixels) (length plane) (length work)) _ (sym (sized-then (t .levels) w h (length pixels) (length plane) (length work) _) ∙ then-done (verdict t) _ e .1)
+
+  pub room : Room (t .levels) w h (length pixels) (length plane) (length work)
+  room = sized-done (t .levels) w h (length pixels) (length plane) (length work) (judged .0)
 
   -- the pixels are a picture of the table's depth and of admitted size
   pub picture : Picture t pixels w h
-  unfolding fixedAnswer
   picture = record {
     width = room .wide;
     height = room .tall;
-    depth = pixel-below (t .depth) w h pixels (room .first) (pixels-done (t .depth) w h pixels (then-done (sized (t .levels) w h (length pixels) (length plane) (length work)) _ (then-done (verdict t) _ e .1) .1));
+    depth = pixel-below (t .depth) w h pixels (room .first) (pixels-done (t .depth) w h pixels (judged .1));
   }
 
   some : 1 ≤ w

@@ -1,13 +1,14 @@
 -- What the steps of the 9/7 call ask of each other.
-use Prim.Native.Nat.{ℕ, suc, _+_, _*_, _-_, _<_, _≤_}
-use mathlib.Core.List.{List, _++_}
-use mathlib.Core.Path.{_≡_, refl, sym, _∙_, ap}
+use Prim.Native.Nat.{ℕ, suc, _+_, _*_, _-_, _<_, _≤_, _^_}
+use mathlib.Core.List.{List}
+use mathlib.Core.Path.{_≡_, refl, sym, ap}
 use native.Mathlib.Omega.{arith}
 use native.Mathlib.Nat.{mul-le-mul-right, mul-comm}
-use lib.ListN.{length, take, drop, replicate, length-replicate}
-use lib.Seq.{drop-at, length-take-le}
-use lib.IntN.{ℤ, pos}
+use lib.ListN.{length, take}
+use lib.Seq.{length-take-le}
+use lib.IntN.{ℤ}
 use Rattle.numbers.specs.Lists.{over}
+use Rattle.lines.specs.Lines.{Liftable, lows, highs}
 use Rattle.lines.specs.Planes.{side, rowByRow}
 use Rattle.lines.specs.PlaneLaws.{side-le}
 use Rattle.refusals.specs.declared.Outcome.{Outcome}
@@ -16,27 +17,53 @@ use Rattle.refusals.specs.declared.Refusal.{Refusal}
 use Rattle.refusals.specs.Refusals.{_then_, answered}
 use Rattle.refusals.specs.RefusalLaws.{answered-done}
 use Rattle.width_table.specs.declared.WidthTable.{WidthTable}
+use Rattle.width_table.specs.Nodes.{Rows, LowColumns, HighColumns}
 use Rattle.lifting.specs.Patch.{at}
-use Rattle.lifting.specs.Kernels.{Part}
-use Rattle.pictures.specs.Pictures.{sized, pixelsRight, zeroed}
+use Rattle.lifting.specs.Runs.{as-type}
+use Rattle.lifting.specs.Kernels.{Part, SafeKernel, columnOf, columnsWorked}
+use Rattle.pictures.specs.Pictures.{sided, holds, pixelsRight, zeroed}
+use Rattle.lifting.specs.Strips.{pixelLine}
+use Rattle.pictures.specs.MemoryLaws.{loaded}
 use Rattle.precision.specs.Verdict.{verdict, Accepted}
+use Rattle.precision.specs.Promise.{promise}
 use Rattle.irreversible.specs.Transforms.{fixedPlane}
 use Rattle.irreversible.specs.Claims.{Picture}
 use Rattle.irreversible.specs.Calls.{fixedAnswer, fixedPlaneAfter, fixedWork}
 use Rattle.irreversible.specs.CallLaws.{accepted, room, picture}
-use Rattle.irreversible.specs.LevelLaws.{SafeLevel}
+use Rattle.irreversible.specs.KernelLaws.{kernelOf}
+use Rattle.irreversible.specs.LevelLaws.{SafeLevel, rowed}
 use Rattle.irreversible.specs.LevelBits.{IsLevel}
-use Rattle.irreversible.specs.LevelsLaws.{After, wide, tall, safe-next}
+use Rattle.irreversible.specs.LevelsLaws.{After, after-none, wide, tall, safe-next, pixels-safe}
+
+-- its columns can be worked, once the rows are done
+pub record ColumnsReady (t : WidthTable) (l : ℕ) (plane tile : List ℤ) (W w h : ℕ) : Type 0 where
+  pub is-level : IsLevel t l
+  pub part : Part plane W 0 w h
+  pub rows : Liftable h
+  pub down : h ≤ length tile
+  pub low : (j : ℕ) → j < lows w → SafeKernel (kernelOf t l LowColumns) h (columnOf W 0 (at plane) j)
+  pub high : (j : ℕ) → j < highs w → SafeKernel (kernelOf t l HighColumns) h (columnOf W (lows w) (columnsWorked (kernelOf t l LowColumns) W 0 (lows w) h (at plane)) j)
 
 -- a level can be worked: w columns and h rows at the front of a plane whose rows are W long
 pub record LevelReady (t : WidthTable) (l : ℕ) (plane tile : List ℤ) (W w h : ℕ) : Type 0 where
   pub is-level : IsLevel t l
   pub part : Part plane W 0 w h
-  pub columns : 2 ≤ w
-  pub rows : 2 ≤ h
+  pub columns : Liftable w
+  pub rows : Liftable h
   pub across : w ≤ length tile
   pub down : h ≤ length tile
   pub safe : SafeLevel t l W w h (at plane)
+
+-- after the rows of what stood as x
+pub columns-ready : (t : WidthTable) (l W w h : ℕ) (x : ℕ → ℤ) (plane p q : List ℤ) → IsLevel t l → Part plane W 0 w h → Liftable h → h ≤ length q → SafeLevel t l W w h x → length p ≡ length plane → at p ≡ rowed t l W w h x → ColumnsReady t l p q W w h
+columns-ready t l W w h x plane p q is-level part rows down safe e is = record {
+  is-level = is-level;
+  part = record { narrow = part .narrow; few = part .few; wide = part .wide; fits = λ r i. omega (arith, part .fits r i) };
+  rows = rows;
+  down = down;
+  low = λ j i. as-type (λ u. SafeKernel (kernelOf t l LowColumns) h (columnOf W 0 (sym is u) j)) (safe .onLowColumns j i);
+  high = λ j i. as-type (λ u. SafeKernel (kernelOf t l HighColumns) h (columnOf W (lows w) (columnsWorked (kernelOf t l LowColumns) W 0 (lows w) h (sym is u)) j)) (safe .onHighColumns j i);
+}
 
 -- a picture can be transformed
 pub record Ready (t : WidthTable) (pixels : List ℕ) (plane tile : List ℤ) (w h : ℕ) : Type 0 where
@@ -46,39 +73,88 @@ pub record Ready (t : WidthTable) (pixels : List ℕ) (plane tile : List ℤ) (w
   pub second : w * h ≤ length plane
   pub third : w * h ≤ length tile
 
--- each level in turn
-module _ (t : WidthTable) (pixels : List ℕ) (plane₀ tile₀ plane tile : List ℤ) (w h : ℕ) (ready : Ready t pixels plane₀ tile₀ w h) (same : length plane ≡ length plane₀) (same′ : length tile ≡ length tile₀)
-    (k : ℕ) (more : k < t .levels) (x₀ : ℕ → ℤ) (after : After t pixels w h k x₀ (at plane)) where
-  -- a side is at most the area, and a row lies in the plane
-  in-tile : (a b c : ℕ) → 1 ≤ b → a * b ≤ c → a ≤ c
-  in-tile a b c one fits = omega (arith, mul-le-mul-right a one, mul-comm a b)
+-- a side is at most the area, and a row lies in the plane
+in-tile : (a b c : ℕ) → 1 ≤ b → a * b ≤ c → a ≤ c
+in-tile a b c one fits = omega (arith, mul-le-mul-right a one, mul-comm a b)
 
-  row-fits : (W H r w n : ℕ) → w ≤ W → r < H → W * H ≤ n → 0 + r * W + w ≤ n
-  row-fits W H r w n a b d = omega (arith, mul-le-mul-right W b, mul-comm W H)
+row-fits : (W H r w n : ℕ) → w ≤ W → r < H → W * H ≤ n → 0 + r * W + w ≤ n
+row-fits W H r w n a b d = omega (arith, mul-le-mul-right W b, mul-comm W H)
+
+-- each level in turn: k levels of what stood as x₀ are done, and the plane stands as x
+module _ (t : WidthTable) (pixels : List ℕ) (plane₀ tile₀ plane tile : List ℤ) (w h : ℕ) (ready : Ready t pixels plane₀ tile₀ w h) (same : length plane ≡ length plane₀) (same′ : length tile ≡ length tile₀)
+    (k : ℕ) (more : k < t .levels) (x₀ x : ℕ → ℤ) (after : After t pixels w h k x₀ x) where
+  a : side k w ≤ w
+  a = side-le k w (omega (arith, ready .picture .width .0))
+
+  b : side k h ≤ h
+  b = side-le k h (omega (arith, ready .picture .height .0))
+
+  is-level : IsLevel t (suc k)
+  is-level = record { accepted = ready .accepted; least = omega arith; most = more }
+
+  part-fits : Part plane w 0 (side k w) (side k h)
+  part-fits =
+      let p = ready .picture in
+      record { narrow = omega (arith, a); few = omega (arith, b, p .height .1); wide = omega (arith, p .width .1); fits = λ r i. row-fits w h r (side k w) (length plane) a (omega (arith, b)) (omega (arith, ready .second)) }
+
+  columns-many : Liftable (side k w)
+  columns-many = wide t pixels w h (ready .accepted) (ready .picture) k more
+
+  rows-many : Liftable (side k h)
+  rows-many = tall t pixels w h (ready .accepted) (ready .picture) k more
+
+  across-fits : side k w ≤ length tile
+  across-fits = omega (arith, a, in-tile w h (length tile) (omega (arith, ready .picture .height .0)) (omega (arith, ready .third)))
+
+  down-fits : side k h ≤ length tile
+  down-fits = omega (arith, b, in-tile h w (length tile) (omega (arith, ready .picture .width .0)) (omega (arith, ready .third, mul-comm w h)))
+
+  level-safe-next : SafeLevel t (suc k) w (side k w) (side k h) x
+  level-safe-next = safe-next t pixels w h (ready .accepted) (ready .picture) k more x₀ x after
 
   -- the next level can be worked
-  pub level-ready : LevelReady t (suc k) plane tile w (side k w) (side k h)
-  level-ready =
-      let p = ready .picture in
-      let a = side-le k w (omega (arith, p .width .0)) in
-      let b = side-le k h (omega (arith, p .height .0)) in
-      record {
-        is-level = record { accepted = ready .accepted; least = omega arith; most = more };
-        part = record { narrow = omega arith; few = omega (arith, p .height .1); wide = omega (arith, p .width .1); fits = λ r i. row-fits w h r (side k w) (length plane) a (omega arith) (omega (arith, ready .second)) };
-        columns = wide t pixels w h (ready .accepted) p k more;
-        rows = tall t pixels w h (ready .accepted) p k more;
-        across = omega (arith, in-tile w h (length tile) (omega (arith, p .height .0)) (omega (arith, ready .third)));
-        down = omega (arith, in-tile h w (length tile) (omega (arith, p .width .0)) (omega (arith, ready .third, mul-comm w h)));
-        safe = safe-next t pixels w h (ready .accepted) p k more x₀ (at plane) after;
-      }
+  pub level-ready : x ≡ at plane → LevelReady t (suc k) plane tile w (side k w) (side k h)
+  level-ready e = record {
+    is-level = is-level;
+    part = part-fits;
+    columns = columns-many;
+    rows = rows-many;
+    across = across-fits;
+    down = down-fits;
+    safe = as-type (λ u. SafeLevel t (suc k) w (side k w) (side k h) (e u)) level-safe-next;
+  }
+
+-- the first level can be worked from the pixels
+pub record FirstReady (t : WidthTable) (pixels : List ℕ) (plane tile : List ℤ) (w h : ℕ) : Type 0 where
+  pub is-level : IsLevel t 1
+  pub part : Part plane w 0 w h
+  pub columns : Liftable w
+  pub rows : Liftable h
+  pub across : w ≤ length tile
+  pub down : h ≤ length tile
+  pub on-pixels : (r : ℕ) → r < h → SafeKernel (kernelOf t 1 Rows) w (pixelLine pixels (2 ^ (t .depth - 1)) (r * w))
+  pub safe : SafeLevel t 1 w w h (loaded pixels (2 ^ (t .depth - 1)) w h (at plane))
+
+pub first-ready : {t : WidthTable} {pixels : List ℕ} {plane tile : List ℤ} {w h : ℕ} → Ready t pixels plane tile w h → FirstReady t pixels plane tile w h
+unfolding side
+first-ready {t} {pixels} {plane} {tile} {w} {h} ready =
+    let x = loaded pixels (2 ^ (t .depth - 1)) w h (at plane) in
+    let one : 0 < t .levels = promise t (ready .accepted) .levels .0 in
+    let none = after-none t pixels w h (at plane) x (omega (arith, ready .picture .width .0)) refl in
+    record {
+      is-level = is-level t pixels plane tile plane tile w h ready refl refl 0 one (at plane) x none;
+      part = part-fits t pixels plane tile plane tile w h ready refl refl 0 one (at plane) x none;
+      columns = columns-many t pixels plane tile plane tile w h ready refl refl 0 one (at plane) x none;
+      rows = rows-many t pixels plane tile plane tile w h ready refl refl 0 one (at plane) x none;
+      across = across-fits t pixels plane tile plane tile w h ready refl refl 0 one (at plane) x none;
+      down = down-fits t pixels plane tile plane tile w h ready refl refl 0 one (at plane) x none;
+      on-pixels = pixels-safe t pixels w h (ready .accepted) (ready .picture);
+      safe = level-safe-next t pixels plane tile plane tile w h ready refl refl 0 one (at plane) x none;
+    }
 
 -- the answer, by the lengths of plane and work area
 unfoldable pub answerOf : WidthTable → ℕ → ℕ → List ℕ → ℕ → ℕ → Outcome
-answerOf t w h pixels b c = verdict t then sized (t .levels) w h (length pixels) b c then pixelsRight (t .depth) w h pixels
-
--- the front of a work area that was lent and is cleared
-pub cleared : (n : ℕ) (front work : List ℤ) → length front ≡ n → zeroed n (front ++ drop n work) ≡ zeroed n work
-cleared n front work e = ap (λ (l : List ℤ). replicate n (pos 0) ++ l) (ap (λ (m : ℕ). drop m (front ++ drop n work)) (length-replicate n (pos 0)) ∙ drop-at front (drop n work) n e ∙ ap (λ (m : ℕ). drop m work) (sym (length-replicate n (pos 0))))
+answerOf t w h pixels b c = verdict t then sided (t .levels) w h then holds (w * h) (length pixels) then holds (w * h) b then holds (w * h) c then pixelsRight (t .depth) w h pixels
 
 module _ (t : WidthTable) (w h : ℕ) (pixels : List ℕ) (plane work : List ℤ) where
   -- the call's answer is that

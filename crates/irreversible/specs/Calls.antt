@@ -8,7 +8,7 @@ use Rattle.refusals.specs.declared.Outcome.{Outcome}
 use Rattle.refusals.specs.Refusals.{_then_, answered}
 use Rattle.lines.specs.Planes.{rowByRow}
 use Rattle.width_table.specs.declared.WidthTable.{WidthTable}
-use Rattle.pictures.specs.Pictures.{sized, pixelsRight, zeroed}
+use Rattle.pictures.specs.Pictures.{sided, holds, pixelsRight, zeroed}
 use Rattle.precision.specs.Verdict.{verdict}
 use Rattle.irreversible.specs.Transforms.{fixedPlane}
 
@@ -17,7 +17,10 @@ module _ (t : WidthTable) (w h : ℕ) (pixels : List ℕ) (plane work : List ℤ
   unfoldable pub fixedAnswer : Outcome
   fixedAnswer =
       verdict t
-      then sized (t .levels) w h (length pixels) (length plane) (length work)
+      then sided (t .levels) w h
+      then holds (w * h) (length pixels)
+      then holds (w * h) (length plane)
+      then holds (w * h) (length work)
       then pixelsRight (t .depth) w h pixels
 
   unfoldable pub fixedPlaneAfter : List ℤ

@@ -2,22 +2,23 @@
 -- value on the way leaves its width (`widths`).
 use Prim.Native.Nat.{ℕ, zero, suc, _+_, _*_, _-_, _^_, _<_, _≤_}
 use mathlib.Core.Path.{_≡_, _∙_, ap, subst}
-use mathlib.Core.Bool.{Bool, true, false}
+use mathlib.Core.Bool.{Bool}
 use mathlib.Core.List.{List}
 use native.Mathlib.Omega.{arith}
 use native.Mathlib.Decide.{decLt}
 use native.Mathlib.Nat.{mul-le-mul-right}
 use lib.Dec.{ltb}
-use lib.Pow.{pow-pos, pow-add}
+use lib.Pow.{pow-add}
 use lib.ListN.{getD}
 use lib.IntN.{pos, natAbs, _-ℤ_}
 use Rattle.numbers.specs.Dif.{difs}
 use Rattle.exact.specs.Fractions.{Frac}
 use Rattle.width_table.specs.Nodes.{Node, Pass, Rows, TableNode, columnPass}
-use Rattle.lines.specs.Lines.{lows}
+use Rattle.lines.specs.Lines.{lows, Liftable}
 use Rattle.exact.specs.Exact.{exactPass}
 use Rattle.stages.specs.Fixed.{meant}
-use Rattle.lines.specs.Planes.{Plane, OnLine, rows, columns, within, level, levels, side}
+use Rattle.lines.specs.Planes.{Plane, OnLine, rows, columns, rowsFirst, levels, side}
+use Rattle.lines.specs.PlaneLaws.{rows-first-in, rows-first-keeps, roomy}
 use Rattle.width_table.specs.declared.WidthTable.{WidthTable}
 use Rattle.width_table.specs.Table.{integerBits, fractionBits, inputBits}
 use Rattle.precision.specs.Bounds.{entering, boundOf}
@@ -26,7 +27,6 @@ use Rattle.exact.specs.Picture.{exactSample, exactPlane}
 use Rattle.pictures.specs.Pictures.{sample}
 use Rattle.irreversible.specs.Transforms.{fixedLine, fixedAfter, fixedPlane}
 use Rattle.irreversible.specs.Claims.{Picture, keptNode, bitsPlane, Near, TwoSteps, Holds, LevelInWidth, Widths}
-use Rattle.numbers.specs.Tests.{and-true, and-false-l, and-false-r}
 use Rattle.precision.specs.Promise.{promise}
 use Rattle.exact.specs.FracLaws.{⊕-neg, ≈-sym, within-≈, within-zero}
 use Rattle.stages.specs.Sound.{Q}
@@ -35,42 +35,23 @@ use Rattle.irreversible.specs.Pass.{near, holds}
 use Rattle.irreversible.specs.Level.{rowV, rowX, newV, newX, level-good, level-in-width}
 use Rattle.irreversible.specs.Subbands.{InPart, part-before, kept-in, kept-out, kept-LL, kept-everywhere}
 
--- ---- an admitted side has two samples or more at each level
-
-side-above : (k j w : ℕ) → 2 ^ (k + j) < w → 2 ^ j < side k w
-unfolding side
-side-above zero j w h = subst (λ (t : ℕ). 2 ^ t < w) (omega arith) h
-side-above (suc k) j w h =
-    let e : suc k + j ≡ k + suc j = omega arith in
-    let i : 2 ^ suc j < side k w = side-above k (suc j) w (subst (λ (t : ℕ). 2 ^ t < w) e h) in
-    omega arith
-
-side-two : (k L w : ℕ) → k < L → 2 ^ (L - 1) < w → 2 ≤ side k w
-side-two k L w i h =
-    let e : L - 1 ≡ k + (L - 1 - k) = omega arith in
-    let a : 2 ^ (L - 1 - k) < side k w = side-above k (L - 1 - k) w (subst (λ (t : ℕ). 2 ^ t < w) e h) in
-    omega (arith, pow-pos (L - 1 - k))
-
 -- ---- a level changes its part and nothing else
 
 module _ {A : Type 0} (row : ℕ → OnLine A) (column : ℕ → Bool → OnLine A) (k w h : ℕ) (p : Plane A) (r c : ℕ) where
-  new : Plane A
-  new = columns (λ c. column (suc k) (ltb c (lows (side k w)))) (side k h) (rows (row (suc k)) (side k w) (levels row column k w h p))
+  abbrev done : ℕ → Plane A
+  done j = levels (λ l. rowsFirst (row l) (column l)) j w h p
 
-  choose : Bool → A
-  choose t = elim t [ true ↦ new r c | false ↦ levels row column k w h p r c ]
+  level-in : InPart k w h r c → done (suc k) r c ≡ columns (λ c. column (suc k) (ltb c (lows (side k w)))) (side k h) (rows (row (suc k)) (side k w) (done k)) r c
+  unfolding levels columns rows
+  level-in i = rows-first-in (row (suc k)) (column (suc k)) (side k w) (side k h) (done k) r c (i .0) (i .1)
 
-  level-in : InPart k w h r c → levels row column (suc k) w h p r c ≡ columns (λ c. column (suc k) (ltb c (lows (side k w)))) (side k h) (rows (row (suc k)) (side k w) (levels row column k w h p)) r c
-  unfolding levels level within choose new
-  level-in i = ap choose (and-true r (side k h) c (side k w) (i .0) (i .1))
+  level-below : side k h ≤ r → done (suc k) r c ≡ done k r c
+  unfolding levels
+  level-below i = rows-first-keeps (row (suc k)) (column (suc k)) .below (side k w) (side k h) (done k) r c i
 
-  level-below : side k h ≤ r → levels row column (suc k) w h p r c ≡ levels row column k w h p r c
-  unfolding levels level within choose new
-  level-below i = ap choose (and-false-l r (side k h) c (side k w) i)
-
-  level-beyond : side k w ≤ c → levels row column (suc k) w h p r c ≡ levels row column k w h p r c
-  unfolding levels level within choose new
-  level-beyond i = ap choose (and-false-r r (side k h) c (side k w) i)
+  level-beyond : side k w ≤ c → done (suc k) r c ≡ done k r c
+  unfolding levels
+  level-beyond i = rows-first-keeps (row (suc k)) (column (suc k)) .beyond (side k w) (side k h) (done k) r c i
 
 -- ---- the pixels
 
@@ -81,16 +62,16 @@ pixel-law : (p H : ℕ) → p < 2 * H → natAbs (pos p -ℤ pos H) ≤ H
 pixel-law p H h = simp difs (omega arith)
 
 module _ (t : WidthTable) (ok : AcceptPromise t) (pixels : List ℕ) (w h : ℕ) (picture : Picture t pixels w h) where
-  exactAfter : ℕ → Plane Frac
-  exactAfter k = levels (λ l. exactPass) (λ l low. exactPass) k w h (exactSample pixels (t .depth) w)
+  pub exactAfter : ℕ → Plane Frac
+  exactAfter k = levels (λ l. rowsFirst exactPass (λ low. exactPass)) k w h (exactSample pixels (t .depth) w)
 
   -- the value at a place is good for a node
   GoodFor : TableNode → ℕ → ℕ → ℕ → Type 0
   GoodFor p k r c = Good (boundOf t p) (fractionBits t (p .level) (p .pass) (p .node)) (fixedAfter t k pixels w h r c) (exactAfter k r c)
 
   -- after k levels: low-low is good for the next level, and all else is good for its kept node
-  record After (k : ℕ) : Type 0 where
-    inside : (r c : ℕ) → InPart k w h r c → Good (entering t (suc k)) (inputBits t (suc k) Rows) (fixedAfter t k pixels w h r c) (exactAfter k r c)
+  pub record After (k : ℕ) : Type 0 where
+    pub inside : (r c : ℕ) → InPart k w h r c → Good (entering t (suc k)) (inputBits t (suc k) Rows) (fixedAfter t k pixels w h r c) (exactAfter k r c)
     outside : (r c : ℕ) → r < h → c < w → ¬ InPart k w h r c → GoodFor (keptNode k w h r c) k r c
 
   pixel-good : (r c : ℕ) → r < h → c < w → Good (record { range = 2 ^ 31; error = 0 }) (t .depth) (sample pixels (t .depth) w r c) (exactSample pixels (t .depth) w r c)
@@ -114,11 +95,11 @@ module _ (t : WidthTable) (ok : AcceptPromise t) (pixels : List ℕ) (w h : ℕ)
   start = record { inside = λ r c i. pixel-good r c (i .0) (i .1); outside = λ r c i j n. absurd (n (i, j)) }
 
   module _ (k : ℕ) (i : k < t .levels) (a : After k) where
-    big-w : 2 ≤ side k w
-    big-w = side-two k (t .levels) w i (picture .width .0)
+    big-w : Liftable (side k w)
+    big-w = roomy (t .levels) w (picture .width .0) k i
 
-    big-h : 2 ≤ side k h
-    big-h = side-two k (t .levels) h i (picture .height .0)
+    big-h : Liftable (side k h)
+    big-h = roomy (t .levels) h (picture .height .0) k i
 
     fractions : (p : Pass) (n : Node) → fractionBits t (suc k) p n ≤ 20
     fractions p n = ok .fractions (suc k) (omega arith) (omega arith) p n
@@ -156,7 +137,7 @@ module _ (t : WidthTable) (ok : AcceptPromise t) (pixels : List ℕ) (w h : ℕ)
     next : After (suc k)
     next = record { inside = inside-next; outside = λ r c p q n. good-next r c p q }
 
-  after : (k : ℕ) → k ≤ t .levels → After k
+  pub after : (k : ℕ) → k ≤ t .levels → After k
   after zero i = start
   after (suc k) i = next k i (after k (omega arith))
 
@@ -176,7 +157,7 @@ module _ (t : WidthTable) (ok : AcceptPromise t) (pixels : List ℕ) (w h : ℕ)
   in-width : (k : ℕ) → k < t .levels → LevelInWidth t (suc k) (side k w) (side k h) (fixedAfter t k pixels w h)
   unfolding boundOf
   in-width k i =
-      level-in-width t (suc k) (λ p n. ok .fractions (suc k) (omega arith) i p n) (side k w) (side k h) (side-two k (t .levels) w i (picture .width .0)) (side-two k (t .levels) h i (picture .height .0)) (entering t (suc k)) (fixedAfter t k pixels w h) (exactAfter k) (λ r c a b. after k (omega arith) .inside r c (a, b))
+      level-in-width t (suc k) (λ p n. ok .fractions (suc k) (omega arith) i p n) (side k w) (side k h) (roomy (t .levels) w (picture .width .0) k i) (roomy (t .levels) h (picture .height .0) k i) (entering t (suc k)) (fixedAfter t k pixels w h) (exactAfter k) (λ r c a b. after k (omega arith) .inside r c (a, b))
       (λ p n. ok .integers (suc k) (omega arith) i p n .0) (λ p n. ok .fit (suc k) (omega arith) i p n)
 
   kept-held : (r c : ℕ) → r < h → c < w → (let k = keptNode (t .levels) w h r c in Holds (integerBits t (k .level) (k .pass) (k .node)) (fractionBits t (k .level) (k .pass) (k .node)) (fixedPlane t pixels w h r c))

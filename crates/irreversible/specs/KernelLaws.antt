@@ -10,8 +10,9 @@ use Rattle.width_table.specs.declared.WidthTable.{WidthTable}
 use Rattle.width_table.specs.Table.{constantBits, fractionBits, inputBits}
 use Rattle.lifting.specs.declared.Step.{Step}
 use Rattle.lifting.specs.declared.Factor.{Factor}
+use Rattle.lifting.specs.declared.Pair.{Pair}
 use Rattle.lifting.specs.declared.Kernel.{Kernel}
-use Rattle.lifting.specs.declared.Kernel.the-variants.{Four}
+use Rattle.lifting.specs.declared.Kernel.the-variants.{Two}
 use Rattle.lifting.specs.Steps.{applied, scaledBy}
 use Rattle.lifting.specs.Passes.{evens, odds}
 use Rattle.lifting.specs.Kernels.{worked, firstHighs, firstLows, secondHighs, secondLows}
@@ -55,24 +56,31 @@ module _ (F : Node → ℕ) (fi : ℕ) (f : Node → ℕ) where
   abbrev pub sG2 : Factor
   sG2 = scalingOf zetaInverse (F G2) (f P2) (f G2)
 
+  -- its pairs
+  abbrev pub firstPair : Pair
+  firstPair = record { highs = sP1; lows = sU1 }
+
+  abbrev pub secondPair : Pair
+  secondPair = record { highs = sP2; lows = sU2 }
+
   abbrev pub kernelFrom : Kernel
-  kernelFrom = Four sP1 sU1 sP2 sU2 sG1 sG2
+  kernelFrom = Two firstPair secondPair sG1 sG2
 
   -- what the kernel leaves on its way in the line, and at last
   module _ (n : ℕ) (x : ℕ → ℤ) where
-    pub first-highs : firstHighs sP1 sU1 sP2 sU2 n x ≡ atP1 F fi f n x
+    pub first-highs : firstHighs firstPair secondPair n x ≡ atP1 F fi f n x
     unfolding atP1
     first-highs = λ u. onHighs (applied-is alpha (F P1) fi fi (f P1) u) n (evens x) (odds x)
 
-    pub first-lows : firstLows sP1 sU1 sP2 sU2 n x ≡ atU1 F fi f n x
+    pub first-lows : firstLows firstPair secondPair n x ≡ atU1 F fi f n x
     unfolding atU1
     first-lows = λ u. onLows (applied-is beta (F U1) (f P1) fi (f U1) u) n (evens x) (first-highs u)
 
-    pub second-highs : secondHighs sP1 sU1 sP2 sU2 n x ≡ atP2 F fi f n x
+    pub second-highs : secondHighs firstPair secondPair n x ≡ atP2 F fi f n x
     unfolding atP2
     second-highs = λ u. onHighs (applied-is gamma (F P2) (f U1) (f P1) (f P2) u) n (first-lows u) (first-highs u)
 
-    pub second-lows : secondLows sP1 sU1 sP2 sU2 n x ≡ atU2 F fi f n x
+    pub second-lows : secondLows firstPair secondPair n x ≡ atU2 F fi f n x
     unfolding atU2
     second-lows = λ u. onLows (applied-is delta (F U2) (f P2) (f U1) (f U2) u) n (first-lows u) (second-highs u)
 

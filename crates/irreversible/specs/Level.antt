@@ -6,7 +6,7 @@ use lib.Dec.{ltb}
 use lib.IntN.{ℤ}
 use Rattle.exact.specs.Fractions.{Frac}
 use Rattle.width_table.specs.Nodes.{Node, G1, G2, Pass, Rows, LowColumns, HighColumns, columnPass, lastNode}
-use Rattle.lines.specs.Lines.{lows}
+use Rattle.lines.specs.Lines.{lows, Liftable}
 use Rattle.exact.specs.Exact.{exactPass}
 use Rattle.lines.specs.Planes.{Plane, rows, columns}
 use Rattle.width_table.specs.declared.WidthTable.{WidthTable}
@@ -34,11 +34,11 @@ unfoldable pub newX : ℕ → ℕ → Plane Frac → Plane Frac
 unfolding rowX
 newX w h x = columns (λ c. exactPass) h (rowX w x)
 
-module _ (t : WidthTable) (l : ℕ) (bits : (p : Pass) (n : Node) → fractionBits t l p n ≤ 20) (w h : ℕ) (wide : 2 ≤ w) (tall : 2 ≤ h) (b : Bound) (v : Plane ℤ) (x : Plane Frac) (given : (r c : ℕ) → r < h → c < w → Good b (inputBits t l Rows) (v r c) (x r c)) where
+module _ (t : WidthTable) (l : ℕ) (bits : (p : Pass) (n : Node) → fractionBits t l p n ≤ 20) (w h : ℕ) (wide : Liftable w) (tall : Liftable h) (b : Bound) (v : Plane ℤ) (x : Plane Frac) (given : (r c : ℕ) → r < h → c < w → Good b (inputBits t l Rows) (v r c) (x r c)) where
   small : (p : Pass) → Small (fractionBits t l p)
   small p n = omega (arith, bits p n)
 
-  row-good : (r c : ℕ) → r < h → c < w → Good (rowBound t l b (lastNode (ltb c (lows w)))) (fractionBits t l Rows (lastNode (ltb c (lows w)))) (rowV t l w v r c) (rowX w x r c)
+  pub row-good : (r c : ℕ) → r < h → c < w → Good (rowBound t l b (lastNode (ltb c (lows w)))) (fractionBits t l Rows (lastNode (ltb c (lows w)))) (rowV t l w v r c) (rowX w x r c)
   unfolding rowV rowX rows fixedLine rowBound
   row-good r c i j = pass-good (constantBits t) (inputBits t l Rows) b (fractionBits t l Rows) w (v r) (x r) wide (small Rows) (λ k q. given r k i q) c j
 

@@ -1,52 +1,52 @@
--- A level in memory: its rows, then the columns of row-low, then those of row-high. Where a plane stands and its values are in their
--- widths, every kernel is safe (`level-safe`), and what the level leaves stands (`level-stands`).
+-- A level in memory: its rows, then the columns of row-low, then those of row-high. Where a plane stands and its values are
+-- sized, every kernel is safe (`level-safe`), and what the level leaves stands (`level-stands`).
 use Prim.Native.Nat.{ℕ, _+_, _*_, _-_, _<_, _≤_}
-use mathlib.Core.Bool.{Bool, true, false, _&&_}
-use mathlib.Core.Path.{_≡_, refl, sym, _∙_, ap, subst}
+use mathlib.Core.Bool.{Bool, true, false}
+use mathlib.Core.Path.{_≡_, sym, _∙_, ap, subst}
 use native.Mathlib.Omega.{arith}
-use borrow.Author.Tests.{lt-ltb, le-ltb, le-leb, lt-leb}
-use lib.Dec.{leb, ltb}
+use lib.Dec.{ltb}
 use lib.IntN.{ℤ}
 use Rattle.numbers.specs.Tests.{ltb-true, ltb-false, by-ltb}
 use Rattle.exact.specs.Exact.{alpha, beta, gamma, delta, zeta, zetaInverse}
-use Rattle.lines.specs.Lines.{lows, highs, lowAfter, highBefore, highAfter, onHighs, onLows, lowsFirst}
-use Rattle.lines.specs.Planes.{Plane, rows, columns, within, level}
+use Rattle.lines.specs.Lines.{lows, highs, Liftable, lowsFirst}
+use Rattle.lines.specs.LineLaws.{some-highs, Equal, evens-equal, odds-equal}
+use Rattle.lines.specs.Neighbours.{on-highs-equal, on-lows-equal}
+use Rattle.lines.specs.Planes.{Plane, rows, columns, within, rowsFirst}
 use Rattle.lines.specs.PlaneLaws.{by-part, within-in, within-below, within-beyond}
 use Rattle.width_table.specs.Nodes.{Node, P1, U1, P2, U2, G1, G2, Pass, Rows, LowColumns, HighColumns, columnPass, lastNode}
 use Rattle.width_table.specs.declared.WidthTable.{WidthTable}
-use Rattle.width_table.specs.Table.{constantBits, integerBits, fractionBits, inputBits}
-use Rattle.lifting.specs.declared.Kernel.{Kernel}
+use Rattle.width_table.specs.Table.{constantBits, fractionBits, inputBits}
 use Rattle.lifting.specs.Kernels.{worked, SafeKernel, rowOf, columnOf, rowsWorked, columnsWorked}
-use Rattle.pictures.specs.MemoryLaws.{Stands, columnsPlane, worked-same, rows-stand, rows-beyond, columns-stand, columns-beyond}
+use Rattle.pictures.specs.MemoryLaws.{Stands, columnsPlane, columns-in, columns-below, columns-left, columns-right, worked-same, rows-stand, rows-beyond, columns-stand, columns-beyond}
 use Rattle.stages.specs.Fixed.{step, scale}
 use Rattle.irreversible.specs.Fixed.{atP1, atU1, atP2, atU2, atG1, atG2, valueAt, countAt, fixedPass}
-use Rattle.irreversible.specs.Transforms.{fixedLine}
-use Rattle.irreversible.specs.Claims.{Holds, InWidth, LevelInWidth}
+use Rattle.irreversible.specs.Transforms.{fixedLine, fixedLevel}
+use Rattle.irreversible.specs.Sized.{Sized, LineSized, LevelSized}
 use Rattle.irreversible.specs.KernelLaws.{kernelOf, worked-fixed}
-use Rattle.irreversible.specs.SafeLaws.{Sized, Limits, holds-sized, kernel-safe}
+use Rattle.irreversible.specs.SafeLaws.{Limits, kernel-safe}
 
 -- ---- a pass reads a line's own values only
 
-module _ (F : Node → ℕ) (fi : ℕ) (f : Node → ℕ) (n : ℕ) (x y : ℕ → ℤ) (two : 2 ≤ n) (same : (k : ℕ) → k < n → x k ≡ y k) where
+module _ (F : Node → ℕ) (fi : ℕ) (f : Node → ℕ) (n : ℕ) (x y : ℕ → ℤ) (works : Liftable n) (same : Equal n x y) where
   -- the same values in a node
   abbrev Same : Node → Type 0
-  Same i = (k : ℕ) → k < countAt n i → valueAt F fi f n x i k ≡ valueAt F fi f n y i k
+  Same i = Equal (countAt n i) (valueAt F fi f n x i) (valueAt F fi f n y i)
 
   same-P1 : Same P1
-  unfolding atP1 onHighs
-  same-P1 k h = λ u. step alpha (F P1) fi fi (f P1) (same (2 * k + 1) (omega arith) u) (same (2 * k) (omega arith) u) (same (2 * lowAfter n k) (omega arith) u)
+  unfolding atP1
+  same-P1 = on-highs-equal n (evens-equal n same) (odds-equal n same) (step alpha (F P1) fi fi (f P1))
 
   same-U1 : Same U1
-  unfolding atU1 onLows
-  same-U1 k h = λ u. step beta (F U1) (f P1) fi (f U1) (same (2 * k) (omega arith) u) (same-P1 (highBefore k) (omega arith) u) (same-P1 (highAfter n k) (omega arith) u)
+  unfolding atU1
+  same-U1 = on-lows-equal n (evens-equal n same) same-P1 (step beta (F U1) (f P1) fi (f U1)) (some-highs n works)
 
   same-P2 : Same P2
-  unfolding atP2 onHighs
-  same-P2 k h = λ u. step gamma (F P2) (f U1) (f P1) (f P2) (same-P1 k h u) (same-U1 k (omega arith) u) (same-U1 (lowAfter n k) (omega arith) u)
+  unfolding atP2
+  same-P2 = on-highs-equal n same-U1 same-P1 (step gamma (F P2) (f U1) (f P1) (f P2))
 
   same-U2 : Same U2
-  unfolding atU2 onLows
-  same-U2 k h = λ u. step delta (F U2) (f P2) (f U1) (f U2) (same-U1 k h u) (same-P2 (highBefore k) (omega arith) u) (same-P2 (highAfter n k) (omega arith) u)
+  unfolding atU2
+  same-U2 = on-lows-equal n same-U1 same-P2 (step delta (F U2) (f P2) (f U1) (f U2)) (some-highs n works)
 
   -- in every node
   value-same : (i : Node) → Same i
@@ -62,16 +62,16 @@ module _ (F : Node → ℕ) (fi : ℕ) (f : Node → ℕ) (n : ℕ) (x y : ℕ �
 
 -- the bits of a level are within their limits
 abbrev pub BitsRight : WidthTable → ℕ → Type 0
-BitsRight t l = (p : Pass) → Limits (constantBits t) (inputBits t l p) (integerBits t l p) (fractionBits t l p)
+BitsRight t l = (p : Pass) → Limits (constantBits t) (inputBits t l p) (fractionBits t l p)
 
-module _ (t : WidthTable) (l : ℕ) (bits : BitsRight t l) (p : Pass) (n : ℕ) (v : ℕ → ℤ) (two : 2 ≤ n) (inside : InWidth t l p n v) where
-  -- a kernel is safe on a line whose values are in their widths
-  line-safe : ((k : ℕ) → k < n → Sized (inputBits t l p) (v k)) → (x : ℕ → ℤ) → ((k : ℕ) → k < n → x k ≡ v k) → SafeKernel (kernelOf t l p) n x
+module _ (t : WidthTable) (l : ℕ) (bits : BitsRight t l) (p : Pass) (n : ℕ) (v : ℕ → ℤ) (works : Liftable n) (inside : LineSized t l p n v) where
+  -- a kernel is safe on a line whose values are sized
+  pub line-safe : ((k : ℕ) → k < n → Sized (inputBits t l p) (v k)) → (x : ℕ → ℤ) → ((k : ℕ) → k < n → x k ≡ v k) → SafeKernel (kernelOf t l p) n x
   unfolding kernelOf
   line-safe given x same =
-      kernel-safe (constantBits t) (inputBits t l p) (integerBits t l p) (fractionBits t l p) (bits p) n x two
+      kernel-safe (constantBits t) (inputBits t l p) (fractionBits t l p) (bits p) n x works
       (λ k h. subst (Sized (inputBits t l p)) (sym (same k h)) (given k h))
-      (λ i k h. subst (Holds (integerBits t l p i) (fractionBits t l p i)) (sym (value-same (constantBits t) (inputBits t l p) (fractionBits t l p) n x v two same i k h)) (inside i k h))
+      (λ i k h. subst (Sized (fractionBits t l p i)) (sym (value-same (constantBits t) (inputBits t l p) (fractionBits t l p) n x v works same i k h)) (inside i k h))
 
   -- what the pass leaves has the bits of its last nodes
   pub line-sized : (k : ℕ) → k < n → Sized (fractionBits t l p (lastNode (ltb k (lows n)))) (fixedLine t l p n v k)
@@ -81,36 +81,8 @@ module _ (t : WidthTable) (l : ℕ) (bits : BitsRight t l) (p : Pass) (n : ℕ) 
       let fi = inputBits t l p in
       let f = fractionBits t l p in
       by-ltb (λ q. Sized (f (lastNode q)) (elim q [ true ↦ atG1 F fi f n v k | false ↦ atG2 F fi f n v (k - lows n) ])) k (lows n)
-      (λ i. holds-sized _ _ _ (bits p .integers G1) (inside G1 k i))
-      (λ i. holds-sized _ _ _ (bits p .integers G2) (inside G2 (k - lows n) (omega arith)))
-
--- ---- columns of a plane
-
-and-false : (t : Bool) → t && false ≡ false
-and-false true = refl
-and-false false = refl
-
--- a place inside the columns, below them, left and right of them
-module _ (k : Kernel) (from w h : ℕ) (p : Plane ℤ) (r c : ℕ) where
-  -- worked, or as it was
-  abbrev chosen : Bool → ℤ
-  chosen t = elim t [ true ↦ worked k h (λ m. p m c) r | false ↦ p r c ]
-
-  plane-in : r < h → from ≤ c → c < from + w → columnsPlane k from w h p r c ≡ worked k h (λ m. p m c) r
-  unfolding columnsPlane
-  plane-in i a b = ap chosen ((λ u. lt-ltb r h i u && (le-leb from c a u && ltb c (from + w))) ∙ lt-ltb c (from + w) b)
-
-  plane-below : h ≤ r → columnsPlane k from w h p r c ≡ p r c
-  unfolding columnsPlane
-  plane-below i = ap chosen (λ u. le-ltb r h i u && (leb from c && ltb c (from + w)))
-
-  plane-left : c < from → columnsPlane k from w h p r c ≡ p r c
-  unfolding columnsPlane
-  plane-left a = ap chosen ((λ u. ltb r h && (lt-leb from c a u && ltb c (from + w))) ∙ and-false (ltb r h))
-
-  plane-right : from + w ≤ c → columnsPlane k from w h p r c ≡ p r c
-  unfolding columnsPlane
-  plane-right b = ap chosen ((λ u. ltb r h && (leb from c && le-ltb c (from + w) b u)) ∙ (λ u. ltb r h && and-false (leb from c) u) ∙ and-false (ltb r h))
+      (λ i. inside G1 k i)
+      (λ i. inside G2 (k - lows n) (omega arith))
 
 -- ---- one level
 
@@ -125,17 +97,17 @@ module _ (t : WidthTable) (l W w h : ℕ) (x : ℕ → ℤ) where
   abbrev pub levelWorked : ℕ → ℤ
   levelWorked = columnsWorked (kernelOf t l HighColumns) W (lows w) (highs w) h lowed
 
+-- the columns alone
+abbrev pub columned : WidthTable → ℕ → ℕ → ℕ → ℕ → (ℕ → ℤ) → ℕ → ℤ
+columned t l W w h y = columnsWorked (kernelOf t l HighColumns) W (lows w) (highs w) h (columnsWorked (kernelOf t l LowColumns) W 0 (lows w) h y)
+
 -- every kernel of the level is safe
 pub record SafeLevel (t : WidthTable) (l W w h : ℕ) (x : ℕ → ℤ) : Type 0 where
   pub onRows : (r : ℕ) → r < h → SafeKernel (kernelOf t l Rows) w (rowOf W 0 x r)
   pub onLowColumns : (j : ℕ) → j < lows w → SafeKernel (kernelOf t l LowColumns) h (columnOf W 0 (rowed t l W w h x) j)
   pub onHighColumns : (j : ℕ) → j < highs w → SafeKernel (kernelOf t l HighColumns) h (columnOf W (lows w) (lowed t l W w h x) j)
 
--- the level of the transform
-abbrev pub fixedLevel : WidthTable → ℕ → ℕ → ℕ → Plane ℤ → Plane ℤ
-fixedLevel t = level (λ l. fixedLine t l Rows) (λ l low. fixedLine t l (columnPass low))
-
-module _ (t : WidthTable) (l W H w h : ℕ) (wide : 2 ≤ w) (tall : 2 ≤ h) (inW : w ≤ W) (inH : h ≤ H) (x : ℕ → ℤ) (p : Plane ℤ) (stands : Stands W H x p) where
+module _ (t : WidthTable) (l W H w h : ℕ) (wide : Liftable w) (tall : Liftable h) (inW : w ≤ W) (inH : h ≤ H) (x : ℕ → ℤ) (p : Plane ℤ) (stands : Stands W H x p) where
   -- after the rows
   rowPlane : Plane ℤ
   rowPlane = within w h (rows (worked (kernelOf t l Rows)) w p) p
@@ -168,7 +140,7 @@ module _ (t : WidthTable) (l W H w h : ℕ) (wide : 2 ≤ w) (tall : 2 ≤ h) (i
   -- a column of row-high is not yet worked
   low-is : (r c : ℕ) → r < h → c < w → lows w ≤ c → lowPlane r c ≡ rows (fixedLine t l Rows) w p r c
   unfolding lowPlane
-  low-is r c i j a = plane-right (kernelOf t l LowColumns) 0 (lows w) h rowPlane r c (omega arith) ∙ row-is r c i j
+  low-is r c i j a = columns-right (kernelOf t l LowColumns) 0 (lows w) h rowPlane r c (omega arith) ∙ row-is r c i j
 
   -- a column that holds what the rows left, worked
   column-is : (q : Pass) (v : ℕ → ℤ) (r c : ℕ) → r < h → ((m : ℕ) → m < h → v m ≡ rows (fixedLine t l Rows) w p m c) → worked (kernelOf t l q) h v r ≡ fixedLine t l q h (λ m. rows (fixedLine t l Rows) w p m c) r
@@ -176,14 +148,14 @@ module _ (t : WidthTable) (l W H w h : ℕ) (wide : 2 ≤ w) (tall : 2 ≤ h) (i
 
   -- after all columns: the level
   planes : (r c : ℕ) → columnsPlane (kernelOf t l HighColumns) (lows w) (highs w) h lowPlane r c ≡ fixedLevel t l w h p r c
-  unfolding level lowPlane columns
+  unfolding rowsFirst lowPlane columns
   planes = by-part (λ r c. columnsPlane (kernelOf t l HighColumns) (lows w) (highs w) h lowPlane r c ≡ fixedLevel t l w h p r c) w h
       (λ r c i j. by-ltb (λ q. columnsPlane (kernelOf t l HighColumns) (lows w) (highs w) h lowPlane r c ≡ fixedLine t l (columnPass q) h (λ m. rows (fixedLine t l Rows) w p m c) r) c (lows w)
-      (λ a. plane-left (kernelOf t l HighColumns) (lows w) (highs w) h lowPlane r c a ∙ plane-in (kernelOf t l LowColumns) 0 (lows w) h rowPlane r c i (omega arith) (omega arith) ∙ column-is LowColumns _ r c i (λ m b. row-is m c b j))
-      (λ a. plane-in (kernelOf t l HighColumns) (lows w) (highs w) h lowPlane r c i a (omega arith) ∙ column-is HighColumns _ r c i (λ m b. low-is m c b j a))
+      (λ a. columns-left (kernelOf t l HighColumns) (lows w) (highs w) h lowPlane r c a ∙ columns-in (kernelOf t l LowColumns) 0 (lows w) h rowPlane r c i (omega arith) (omega arith) ∙ column-is LowColumns _ r c i (λ m b. row-is m c b j))
+      (λ a. columns-in (kernelOf t l HighColumns) (lows w) (highs w) h lowPlane r c i a (omega arith) ∙ column-is HighColumns _ r c i (λ m b. low-is m c b j a))
       ∙ sym (within-in w h _ p r c i j))
-      (λ r c i. plane-below (kernelOf t l HighColumns) (lows w) (highs w) h lowPlane r c i ∙ plane-below (kernelOf t l LowColumns) 0 (lows w) h rowPlane r c i ∙ row-below r c i ∙ sym (within-below w h _ p r c i))
-      (λ r c j. plane-right (kernelOf t l HighColumns) (lows w) (highs w) h lowPlane r c (omega arith) ∙ plane-right (kernelOf t l LowColumns) 0 (lows w) h rowPlane r c (omega arith) ∙ row-beyond r c j ∙ sym (within-beyond w h _ p r c j))
+      (λ r c i. columns-below (kernelOf t l HighColumns) (lows w) (highs w) h lowPlane r c i ∙ columns-below (kernelOf t l LowColumns) 0 (lows w) h rowPlane r c i ∙ row-below r c i ∙ sym (within-below w h _ p r c i))
+      (λ r c j. columns-right (kernelOf t l HighColumns) (lows w) (highs w) h lowPlane r c (omega arith) ∙ columns-right (kernelOf t l LowColumns) 0 (lows w) h rowPlane r c (omega arith) ∙ row-beyond r c j ∙ sym (within-beyond w h _ p r c j))
 
   -- What stands after the level.
   pub level-stands : Stands W H (levelWorked t l W w h x) (fixedLevel t l w h p)
@@ -193,7 +165,7 @@ module _ (t : WidthTable) (l W H w h : ℕ) (wide : 2 ≤ w) (tall : 2 ≤ h) (i
   pub level-beyond : (q : ℕ) → W * H ≤ q → levelWorked t l W w h x q ≡ x q
   level-beyond q far = columns-beyond (kernelOf t l HighColumns) W H (lows w) (highs w) h (lowed t l W w h x) tall (omega arith) inH q far ∙ columns-beyond (kernelOf t l LowColumns) W H 0 (lows w) h (rowed t l W w h x) tall (omega arith) inH q far ∙ rows-beyond (kernelOf t l Rows) W H w h x wide inW inH q far
 
-  module _ (bits : BitsRight t l) (inside : LevelInWidth t l w h p) (given : (r c : ℕ) → r < h → c < w → Sized (inputBits t l Rows) (p r c)) where
+  module _ (bits : BitsRight t l) (inside : LevelSized t l w h p) where
     -- the bits that enter a column
     column-sized : (c : ℕ) → c < w → (q : Bool) → ltb c (lows w) ≡ q → (r : ℕ) → r < h → Sized (inputBits t l (columnPass q)) (rows (fixedLine t l Rows) w p r c)
     unfolding rows
@@ -204,12 +176,12 @@ module _ (t : WidthTable) (l W H w h : ℕ) (wide : 2 ≤ w) (tall : 2 ≤ h) (i
     column-safe : (c : ℕ) → c < w → (q : Bool) → ltb c (lows w) ≡ q → (v : ℕ → ℤ) → ((r : ℕ) → r < h → v r ≡ rows (fixedLine t l Rows) w p r c) → SafeKernel (kernelOf t l (columnPass q)) h v
     column-safe c j q e v same =
         line-safe t l bits (columnPass q) h (λ r. rows (fixedLine t l Rows) w p r c) tall
-        (subst (λ (b : Bool). InWidth t l (columnPass b) h (λ r. rows (fixedLine t l Rows) w p r c)) e (inside .inColumns c j)) (column-sized c j q e) v same
+        (subst (λ (b : Bool). LineSized t l (columnPass b) h (λ r. rows (fixedLine t l Rows) w p r c)) e (inside .inColumns c j)) (column-sized c j q e) v same
 
     -- Every kernel is safe.
     pub level-safe : SafeLevel t l W w h x
     level-safe = record {
-      onRows = λ r i. line-safe t l bits Rows w (p r) wide (inside .inRows r i) (λ c j. given r c i j) _ (λ c j. ap x (omega arith) ∙ stands r c (omega arith) (omega arith));
+      onRows = λ r i. line-safe t l bits Rows w (p r) wide (inside .inRows r i) (λ c j. inside .given r c i j) _ (λ c j. ap x (omega arith) ∙ stands r c (omega arith) (omega arith));
       onLowColumns = λ j a. column-safe j (omega arith) true (ltb-true j (lows w) a) _ (λ r i. ap (rowed t l W w h x) (omega arith) ∙ row-stands r j (omega arith) (omega arith) ∙ row-is r j i (omega arith));
       onHighColumns = λ j a. column-safe (lows w + j) (omega arith) false (ltb-false (lows w + j) (lows w) (omega arith)) _ (λ r i. ap (lowed t l W w h x) (omega arith) ∙ low-stands r (lows w + j) (omega arith) (omega arith) ∙ low-is r (lows w + j) i (omega arith) (omega arith));
     }

@@ -1,34 +1,29 @@
 -- The levels in memory, under an accepted table (`After`): what stands after each, and that the next one is safe.
 use Prim.Native.Nat.{ℕ, zero, suc, _+_, _*_, _-_, _^_, _<_, _≤_}
-use mathlib.Core.Bool.{Bool}
 use mathlib.Core.List.{List}
-use mathlib.Core.Path.{_≡_, sym, _∙_, ap, subst}
+use mathlib.Core.Path.{_≡_, refl, _∙_, ap}
 use native.Mathlib.Omega.{arith}
-use native.Mathlib.Nat.{pow-le-pow-right, le-trans}
-use lib.Dec.{ltb}
-use lib.Pow.{pow-add}
 use lib.ListN.{length, getD}
-use lib.IntN.{ℤ, pos, natAbs, _-ℤ_}
-use Rattle.numbers.specs.Dif.{difs}
-use Rattle.numbers.specs.Tests.{ltb-true}
+use lib.IntN.{ℤ, pos, _-ℤ_}
 use Rattle.numbers.specs.Lists.{over}
-use Rattle.lines.specs.Lines.{lows}
-use Rattle.lines.specs.Planes.{rows, columns, side, level, levels, rowByRow}
-use Rattle.lines.specs.PlaneLaws.{within-in, roomy, side-le}
+use Rattle.lines.specs.Planes.{side, levels, rowByRow}
+use Rattle.lines.specs.PlaneLaws.{Roomy, roomy, side-le}
 use Rattle.lines.specs.RowLaws.{place-in}
-use Rattle.width_table.specs.Nodes.{G1, G2, Pass, Rows, LowColumns, HighColumns, columnPass, lastNode}
+use Rattle.width_table.specs.Nodes.{G1, G2, Pass, Rows, LowColumns, HighColumns}
 use Rattle.width_table.specs.declared.WidthTable.{WidthTable}
-use Rattle.width_table.specs.Table.{fractionBits, inputBits}
+use Rattle.width_table.specs.Table.{inputBits}
 use Rattle.lifting.specs.Patch.{at, patch, patch-in, patch-above}
+use Rattle.lifting.specs.Kernels.{SafeKernel}
+use Rattle.lifting.specs.Strips.{pixelLine}
 use Rattle.pictures.specs.Pictures.{sample}
 use Rattle.pictures.specs.MemoryLaws.{Stands, stands-over}
 use Rattle.precision.specs.Verdict.{Accepted, AcceptPromise}
 use Rattle.precision.specs.Promise.{promise}
-use Rattle.irreversible.specs.Transforms.{fixedLine, fixedAfter, fixedPlane}
+use Rattle.irreversible.specs.Transforms.{fixedAfter, fixedPlane}
 use Rattle.irreversible.specs.Claims.{Picture}
-use Rattle.irreversible.specs.Demand3.{widths}
-use Rattle.irreversible.specs.SafeLaws.{Sized}
-use Rattle.irreversible.specs.LevelLaws.{BitsRight, line-sized, levelWorked, SafeLevel, level-stands, level-beyond, level-safe}
+use Rattle.irreversible.specs.SizedLaws.{sized}
+use Rattle.irreversible.specs.KernelLaws.{kernelOf}
+use Rattle.irreversible.specs.LevelLaws.{BitsRight, levelWorked, SafeLevel, level-stands, level-beyond, line-safe, level-safe}
 
 -- the limits of a level of an accepted table
 module _ (t : WidthTable) (ok : AcceptPromise t) where
@@ -42,59 +37,21 @@ module _ (t : WidthTable) (ok : AcceptPromise t) where
 
   -- all bits of a level
   pub bits-right : (l : ℕ) → 1 ≤ l → l ≤ t .levels → BitsRight t l
-  bits-right l a b p = record { constants = ok .constants; integers = λ i. ok .integers l a b p i .1; fractions = λ i. ok .fractions l a b p i; enters = input-small l p a b }
-
--- a sample is at most half of 2^B
-sample-law : (p H P : ℕ) → P ≡ 2 * H → p < P → natAbs (pos p -ℤ pos H) ≤ H
-sample-law p H P e h = simp difs (omega arith)
+  bits-right l a b p = record { constants = ok .constants; fractions = λ i. ok .fractions l a b p i; enters = input-small l p a b }
 
 module _ (t : WidthTable) (pixels : List ℕ) (w h : ℕ) (accepted : Accepted t) (picture : Picture t pixels w h) where
   ok : AcceptPromise t
   ok = promise t accepted
 
-  -- two samples or more on a side at each level
-  pub wide : (k : ℕ) → k < t .levels → 2 ≤ side k w
+  -- each level can be worked
+  pub wide : Roomy (t .levels) w
   wide = roomy (t .levels) w (picture .width .0)
 
-  pub tall : (k : ℕ) → k < t .levels → 2 ≤ side k h
+  pub tall : Roomy (t .levels) h
   tall = roomy (t .levels) h (picture .height .0)
 
   some : 1 ≤ w
   some = omega (arith, picture .width .0)
-
-  -- a sample has at most 12 integer bits
-  sample-sized : (r c : ℕ) → r < h → c < w → Sized (t .depth) (sample pixels (t .depth) w r c)
-  unfolding sample
-  sample-sized r c i j =
-      let B = t .depth in
-      let H = 2 ^ (B - 1) in
-      let e : 2 ^ B ≡ 2 * H = ap (λ (k : ℕ). 2 ^ k) (deeper B (promise t accepted .depth .0)) ∙ pow-add 2 1 (B - 1) in
-      le-trans (sample-law (getD pixels (r * w + c) 0) H (2 ^ B) e (picture .depth (r * w + c) (place-in w h some r c i j))) (pow-le-pow-right {n = 2} (omega arith) (less B))
-    where
-      deeper : (d : ℕ) → 1 ≤ d → d ≡ 1 + (d - 1)
-      deeper d z = omega arith
-
-      less : (d : ℕ) → d - 1 ≤ 11 + d
-      less d = omega arith
-
-  -- what enters a level has at most 12 integer bits
-  entering-sized : (k : ℕ) → k < t .levels → (r c : ℕ) → r < side k h → c < side k w → Sized (inputBits t (suc k) Rows) (fixedAfter t k pixels w h r c)
-  unfolding fixedAfter levels side level columns ok
-  entering-sized zero m r c i j = sample-sized r c i j
-  entering-sized (suc k) m r c i j =
-      let W = side k w in
-      let H = side k h in
-      let v : ℕ → ℤ = λ n. rows (fixedLine t (suc k) Rows) W (fixedAfter t k pixels w h) n c in
-      let two = tall k (omega arith) in
-      let cw : c < W = under W c (wide k (omega arith)) j in
-      let rh : r < H = under H r two i in
-      subst (λ (z : ℤ). Sized (fractionBits t (suc k) LowColumns G1) z) (sym (within-in W H _ _ r c rh cw))
-      (subst (λ (b : Bool). Sized (fractionBits t (suc k) LowColumns (lastNode b)) (fixedLine t (suc k) (columnPass (ltb c (lows W))) H v r)) (ltb-true r (lows H) i)
-      (subst (λ (b : Bool). Sized (fractionBits t (suc k) (columnPass b) (lastNode (ltb r (lows H)))) (fixedLine t (suc k) (columnPass (ltb c (lows W))) H v r)) (ltb-true c (lows W) j)
-      (line-sized t (suc k) (bits-right t ok (suc k) (omega arith) (omega arith)) (columnPass (ltb c (lows W))) H v two (widths t pixels w h accepted picture k (omega arith) .inColumns c cw) r rh)))
-    where
-      under : (n c : ℕ) → 2 ≤ n → c < lows n → c < n
-      under n c h i = omega arith
 
 -- after k levels: the plane stands at the front, and what lies past it is as it was
 pub record After (t : WidthTable) (pixels : List ℕ) (w h k : ℕ) (x₀ x : ℕ → ℤ) : Type 0 where
@@ -138,7 +95,15 @@ module _ (t : WidthTable) (pixels : List ℕ) (w h : ℕ) (accepted : Accepted t
   pub safe-next : SafeLevel t (suc k) w (side k w) (side k h) x
   safe-next =
       level-safe t (suc k) w h (side k w) (side k h) (wide t pixels w h accepted picture k more) (tall t pixels w h accepted picture k more) inW inH x (fixedAfter t k pixels w h) (after .stands)
-      (bits-right t (promise t accepted) (suc k) (omega arith) more) (widths t pixels w h accepted picture k more) (entering-sized t pixels w h accepted picture k more)
+      (bits-right t (promise t accepted) (suc k) (omega arith) more) (sized t pixels w h accepted picture k more)
+
+-- the rows of level 1 are safe on the pixels
+pub pixels-safe : (t : WidthTable) (pixels : List ℕ) (w h : ℕ) → Accepted t → Picture t pixels w h → (r : ℕ) → r < h → SafeKernel (kernelOf t 1 Rows) w (pixelLine pixels (2 ^ (t .depth - 1)) (r * w))
+unfolding fixedAfter levels side sample
+pixels-safe t pixels w h accepted picture r i =
+    let ok = promise t accepted in
+    let s = sized t pixels w h accepted picture 0 (ok .levels .0) in
+    line-safe t 1 (bits-right t ok 1 (omega arith) (ok .levels .0)) Rows w (sample pixels (t .depth) w r) (wide t pixels w h accepted picture 0 (ok .levels .0)) (s .inRows r i) (λ c j. s .given r c i j) _ (λ c j. refl)
 
 -- all levels
 pub after-all : (t : WidthTable) (pixels : List ℕ) (w h : ℕ) (old new : List ℤ) → 1 ≤ w → w * h ≤ length old → length new ≡ length old → After t pixels w h (t .levels) (at old) (at new) → new ≡ over (rowByRow w h (fixedPlane t pixels w h)) old

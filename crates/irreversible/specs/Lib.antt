@@ -5,17 +5,20 @@
 --   Transforms   the plane of a picture under a table
 --   Claims       demand 3 as two statements: TwoSteps and Widths
 --   Calls        the 9/7 call: the answer, and each lent slice afterwards
+--   Sized        values below 2^10 in magnitude: what holds of each value on the way
 -- Proved of them:
 --   Demand3      two-steps : TwoSteps, widths : Widths
 --   CallLaws     call-near: demand 3 of every call that is not refused
 --   Constants    no-tie, is-nearest: a constant at F bits is the nearest multiple, for F from 1 to 24
 --   Subbands     kept-LL, kept-HL, kept-LH, kept-HH: the kept node of each subband of each level
 --   Sizes        sum-size, product-size: 64 bits hold the sum of a stage
+--   Narrow       eleven-bits: range and error of every node of an accepted table leave room in eleven integer bits
+--   SizedLaws    sized: so each value on the way is below 2^10 in magnitude
 -- Proofs: Pass (by the rule of the crate stages, which is sound), Level lead to Demand3, in this order.
 -- For the code, which works lines by the kernels of the lifting crate:
 --   StepLaws     a stage as a step or a scaling of that crate
 --   KernelLaws   a pass as a kernel: worked-fixed
---   SafeLaws     kernel-safe: no number on the way leaves its machine type where the values are in their widths
+--   SafeLaws     kernel-safe: no number on the way leaves its machine type where the values are sized
 --   ConstantTable, LevelBits   the table of constants; the bits of a level
 --   LevelLaws    a level in memory: level-stands, level-safe
 --   LevelsLaws   all levels under an accepted table: after-none, after-more, safe-next, after-all
@@ -24,12 +27,15 @@ pub mod Fixed
 pub mod Transforms
 pub mod Claims
 pub mod Calls
+pub mod Sized
 pub mod Pass
 pub mod Level
 pub mod Subbands
 pub mod Demand3
 pub mod Constants
 pub mod Sizes
+pub mod Narrow
+pub mod SizedLaws
 pub mod CallLaws
 pub mod StepLaws
 pub mod KernelLaws

@@ -11,7 +11,7 @@ use lib.Signed.{mag, _≤ℤ_, _<ℤ_}
 use Rattle.numbers.specs.Dif.{by-dif, difs}
 use Rattle.numbers.specs.Abs.{mag-of-abs, abs-of-dif}
 use Rattle.exact.specs.Fractions.{Frac, _⊕_, neg}
-use Rattle.lines.specs.Lines.{lows, lowsFirst, onHighs, onLows}
+use Rattle.lines.specs.Lines.{lows, Liftable, lowsFirst, onHighs, onLows}
 use Rattle.exact.specs.Exact.{exactPass, low₀, high₀, p1, u1, p2, u2, g1, g2}
 use Rattle.stages.specs.Fixed.{meant}
 use Rattle.irreversible.specs.Fixed.{fixedPass, valueAt, countAt, atP1, atU1, atP2, atU2, atG1, atG2}
@@ -39,14 +39,14 @@ abbrev split : {A : Type 0} → (ℕ → A) → Side → ℕ → A
 split x low k = x (2 * k)
 split x high k = x (2 * k + 1)
 
-module _ (F : Node → ℕ) (fi : ℕ) (b : Bound) (f : Node → ℕ) (n : ℕ) (v : ℕ → ℤ) (x : ℕ → Frac) (big : 2 ≤ n) (small : Small f) (given : (k : ℕ) → k < n → Good b fi (v k) (x k)) where
+module _ (F : Node → ℕ) (fi : ℕ) (b : Bound) (f : Node → ℕ) (n : ℕ) (v : ℕ → ℤ) (x : ℕ → Frac) (works : Liftable n) (small : Small f) (given : (k : ℕ) → k < n → Good b fi (v k) (x k)) where
   entered : (s : Side) (k : ℕ) → k < count n s → Good b fi (split v s k) (split x s k)
   entered low k i = given (2 * k) (omega arith)
   entered high k i = given (2 * k + 1) (omega arith)
 
   -- each side after m stages
   after : (m : ℕ) (s : Side) (k : ℕ) → k < count n s → Good (boundAfter F fi b f s m) (bits forward (λ s. fi) (λ i. f (nodeOf (suc i))) m s) (fixedAfter forward (λ i. F (nodeOf (suc i))) (λ s. fi) (λ i. f (nodeOf (suc i))) n (split v) m s k) (exactAfter forward n (split x) m s k)
-  after = good forward (together b) (λ i. F (nodeOf (suc i))) (λ s. fi) (λ i. f (nodeOf (suc i))) n (split v) (split x) big (λ m. small (nodeOf (suc m))) entered
+  after = good forward (together b) (λ i. F (nodeOf (suc i))) (λ s. fi) (λ i. f (nodeOf (suc i))) n (split v) (split x) works (λ m. small (nodeOf (suc m))) entered
 
   -- the exact value of each node
   abbrev exactAt : Node → ℕ → Frac
@@ -68,13 +68,13 @@ module _ (F : Node → ℕ) (fi : ℕ) (b : Bound) (f : Node → ℕ) (n : ℕ) 
 
 -- ---- the lows first, then the highs
 
-module _ (F : Node → ℕ) (fi : ℕ) (b : Bound) (f : Node → ℕ) (n : ℕ) (v : ℕ → ℤ) (x : ℕ → Frac) (big : 2 ≤ n) (small : Small f) (given : (k : ℕ) → k < n → Good b fi (v k) (x k)) where
+module _ (F : Node → ℕ) (fi : ℕ) (b : Bound) (f : Node → ℕ) (n : ℕ) (v : ℕ → ℤ) (x : ℕ → Frac) (works : Liftable n) (small : Small f) (given : (k : ℕ) → k < n → Good b fi (v k) (x k)) where
   pub pass-good : (i : ℕ) → i < n → Good (boundAt F fi b f (lastNode (ltb i (lows n)))) (f (lastNode (ltb i (lows n)))) (fixedPass F fi f n v i) (exactPass n x i)
   unfolding fixedPass exactPass lowsFirst
   pass-good i h =
       by-ltb (λ q. Good (boundAt F fi b f (lastNode q)) (f (lastNode q)) (elim q [ true ↦ atG1 F fi f n v i | false ↦ atG2 F fi f n v (i - lows n) ]) (elim q [ true ↦ g1 n x i | false ↦ g2 n x (i - lows n) ])) i (lows n)
-      (λ j. node-good F fi b f n v x big small given G1 i j)
-      (λ j. node-good F fi b f n v x big small given G2 (i - lows n) (omega arith))
+      (λ j. node-good F fi b f n v x works small given G1 i j)
+      (λ j. node-good F fi b f n v x works small given G2 (i - lows n) (omega arith))
 
 -- ---- what good values give
 
@@ -114,6 +114,6 @@ holds b f IB v x small some room g =
     let e : IB - 1 + f ≡ IB + f - 1 = omega arith in
     mag-holds (2 ^ (IB + f - 1)) v (subst (λ (k : ℕ). mag v < 2 ^ k) e (fits b f IB v x small room g))
 
-module _ (F : Node → ℕ) (fi : ℕ) (b : Bound) (f : Node → ℕ) (n : ℕ) (v : ℕ → ℤ) (x : ℕ → Frac) (big : 2 ≤ n) (small : Small f) (given : (k : ℕ) → k < n → Good b fi (v k) (x k)) where
+module _ (F : Node → ℕ) (fi : ℕ) (b : Bound) (f : Node → ℕ) (n : ℕ) (v : ℕ → ℤ) (x : ℕ → Frac) (works : Liftable n) (small : Small f) (given : (k : ℕ) → k < n → Good b fi (v k) (x k)) where
   pub in-width : (IB : Node → ℕ) → ((i : Node) → 1 ≤ IB i) → ((i : Node) → boundAt F fi b f i .range + boundAt F fi b f i .error + 2 ^ (32 - f i) ≤ 2 ^ (IB i - 1) * 2 ^ 32) → (i : Node) (k : ℕ) → k < countAt n i → Holds (IB i) (f i) (valueAt F fi f n v i k)
-  in-width IB some room i k h = holds _ _ _ _ _ (small i) (some i) (room i) (node-good F fi b f n v x big small given i k h)
+  in-width IB some room i k h = holds _ _ _ _ _ (small i) (some i) (room i) (node-good F fi b f n v x works small given i k h)

@@ -1,22 +1,20 @@
--- Where the values of a pass are in their widths, every number on the way fits its machine type (`kernel-safe`).
+-- Where the values of a pass are sized (Sized), every number on the way fits its machine type (`kernel-safe`).
 use Prim.Native.Nat.{ℕ, _+_, _*_, _-_, _^_, _<_, _≤_, max}
-use mathlib.Core.Bool.{true, false}
 use mathlib.Core.Path.{_≡_, sym, subst}
 use native.Mathlib.Omega.{arith}
-use native.Mathlib.Nat.{pow-le-pow-right, le-refl, le-trans, lt-of-le-of-lt, lt-of-lt-of-le}
+use native.Mathlib.Nat.{pow-le-pow-right, le-refl, le-trans, le-of-lt, lt-of-le-of-lt, lt-of-lt-of-le}
 use lib.Pow.{pow-add}
-use lib.IntN.{ℤ, pos, negℤ, natAbs, _+ℤ_, _-ℤ_, _*ℤ_, +ℤ-idr}
-use lib.Signed.{mag, _≤ℤ_, _<ℤ_}
+use lib.IntN.{ℤ, pos, natAbs, _+ℤ_, _-ℤ_, _*ℤ_, +ℤ-idr}
 use mir.Syntax.{w32, w64}
 use mir.Val.{SFits}
 use Rattle.numbers.specs.Dif.{by-dif, difs}
-use Rattle.numbers.specs.Abs.{abs-add-≤, abs-mul, abs-mul-≤, mag-of-abs}
+use Rattle.numbers.specs.Abs.{abs-add, abs-add-≤, abs-mul-≤, mag-of-abs}
 use Rattle.numbers.specs.Laws.{*ℤ-one-r}
-use Rattle.numbers.specs.Tests.{by-leb}
-use Rattle.lines.specs.Lines.{onHighs, onLows}
+use Rattle.lines.specs.Lines.{Liftable, onHighs, onLows}
+use Rattle.lines.specs.LineLaws.{some-highs}
+use Rattle.lines.specs.Neighbours.{low-after-in, high-before-in, high-after-in}
 use Rattle.width_table.specs.Nodes.{Node, P1, U1, P2, U2, G1, G2}
-use Rattle.lifting.specs.declared.Step.the-variants.{Short, Wide}
-use Rattle.lifting.specs.Steps.{Safe, ScaledSafe, FactorSafe}
+use Rattle.lifting.specs.Steps.{Safe, SumSafe, FactorSafe}
 use Rattle.lifting.specs.Runs.{as-type}
 use Rattle.lifting.specs.Passes.{evens}
 use Rattle.lifting.specs.Kernels.{SafeKernel}
@@ -24,36 +22,30 @@ use Rattle.stages.specs.Fixed.{nearest, step, scale}
 use Rattle.irreversible.specs.Fixed.{valueAt, countAt, atP1, atU1, atP2, atU2, atG1, atG2}
 use Rattle.irreversible.specs.Constants.{constantOf}
 use Rattle.irreversible.specs.Sizes.{product-size}
-use Rattle.irreversible.specs.Claims.{Holds}
-use Rattle.irreversible.specs.StepLaws.{stepTop, stepOf, factorOf, wide-applied, step-applied, scale-applied}
+use Rattle.irreversible.specs.Sized.{Sized}
+use Rattle.irreversible.specs.StepLaws.{stepTop, stepOf, factorOf, step-applied, scale-applied}
 use Rattle.irreversible.specs.KernelLaws.{stageOf, scalingOf, kernelFrom, sU1, sP2, sU2, sG1, sG2, first-highs, first-lows, second-highs, second-lows}
 
 -- a larger power
 pow-up : (i j : ℕ) → i ≤ j → 2 ^ i ≤ 2 ^ j
 pow-up i j h = pow-le-pow-right (omega arith) h
 
--- ---- widths
+-- ---- sizes
 
--- at most 12 integer bits and f fractional ones
-abbrev pub Sized : ℕ → ℤ → Type 0
-Sized f v = natAbs v ≤ 2 ^ (11 + f)
+-- below 2^10 at f fractional bits: with less room, and as what 32 bits hold
+sized-most : (f : ℕ) (v : ℤ) → Sized f v → natAbs v ≤ 2 ^ (11 + f)
+sized-most f v h = le-trans (le-of-lt h) (pow-up (10 + f) (11 + f) (omega arith))
 
--- between -H and H
-in-range : (H : ℕ) (v : ℤ) → (negℤ (pos H) ≤ℤ v) × (v <ℤ pos H) → (natAbs v ≤ H) × (mag v < H)
-in-range H = by-dif _ λ a a'. simp difs (omega arith)
-
--- what a node holds: its size, and that 32 bits hold it
-pub holds-sized : (IB f : ℕ) (v : ℤ) → IB ≤ 12 → Holds IB f v → Sized f v
-unfolding Holds
-holds-sized IB f v few h = le-trans (in-range _ v h .0) (pow-up _ (11 + f) (omega arith))
-
-holds-fits : (IB f : ℕ) (v : ℤ) → IB ≤ 12 → f ≤ 20 → Holds IB f v → SFits w32 v
-unfolding Holds
-holds-fits IB f v few small h = record { sfits = lt-of-lt-of-le (in-range _ v h .1) (pow-up _ 31 (omega arith)) }
+sized-fits : (f : ℕ) (v : ℤ) → f ≤ 20 → Sized f v → SFits w32 v
+sized-fits f v few h = record { sfits = mag-of-abs v (lt-of-lt-of-le h (pow-up (10 + f) 31 (omega arith))) }
 
 -- at most 2^62
 pub fits-64 : (s : ℕ) (z : ℤ) → s ≤ 62 → natAbs z ≤ 2 ^ s → SFits w64 z
 fits-64 s z few h = record { sfits = mag-of-abs z (lt-of-le-of-lt h (lt-of-le-of-lt (pow-up s 62 few) (omega arith))) }
+
+-- at most 2^30
+fits-32 : (z : ℤ) → natAbs z ≤ 2 ^ 30 → SFits w32 z
+fits-32 z h = record { sfits = mag-of-abs z (lt-of-le-of-lt h (omega arith)) }
 
 -- a product of two sizes
 times-size : (i j s : ℕ) (x y : ℤ) → natAbs x ≤ 2 ^ i → natAbs y ≤ 2 ^ j → i + j ≤ s → natAbs (x *ℤ y) ≤ 2 ^ s
@@ -88,79 +80,74 @@ constant-raised n F fm top ok a b = fits-64 57 _ (omega arith) (times-size (13 +
 
 module _ (n : Node) (F fm : ℕ) (const : ConstantBits F) (small : fm ≤ 20) where
   -- a constant times a sum, at top bits
-  sum-size : (top : ℕ) → F + fm ≤ top → top ≤ 44 → (x y : ℤ) → Sized fm x → Sized fm y → natAbs (nearest (constantOf n) F *ℤ pos (2 ^ (top - (F + fm))) *ℤ (x +ℤ y)) ≤ 2 ^ 57
+  sum-size : (top : ℕ) → F + fm ≤ top → top ≤ 44 → (x y : ℤ) → natAbs x ≤ 2 ^ (11 + fm) → natAbs y ≤ 2 ^ (11 + fm) → natAbs (nearest (constantOf n) F *ℤ pos (2 ^ (top - (F + fm))) *ℤ (x +ℤ y)) ≤ 2 ^ 57
   sum-size top above most x y hx hy =
       subst (λ (z : ℤ). natAbs z ≤ 2 ^ 57) (swap (nearest (constantOf n) F) (pos (2 ^ (top - (F + fm)))) (x +ℤ y))
       (times-size (13 + F + fm) (top - (F + fm)) 57 (nearest (constantOf n) F *ℤ (x +ℤ y)) (pos (2 ^ (top - (F + fm)))) (product-size n F fm (const .0) (const .1) small x y hx hy) (le-refl _) (omega arith))
 
-  module _ (IB f : ℕ) (few : IB ≤ 12) (less : f ≤ 20) where
-    -- a step whose operands and result are in their widths
-    pub step-safe : (fo : ℕ) → fo ≤ 20 → (own x y : ℤ) → Sized fo own → Sized fm x → Sized fm y → Holds IB f (step (constantOf n) F fm fo f own x y) → Safe (stageOf (constantOf n) F fm fo f) own x y
+  -- the neighbours' sum and its negative fit an i32
+  sides-safe : (x y : ℤ) → Sized fm x → Sized fm y → SumSafe x y
+  sides-safe x y hx hy = record {
+    sum = record { sfits = mag-of-abs (x +ℤ y) small-sum };
+    turned = record { sfits = mag-of-abs (pos 0 -ℤ (x +ℤ y)) (lt-of-le-of-lt (turned-size _ (x +ℤ y) (le-refl _)) small-sum) };
+  }
+    where
+      small-sum : natAbs (x +ℤ y) < 2 ^ 31
+      small-sum = lt-of-le-of-lt (abs-add x y) (omega (arith, hx, hy, pow-up (10 + fm) 30 (omega arith)))
+
+  module _ (f : ℕ) (less : f ≤ 20) where
+    -- a step whose operands and result are sized
+    pub step-safe : (fo : ℕ) → fo ≤ 20 → (own x y : ℤ) → Sized fo own → Sized fm x → Sized fm y → Sized f (step (constantOf n) F fm fo f own x y) → Safe (stageOf (constantOf n) F fm fo f) own x y
     unfolding stepOf
     step-safe fo low own x y ho hx hy h =
         let top : ℕ = stepTop F fm fo f in
         let A : ℤ = pos (2 ^ (top - fo)) *ℤ own in
         let B : ℤ = nearest (constantOf n) F *ℤ pos (2 ^ (top - (F + fm))) *ℤ (x +ℤ y) in
-        let a : natAbs A ≤ 2 ^ 55 = times-size (top - fo) (11 + fo) 55 (pos (2 ^ (top - fo))) own (le-refl _) ho (omega arith) in
-        let b : natAbs B ≤ 2 ^ 57 = sum-size top (omega arith) (omega arith) x y hx hy in
-        let wide : ScaledSafe (pos (2 ^ (top - fo))) (nearest (constantOf n) F *ℤ pos (2 ^ (top - (F + fm)))) (top - f) own x y = record {
+        let a : natAbs A ≤ 2 ^ 55 = times-size (top - fo) (11 + fo) 55 (pos (2 ^ (top - fo))) own (le-refl _) (sized-most fo own ho) (omega arith) in
+        let b : natAbs B ≤ 2 ^ 57 = sum-size top (omega arith) (omega arith) x y (sized-most fm x hx) (sized-most fm y hy) in
+        record {
+          few = omega arith;
           short = omega arith;
-          sides = fits-64 32 (x +ℤ y) (omega arith) (le-trans (abs-add-≤ x y hx hy) (twice (11 + fm) (omega arith)));
+          sides = sides-safe x y hx hy;
           left = fits-64 55 A (omega arith) a;
           right = fits-64 57 B (omega arith) b;
           both = fits-64 58 (A +ℤ B) (omega arith) (le-trans (abs-add-≤ A B a b) (omega arith));
-          result = subst (λ (z : ℤ). SFits w32 z) (sym (wide-applied (constantOf n) F fm fo f own x y)) (holds-fits IB f _ few less h);
-        } in
-        by-leb (λ t. Safe (elim t [ true ↦ Short (pos (2 ^ (top - fo))) (nearest (constantOf n) F *ℤ pos (2 ^ (top - (F + fm)))) (top - f) | false ↦ Wide (pos (2 ^ (top - fo))) (nearest (constantOf n) F *ℤ pos (2 ^ (top - (F + fm)))) (top - f) ]) own x y) fm 18
-        (λ i. record { wide = wide; sum = sum-32 i; turned = turned-32 i })
-        (λ i. wide)
+          risen = λ r e. risen-fits r (omega arith);
+          result = subst (λ (z : ℤ). SFits w32 z) (sym (step-applied (constantOf n) F fm fo f own x y)) (sized-fits f _ less h);
+        }
       where
-        twice : (i : ℕ) → i ≤ 31 → 2 ^ i + 2 ^ i ≤ 2 ^ 32
-        twice i h = omega (arith, pow-up i 31 h)
-
-        -- the neighbours' sum where they have few bits
-        sum-small : fm ≤ 18 → natAbs (x +ℤ y) ≤ 2 ^ 30
-        sum-small i = le-trans (abs-add-≤ x y hx hy) (omega (arith, pow-up (11 + fm) 29 (omega arith)))
-
-        sum-32 : fm ≤ 18 → SFits w32 (x +ℤ y)
-        sum-32 i = record { sfits = mag-of-abs (x +ℤ y) (lt-of-le-of-lt (sum-small i) (omega arith)) }
-
-        turned-32 : fm ≤ 18 → SFits w32 (pos 0 -ℤ (x +ℤ y))
-        turned-32 i = record { sfits = mag-of-abs (pos 0 -ℤ (x +ℤ y)) (lt-of-le-of-lt (turned-size (2 ^ 30) (x +ℤ y) (sum-small i)) (omega arith)) }
+        -- the own value at the node's bits
+        risen-fits : (r : ℕ) → fo + r ≡ f → SFits w32 (own *ℤ pos (2 ^ r))
+        risen-fits r e = fits-32 (own *ℤ pos (2 ^ r)) (times-size (10 + fo) r 30 own (pos (2 ^ r)) (le-of-lt ho) (le-refl _) (omega arith))
 
     -- a scaling likewise
-    pub scale-safe : (x : ℤ) → Sized fm x → Holds IB f (scale (constantOf n) F fm f x) → FactorSafe (scalingOf (constantOf n) F fm f) x
+    pub scale-safe : (x : ℤ) → Sized fm x → Sized f (scale (constantOf n) F fm f x) → FactorSafe (scalingOf (constantOf n) F fm f) x
     unfolding factorOf
     scale-safe x hx h =
         let top : ℕ = max (F + fm) f in
         record {
           short = omega arith;
-          product = fits-64 57 _ (omega arith) (subst (λ (z : ℤ). natAbs (nearest (constantOf n) F *ℤ pos (2 ^ (top - (F + fm))) *ℤ z) ≤ 2 ^ 57) (+ℤ-idr x) (sum-size top (omega arith) (omega arith) x (pos 0) hx (omega arith)));
-          result = subst (λ (z : ℤ). SFits w32 z) (sym (scale-applied (constantOf n) F fm f x)) (holds-fits IB f _ few less h);
+          product = fits-64 57 _ (omega arith) (subst (λ (z : ℤ). natAbs (nearest (constantOf n) F *ℤ pos (2 ^ (top - (F + fm))) *ℤ z) ≤ 2 ^ 57) (+ℤ-idr x) (sum-size top (omega arith) (omega arith) x (pos 0) (sized-most fm x hx) (omega arith)));
+          result = subst (λ (z : ℤ). SFits w32 z) (sym (scale-applied (constantOf n) F fm f x)) (sized-fits f _ less h);
         }
 
 -- ---- a pass
 
 -- limits of the bits of a pass: constants, nodes and input
-pub record Limits (F : Node → ℕ) (fi : ℕ) (IB f : Node → ℕ) : Type 0 where
+pub record Limits (F : Node → ℕ) (fi : ℕ) (f : Node → ℕ) : Type 0 where
   pub constants : (i : Node) → ConstantBits (F i)
-  pub integers : (i : Node) → IB i ≤ 12
   pub fractions : (i : Node) → f i ≤ 20
   pub enters : fi ≤ 20
 
-module _ (F : Node → ℕ) (fi : ℕ) (IB f : Node → ℕ) (ok : Limits F fi IB f) (n : ℕ) (x : ℕ → ℤ) (two : 2 ≤ n)
+module _ (F : Node → ℕ) (fi : ℕ) (f : Node → ℕ) (ok : Limits F fi f) (n : ℕ) (x : ℕ → ℤ) (works : Liftable n)
     (given : (k : ℕ) → k < n → Sized fi (x k))
-    (inside : (i : Node) (k : ℕ) → k < countAt n i → Holds (IB i) (f i) (valueAt F fi f n x i k)) where
-  -- what a node holds is sized
-  held : (i : Node) (k : ℕ) → k < countAt n i → Sized (f i) (valueAt F fi f n x i k)
-  held i k h = holds-sized (IB i) (f i) (valueAt F fi f n x i k) (ok .integers i) (inside i k h)
-
+    (inside : (i : Node) (k : ℕ) → k < countAt n i → Sized (f i) (valueAt F fi f n x i k)) where
   -- the stages, with the limits of the pass
-  lifts : (i : Node) (fm : ℕ) → fm ≤ 20 → (fo : ℕ) → fo ≤ 20 → (own a b : ℤ) → Sized fo own → Sized fm a → Sized fm b → Holds (IB i) (f i) (step (constantOf i) (F i) fm fo (f i) own a b) → Safe (stageOf (constantOf i) (F i) fm fo (f i)) own a b
-  lifts i fm p fo q own a b = step-safe i (F i) fm (ok .constants i) p (IB i) (f i) (ok .integers i) (ok .fractions i) fo q own a b
+  lifts : (i : Node) (fm : ℕ) → fm ≤ 20 → (fo : ℕ) → fo ≤ 20 → (own a b : ℤ) → Sized fo own → Sized fm a → Sized fm b → Sized (f i) (step (constantOf i) (F i) fm fo (f i) own a b) → Safe (stageOf (constantOf i) (F i) fm fo (f i)) own a b
+  lifts i fm p fo q own a b = step-safe i (F i) fm (ok .constants i) p (f i) (ok .fractions i) fo q own a b
 
-  scales : (i : Node) (fm : ℕ) → fm ≤ 20 → (a : ℤ) → Sized fm a → Holds (IB i) (f i) (scale (constantOf i) (F i) fm (f i) a) → FactorSafe (scalingOf (constantOf i) (F i) fm (f i)) a
-  scales i fm p a = scale-safe i (F i) fm (ok .constants i) p (IB i) (f i) (ok .integers i) (ok .fractions i) a
+  scales : (i : Node) (fm : ℕ) → fm ≤ 20 → (a : ℤ) → Sized fm a → Sized (f i) (scale (constantOf i) (F i) fm (f i) a) → FactorSafe (scalingOf (constantOf i) (F i) fm (f i)) a
+  scales i fm p a = scale-safe i (F i) fm (ok .constants i) p (f i) (ok .fractions i) a
 
   -- every stage of the pass
   pub kernel-safe : SafeKernel (kernelFrom F fi f) n x
@@ -172,13 +159,17 @@ module _ (F : Node → ℕ) (fi : ℕ) (IB f : Node → ℕ) (ok : Limits F fi I
       let u2 = second-lows F fi f n x in
       let low = ok .fractions in
       record {
-        at-p1 = λ i h. lifts P1 fi (ok .enters) fi (ok .enters) _ _ _ (given _ (omega arith)) (given _ (omega arith)) (given _ (omega arith)) (inside P1 i h);
-        at-u1 = λ i h. as-type (λ u. onLows (Safe (sU1 F fi f)) n (evens x) (sym p1 u) i)
-            (lifts U1 (f P1) (low P1) fi (ok .enters) _ _ _ (given _ (omega arith)) (held P1 _ (omega arith)) (held P1 _ (omega arith)) (inside U1 i h));
-        at-p2 = λ i h. as-type (λ u. onHighs (Safe (sP2 F fi f)) n (sym u1 u) (sym p1 u) i)
-            (lifts P2 (f U1) (low U1) (f P1) (low P1) _ _ _ (held P1 _ h) (held U1 _ (omega arith)) (held U1 _ (omega arith)) (inside P2 i h));
-        at-u2 = λ i h. as-type (λ u. onLows (Safe (sU2 F fi f)) n (sym u1 u) (sym p2 u) i)
-            (lifts U2 (f P2) (low P2) (f U1) (low U1) _ _ _ (held U1 _ h) (held P2 _ (omega arith)) (held P2 _ (omega arith)) (inside U2 i h));
-        at-g1 = λ i h. as-type (λ u. FactorSafe (sG1 F fi f) (sym u2 u i)) (scales G1 (f U2) (low U2) _ (held U2 i h) (inside G1 i h));
-        at-g2 = λ i h. as-type (λ u. FactorSafe (sG2 F fi f) (sym p2 u i)) (scales G2 (f P2) (low P2) _ (held P2 i h) (inside G2 i h));
+        at-first = record {
+          on-highs = λ i h. lifts P1 fi (ok .enters) fi (ok .enters) _ _ _ (given _ (omega arith)) (given _ (omega arith)) (given _ (omega (arith, low-after-in n i h))) (inside P1 i h);
+          on-lows = λ i h. as-type (λ u. onLows (Safe (sU1 F fi f)) n (evens x) (sym p1 u) i)
+              (lifts U1 (f P1) (low P1) fi (ok .enters) _ _ _ (given _ (omega arith)) (inside P1 _ (high-before-in n i (some-highs n works) h)) (inside P1 _ (high-after-in n i (some-highs n works) h)) (inside U1 i h));
+        };
+        at-second = record {
+          on-highs = λ i h. as-type (λ u. onHighs (Safe (sP2 F fi f)) n (sym u1 u) (sym p1 u) i)
+              (lifts P2 (f U1) (low U1) (f P1) (low P1) _ _ _ (inside P1 _ h) (inside U1 _ (omega arith)) (inside U1 _ (low-after-in n i h)) (inside P2 i h));
+          on-lows = λ i h. as-type (λ u. onLows (Safe (sU2 F fi f)) n (sym u1 u) (sym p2 u) i)
+              (lifts U2 (f P2) (low P2) (f U1) (low U1) _ _ _ (inside U1 _ h) (inside P2 _ (high-before-in n i (some-highs n works) h)) (inside P2 _ (high-after-in n i (some-highs n works) h)) (inside U2 i h));
+        };
+        at-lows = λ i h. as-type (λ u. FactorSafe (sG1 F fi f) (sym u2 u i)) (scales G1 (f U2) (low U2) _ (inside U2 i h) (inside G1 i h));
+        at-highs = λ i h. as-type (λ u. FactorSafe (sG2 F fi f) (sym p2 u i)) (scales G2 (f P2) (low P2) _ (inside P2 i h) (inside G2 i h));
       }

@@ -2,7 +2,7 @@
 use Prim.Native.Nat.{ℕ, _+_, _*_, _-_, _^_}
 use mathlib.Core.List.{List}
 use lib.IntN.{ℤ}
-use Rattle.lines.specs.Planes.{Plane, OnLine, levels}
+use Rattle.lines.specs.Planes.{Plane, OnLine, OnPart, rowsFirst, levels}
 use Rattle.width_table.specs.Nodes.{Pass, Rows, columnPass}
 use Rattle.width_table.specs.declared.WidthTable.{WidthTable}
 use Rattle.width_table.specs.Table.{constantBits, fractionBits, inputBits}
@@ -13,9 +13,13 @@ use Rattle.irreversible.specs.Fixed.{fixedPass}
 unfoldable pub fixedLine : WidthTable → ℕ → Pass → OnLine ℤ
 fixedLine t l p = fixedPass (constantBits t) (inputBits t l p) (fractionBits t l p)
 
+-- a level: the rows, then the columns, those of row-low and of row-high by passes of their own
+abbrev pub fixedLevel : WidthTable → ℕ → OnPart ℤ
+fixedLevel t l = rowsFirst (fixedLine t l Rows) (λ low. fixedLine t l (columnPass low))
+
 -- the plane after levels 1 to k; a pixel enters as an integer with B fractional bits
 unfoldable pub fixedAfter : WidthTable → ℕ → List ℕ → ℕ → ℕ → Plane ℤ
-fixedAfter t k pixels w h = levels (λ l. fixedLine t l Rows) (λ l low. fixedLine t l (columnPass low)) k w h (sample pixels (t .depth) w)
+fixedAfter t k pixels w h = levels (fixedLevel t) k w h (sample pixels (t .depth) w)
 
 -- the plane of the 9/7 call
 unfoldable pub fixedPlane : WidthTable → List ℕ → ℕ → ℕ → Plane ℤ

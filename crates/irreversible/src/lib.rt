@@ -5,7 +5,7 @@ ghost use lib.IntN.{pos, _*ℤ_};
 ghost use mir.Syntax.{w64};
 ghost use mir.Val.{SFits};
 ghost use Rattle.lifting.specs.Patch.{at};
-ghost use Rattle.width_table.specs.Table.{constantBits, fractionBits, inputBits};
+ghost use Rattle.width_table.specs.Table.{constantBits};
 ghost use Rattle.lines.specs.Planes.{rowByRow};
 ghost use Rattle.numbers.specs.Lists.{over};
 ghost use Rattle.precision.specs.Verdict.{Accepted};
@@ -17,11 +17,14 @@ ghost use Rattle.width_table.specs.Numbered.{nodeOf, passOf, IsNode, IsPass};
 ghost use Rattle.irreversible.specs.StepLaws.{stepTop, stepOf, factorOf};
 ghost use Rattle.irreversible.specs.KernelLaws.{stageOf, scalingOf, kernelOf};
 ghost use Rattle.irreversible.specs.SafeLaws.{ConstantBits};
-ghost use Rattle.irreversible.specs.LevelLaws.{levelWorked};
+ghost use Rattle.irreversible.specs.LevelLaws.{columned, levelWorked};
 ghost use Rattle.irreversible.specs.LevelBits.{IsLevel};
-ghost use Rattle.irreversible.specs.CallSteps.{LevelReady, Ready, answerOf};
+ghost use Rattle.irreversible.specs.CallSteps.{ColumnsReady, LevelReady, Ready, answerOf};
+ghost use Rattle.lifting.specs.Kernels.{SameKernel};
+ghost use Rattle.pictures.specs.MemoryLaws.{loaded};
 use lifting::Factor;
 use lifting::Kernel;
+use lifting::Pair;
 use lifting::Step;
 use refusals::Outcome;
 use width_table::WidthTable;
@@ -205,8 +208,7 @@ fn times(a: i64, b: i64) -> i64
     a * b
 }
 
-// A step by a constant of so many bits: the bits of the neighbours, of the own value and of the node. Where the neighbours have at
-// most 18 fractional bits their sum fits 32 bits, and the short step serves.
+// A step by a constant of so many bits: the bits of the neighbours, of the own value and of the node.
 fn step_of(constant: i64, bits: u8, sides: u8, own: u8, kept: u8) -> Step
     requires { ⌜ ConstantBits bits × (sides ≤ 20) × (own ≤ 20) × (kept ≤ 20) ⌝ }
     requires { ⌜ SFits w64 (constant *ℤ pos (2 ^ (stepTop bits sides own kept - (bits + sides)))) ⌝ }
@@ -214,13 +216,11 @@ fn step_of(constant: i64, bits: u8, sides: u8, own: u8, kept: u8) -> Step
 {
     let product = bits + sides;
     let top = larger(larger(own, product), kept);
-    let m = power(top - own);
     let c = times(constant, power(top - product));
-    let cut = (top - kept) as u32;
-    if sides <= 18 {
-        Step::Short { m, c, cut }
-    } else {
-        Step::Wide { m, c, cut }
+    Step::Scaled {
+        k: (top - own) as u32,
+        c,
+        cut: (top - kept) as u32,
     }
 }
 
@@ -232,18 +232,11 @@ fn factor_of(constant: i64, bits: u8, value: u8, kept: u8) -> Factor
 {
     let product = bits + value;
     let top = larger(product, kept);
-    Factor {
-        c: times(constant, power(top - product)),
+    let c = times(constant, power(top - product));
+    Factor::Plain {
+        c,
         cut: (top - kept) as u32,
     }
-}
-
-// F of a stage's constant.
-fn constant_at(table: WidthTable, node: u8) -> u8
-    requires { ⌜ Accepted table × IsNode node ⌝ }
-    ensures { λ r. ⌜ (r ≡ constantBits table (nodeOf node)) × ConstantBits r ⌝ }
-{
-    table.constant_bits(node)
 }
 
 // A stage P1, U1, P2, U2, by its number: the bits of the neighbours, of the own value and of the node.
@@ -251,7 +244,7 @@ fn stage(table: WidthTable, node: u8, sides: u8, own: u8, kept: u8) -> Step
     requires { ⌜ Accepted table × IsNode node × (sides ≤ 20) × (own ≤ 20) × (kept ≤ 20) ⌝ }
     ensures { λ r. ⌜ r ≡ stageOf (constantOf (nodeOf node)) (constantBits table (nodeOf node)) sides own kept ⌝ }
 {
-    let bits = constant_at(table, node);
+    let bits = table.constant_bits(node);
     step_of(nearest_at(node, bits), bits, sides, own, kept)
 }
 
@@ -260,58 +253,64 @@ fn scaling(table: WidthTable, node: u8, value: u8, kept: u8) -> Factor
     requires { ⌜ Accepted table × IsNode node × (value ≤ 20) × (kept ≤ 20) ⌝ }
     ensures { λ r. ⌜ r ≡ scalingOf (constantOf (nodeOf node)) (constantBits table (nodeOf node)) value kept ⌝ }
 {
-    let bits = constant_at(table, node);
+    let bits = table.constant_bits(node);
     factor_of(nearest_at(node, bits), bits, value, kept)
 }
 
-// f of a node.
-fn fraction_at(table: WidthTable, level: u8, pass: u8, node: u8) -> u8
-    requires { ⌜ IsLevel table level × IsPass pass × IsNode node ⌝ }
-    ensures { λ r. ⌜ (r ≡ fractionBits table level (passOf pass) (nodeOf node)) × (r ≤ 20) ⌝ }
-{
-    table.fraction_bits(level, pass, node)
-}
-
-// The fractional bits of what enters a pass.
-fn input_bits(table: WidthTable, level: u8, pass: u8) -> u8
-    requires { ⌜ IsLevel table level × IsPass pass ⌝ }
-    ensures { λ r. ⌜ (r ≡ inputBits table level (passOf pass)) × (r ≤ 20) ⌝ }
-{
-    if pass == 2 {
-        return fraction_at(table, level, 1, 5);
-    }
-    if pass == 3 {
-        return fraction_at(table, level, 1, 6);
-    }
-    if level == 1 {
-        return table.depth;
-    }
-    fraction_at(table, level - 1, 2, 5)
-}
-
-// The kernel of a pass.
+// The kernel of a pass, in the forms in which it is run.
 fn kernel_of(table: WidthTable, level: u8, pass: u8) -> Kernel
     requires { ⌜ IsLevel table level × IsPass pass ⌝ }
-    ensures { λ r. ⌜ r ≡ kernelOf table level (passOf pass) ⌝ }
+    ensures { λ r. ⌜ SameKernel (kernelOf table level (passOf pass)) r ⌝ }
 {
-    let enters = input_bits(table, level, pass);
-    let p1 = fraction_at(table, level, pass, 1);
-    let u1 = fraction_at(table, level, pass, 2);
-    let p2 = fraction_at(table, level, pass, 3);
-    let u2 = fraction_at(table, level, pass, 4);
-    let g1 = fraction_at(table, level, pass, 5);
-    let g2 = fraction_at(table, level, pass, 6);
-    Kernel::Four {
-        p1: stage(table, 1, enters, enters, p1),
-        u1: stage(table, 2, p1, enters, u1),
-        p2: stage(table, 3, u1, p1, p2),
-        u2: stage(table, 4, p2, u1, u2),
-        g1: scaling(table, 5, u2, g1),
-        g2: scaling(table, 6, p2, g2),
-    }
+    let enters = table.input_bits(level, pass);
+    let p1 = table.fraction_bits(level, pass, 1);
+    let u1 = table.fraction_bits(level, pass, 2);
+    let p2 = table.fraction_bits(level, pass, 3);
+    let u2 = table.fraction_bits(level, pass, 4);
+    let g1 = table.fraction_bits(level, pass, 5);
+    let g2 = table.fraction_bits(level, pass, 6);
+    let kernel = Kernel::Two {
+        first: Pair {
+            highs: stage(table, 1, enters, enters, p1),
+            lows: stage(table, 2, p1, enters, u1),
+        },
+        second: Pair {
+            highs: stage(table, 3, u1, p1, p2),
+            lows: stage(table, 4, p2, u1, u2),
+        },
+        low: scaling(table, 5, u2, g1),
+        high: scaling(table, 6, p2, g2),
+    };
+    lifting::readied(kernel)
 }
 
-// One level of the w columns and h rows at the front of a plane whose rows are `stride` long.
+// The columns of a level of the w columns and h rows at the front of a plane whose rows are `stride` long.
+fn work_columns(
+    table: WidthTable,
+    level: u8,
+    plane: &mut [i32],
+    tile: &mut [i32],
+    stride: usize,
+    w: usize,
+    h: usize,
+)
+    requires { ⌜ ColumnsReady table level (now plane) (now tile) stride w h ⌝ }
+    ensures { λ _. ⌜ at (now (plane .exit)) ≡ columned table level stride w h (at (now (plane .entry))) ⌝ }
+{
+    let low = (w + 1) / 2;
+    lifting::columns(plane, tile, stride, 0, low, h, kernel_of(table, level, 2));
+    lifting::columns(
+        plane,
+        tile,
+        stride,
+        low,
+        w / 2,
+        h,
+        kernel_of(table, level, 3),
+    );
+}
+
+// One level: its rows, then its columns.
 fn work_level(
     table: WidthTable,
     level: u8,
@@ -324,18 +323,26 @@ fn work_level(
     requires { ⌜ LevelReady table level (now plane) (now tile) stride w h ⌝ }
     ensures { λ _. ⌜ at (now (plane .exit)) ≡ levelWorked table level stride w h (at (now (plane .entry))) ⌝ }
 {
-    let low = (w + 1) / 2;
     lifting::rows(plane, tile, stride, w, h, kernel_of(table, level, 1));
-    lifting::columns(plane, tile, stride, 0, low, h, kernel_of(table, level, 2));
-    lifting::columns(
-        plane,
-        tile,
-        stride,
-        low,
-        w / 2,
-        h,
-        kernel_of(table, level, 3),
-    );
+    work_columns(table, level, plane, tile, stride, w, h);
+}
+
+// The first level, whose rows are those of the picture.
+fn first_level(
+    table: WidthTable,
+    pixels: &[u16],
+    plane: &mut [i32],
+    tile: &mut [i32],
+    w: usize,
+    h: usize,
+)
+    requires { ⌜ Ready table (now pixels) (now plane) (now tile) w h ⌝ }
+    ensures { λ _. ⌜ at (now (plane .exit)) ≡ levelWorked table 1 w w h (loaded (now (pixels .entry)) (2 ^ (table .depth - 1)) w h (at (now (plane .entry)))) ⌝ }
+{
+    let middle = pictures::middle(table.depth);
+    let kernel = kernel_of(table, 1, 1);
+    lifting::pixel_rows(pixels, middle, plane, tile, w, h, kernel);
+    work_columns(table, 1, plane, tile, w, w, h);
 }
 
 // The plane of a picture.
@@ -351,10 +358,10 @@ fn transform(
     ensures { λ _. ⌜ now (plane .exit) ≡ over (rowByRow w h (fixedPlane table (now (pixels .entry)) w h)) (now (plane .entry)) ⌝ }
 {
     let levels = table.levels;
-    pictures::load_samples(pixels, plane, w * h, table.depth);
-    let mut across = w;
-    let mut down = h;
-    for k in 0..levels {
+    first_level(table, pixels, plane, tile, w, h);
+    let mut across = (w + 1) / 2;
+    let mut down = (h + 1) / 2;
+    for k in 1..levels {
         work_level(table, k + 1, plane, tile, w, across, down);
         across = (across + 1) / 2;
         down = (down + 1) / 2;
@@ -375,7 +382,7 @@ fn answer(
     match precision::judge(table) {
         Outcome::Refused(why) => Outcome::Refused(why),
         Outcome::Done => {
-            match pictures::sizes_right(table.levels, w, h, pixels.len(), second, third) {
+            match pictures::room_right(table.levels, w, h, pixels.len(), second, third) {
                 Outcome::Refused(why) => Outcome::Refused(why),
                 Outcome::Done => pictures::pixels_right(table.depth, w, h, pixels),
             }

@@ -1,8 +1,7 @@
 use mathlib.Core.Path.{sym, _∙_}
 use lib.ListN.{length}
 use Rattle.refusals.specs.RefusalLaws.{then-right, then-refused}
-use Rattle.pictures.specs.Pictures.{sized}
-use Rattle.pictures.specs.PictureLaws.{sized-done}
+use Rattle.pictures.specs.PictureLaws.{sized, sized-then, sized-done}
 use Rattle.precision.specs.Verdict.{verdict}
 use Rattle.precision.specs.Promise.{promise}
 use Rattle.irreversible.specs.CallSteps.{answerOf}
@@ -16,7 +15,7 @@ pixels-right-requires c κs =
     let j = m .before .before .before in
     let a = j .before .before .args in
     let ok = promise (a .table) (sym (j .judge .ensures) ∙ m .before .enum-told .given .1) in
-    let room = sized-done (a .table .levels) (a .w) (a .h) (length (a .pixels .now)) (a .second) (a .third) (sym (m .sizes-right .ensures) ∙ c .enum-told2 .given .1) in
+    let room = sized-done (a .table .levels) (a .w) (a .h) (length (a .pixels .now)) (a .second) (a .third) (sym (m .room-right .ensures) ∙ c .enum-told2 .given .1) in
     (ok .depth .1, room .wide .1, room .tall .1, room .first)
 
 returns : tie.Need-returns
@@ -33,7 +32,8 @@ returns-2 c =
     let j = m .before .before .before in
     let a = j .before .before .args in
     sym (then-right (verdict (a .table)) _ (sym (j .judge .ensures) ∙ m .before .enum-told .given .1)
-    ∙ then-refused (sized (a .table .levels) (a .w) (a .h) (length (a .pixels .now)) (a .second) (a .third)) _ _ (sym (m .sizes-right .ensures) ∙ c .before .why2 .given .1))
+    ∙ sized-then (a .table .levels) (a .w) (a .h) (length (a .pixels .now)) (a .second) (a .third) _
+    ∙ then-refused (sized (a .table .levels) (a .w) (a .h) (length (a .pixels .now)) (a .second) (a .third)) _ _ (sym (m .room-right .ensures) ∙ c .before .why2 .given .1))
 
 returns-3 : tie.Need-returns-3
 unfolding answerOf
@@ -43,7 +43,8 @@ returns-3 c =
     let a = j .before .before .args in
     c .pixels-right .ensures
     ∙ sym (then-right (verdict (a .table)) _ (sym (j .judge .ensures) ∙ m .before .enum-told .given .1)
-    ∙ then-right (sized (a .table .levels) (a .w) (a .h) (length (a .pixels .now)) (a .second) (a .third)) _ (sym (m .sizes-right .ensures) ∙ c .before .enum-told2 .given .1))
+    ∙ sized-then (a .table .levels) (a .w) (a .h) (length (a .pixels .now)) (a .second) (a .third) _
+    ∙ then-right (sized (a .table .levels) (a .w) (a .h) (length (a .pixels .now)) (a .second) (a .third)) _ (sym (m .room-right .ensures) ∙ c .before .enum-told2 .given .1))
 
 pub answer-spec : {M : Type 1} → statement M
 answer-spec =

@@ -3,7 +3,7 @@ use Prim.Native.Nat.{ℕ, _+_, _-_, _^_, max}
 use native.Mathlib.Omega.{arith}
 use lib.IntN.{ℤ, pos, _*ℤ_}
 use mir.Facts.{toZ-ofZ}
-use Rattle.lifting.specs.declared.Factor.{Factor}
+use Rattle.lifting.specs.declared.Factor.the-variants.{Plain}
 use Rattle.irreversible.specs.StepLaws.{factorOf}
 use Rattle.irreversible.proofs.Read.{back, got, fits-at}
 use Rattle.irreversible.proofs.factor_of.Statement.{statement}
@@ -23,10 +23,7 @@ unfolding factorOf
 returns c =
     let l = c .before .before in
     let d = got (c .times .ok) (c .times .ensures ∙ raised (c .before)) in
-    λ u. made (d u) (l .larger .ensures u - l .before .args .kept)
-  where
-    made : ℤ → ℕ → Factor
-    made k cut = record { c = k; cut = cut }
+    λ u. Plain (d u) (l .larger .ensures u - l .before .args .kept)
 
 pub factor-of-spec : {M : Type 1} → statement M
 factor-of-spec =

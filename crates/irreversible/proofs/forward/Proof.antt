@@ -6,7 +6,8 @@ use lib.Seq.{length-take-le}
 use Rattle.refusals.specs.declared.Outcome.the-variants.{Done}
 use Rattle.irreversible.specs.Calls.{fixedAnswer}
 use Rattle.irreversible.specs.CallLaws.{room}
-use Rattle.irreversible.specs.CallSteps.{answer-is, plane-kept, work-kept, plane-done, work-done, ready, cleared}
+use Rattle.irreversible.specs.CallSteps.{answer-is, plane-kept, work-kept, plane-done, work-done, ready}
+use Rattle.pictures.specs.MemoryLaws.{zeroed-part}
 use borrow.Author.Needs.{needs}
 use Rattle.irreversible.proofs.forward.Statement.{statement}
 use Rattle.irreversible.proofs.forward.Tie as tie
@@ -52,7 +53,7 @@ returns-2 c =
     let q = c .before .before .before .before .before in
     let d = q .before .before .before in
     let a = d .before .before .before .before .args in
-    (sym (done d), (q .transform .ensures ∙ plane-done (a .table) (a .w) (a .h) (a .pixels .now) (a .plane .now) (a .work .now) (done d), c .before .clear .ensures ∙ cleared (a .w * a .h) (q .transform .last .1 .1 .1 .0) (a .work .now) (tile q) ∙ work-done (a .table) (a .w) (a .h) (a .pixels .now) (a .plane .now) (a .work .now) (done d)))
+    (sym (done d), (q .transform .ensures ∙ plane-done (a .table) (a .w) (a .h) (a .pixels .now) (a .plane .now) (a .work .now) (done d), c .before .clear .ensures ∙ zeroed-part (a .w * a .h) (q .transform .last .1 .1 .1 .0) (a .work .now) (tile q) ∙ work-done (a .table) (a .w) (a .h) (a .pixels .now) (a .plane .now) (a .work .now) (done d)))
 
 same-length-2 : tie.Need-same-length-2
 same-length-2 c =

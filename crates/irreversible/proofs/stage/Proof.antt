@@ -5,38 +5,44 @@ use lib.IntN.{ℤ, pos, _*ℤ_}
 use Rattle.stages.specs.Fixed.{nearest}
 use Rattle.irreversible.specs.Constants.{constantOf}
 use Rattle.width_table.specs.Numbered.{nodeOf}
+use Rattle.width_table.specs.Table.{constantBits}
 use Rattle.irreversible.specs.StepLaws.{stepTop, stepOf}
 use Rattle.irreversible.specs.KernelLaws.{stageOf}
-use Rattle.irreversible.specs.SafeLaws.{constant-raised}
+use Rattle.irreversible.specs.SafeLaws.{ConstantBits, constant-raised}
+use Rattle.irreversible.specs.LevelBits.{constant-is}
 use Rattle.irreversible.proofs.Read.{back, got, fits-at}
 use Rattle.irreversible.proofs.stage.Statement.{statement}
 use Rattle.irreversible.proofs.stage.Tie as tie
 
-constant : (c : tie.After-nearest-at) → back (c .nearest-at .result) ≡ nearest (constantOf (nodeOf (c .before .before .args .node))) (c .before .constant-at .result)
+bits : (c : tie.After-constant-bits) → (c .constant-bits .result ≡ constantBits (c .before .args .table) (nodeOf (c .before .args .node))) × ConstantBits (c .constant-bits .result)
+bits c = let s = c .before in constant-is (s .args .table) (s .pre .0) (s .args .node) (s .pre .1) (c .constant-bits .ensures)
+
+constant : (c : tie.After-nearest-at) → back (c .nearest-at .result) ≡ nearest (constantOf (nodeOf (c .before .before .args .node))) (c .before .constant-bits .result)
 constant c = got (c .nearest-at .ok) (c .nearest-at .ensures)
 
 step-of-requires : tie.Need-step-of-requires
 step-of-requires c κs =
-    let k = c .before .constant-at in
+    let k = c .before .constant-bits in
+    let limits = bits (c .before) .1 in
     let s = c .before .before in
     let a = s .args in
     let top : ℕ = stepTop (k .result) (a .sides) (a .own) (a .kept) in (
-      (k .ensures .1, s .pre .2, s .pre .3, s .pre .4),
-      fits-at (ap (λ (z : ℤ). z *ℤ pos (2 ^ (top - (k .result + a .sides)))) (constant c)) (constant-raised (nodeOf (a .node)) (k .result) (a .sides) top (k .ensures .1) (omega arith) (omega arith)),
+      (limits, s .pre .2, s .pre .3, s .pre .4),
+      fits-at (ap (λ (z : ℤ). z *ℤ pos (2 ^ (top - (k .result + a .sides)))) (constant c)) (constant-raised (nodeOf (a .node)) (k .result) (a .sides) top limits (omega arith) (omega arith)),
     )
 
 returns : tie.Need-returns
 returns c =
-    let k = c .before .before .constant-at in
+    let k = c .before .before .constant-bits in
     let a = c .before .before .before .args in
     c .step-of .ensures ∙ ap (λ (z : ℤ). stepOf z (k .result) (a .sides) (a .own) (a .kept)) (constant (c .before))
-    ∙ ap (λ (F : ℕ). stageOf (constantOf (nodeOf (a .node))) F (a .sides) (a .own) (a .kept)) (k .ensures .0)
+    ∙ ap (λ (F : ℕ). stageOf (constantOf (nodeOf (a .node))) F (a .sides) (a .own) (a .kept)) (bits (c .before .before) .0)
 
 pub stage-spec : {M : Type 1} → statement M
 stage-spec =
     tie.close
     (tie.spec
-    (λ c κs. (c .pre .0, c .pre .1))
-    (λ c κs. (c .before .pre .1, c .constant-at .ensures .1))
+    (λ c κs. tt)
+    (λ c κs. (c .before .pre .1, bits c .1))
     step-of-requires
     returns)

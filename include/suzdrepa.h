@@ -94,12 +94,12 @@ extern "C" {
 #define SUZ_NODE(answer)   ((unsigned)(((uint32_t)(answer) >> 24) & 0xFFu))
 
 /* Limits. */
-#define SUZ_MOST_DEPTH 12
-#define SUZ_MOST_LEVELS 5
-#define SUZ_MOST_SIDE 4096
-#define SUZ_MOST_INTEGER_BITS 12
-#define SUZ_MOST_FRACTION_BITS 20
-#define SUZ_MOST_CONSTANT_BITS 24
+#define SUZ_MAX_DEPTH 12
+#define SUZ_MAX_LEVELS 5
+#define SUZ_MAX_SIDE 4096
+#define SUZ_MAX_INTEGER_BITS 12
+#define SUZ_MAX_FRACTION_BITS 20
+#define SUZ_MAX_CONSTANT_BITS 24
 
 /* The length in bytes of a width table of so many levels. */
 #define SUZ_TABLE_LENGTH(levels) (20 + 36 * (size_t)(levels))
@@ -149,6 +149,20 @@ uint32_t suz_table_form(const uint8_t *table, size_t table_len);
  */
 uint32_t suz_table_value(const uint8_t *table, size_t table_len, uint8_t tag,
                          uint32_t *start, uint32_t *length);
+
+/*
+ * The bounds of one node, in units of 2 to the power -32: how far its exact
+ * value may lie from 0 (range), and how far its value from the exact one
+ * (error).
+ * 0: *range and *error are written.
+ * Refused 1 to 5 of the table's bytes, 4 where the table lacks the level, pass
+ * or node, then 6 or 7 of the first refused node before this one in node order:
+ * past a refused node bounds may leave 64 bits. The first refused node itself
+ * has its bounds told. Where refused, *range and *error are untouched.
+ */
+uint32_t suz_table_bound(const uint8_t *table, size_t table_len,
+                         uint8_t level, uint8_t pass, uint8_t node,
+                         uint64_t *range, uint64_t *error);
 
 /*
  * Writes a new table, equal to the old but for the width of one node, to the

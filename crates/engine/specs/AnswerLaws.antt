@@ -1,34 +1,34 @@
 -- What the answers of the calls below say of the C interface's.
-use Prim.Native.Nat.{ℕ, _+_, _≤_}
-use mathlib.Core.Bool.{Bool, true, _&&_}
+use Prim.Native.Nat.{ℕ}
+use mathlib.Core.Bool.{Bool}
 use lib.Dec.{leb}
 use lib.ListN.{length}
 use lib.IntN.{ℤ}
 use Rattle.numbers.specs.Lists.{over}
 use mathlib.Core.List.{List}
-use mathlib.Core.Path.{_≡_, refl, sym, _∙_, ap}
+use mathlib.Core.Path.{_≡_, refl, sym, _∙_, ap, subst}
 use native.Mathlib.Omega.{arith}
 use Rattle.refusals.specs.declared.Refusal.{Refusal}
 use Rattle.refusals.specs.declared.Outcome.{Outcome}
 use Rattle.refusals.specs.declared.Outcome.the-variants.{Done, Refused}
 use Rattle.refusals.specs.declared.Refusal.the-variants.{OutsideLimits, SliceTooShort}
-use Rattle.refusals.specs.Refusals.{asks, _then_, answered}
-use Rattle.width_table.specs.Table.{formRight}
+use Rattle.refusals.specs.Refusals.{asks, answered}
 use Rattle.width_table.specs.declared.WidthTable.{WidthTable}
 use Rattle.width_table.specs.declared.TableAnswer.{TableAnswer}
-use Rattle.width_table.specs.declared.Written.{Written}
 use Rattle.width_table.specs.declared.Written.the-variants.{Bytes, NotWritten}
-use Rattle.width_table.specs.declared.Named.{Named}
 use Rattle.width_table.specs.declared.Named.the-variants.{Value, NotNamed}
-use Rattle.refusals.specs.RefusalLaws.{asks-done, then-right, then-refused, answered-done}
-use Rattle.width_table.specs.Bytes.{nodeBytes, levelsIn, form, tableIn, emptyTable, reading, written, writable, writing, tableBytes, bytesAfter}
+use Rattle.refusals.specs.RefusalLaws.{then-right, then-refused, answered-done}
+use Rattle.width_table.specs.Fields.{tableSize, valueStart, valueLength}
+use Rattle.width_table.specs.Bytes.{levelsIn, form, tableIn, emptyTable, reading, written, writable, writing, tableBytes, bytesAfter}
 use Rattle.width_table.specs.Changes.{changeable, withWidth, widthChanged}
-use Rattle.width_table.specs.RoundTrip.{read-sized, read-formed}
+use Rattle.width_table.specs.RoundTrip.{read-sized}
 use Rattle.width_table.specs.ChangeLaws.{width-form}
 use Rattle.precision.specs.Verdict.{verdict}
+use Rattle.precision.specs.BoundCalls.{boundTold, boundAnswer}
+use Rattle.precision.specs.declared.BoundAnswer.{BoundAnswer}
 use Rattle.irreversible.specs.Calls.{fixedAnswer, fixedPlaneAfter, fixedWork}
-use Rattle.width_table.specs.Names.{nameable, named, naming, valueStart, valueLength}
-use Rattle.engine.specs.Answers.{code, checked, startAfter, lengthAfter, changeAnswer, changeOut, answer97, plane97, work97}
+use Rattle.width_table.specs.Names.{nameable, named, naming}
+use Rattle.engine.specs.Answers.{checked, boundAnswered, boundIn, rangeAfter, errorAfter, startAfter, lengthAfter, changeAnswer, changeOut, answer97, plane97, work97}
 
 module _ (bytes : List ℕ) (tag : ℕ) where
   -- a tag that is not named
@@ -38,18 +38,18 @@ module _ (bytes : List ℕ) (tag : ℕ) where
     where
       go : (o : Outcome) → nameable bytes tag ≡ o → nameable bytes tag ≡ Refused r
       go Done q =
-          let z : Value (valueStart tag) (valueLength (levelsIn bytes) tag) ≡ NotNamed r = sym (ap (λ (o : Outcome). named o (valueStart tag) (valueLength (levelsIn bytes) tag)) q) ∙ e in
+          let z : Value (valueStart (levelsIn bytes) tag) (valueLength (levelsIn bytes) tag) ≡ NotNamed r = sym (ap (λ (o : Outcome). named o (valueStart (levelsIn bytes) tag) (valueLength (levelsIn bytes) tag)) q) ∙ e in
           let n : _≡_ {A = ℕ} 0 1 = cc in
           absurd (omega arith)
       go (Refused s) q =
-          let z : NotNamed s ≡ NotNamed r = sym (ap (λ (o : Outcome). named o (valueStart tag) (valueLength (levelsIn bytes) tag)) q) ∙ e in
+          let z : NotNamed s ≡ NotNamed r = sym (ap (λ (o : Outcome). named o (valueStart (levelsIn bytes) tag) (valueLength (levelsIn bytes) tag)) q) ∙ e in
           let n : s ≡ r = cc in
           q ∙ ap (λ (x : Refusal). Refused x) n
 
   -- a tag that is named
   pub record Found (start len : ℕ) : Type 0 where
     pub done : nameable bytes tag ≡ Done
-    pub starts : start ≡ valueStart tag
+    pub starts : start ≡ valueStart (levelsIn bytes) tag
     pub long : len ≡ valueLength (levelsIn bytes) tag
 
   pub name-found : (start len : ℕ) → naming bytes tag ≡ Value start len → Found start len
@@ -58,24 +58,24 @@ module _ (bytes : List ℕ) (tag : ℕ) where
     where
       go : (o : Outcome) → nameable bytes tag ≡ o → Found start len
       go Done q =
-          let z : Value (valueStart tag) (valueLength (levelsIn bytes) tag) ≡ Value start len = sym (ap (λ (o : Outcome). named o (valueStart tag) (valueLength (levelsIn bytes) tag)) q) ∙ e in
+          let z : Value (valueStart (levelsIn bytes) tag) (valueLength (levelsIn bytes) tag) ≡ Value start len = sym (ap (λ (o : Outcome). named o (valueStart (levelsIn bytes) tag) (valueLength (levelsIn bytes) tag)) q) ∙ e in
           record { done = q; starts = cc; long = cc }
       go (Refused r) q =
-          let z : NotNamed r ≡ Value start len = sym (ap (λ (o : Outcome). named o (valueStart tag) (valueLength (levelsIn bytes) tag)) q) ∙ e in
+          let z : NotNamed r ≡ Value start len = sym (ap (λ (o : Outcome). named o (valueStart (levelsIn bytes) tag) (valueLength (levelsIn bytes) tag)) q) ∙ e in
           let n : _≡_ {A = ℕ} 0 1 = cc in
           absurd (omega arith)
 
   pub start-kept : (r : Refusal) (s : ℕ) → nameable bytes tag ≡ Refused r → s ≡ startAfter bytes tag s
   unfolding startAfter
-  start-kept r s e = sym (ap (λ (o : Outcome). answered o (valueStart tag) s) e)
+  start-kept r s e = sym (ap (λ (o : Outcome). answered o (valueStart (levelsIn bytes) tag) s) e)
 
   pub length-kept : (r : Refusal) (s : ℕ) → nameable bytes tag ≡ Refused r → s ≡ lengthAfter bytes tag s
   unfolding lengthAfter
   length-kept r s e = sym (ap (λ (o : Outcome). answered o (valueLength (levelsIn bytes) tag) s) e)
 
-  pub start-written : (s : ℕ) → nameable bytes tag ≡ Done → valueStart tag ≡ startAfter bytes tag s
+  pub start-written : (s : ℕ) → nameable bytes tag ≡ Done → valueStart (levelsIn bytes) tag ≡ startAfter bytes tag s
   unfolding startAfter
-  start-written s e = sym (ap (λ (o : Outcome). answered o (valueStart tag) s) e)
+  start-written s e = sym (ap (λ (o : Outcome). answered o (valueStart (levelsIn bytes) tag) s) e)
 
   pub length-written : (s : ℕ) → nameable bytes tag ≡ Done → valueLength (levelsIn bytes) tag ≡ lengthAfter bytes tag s
   unfolding lengthAfter
@@ -105,6 +105,43 @@ module _ (bytes : List ℕ) where
   unfolding checked
   check-judged e = then-right (form bytes) (verdict (tableIn bytes)) e
 
+-- ---- the bound of a node
+
+module _ (bytes : List ℕ) (level pass node range error : ℕ) where
+  -- what the call gives
+  pub record GivesBound (o : Outcome) (r e : ℕ) : Type 0 where
+    pub answers : boundAnswered bytes level pass node ≡ o
+    pub leaves-range : r ≡ rangeAfter bytes level pass node range
+    pub leaves-error : e ≡ errorAfter bytes level pass node error
+
+  gives-bound : (o : Outcome) → boundAnswered bytes level pass node ≡ o → GivesBound o (answered o (boundIn bytes level pass node .range) range) (answered o (boundIn bytes level pass node .error) error)
+  unfolding rangeAfter errorAfter
+  gives-bound o e = record {
+    answers = e;
+    leaves-range = sym (ap (λ (o : Outcome). answered o (boundIn bytes level pass node .range) range) e);
+    leaves-error = sym (ap (λ (o : Outcome). answered o (boundIn bytes level pass node .error) error) e);
+  }
+
+  pub bound-unread : (r : Refusal) → form bytes ≡ Refused r → GivesBound (Refused r) range error
+  unfolding boundAnswered
+  bound-unread r e = gives-bound (Refused r) (then-refused (form bytes) _ r e)
+
+  module _ (e : form bytes ≡ Done) (t : WidthTable) (is : t ≡ tableIn bytes) (a : BoundAnswer) (told : a ≡ boundAnswer t level pass node) where
+    same : a ≡ boundTold (boundAnswered bytes level pass node) (boundIn bytes level pass node)
+    unfolding boundAnswer boundAnswered
+    same = told ∙ ap (λ (t : WidthTable). boundAnswer t level pass node) is ∙ ap (λ (o : Outcome). boundTold o (boundIn bytes level pass node)) (sym (then-right (form bytes) _ e))
+
+    answered-as : (o : Outcome) → a .outcome ≡ o → boundAnswered bytes level pass node ≡ o
+    answered-as o q = sym (ap (λ (x : BoundAnswer). x .outcome) same) ∙ q
+
+    pub bound-refused : (r : Refusal) → a .outcome ≡ Refused r → GivesBound (Refused r) range error
+    bound-refused r q = gives-bound (Refused r) (answered-as (Refused r) q)
+
+    pub bound-done : a .outcome ≡ Done → GivesBound Done (a .range) (a .error)
+    bound-done q =
+        let d = answered-as Done q in
+        subst (λ (x : BoundAnswer). GivesBound Done (x .range) (x .error)) (sym (same ∙ ap (λ (o : Outcome). boundTold o (boundIn bytes level pass node)) d)) (gives-bound Done d)
+
 -- ---- a table that is written
 
 module _ (t : WidthTable) (lent : List ℕ) where
@@ -115,7 +152,7 @@ module _ (t : WidthTable) (lent : List ℕ) where
       go : (o : Outcome) → writable t lent ≡ o → writable t lent ≡ Done
       go Done q = q
       go (Refused r) q =
-          let z : NotWritten r ≡ Bytes n = sym (ap (λ (o : Outcome). written o (20 + nodeBytes (t .levels))) q) ∙ e in
+          let z : NotWritten r ≡ Bytes n = sym (ap (λ (o : Outcome). written o (tableSize (t .levels))) q) ∙ e in
           let m : _≡_ {A = ℕ} 0 1 = cc in
           absurd (omega arith)
 
@@ -125,11 +162,11 @@ module _ (t : WidthTable) (lent : List ℕ) where
     where
       go : (o : Outcome) → writable t lent ≡ o → writable t lent ≡ Refused r
       go Done q =
-          let z : Bytes (20 + nodeBytes (t .levels)) ≡ NotWritten r = sym (ap (λ (o : Outcome). written o (20 + nodeBytes (t .levels))) q) ∙ e in
+          let z : Bytes (tableSize (t .levels)) ≡ NotWritten r = sym (ap (λ (o : Outcome). written o (tableSize (t .levels))) q) ∙ e in
           let m : _≡_ {A = ℕ} 0 1 = cc in
           absurd (omega arith)
       go (Refused s) q =
-          let z : NotWritten s ≡ NotWritten r = sym (ap (λ (o : Outcome). written o (20 + nodeBytes (t .levels))) q) ∙ e in
+          let z : NotWritten s ≡ NotWritten r = sym (ap (λ (o : Outcome). written o (tableSize (t .levels))) q) ∙ e in
           let n : s ≡ r = cc in
           q ∙ ap (λ (x : Refusal). Refused x) n
 
@@ -140,7 +177,7 @@ module _ (bytes : List ℕ) (level pass node IB f : ℕ) (out : List ℕ) where
   new = withWidth (tableIn bytes) level pass node IB f
 
   abbrev room : Outcome
-  room = asks (leb (20 + nodeBytes (levelsIn bytes)) (length out)) SliceTooShort Done
+  room = asks (leb (tableSize (levelsIn bytes)) (length out)) SliceTooShort Done
 
   abbrev after : Outcome → List ℕ
   after o = answered o (over (tableBytes new) out) out

@@ -11,11 +11,16 @@ use Rattle.refusals.specs.declared.Refusal.the-variants.{CutShort, WrongTag, Wr
 use Rattle.refusals.specs.declared.Outcome.{Outcome}
 use Rattle.refusals.specs.declared.Outcome.the-variants.{Done, Refused}
 use Rattle.refusals.specs.Refusals.{number, asks, _then_, answered}
-use Rattle.width_table.specs.declared.WidthTable.{WidthTable}
-use Rattle.width_table.specs.Bytes.{nodeBytes, levelsIn, form, tableIn, tableBytes}
+use Rattle.width_table.specs.Fields.{tableSize, valueStart, valueLength}
+use Rattle.width_table.specs.Bytes.{levelsIn, form, tableIn, tableBytes}
 use Rattle.width_table.specs.Changes.{changeable, withWidth}
-use Rattle.width_table.specs.Names.{nameable, valueStart, valueLength}
+use Rattle.width_table.specs.Names.{nameable}
+use Rattle.width_table.specs.Nodes.{nodeAt}
+use Rattle.width_table.specs.Numbered.{nodeOf, passOf}
+use Rattle.stages.specs.Rule.{Bound}
+use Rattle.precision.specs.Bounds.{boundOf}
 use Rattle.precision.specs.Verdict.{verdict}
+use Rattle.precision.specs.BoundCalls.{boundable}
 use Rattle.irreversible.specs.Calls.{fixedAnswer, fixedPlaneAfter, fixedWork}
 
 -- ---- an answer as a number of 32 bits
@@ -51,10 +56,25 @@ checked bytes = form bytes then verdict (tableIn bytes)
 
 -- where a tag's value starts and how long it is, written where the answer is 0
 unfoldable pub startAfter : List ℕ → ℕ → ℕ → ℕ
-startAfter bytes tag start = answered (nameable bytes tag) (valueStart tag) start
+startAfter bytes tag start = answered (nameable bytes tag) (valueStart (levelsIn bytes) tag) start
 
 unfoldable pub lengthAfter : List ℕ → ℕ → ℕ → ℕ
 lengthAfter bytes tag len = answered (nameable bytes tag) (valueLength (levelsIn bytes) tag) len
+
+-- range and error of a node: 1 to 5 of the bytes, 4 where the table lacks the node, then 6 or 7 of the nodes before it
+module _ (bytes : List ℕ) (level pass node : ℕ) where
+  unfoldable pub boundAnswered : Outcome
+  boundAnswered = form bytes then boundable (tableIn bytes) level pass node
+
+  abbrev pub boundIn : Bound
+  boundIn = boundOf (tableIn bytes) (nodeAt level (passOf pass) (nodeOf node))
+
+  -- written where the answer is 0
+  unfoldable pub rangeAfter : ℕ → ℕ
+  rangeAfter range = answered boundAnswered (boundIn .range) range
+
+  unfoldable pub errorAfter : ℕ → ℕ
+  errorAfter error = answered boundAnswered (boundIn .error) error
 
 -- 1 to 5 of the bytes, 4 for the change, 9 where the lent bytes are too short
 module _ (bytes : List ℕ) (level pass node IB f : ℕ) (out : List ℕ) where
@@ -62,7 +82,7 @@ module _ (bytes : List ℕ) (level pass node IB f : ℕ) (out : List ℕ) where
   changeAnswer =
       form bytes
       then changeable (tableIn bytes) level pass node IB f
-      then asks (leb (20 + nodeBytes (levelsIn bytes)) (length out)) SliceTooShort Done
+      then asks (leb (tableSize (levelsIn bytes)) (length out)) SliceTooShort Done
 
   unfoldable pub changeOut : List ℕ
   changeOut = answered changeAnswer (over (tableBytes (withWidth (tableIn bytes) level pass node IB f)) out) out

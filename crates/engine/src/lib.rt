@@ -3,7 +3,7 @@ ghost use mathlib.Core.Path.{_≡_};
 ghost use Rattle.width_table.specs.Bytes.{form, writable, bytesAfter};
 ghost use Rattle.width_table.specs.Names.{nameable};
 ghost use Rattle.reversible.specs.Calls.{forwardAnswer, forwardPlane, forwardWork, backAnswer, backPixels, backWork};
-ghost use Rattle.engine.specs.Answers.{placeCode, refusalCode, code, checked, startAfter, lengthAfter, changeAnswer, changeOut, answer97, plane97, work97};
+ghost use Rattle.engine.specs.Answers.{placeCode, refusalCode, code, checked, boundAnswered, rangeAfter, errorAfter, startAfter, lengthAfter, changeAnswer, changeOut, answer97, plane97, work97};
 use refusals::NodePlace;
 use refusals::Outcome;
 use refusals::Refusal;
@@ -81,6 +81,40 @@ pub extern "C" fn suz_table_check(table: &[u8]) -> u32
         Outcome::Done => {
             let held = read.table;
             code_of(precision::judge(held))
+        }
+    }
+}
+
+// Range and error of one node, in units of 2^-32, written where the answer is 0: 1 to 5, 4, then 6 or 7 of the nodes before it.
+#[no_mangle]
+pub extern "C" fn suz_table_bound(
+    table: &[u8],
+    level: u8,
+    pass: u8,
+    node: u8,
+    range: &mut u64,
+    error: &mut u64,
+) -> u32
+    ensures answer { λ r. ⌜ r ≡ code (boundAnswered (now (table .entry)) level pass node) ⌝ }
+    ensures range { λ _. ⌜ now (range .exit) ≡ rangeAfter (now (table .entry)) level pass node (now (range .entry)) ⌝ }
+    ensures error { λ _. ⌜ now (error .exit) ≡ errorAfter (now (table .entry)) level pass node (now (error .entry)) ⌝ }
+{
+    let read = WidthTable::read(table);
+    let outcome = read.outcome;
+    match outcome {
+        Outcome::Refused(why) => refusal_code(why),
+        Outcome::Done => {
+            let held = read.table;
+            let bound = precision::bound_of(held, level, pass, node);
+            let answer = bound.outcome;
+            match answer {
+                Outcome::Refused(why) => refusal_code(why),
+                Outcome::Done => {
+                    *range = bound.range;
+                    *error = bound.error;
+                    0
+                }
+            }
         }
     }
 }

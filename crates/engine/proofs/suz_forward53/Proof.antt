@@ -3,28 +3,7 @@ use Rattle.engine.specs.Answers.{code}
 use borrow.Author.Needs.{needs}
 use Rattle.engine.proofs.suz_forward53.Statement.{statement}
 use Rattle.engine.proofs.suz_forward53.Tie as tie
-use Rattle.engine.proofs.suz_forward53.Reads as reads
-use Rattle.engine.proofs.suz_forward53.Lts as lts
-use Rattle.engine.proofs.code_of.Reads as code-of-reads
-use Rattle.reversible.proofs.forward.Reads as forward-reads
 
--- src/lib.rt:148:13
-forward-requires : tie.Need-forward-requires
-forward-requires c κs = search needs
-
--- src/lib.rt:148:5
-code-of-requires : tie.Need-code-of-requires
-code-of-requires c κs = search needs
-
--- src/lib.rt:134:1
-same-length : tie.Need-same-length
-same-length c = search needs
-
--- src/lib.rt:134:1
-same-length-2 : tie.Need-same-length-2
-same-length-2 c = search needs
-
--- src/lib.rt:134:1
 returns : tie.Need-returns
 returns c =
     let e = c .before .before .before .forward .ensures in
@@ -32,4 +11,4 @@ returns c =
 
 pub suz-forward53-spec : {M : Type 1} → statement M
 suz-forward53-spec =
-    tie.close (tie.spec forward-requires code-of-requires same-length same-length-2 returns)
+    tie.close (tie.spec (λ c κs. search needs) (λ c κs. search needs) (λ c. search needs) (λ c. search needs) returns)

@@ -6,38 +6,7 @@ use Rattle.engine.specs.AnswerLaws.{read-refused, read-right, read-table
 use borrow.Author.Needs.{needs}
 use Rattle.engine.proofs.suz_forward97.Statement.{statement}
 use Rattle.engine.proofs.suz_forward97.Tie as tie
-use Rattle.engine.proofs.suz_forward97.Reads as reads
-use Rattle.engine.proofs.suz_forward97.Lts as lts
-use Rattle.engine.proofs.code_of.Reads as code-of-reads
-use Rattle.engine.proofs.refusal_code.Reads as refusal-code-reads
-use Rattle.irreversible.proofs.forward.Reads as forward-reads
-use Rattle.width_table.proofs.WidthTable.read.Reads as read-reads
 
--- src/lib.rt:165:9
-read-requires : tie.Need-read-requires
-read-requires c κs = search needs
-
--- src/lib.rt:168:26
-enum-known-outcome : tie.Need-enum-known-outcome
-enum-known-outcome c = search needs
-
--- src/lib.rt:168:34
-refusal-code-requires : tie.Need-refusal-code-requires
-refusal-code-requires c κs = search needs
-
--- src/lib.rt:170:17
-enum-told : tie.Need-enum-told
-enum-told c = search needs
-
--- src/lib.rt:171:21
-forward-requires : tie.Need-forward-requires
-forward-requires c κs = search needs
-
--- src/lib.rt:171:13
-code-of-requires : tie.Need-code-of-requires
-code-of-requires c κs = search needs
-
--- src/lib.rt:152:1
 returns : tie.Need-returns
 returns c =
     let v = c .before .before .before .before in
@@ -46,15 +15,6 @@ returns c =
     let g = unread97 b (a .width) (a .height) (a .pixels .now) (a .plane .now) (a .work .now) _ (read-refused b _ (v .read .ensures) _ (c .before .before .outcome .given .1)) in
     (c .refusal-code .ensures ∙ sym (ap code (g .answers)), (g .leaves-plane, g .leaves-work))
 
--- src/lib.rt:152:1
-same-length : tie.Need-same-length
-same-length c = search needs
-
--- src/lib.rt:152:1
-same-length-2 : tie.Need-same-length-2
-same-length-2 c = search needs
-
--- src/lib.rt:152:1
 returns-2 : tie.Need-returns-2
 returns-2 c =
     let f = c .before .before .before in
@@ -77,13 +37,13 @@ pub suz-forward97-spec : {M : Type 1} → statement M
 suz-forward97-spec =
     tie.close
     (tie.spec
-    read-requires
-    enum-known-outcome
-    refusal-code-requires
-    enum-told
-    forward-requires
-    code-of-requires
+    (λ c κs. search needs)
+    (λ c. search needs)
+    (λ c κs. search needs)
+    (λ c. search needs)
+    (λ c κs. search needs)
+    (λ c κs. search needs)
     returns
-    same-length
-    same-length-2
+    (λ c. search needs)
+    (λ c. search needs)
     returns-2)

@@ -1,9 +1,6 @@
-use Prim.Native.Nat.{ℕ}
-use mathlib.Core.Path.{_≡_, sym, _∙_, ap, subst}
-use mathlib.Core.List.{List}
-use Rattle.refusals.specs.declared.Outcome.the-variants.{Done, Refused}
+use mathlib.Core.Path.{sym, _∙_, ap}
+use Rattle.refusals.specs.declared.Outcome.the-variants.{Done}
 use Rattle.width_table.specs.declared.WidthTable.{WidthTable}
-use Rattle.width_table.specs.declared.TableAnswer.{TableAnswer}
 use Rattle.width_table.specs.Bytes.{tableIn, writable, bytesAfter}
 use Rattle.width_table.specs.Changes.{widthChanged}
 use Rattle.engine.specs.Answers.{code}
@@ -11,48 +8,6 @@ use Rattle.engine.specs.AnswerLaws.{read-refused, read-right, read-table
 use borrow.Author.Needs.{needs}
 use Rattle.engine.proofs.suz_table_change.Statement.{statement}
 use Rattle.engine.proofs.suz_table_change.Tie as tie
-use Rattle.engine.proofs.suz_table_change.Reads as reads
-use Rattle.engine.proofs.suz_table_change.Lts as lts
-use Rattle.engine.proofs.change_written.Reads as change-written-reads
-use Rattle.engine.proofs.refusal_code.Reads as refusal-code-reads
-use Rattle.width_table.proofs.WidthTable.read.Reads as read-reads
-use Rattle.width_table.proofs.WidthTable.with_width.Reads as with-width-reads
-
--- src/lib.rt:113:9
-read-requires : tie.Need-read-requires
-read-requires c κs = search needs
-
--- src/lib.rt:116:26
-enum-known-outcome : tie.Need-enum-known-outcome
-enum-known-outcome c = search needs
-
--- src/lib.rt:116:34
-refusal-code-requires : tie.Need-refusal-code-requires
-refusal-code-requires c κs = search needs
-
--- src/lib.rt:118:17
-enum-told : tie.Need-enum-told
-enum-told c = search needs
-
--- src/lib.rt:119:17
-with-width-requires : tie.Need-with-width-requires
-with-width-requires c κs = search needs
-
--- src/lib.rt:122:34
-enum-known-answer : tie.Need-enum-known-answer
-enum-known-answer c = search needs
-
--- src/lib.rt:122:42
-refusal-code-requires-2 : tie.Need-refusal-code-requires-2
-refusal-code-requires-2 c κs = search needs
-
--- src/lib.rt:124:25
-enum-told-2 : tie.Need-enum-told-2
-enum-told-2 c = search needs
-
--- src/lib.rt:125:21
-change-written-requires : tie.Need-change-written-requires
-change-written-requires c κs = search needs
 
 returns : tie.Need-returns
 returns c =
@@ -74,10 +29,6 @@ returns-2 c =
     let g = change-refused b (a .level) (a .pass) (a .node) (a .integer) (a .fraction) (a .out .now) (read-right b _ (v .read .ensures) d) _ (change-answer (tableIn b) (a .level) (a .pass) (a .node) (a .integer) (a .fraction) _ same _ (c .before .before .answer .given .1)) in
     (c .refusal-code2 .ensures ∙ sym (ap code (g .answers)), g .leaves)
 
--- src/lib.rt:100:1
-same-length : tie.Need-same-length
-same-length c = search needs
-
 returns-3 : tie.Need-returns-3
 returns-3 c =
     let x = c .before .before in
@@ -98,16 +49,16 @@ pub suz-table-change-spec : {M : Type 1} → statement M
 suz-table-change-spec =
     tie.close
     (tie.spec
-    read-requires
-    enum-known-outcome
-    refusal-code-requires
-    enum-told
-    with-width-requires
-    enum-known-answer
-    refusal-code-requires-2
-    enum-told-2
-    change-written-requires
+    (λ c κs. search needs)
+    (λ c. search needs)
+    (λ c κs. search needs)
+    (λ c. search needs)
+    (λ c κs. search needs)
+    (λ c. search needs)
+    (λ c κs. search needs)
+    (λ c. search needs)
+    (λ c κs. search needs)
     returns
     returns-2
-    same-length
+    (λ c. search needs)
     returns-3)

@@ -1,33 +1,11 @@
 use mathlib.Core.Path.{sym, _∙_, ap}
 use native.Mathlib.Omega.{arith}
-use Rattle.refusals.specs.declared.Outcome.{Outcome}
-use Rattle.refusals.specs.declared.Outcome.the-variants.{Refused}
 use Rattle.width_table.specs.NameLaws.{valued}
 use Rattle.engine.specs.Answers.{code}
 use Rattle.engine.specs.AnswerLaws.{name-refused, name-found, start-kept, length-kept, start-written, length-written}
 use borrow.Author.Needs.{needs}
 use Rattle.engine.proofs.suz_table_value.Statement.{statement}
 use Rattle.engine.proofs.suz_table_value.Tie as tie
-use Rattle.engine.proofs.suz_table_value.Reads as reads
-use Rattle.engine.proofs.suz_table_value.Lts as lts
-use Rattle.engine.proofs.refusal_code.Reads as refusal-code-reads
-use Rattle.width_table.proofs.value_place.Reads as value-place-reads
-
--- src/lib.rt:60:11
-value-place-requires : tie.Need-value-place-requires
-value-place-requires c κs = search needs
-
--- src/lib.rt:61:25
-enum-known-why : tie.Need-enum-known-why
-enum-known-why c = search needs
-
--- src/lib.rt:61:33
-refusal-code-requires : tie.Need-refusal-code-requires
-refusal-code-requires c κs = search needs
-
--- src/lib.rt:62:31
-enum-known-s : tie.Need-enum-known-s
-enum-known-s c = search needs
 
 cast-start : tie.Need-cast-start
 cast-start c =
@@ -60,10 +38,10 @@ pub suz-table-value-spec : {M : Type 1} → statement M
 suz-table-value-spec =
     tie.close
     (tie.spec
-    value-place-requires
-    enum-known-why
-    refusal-code-requires
-    enum-known-s
+    (λ c κs. search needs)
+    (λ c. search needs)
+    (λ c κs. search needs)
+    (λ c. search needs)
     cast-start
     cast-length
     returns

@@ -3,12 +3,11 @@
 use crate::container::Plane;
 use crate::pgm::Picture;
 use crate::progress::Progress;
-use crate::table::{kept_place, Table};
 use crate::{png, sample, show, suggest, Failure};
 use std::ffi::{OsStr, OsString};
 use std::io::Write;
 use std::path::Path;
-use suzdrepa::Refusal;
+use suzdrepa::{Node, Pass, Place, Refusal, WidthTable, MAX_SIDE};
 
 const HELP: &str = "\
 roll - works scanned pictures of punched rolls
@@ -165,10 +164,9 @@ fn check(path: &OsStr, out: &mut dyn Write) -> Result<(), Failure> {
 }
 
 fn show_table(path: &OsStr, out: &mut dyn Write) -> Result<(), Failure> {
-    let bytes = read(path)?;
-    let table = Table::read(&bytes).map_err(refused(path))?;
+    let table = WidthTable::from_bytes(&read(path)?).map_err(refused(path))?;
     tell(out, &show::text(&table))?;
-    match suzdrepa::check_table(&bytes) {
+    match table.check() {
         Ok(()) => tell(out, "accepted\n"),
         Err(refusal) => tell(out, &format!("{refusal}\n")),
     }
@@ -182,23 +180,26 @@ fn suggest_table(
 ) -> Result<(), Failure> {
     let depth = small_number("DEPTH", depth)?;
     let levels = small_number("LEVELS", levels)?;
-    if !(1..=12).contains(&depth) {
-        return Err(Failure::Usage("DEPTH is 1 to 12".into()));
+    for (name, number, most) in [
+        ("DEPTH", depth, WidthTable::MAX_DEPTH),
+        ("LEVELS", levels, WidthTable::MAX_LEVELS),
+    ] {
+        if !(1..=most).contains(&number) {
+            return Err(Failure::Usage(format!("{name} is 1 to {most}")));
+        }
     }
-    if !(1..=5).contains(&levels) {
-        return Err(Failure::Usage("LEVELS is 1 to 5".into()));
-    }
-    let table = suggest::suggest(depth, levels, &Progress::new());
+    let table = suggest::suggest(depth, levels, &Progress::new())
+        .map_err(|refusal| Failure::Refused(refusal.to_string()))?;
     match to {
         None => tell(out, &show::text(&table)),
         Some(path) => {
-            write(path, &table.write())?;
+            write(path, table.as_bytes())?;
             let bits: usize = table
-                .widths
-                .iter()
-                .map(|w| usize::from(w.integer_bits + w.fraction_bits))
+                .places()
+                .filter_map(|place| table.width(place))
+                .map(|width| usize::from(width.integer_bits + width.fraction_bits))
                 .sum();
-            let nodes = table.widths.len();
+            let nodes = table.places().count();
             tell(
                 out,
                 &format!(
@@ -217,20 +218,20 @@ fn forward97(
     to: &OsStr,
     out: &mut dyn Write,
 ) -> Result<(), Failure> {
-    let bytes = read(table_path)?;
-    suzdrepa::check_table(&bytes).map_err(refused(table_path))?;
-    let table = Table::read(&bytes).map_err(refused(table_path))?;
+    let table = WidthTable::from_bytes(&read(table_path)?).map_err(refused(table_path))?;
+    table.check().map_err(refused(table_path))?;
     let picture = Picture::read(&read(from)?).map_err(not_understood(from))?;
     let progress = Progress::new();
     progress.tell(&format!("working {} x {}", picture.width, picture.height));
-    let values = suzdrepa::forward97_to_vec(&bytes, &picture.pixels, picture.width, picture.height)
+    let (width, height) = (picture.width, picture.height);
+    let values = suzdrepa::forward97_to_vec(table.as_bytes(), &picture.pixels, width, height)
         .map_err(refused(from))?;
     let plane = Plane {
-        depth: table.depth,
-        levels: table.levels,
-        width: picture.width,
-        height: picture.height,
-        table: Some(bytes),
+        depth: table.depth(),
+        levels: table.levels(),
+        width,
+        height,
+        table: Some(table),
         values,
     };
     progress.tell("writing");
@@ -248,11 +249,11 @@ fn forward97(
     )
 }
 
-/// The most levels, up to 5, for which both sides are greater than
-/// 2^(levels - 1); 1 where none is.
+/// The most levels for which both sides are greater than 2^(levels - 1); 1
+/// where none is.
 fn most_levels(width: usize, height: usize) -> u8 {
     let side = width.min(height);
-    (2..=5)
+    (2..=WidthTable::MAX_LEVELS)
         .rev()
         .find(|levels| side > 1 << (levels - 1))
         .unwrap_or(1)
@@ -330,12 +331,17 @@ fn restore(from: &OsStr, to: &OsStr, out: &mut dyn Write) -> Result<(), Failure>
 /// picture from its darkest to its lightest, the others about middle grey.
 fn greys(plane: &Plane) -> Vec<u8> {
     let size = (plane.width, plane.height);
+    // The number of a coefficient's band, and whether it is the coarsest.
     let band = |i: usize| {
-        let (level, pass, node) = kept_place(plane.levels, size, i % size.0, i / size.0);
-        let number = 4 * usize::from(level - 1) + 2 * usize::from(pass - 2) + usize::from(node - 5);
-        (number, pass == 2 && node == 5)
+        let place = Place::of_coefficient(plane.levels, size, i % size.0, i / size.0);
+        let Some(Place { level, pass, node }) = place else {
+            return (0, true);
+        };
+        let (right, below) = (pass == Pass::HighColumns, node == Node::G2);
+        let number = 4 * usize::from(level) + 2 * usize::from(right) + usize::from(below);
+        (number, !right && !below)
     };
-    let mut ends = [(i32::MAX, i32::MIN); 20];
+    let mut ends = vec![(i32::MAX, i32::MIN); 4 * (usize::from(plane.levels) + 1)];
     for (i, &value) in plane.values.iter().enumerate() {
         let (least, most) = &mut ends[band(i).0];
         (*least, *most) = ((*least).min(value), (*most).max(value));
@@ -360,11 +366,10 @@ fn greys(plane: &Plane) -> Vec<u8> {
 
 fn picture(from: &OsStr, to: &OsStr, out: &mut dyn Write) -> Result<(), Failure> {
     let plane = Plane::read(&read(from)?).map_err(not_understood(from))?;
-    let least = 1usize << plane.levels.clamp(1, 5).saturating_sub(1);
-    let drawn = (1..=5).contains(&plane.levels)
+    let drawn = (1..=WidthTable::MAX_LEVELS).contains(&plane.levels)
         && [plane.width, plane.height]
             .iter()
-            .all(|&side| side > least && side <= suzdrepa::MOST_SIDE);
+            .all(|&side| side > 1 << (plane.levels - 1) && side <= MAX_SIDE);
     if !drawn {
         return Err(Failure::File(format!(
             "{}: no plane has {} levels and {} x {} coefficients",
@@ -387,7 +392,9 @@ fn picture(from: &OsStr, to: &OsStr, out: &mut dyn Write) -> Result<(), Failure>
 fn write_sample(folder: &OsStr, out: &mut dyn Write) -> Result<(), Failure> {
     std::fs::create_dir_all(folder)
         .map_err(|error| Failure::File(format!("{}: {error}", shown(folder))))?;
-    for (name, bytes) in sample::files(&Progress::new()) {
+    let files =
+        sample::files(&Progress::new()).map_err(|refusal| Failure::Refused(refusal.to_string()))?;
+    for (name, bytes) in files {
         let path = Path::new(folder).join(name);
         write(path.as_os_str(), &bytes)?;
         tell(out, &format!("{}: {} bytes\n", path.display(), bytes.len()))?;

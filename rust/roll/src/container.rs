@@ -11,6 +11,8 @@
 //!
 //! Nothing follows the last coefficient.
 
+use suzdrepa::WidthTable;
+
 /// A plane of coefficients as it is kept in a file.
 #[derive(Clone, Debug, PartialEq, Eq)]
 pub struct Plane {
@@ -19,7 +21,7 @@ pub struct Plane {
     pub width: usize,
     pub height: usize,
     /// The width table of a 9/7 plane; a 5/3 plane has none.
-    pub table: Option<Vec<u8>>,
+    pub table: Option<WidthTable>,
     pub values: Vec<i32>,
 }
 
@@ -56,18 +58,18 @@ impl Plane {
             return Err(wrong.into());
         }
         let table = if kind == FIXED {
-            let length = 20 + 36 * usize::from(levels);
+            let length = WidthTable::length(levels);
             if rest.len() < length {
                 return Err("the file ends within its width table".into());
             }
             let (table, values) = rest.split_at(length);
             rest = values;
-            let agrees = suzdrepa::table_value(table, 1) == Ok(&[depth][..])
-                && suzdrepa::table_value(table, 2) == Ok(&[levels][..]);
-            if !agrees {
+            let table = WidthTable::from_bytes(table)
+                .map_err(|refusal| format!("the width table is {refusal}"))?;
+            if (table.depth(), table.levels()) != (depth, levels) {
                 return Err("the width table does not agree with the second line".into());
             }
-            Some(table.to_vec())
+            Some(table)
         } else {
             None
         };
@@ -106,7 +108,9 @@ impl Plane {
             self.depth, self.levels, self.width, self.height
         )
         .into_bytes();
-        bytes.extend(self.table.iter().flatten());
+        if let Some(table) = &self.table {
+            bytes.extend(table.as_bytes());
+        }
         for value in &self.values {
             bytes.extend(value.to_le_bytes());
         }
@@ -117,6 +121,7 @@ impl Plane {
 #[cfg(test)]
 mod tests {
     use super::*;
+    use suzdrepa::Width;
 
     fn reversible() -> Plane {
         Plane {
@@ -130,12 +135,8 @@ mod tests {
     }
 
     fn fixed() -> Plane {
-        let mut table = vec![
-            1, 0, 1, 3, 2, 0, 1, 1, 3, 0, 6, 24, 24, 24, 24, 24, 24, 4, 0, 36,
-        ];
-        table.extend([12, 2].repeat(18));
         Plane {
-            table: Some(table),
+            table: WidthTable::uniform(3, 1, 24, Width::new(12, 2)).ok(),
             ..reversible()
         }
     }
@@ -187,5 +188,8 @@ mod tests {
         let mut bytes = fixed().write();
         bytes[12] = b'4';
         assert!(Plane::read(&bytes).unwrap_err().contains("does not agree"));
+        let mut bytes = fixed().write();
+        bytes[20] = 9;
+        assert!(Plane::read(&bytes).unwrap_err().contains("refused 2"));
     }
 }

@@ -4,7 +4,6 @@
 //! Exit status: 0 done, 1 refused by the engine, 2 a wrong command line or a
 //! file that cannot be read, written or understood.
 
-pub mod bounds;
 pub mod container;
 pub mod pgm;
 pub mod png;
@@ -12,7 +11,6 @@ pub mod progress;
 pub mod sample;
 pub mod show;
 pub mod suggest;
-pub mod table;
 
 mod command;
 

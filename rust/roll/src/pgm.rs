@@ -1,6 +1,11 @@
 //! Grey pictures as PGM files (P5): one byte a pixel up to a largest value of
 //! 255, two bytes, high byte first, up to 4095.
 
+use suzdrepa::WidthTable;
+
+/// The largest value of a pixel.
+const LARGEST: u32 = (1 << WidthTable::MAX_DEPTH) - 1;
+
 /// A grey picture.
 #[derive(Clone, Debug, PartialEq, Eq)]
 pub struct Picture {
@@ -63,9 +68,10 @@ impl Picture {
         let width = head.number("width")? as usize;
         let height = head.number("height")? as usize;
         let largest = head.number("largest value")?;
-        if !(1..=4095).contains(&largest) {
+        if !(1..=LARGEST).contains(&largest) {
             return Err(format!(
-                "the PGM's largest value is {largest}; 1 to 4095 (1 to 12 bits) are read"
+                "the PGM's largest value is {largest}; 1 to {LARGEST} ({} bits) are read",
+                WidthTable::MAX_DEPTH
             ));
         }
         if !bytes.get(head.at).is_some_and(u8::is_ascii_whitespace) {

@@ -2,43 +2,29 @@
 
 use crate::pgm::Picture;
 use crate::progress::Progress;
-use crate::suggest::suggest;
-use crate::table::{number_of, Table, Width};
+use crate::suggest::{moved, suggest};
+use suzdrepa::{Node, Pass, Place, Refusal, Width, WidthTable};
 
 /// The files of the sample, by name.
-pub fn files(progress: &Progress) -> Vec<(&'static str, Vec<u8>)> {
-    let church = church();
-    let museum = suggest(8, 5, progress);
-    let mut narrow = museum.clone();
+pub fn files(progress: &Progress) -> Result<Vec<(&'static str, Vec<u8>)>, Refusal> {
+    // Generous: widths as they come, and steps finer than a pixel's.
+    let church = WidthTable::kept_and_others(8, 3, 24, Width::new(12, 10), Width::new(12, 20))?;
+    let museum = suggest(8, 5, progress)?;
     // As in a table that was cut too close at the third level.
-    narrow.widths[number_of(3, 1, 1)].integer_bits -= 1;
+    let third = Place::new(3, Pass::Rows, Node::P1);
+    let narrow = moved(&museum, third, -1, 0).ok_or(Refusal::OutsideLimits)?;
+    // The inner nodes of the rows of level 1 are too rough for such steps.
     let mut rough = church.clone();
-    for (number, width) in rough.widths.iter_mut().enumerate() {
-        // The inner nodes of the rows of level 1.
-        if number < 4 {
-            width.fraction_bits = 6;
-        }
+    for node in [Node::P1, Node::U1, Node::P2, Node::U2] {
+        rough = rough.with_width(Place::new(1, Pass::Rows, node), Width::new(12, 6))?;
     }
-    vec![
+    Ok(vec![
         ("roll.pgm", roll(640, 512).write()),
-        ("church.table", church.write()),
-        ("museum.table", museum.write()),
-        ("refused6.table", narrow.write()),
-        ("refused7.table", rough.write()),
-    ]
-}
-
-/// Generous: widths as they come, and steps finer than a pixel's.
-fn church() -> Table {
-    let kept = Width {
-        integer_bits: 12,
-        fraction_bits: 10,
-    };
-    let others = Width {
-        integer_bits: 12,
-        fraction_bits: 20,
-    };
-    Table::of_two_widths(8, 3, 24, kept, others)
+        ("church.table", church.to_bytes()),
+        ("museum.table", museum.to_bytes()),
+        ("refused6.table", narrow.to_bytes()),
+        ("refused7.table", rough.to_bytes()),
+    ])
 }
 
 /// Paper with rows of round holes, dense in the second half, and some grain.
@@ -89,7 +75,7 @@ mod tests {
 
     #[test]
     fn the_tables_do_what_their_names_say() {
-        let files = files(&Progress::silent());
+        let files = files(&Progress::silent()).unwrap();
         let number = |name: &str| {
             let (_, bytes) = files.iter().find(|(n, _)| *n == name).unwrap();
             match suzdrepa::check_table(bytes) {

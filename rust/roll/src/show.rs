@@ -1,53 +1,64 @@
 //! A width table in words and numbers.
 
-use crate::bounds::{bounds, Node};
-use crate::table::Table;
-use std::fmt::Write;
+use suzdrepa::{Bound, Node, Place, Refusal, Width, WidthTable};
 
-const NODES: [&str; 6] = ["P1", "U1", "P2", "U2", "G1", "G2"];
-const PASSES: [&str; 3] = ["rows", "columns of row-low", "columns of row-high"];
-
-/// A bound of 2^-32 as a decimal number.
-fn decimal(bound: i128) -> f64 {
-    bound as f64 / (1u64 << 32) as f64
+/// What a node holds beyond range and error; below zero where it does not fit.
+fn head_room(width: Width, bound: Bound) -> f64 {
+    let most = 2f64.powi(i32::from(width.integer_bits) - 1) - step(width);
+    most - bound.range_as_f64() - bound.error_as_f64()
 }
 
-fn remark(node: &Node) -> &'static str {
-    if node.head_room() < 0 {
-        "does not fit"
-    } else if !node.is_right() {
-        "two steps off or more"
-    } else {
-        ""
-    }
+fn step(width: Width) -> f64 {
+    2f64.powi(-i32::from(width.fraction_bits))
 }
 
-/// The table as text: widths, bounds and head-room of every node.
-pub fn text(table: &Table) -> String {
-    let mut text = format!("depth {} bits, {} levels\n", table.depth, table.levels);
+/// The node's line after its width: range, error, head-room, the error of a
+/// kept one in steps, and a remark on the first refused one.
+fn bounds(table: &WidthTable, place: Place, width: Width, verdict: Result<(), Refusal>) -> String {
+    let bound = match table.bound(place) {
+        Ok(bound) => bound,
+        // A node before it is refused.
+        Err(_) => return format!("{:>10}  {:>10}  {:>10}", "-", "-", "-"),
+    };
+    let steps = match table.is_kept(place) {
+        true => format!("{:.3}", bound.error_as_f64() / step(width)),
+        false => String::new(),
+    };
+    let remark = match verdict {
+        Err(refusal) if refusal.place() == Some(place) => refusal.meaning(),
+        _ => "",
+    };
+    format!(
+        "{:>10.5}  {:>10.3e}  {:>10.5}  {steps:<7}  {remark}",
+        bound.range_as_f64(),
+        bound.error_as_f64(),
+        head_room(width, bound),
+    )
+}
+
+/// The table as text: widths, bounds and head-room of every node. The nodes
+/// after the first refused one have no bounds.
+pub fn text(table: &WidthTable) -> String {
+    let mut text = format!("depth {} bits, {} levels\n", table.depth(), table.levels());
     text += "bits of the constants:";
-    for (name, bits) in NODES.iter().zip(table.constant_bits) {
-        write!(text, " {name} {bits}").expect("text grows");
+    for node in Node::ALL {
+        text += &format!(" {node} {}", table.constant_bits(node));
     }
     text += "\n\n";
     text += "level  pass                 node   IB   f       range       error   head-room  error of kept ones in steps\n";
-    for node in bounds(table) {
-        let steps = match node.kept {
-            true => format!("{:.3}", node.error_in_steps()),
-            false => String::new(),
+    let verdict = table.check();
+    for place in table.places() {
+        let Some(width) = table.width(place) else {
+            continue;
         };
         let line = format!(
-            "{:>5}  {:<19}  {:<4}  {:>3} {:>3}  {:>10.5}  {:>10.3e}  {:>10.5}  {:<7}  {}",
-            node.level,
-            PASSES[usize::from(node.pass) - 1],
-            NODES[usize::from(node.node) - 1],
-            node.width.integer_bits,
-            node.width.fraction_bits,
-            decimal(node.bound.range as i128),
-            decimal(node.bound.error as i128),
-            decimal(node.head_room()),
-            steps,
-            remark(&node),
+            "{:>5}  {:<19}  {:<4}  {:>3} {:>3}  {}",
+            place.level,
+            place.pass,
+            place.node,
+            width.integer_bits,
+            width.fraction_bits,
+            bounds(table, place, width, verdict),
         );
         text += line.trim_end();
         text += "\n";
@@ -58,19 +69,18 @@ pub fn text(table: &Table) -> String {
 #[cfg(test)]
 mod tests {
     use super::*;
-    use crate::table::Width;
+
+    const WIDE: Width = Width::new(12, 20);
+
+    fn table() -> WidthTable {
+        WidthTable::kept_and_others(8, 2, 24, Width::new(12, 2), WIDE).unwrap()
+    }
 
     #[test]
     fn every_node_has_its_line() {
-        let width = |integer_bits, fraction_bits| Width {
-            integer_bits,
-            fraction_bits,
-        };
-        let mut table = Table::of_two_widths(8, 2, 24, width(12, 2), width(12, 20));
-        let shown = text(&table);
+        let shown = text(&table());
         assert_eq!(shown.lines().count(), 4 + 36);
         assert!(shown.starts_with("depth 8 bits, 2 levels\n"));
-        assert!(!shown.contains("does not fit") && !shown.contains("two steps off"));
         // Seven kept nodes have their error in steps as a seventh number.
         let numbers = |line: &str| {
             line.split_whitespace()
@@ -78,10 +88,35 @@ mod tests {
                 .count()
         };
         assert_eq!(shown.lines().skip(4).filter(|l| numbers(l) == 7).count(), 7);
-        table.widths[0].integer_bits = 2;
-        table.widths[35].fraction_bits = 20;
-        let shown = text(&table);
-        assert_eq!(shown.matches("does not fit").count(), 1);
-        assert_eq!(shown.matches("two steps off or more").count(), 1);
+        let first = shown.lines().nth(4).unwrap();
+        assert_eq!(
+            first.split_whitespace().collect::<Vec<_>>(),
+            [
+                "1",
+                "rows",
+                "P1",
+                "12",
+                "20",
+                "2.08614",
+                "9.835e-7",
+                "2045.91386"
+            ]
+        );
+    }
+
+    #[test]
+    fn the_refused_node_has_a_remark_and_those_after_it_no_bounds() {
+        let places: Vec<Place> = table().places().collect();
+        for (at, width, remark) in [
+            (0, Width::new(2, 20), "a node does not fit"),
+            (35, WIDE, "a kept node's error is not below two steps"),
+        ] {
+            let shown = text(&table().with_width(places[at], width).unwrap());
+            let lines: Vec<&str> = shown.lines().skip(4).collect();
+            assert!(lines[at].ends_with(remark), "{shown}");
+            assert_eq!(shown.matches(remark).count(), 1);
+            let blank = |line: &&str| line.ends_with("-           -           -");
+            assert!(!lines[..=at].iter().any(blank) && lines[at + 1..].iter().all(blank));
+        }
     }
 }

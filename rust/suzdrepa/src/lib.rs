@@ -7,8 +7,9 @@
 //!   many bits every intermediate value has ([`forward97`]),
 //! * the **5/3 transform**, an exact copy that goes back to the same picture
 //!   ([`forward53`], [`inverse53`]),
-//! * **width tables**: read, judged, changed ([`check_table`],
-//!   [`table_form`], [`table_value`], [`change_width`]).
+//! * **width tables**: built, read, judged, changed, written ([`WidthTable`]),
+//!   or as plain bytes ([`check_table`], [`table_bound`], [`table_form`],
+//!   [`table_value`], [`change_width`]).
 //!
 //! Under a table that [`check_table`] accepts, no picture whatever drives a
 //! value out of its width, and every coefficient stands less than two of its
@@ -38,92 +39,39 @@
 //! assert_eq!(suzdrepa::inverse53_to_vec(3, 1, &plane, 2, 2)?, pixels);
 //! # Ok::<(), suzdrepa::Refusal>(())
 //! ```
+//!
+//! # Coefficients under a width table
+//!
+//! ```
+//! use suzdrepa::{Place, Width, WidthTable};
+//!
+//! // Coefficients with 10 fractional bits, everything else as fine as it gets.
+//! let table = WidthTable::kept_and_others(3, 1, 24, Width::new(12, 10), Width::new(12, 20))?;
+//! table.check()?;
+//! let pixels = [5u16, 7, 4, 4];
+//! let plane = suzdrepa::forward97_to_vec(table.as_bytes(), &pixels, 2, 2)?;
+//! // What the first coefficient means.
+//! let place = Place::of_coefficient(table.levels(), (2, 2), 0, 0).expect("it is in the plane");
+//! let width = table.width(place).expect("the table has the level");
+//! let value = f64::from(plane[0]) / f64::from(1 << width.fraction_bits);
+//! assert!((value - 0.25).abs() < 2.0 / 1024.0);
+//! # Ok::<(), suzdrepa::Refusal>(())
+//! ```
 
-mod raw;
+mod place;
 mod refusal;
+mod table;
 
-pub use refusal::{Place, Refusal};
+pub use place::{Bound, Node, Pass, Place, Width};
+pub use refusal::Refusal;
+pub use table::{
+    change_width, change_width_into, check_table, table_bound, table_form, table_value, WidthTable,
+};
 
-/// The longest side of a picture.
-pub const MOST_SIDE: usize = 4096;
+use suzdrepa_sys as sys;
 
-/// Reads a width table (document 01: a book) and judges it.
-///
-/// `Ok` means that under this table every picture of its depth can be worked
-/// by [`forward97`] without any value leaving its width and with every
-/// coefficient less than two steps from the exact one.
-///
-/// Refused 1 to 5 where the bytes are malformed, 6 where a node does not fit,
-/// 7 where a kept coefficient would be too far off; 6 and 7 name the first
-/// such node.
-pub fn check_table(table: &[u8]) -> Result<(), Refusal> {
-    Refusal::from_answer(raw::table_check(table))
-}
-
-/// Reads a width table without judging it: refused 1 to 5 where the bytes are
-/// malformed.
-pub fn table_form(table: &[u8]) -> Result<(), Refusal> {
-    Refusal::from_answer(raw::table_form(table))
-}
-
-/// The value of a field of a width table, as a part of the given bytes.
-///
-/// Tag 1 is the depth, 2 the levels, 3 the bits of the six constants, 4 the
-/// widths of all nodes (integer bits, then fractional bits, 18 nodes a
-/// level). Any other tag is refused 2; then the whole form is judged, 1 to 5.
-pub fn table_value(table: &[u8], tag: u8) -> Result<&[u8], Refusal> {
-    let (answer, start, length) = raw::table_value(table, tag);
-    Refusal::from_answer(answer)?;
-    Ok(&table[start as usize..][..length as usize])
-}
-
-/// A new width table with another width at one node.
-///
-/// Level counts from 1, pass is 1 (rows), 2 (columns of row-low) or 3
-/// (columns of row-high), node is 1 to 6 (P1, U1, P2, U2, G1, G2). Refused 1
-/// to 5 where the bytes are malformed, then 4 where the table lacks the node
-/// or a number is outside its limits (integer bits 1 to 12, fractional bits 0
-/// to 20). The new table is not judged.
-pub fn change_width(
-    table: &[u8],
-    level: u8,
-    pass: u8,
-    node: u8,
-    integer_bits: u8,
-    fraction_bits: u8,
-) -> Result<Vec<u8>, Refusal> {
-    // A table is written as long as it was read.
-    let mut out = vec![0; table.len()];
-    change_width_into(
-        table,
-        level,
-        pass,
-        node,
-        integer_bits,
-        fraction_bits,
-        &mut out,
-    )?;
-    Ok(out)
-}
-
-/// As [`change_width`], but writes the new table to the start of `out`;
-/// refused 9 where `out` is shorter than the table.
-pub fn change_width_into(
-    table: &[u8],
-    level: u8,
-    pass: u8,
-    node: u8,
-    integer_bits: u8,
-    fraction_bits: u8,
-    out: &mut [u8],
-) -> Result<(), Refusal> {
-    Refusal::from_answer(raw::table_change(
-        table,
-        [level, pass, node],
-        [integer_bits, fraction_bits],
-        out,
-    ))
-}
+/// The greatest side of a picture.
+pub const MAX_SIDE: usize = sys::SUZ_MAX_SIDE;
 
 /// Works a picture into 9/7 coefficients under a width table.
 ///
@@ -139,7 +87,22 @@ pub fn forward97(
     plane: &mut [i32],
     work: &mut [i32],
 ) -> Result<(), Refusal> {
-    Refusal::from_answer(raw::forward97(table, pixels, width, height, plane, work))
+    // SAFETY: pointers and lengths are those of slices; `plane` and `work`
+    // are exclusive.
+    Refusal::from_answer(unsafe {
+        sys::suz_forward97(
+            table.as_ptr(),
+            table.len(),
+            pixels.as_ptr(),
+            pixels.len(),
+            width,
+            height,
+            plane.as_mut_ptr(),
+            plane.len(),
+            work.as_mut_ptr(),
+            work.len(),
+        )
+    })
 }
 
 /// As [`forward97`], with a plane of its own.
@@ -167,14 +130,22 @@ pub fn forward53(
     plane: &mut [i32],
     work: &mut [i32],
 ) -> Result<(), Refusal> {
-    Refusal::from_answer(raw::forward53(
-        [depth, levels],
-        pixels,
-        width,
-        height,
-        plane,
-        work,
-    ))
+    // SAFETY: pointers and lengths are those of slices; `plane` and `work`
+    // are exclusive.
+    Refusal::from_answer(unsafe {
+        sys::suz_forward53(
+            depth,
+            levels,
+            pixels.as_ptr(),
+            pixels.len(),
+            width,
+            height,
+            plane.as_mut_ptr(),
+            plane.len(),
+            work.as_mut_ptr(),
+            work.len(),
+        )
+    })
 }
 
 /// As [`forward53`], with a plane of its own.
@@ -203,14 +174,22 @@ pub fn inverse53(
     pixels: &mut [u16],
     work: &mut [i32],
 ) -> Result<(), Refusal> {
-    Refusal::from_answer(raw::inverse53(
-        [depth, levels],
-        plane,
-        width,
-        height,
-        pixels,
-        work,
-    ))
+    // SAFETY: pointers and lengths are those of slices; `pixels` and `work`
+    // are exclusive.
+    Refusal::from_answer(unsafe {
+        sys::suz_inverse53(
+            depth,
+            levels,
+            plane.as_ptr(),
+            plane.len(),
+            width,
+            height,
+            pixels.as_mut_ptr(),
+            pixels.len(),
+            work.as_mut_ptr(),
+            work.len(),
+        )
+    })
 }
 
 /// As [`inverse53`], with pixels of its own.
@@ -235,7 +214,7 @@ fn plane_and_work(width: usize, height: usize) -> (Vec<i32>, Vec<i32>) {
 /// Width times height. Nothing is allocated for a side that no call admits:
 /// such a call is refused before its slices are looked at.
 fn elements(width: usize, height: usize) -> usize {
-    if width <= MOST_SIDE && height <= MOST_SIDE {
+    if width <= MAX_SIDE && height <= MAX_SIDE {
         width * height
     } else {
         0
@@ -261,9 +240,12 @@ mod tests {
     fn empty_slices_are_taken() {
         assert_eq!(check_table(&[]).unwrap_err().number(), 1);
         assert_eq!(table_form(&[]).unwrap_err().number(), 1);
+        let place = Place::new(1, Pass::Rows, Node::P1);
+        assert_eq!(table_bound(&[], place).unwrap_err().number(), 1);
         assert_eq!(table_value(&[], 1).unwrap_err().number(), 1);
         assert_eq!(table_value(&[], 0).unwrap_err().number(), 2);
-        assert_eq!(change_width(&[], 1, 1, 1, 1, 1).unwrap_err().number(), 1);
+        let refusal = change_width(&[], place, Width::new(1, 1)).unwrap_err();
+        assert_eq!(refusal.number(), 1);
         let refusal = forward53(8, 1, &[], 2, 2, &mut [], &mut []).unwrap_err();
         assert_eq!(refusal.number(), 9);
     }

@@ -1,83 +1,72 @@
-//! The engine timed against a plain Rust program, on the same buffers.
+//! The engine timed against a plain Rust program, on the same memory.
 //!
 //! `bench [SIDE...]` prints a Markdown table of medians in milliseconds; the
-//! sides are 256, 512, 1024, 2048 and 4096 where none is named. Both programs
-//! must give equal planes and pictures.
+//! sides are 256, 512, 1024, 2048 and 4096 where none is named. In each row
+//! the two programs run in turn, and must leave equal planes and pictures.
 
 mod plain;
 
 use std::process::ExitCode;
 use std::time::{Duration, Instant};
+use suzdrepa::{Place, Width, WidthTable, MAX_SIDE};
 
 const DEPTH: u8 = 8;
 const LEVELS: u8 = 5;
 
-/// Kept: G1 and G2 of the columns, but G1 of row-low at the last level only.
-fn is_kept(level: u8, pass: u8, node: u8) -> bool {
-    pass >= 2 && node >= 5 && !(pass == 2 && node == 5 && level < LEVELS)
-}
-
-fn nodes() -> impl Iterator<Item = (u8, u8, u8)> {
-    (1..=LEVELS).flat_map(|level| {
-        (1..=3).flat_map(move |pass| (1..=6).map(move |node| (level, pass, node)))
-    })
-}
-
-/// A table from the bits of the constants and a width for each node.
-fn table(constant_bits: u8, width: impl Fn(u8, u8, u8) -> (u8, u8)) -> Vec<u8> {
-    let mut table = vec![1, 0, 1, DEPTH, 2, 0, 1, LEVELS, 3, 0, 6];
-    table.extend([constant_bits; 6]);
-    table.extend([4, 0, 36 * LEVELS]);
-    for (level, pass, node) in nodes() {
-        let (integer_bits, fraction_bits) = width(level, pass, node);
-        table.extend([integer_bits, fraction_bits]);
-    }
-    table
-}
+/// The least side that so many levels admit.
+const MIN_SIDE: usize = (1 << (LEVELS - 1)) + 1;
 
 /// All nodes (12, 20), kept ones (12, 2), constants with 24 bits.
-fn wide_table() -> Vec<u8> {
-    table(24, |level, pass, node| {
-        (12, if is_kept(level, pass, node) { 2 } else { 20 })
-    })
+fn wide_table() -> WidthTable {
+    WidthTable::kept_and_others(DEPTH, LEVELS, 24, Width::new(12, 2), Width::new(12, 20))
+        .expect("the numbers are within their limits")
+}
+
+/// The table with the width that `change` gives a node step by step, for as
+/// long as it is accepted.
+fn pushed(
+    mut table: WidthTable,
+    place: Place,
+    change: impl Fn(Width) -> Option<Width>,
+) -> WidthTable {
+    loop {
+        let next = table
+            .width(place)
+            .and_then(&change)
+            .and_then(|width| table.with_width(place, width).ok())
+            .filter(|next| next.check().is_ok());
+        match next {
+            Some(next) => table = next,
+            None => return table,
+        }
+    }
 }
 
 /// Constants with 16 bits, inner nodes 16 to 12 fractional bits, kept ones as
-/// many as are accepted, integer bits as few as are accepted.
-fn tight_table() -> Vec<u8> {
-    let mut table = table(16, |level, pass, node| {
-        (
-            12,
-            if is_kept(level, pass, node) {
-                0
-            } else {
-                17 - level
-            },
-        )
-    });
-    assert!(suzdrepa::check_table(&table).is_ok());
-    for (number, (level, pass, node)) in nodes().enumerate() {
-        let at = 20 + 2 * number;
-        let most = if is_kept(level, pass, node) { 12 } else { 0 };
-        while table[at + 1] < most {
-            table[at + 1] += 1;
-            if suzdrepa::check_table(&table).is_err() {
-                table[at + 1] -= 1;
-                break;
-            }
+/// many as are accepted up to 12, integer bits as few as are accepted.
+fn tight_table() -> WidthTable {
+    let mut table = WidthTable::uniform(DEPTH, LEVELS, 16, Width::new(12, 0)).expect("in limits");
+    let places: Vec<Place> = table.places().collect();
+    for &place in &places {
+        if !table.is_kept(place) {
+            let width = Width::new(12, 17 - place.level);
+            table = table.with_width(place, width).expect("in limits");
         }
     }
-    for number in 0..nodes().count() {
-        let at = 20 + 2 * number;
-        while table[at] > 1 {
-            table[at] -= 1;
-            if suzdrepa::check_table(&table).is_err() {
-                table[at] += 1;
-                break;
-            }
+    table.check().expect("it is accepted");
+    for &place in &places {
+        if table.is_kept(place) {
+            table = pushed(table, place, |width| {
+                let finer = Width::new(width.integer_bits, width.fraction_bits + 1);
+                Some(finer).filter(|finer| finer.fraction_bits <= 12)
+            });
         }
     }
-    assert!(suzdrepa::check_table(&table).is_ok());
+    for &place in &places {
+        table = pushed(table, place, |width| {
+            Some(Width::new(width.integer_bits - 1, width.fraction_bits))
+        });
+    }
     table
 }
 
@@ -98,31 +87,72 @@ fn picture(side: usize) -> Vec<u16> {
     pixels
 }
 
-/// Lent memory, used by both programs in turn.
+/// Memory that is lent to both programs in turn.
 struct Buffers {
     side: usize,
     pixels: Vec<u16>,
+    /// The exact copy of the picture.
+    copy: Vec<i32>,
     plane: Vec<i32>,
-    work: Vec<i32>,
     back: Vec<u16>,
+    work: Vec<i32>,
 }
 
 impl Buffers {
     fn new(side: usize) -> Buffers {
+        let pixels = picture(side);
+        let copy = suzdrepa::forward53_to_vec(DEPTH, LEVELS, &pixels, side, side)
+            .expect("the picture is admitted");
         Buffers {
             side,
-            pixels: picture(side),
+            pixels,
+            copy,
             plane: vec![0; side * side],
-            work: vec![0; side * side],
             back: vec![0; side * side],
+            work: vec![0; side * side],
         }
+    }
+
+    /// Puts something else in place of all results.
+    fn spoil(&mut self) {
+        self.plane.fill(-1);
+        self.back.fill(u16::MAX);
+        self.work.fill(1);
     }
 }
 
-fn timed(work: impl FnOnce()) -> Duration {
-    let start = Instant::now();
-    work();
-    start.elapsed()
+/// A call on lent memory; it says whether it was done.
+type Call<'a> = &'a dyn Fn(&mut Buffers) -> bool;
+
+/// Runs both programs in turn, asserts that they leave the same, and gives
+/// the medians in milliseconds.
+fn compare(buffers: &mut Buffers, engine: Call, plain: Call) -> [f64; 2] {
+    let runs = match buffers.side {
+        ..=512 => 21,
+        513..=2048 => 11,
+        _ => 7,
+    };
+    let mut times = [Vec::new(), Vec::new()];
+    let mut due = None;
+    // The first round warms the caches and is not counted.
+    for round in 0..=runs {
+        for (call, times) in [engine, plain].into_iter().zip(&mut times) {
+            buffers.spoil();
+            let start = Instant::now();
+            let done = call(buffers);
+            let time = start.elapsed();
+            assert!(done && buffers.work.iter().all(|&value| value == 0));
+            let (plane, back) = due.get_or_insert((buffers.plane.clone(), buffers.back.clone()));
+            assert!(
+                *plane == buffers.plane && *back == buffers.back,
+                "the two programs differ"
+            );
+            if round > 0 {
+                times.push(time);
+            }
+        }
+    }
+    times.map(median)
 }
 
 fn median(mut times: Vec<Duration>) -> f64 {
@@ -130,120 +160,70 @@ fn median(mut times: Vec<Duration>) -> f64 {
     times[times.len() / 2].as_secs_f64() * 1e3
 }
 
-/// Runs both in turn and compares what they leave; the medians.
-fn compare<T: Clone + PartialEq>(
-    buffers: &mut Buffers,
-    engine: impl Fn(&mut Buffers),
-    plain: impl Fn(&mut Buffers),
-    result: impl Fn(&Buffers) -> &[T],
-) -> (f64, f64) {
-    let runs = if buffers.side >= 2048 { 5 } else { 11 };
-    let (mut engine_times, mut plain_times) = (Vec::new(), Vec::new());
-    // One round that is not counted warms the caches.
-    for round in 0..=runs {
-        buffers.work.fill(1);
-        let engine_time = timed(|| engine(buffers));
-        let given = result(buffers).to_vec();
-        assert!(buffers.work.iter().all(|&v| v == 0));
-        buffers.work.fill(1);
-        let plain_time = timed(|| plain(buffers));
-        assert!(given == result(buffers), "the two programs differ");
-        assert!(buffers.work.iter().all(|&v| v == 0));
-        if round > 0 {
-            engine_times.push(engine_time);
-            plain_times.push(plain_time);
-        }
-    }
-    (median(engine_times), median(plain_times))
-}
-
-fn row(name: &str, side: usize, (engine, plain): (f64, f64)) {
+fn row(name: &str, buffers: &mut Buffers, engine: Call, plain: Call) {
+    let [engine, plain] = compare(buffers, engine, plain);
     println!(
         "| {name} | {side} x {side} | {engine:.2} | {plain:.2} | {:.2} |",
-        engine / plain
+        engine / plain,
+        side = buffers.side
     );
 }
 
-fn measure(side: usize, tables: &[(&str, Vec<u8>)]) {
+fn measure(side: usize, tables: &[(&str, WidthTable)]) {
     let mut buffers = Buffers::new(side);
     let size = (side, side);
-    let times = compare(
+    row(
+        "5/3 forward",
         &mut buffers,
-        |b| {
-            suzdrepa::forward53(
-                DEPTH,
-                LEVELS,
-                &b.pixels,
-                side,
-                side,
-                &mut b.plane,
-                &mut b.work,
-            )
-            .expect("the picture is admitted");
+        &|Buffers {
+              pixels,
+              plane,
+              work,
+              ..
+          }| {
+            suzdrepa::forward53(DEPTH, LEVELS, pixels, side, side, plane, work).is_ok()
         },
-        |b| {
-            assert!(plain::forward53(
-                DEPTH,
-                LEVELS,
-                &b.pixels,
-                size,
-                &mut b.plane,
-                &mut b.work
-            ))
-        },
-        |b| &b.plane,
+        &|Buffers {
+              pixels,
+              plane,
+              work,
+              ..
+          }| { plain::forward53(DEPTH, LEVELS, pixels, size, plane, work) },
     );
-    row("5/3 forward", side, times);
-    let times = compare(
+    row(
+        "5/3 back",
         &mut buffers,
-        |b| {
-            suzdrepa::inverse53(
-                DEPTH,
-                LEVELS,
-                &b.plane,
-                side,
-                side,
-                &mut b.back,
-                &mut b.work,
-            )
-            .expect("the plane is a picture's");
-        },
-        |b| {
-            assert!(plain::inverse53(
-                DEPTH,
-                LEVELS,
-                &b.plane,
-                size,
-                &mut b.back,
-                &mut b.work
-            ))
-        },
-        |b| &b.back,
+        &|Buffers {
+              copy, back, work, ..
+          }| { suzdrepa::inverse53(DEPTH, LEVELS, copy, side, side, back, work).is_ok() },
+        &|Buffers {
+              copy, back, work, ..
+          }| { plain::inverse53(DEPTH, LEVELS, copy, size, back, work) },
     );
     assert!(
         buffers.back == buffers.pixels,
         "the picture came back changed"
     );
-    row("5/3 back", side, times);
     for (name, table) in tables {
-        let times = compare(
+        let table = table.as_bytes();
+        row(
+            &format!("9/7 forward, {name}"),
             &mut buffers,
-            |b| {
-                suzdrepa::forward97(table, &b.pixels, side, side, &mut b.plane, &mut b.work)
-                    .expect("the picture is admitted");
+            &|Buffers {
+                  pixels,
+                  plane,
+                  work,
+                  ..
+              }| {
+                suzdrepa::forward97(table, pixels, side, side, plane, work).is_ok()
             },
-            |b| {
-                assert!(plain::forward97(
-                    table,
-                    &b.pixels,
-                    size,
-                    &mut b.plane,
-                    &mut b.work
-                ))
-            },
-            |b| &b.plane,
+            &|Buffers {
+                  pixels,
+                  plane,
+                  work,
+                  ..
+              }| { plain::forward97(table, pixels, size, plane, work) },
         );
-        row(&format!("9/7 forward, {name}"), side, times);
     }
 }
 
@@ -251,9 +231,9 @@ fn main() -> ExitCode {
     let mut sides = Vec::new();
     for argument in std::env::args().skip(1) {
         match argument.parse() {
-            Ok(side) if (17..=4096).contains(&side) => sides.push(side),
+            Ok(side) if (MIN_SIDE..=MAX_SIDE).contains(&side) => sides.push(side),
             _ => {
-                eprintln!("usage: bench [SIDE...]   sides from 17 to 4096");
+                eprintln!("usage: bench [SIDE...]   sides from {MIN_SIDE} to {MAX_SIDE}");
                 return ExitCode::from(2);
             }
         }
@@ -272,46 +252,115 @@ fn main() -> ExitCode {
     ExitCode::SUCCESS
 }
 
+/// The plain program is only a fair measure if it does the same work.
 #[cfg(test)]
 mod tests {
     use super::*;
+    use ::compare::chance::Chance;
+    use ::compare::hostile::Shape;
+    use ::compare::tables;
 
-    /// The plain program is only a fair measure if it does the same work.
+    fn shape(chance: &mut Chance) -> Shape {
+        let (depth, levels) = (chance.within(1, 12) as u8, chance.within(1, 5) as u8);
+        Shape::small(chance, depth, levels, 90)
+    }
+
     #[test]
-    fn the_plain_program_gives_the_same() {
-        let pixels = picture(64);
-        for (width, height) in [(17, 17), (17, 18), (18, 17), (31, 64), (64, 33), (50, 47)] {
-            let count = width * height;
-            let pixels = &pixels[..count];
-            let size = (width, height);
-            let (mut plane, mut work) = (vec![0; count], vec![1; count]);
+    fn the_same_copies_and_pictures() {
+        let mut chance = Chance::new(1);
+        let mut refused = 0;
+        for _ in 0..500 {
+            let Shape {
+                depth,
+                levels,
+                width,
+                height,
+            } = shape(&mut chance);
+            let (count, size) = (width * height, (width, height));
+            let mut pixels = chance.picture(depth, count);
+            let due = suzdrepa::forward53_to_vec(depth, levels, &pixels, width, height).unwrap();
+            let (mut plane, mut work) = (chance.plane(count), chance.plane(count));
             assert!(plain::forward53(
-                DEPTH, LEVELS, pixels, size, &mut plane, &mut work
+                depth, levels, &pixels, size, &mut plane, &mut work
             ));
-            let due = suzdrepa::forward53_to_vec(DEPTH, LEVELS, pixels, width, height).unwrap();
-            assert_eq!(plane, due);
-            assert!(work.iter().all(|&v| v == 0));
-            let mut back = vec![0; count];
+            assert_eq!((&plane, &work), (&due, &vec![0; count]));
+            let mut back = chance.sixteen_bits(count);
             assert!(plain::inverse53(
-                DEPTH, LEVELS, &plane, size, &mut back, &mut work
+                depth, levels, &plane, size, &mut back, &mut work
             ));
-            assert_eq!(back, pixels);
-            plane[0] += 1000;
-            assert!(!plain::inverse53(
-                DEPTH, LEVELS, &plane, size, &mut back, &mut work
-            ));
-            for table in [tight_table(), wide_table()] {
-                assert!(plain::forward97(
-                    &table, pixels, size, &mut plane, &mut work
-                ));
-                let due = suzdrepa::forward97_to_vec(&table, pixels, width, height).unwrap();
-                assert_eq!(plane, due);
+            assert_eq!((&back, &work), (&pixels, &vec![0; count]));
+            // One coefficient changed, a little or beyond all measure.
+            let reach = *chance.of(&[2, 1 << depth, 1 << 20, 1 << 24, 1 << 31]);
+            let by = chance.below(2 * reach) as i64 - reach as i64;
+            plane[chance.below(count)] = by as i32;
+            let due = suzdrepa::inverse53_to_vec(depth, levels, &plane, width, height);
+            let done = plain::inverse53(depth, levels, &plane, size, &mut back, &mut work);
+            assert_eq!(done, due.is_ok());
+            refused += usize::from(!done);
+            if let Ok(pixels) = due {
+                assert_eq!(back, pixels);
             }
-            let mut large = pixels.to_vec();
-            large[count - 1] = 256;
+            assert!(work.iter().all(|&value| value == 0));
+            pixels[chance.below(count)] = 1 << depth;
             assert!(!plain::forward53(
-                DEPTH, LEVELS, &large, size, &mut plane, &mut work
+                depth, levels, &pixels, size, &mut plane, &mut work
             ));
+        }
+        assert!((100..450).contains(&refused), "{refused}");
+    }
+
+    /// Under the tables of the benchmark, tight ones, and generous ones with
+    /// numbers changed for as long as they are accepted: every form of a stage
+    /// comes up.
+    #[test]
+    fn the_same_coefficients() {
+        let mut chance = Chance::new(2);
+        for round in 0..400 {
+            let shape = shape(&mut chance);
+            let mut table = match round % 4 {
+                0 => tight_table(),
+                1 => wide_table(),
+                2 => {
+                    let table = tables::tight(&mut chance, shape.depth, shape.levels);
+                    WidthTable::from_bytes(&table.bytes().unwrap()).unwrap()
+                }
+                _ => {
+                    let table = tables::generous(shape.depth, shape.levels);
+                    WidthTable::from_bytes(&table.bytes().unwrap()).unwrap()
+                }
+            };
+            if round % 4 == 3 {
+                let places: Vec<Place> = table.places().collect();
+                for _ in 0..20 {
+                    let width = Width::new(12, chance.within(0, 20) as u8);
+                    let next = match chance.one_in(4) {
+                        true => table.with_constant(
+                            *chance.of(&suzdrepa::Node::ALL),
+                            chance.within(1, 24) as u8,
+                        ),
+                        false => table.with_width(*chance.of(&places), width),
+                    };
+                    table = next
+                        .ok()
+                        .filter(|next| next.check().is_ok())
+                        .unwrap_or(table);
+                }
+            }
+            // Admitted for any number of levels.
+            let (width, height) = (shape.width + 16, shape.height + 16);
+            let count = width * height;
+            let pixels = chance.picture(table.depth(), count);
+            let table = table.as_bytes();
+            let due = suzdrepa::forward97_to_vec(table, &pixels, width, height).unwrap();
+            let (mut plane, mut work) = (chance.plane(count), chance.plane(count));
+            assert!(plain::forward97(
+                table,
+                &pixels,
+                (width, height),
+                &mut plane,
+                &mut work
+            ));
+            assert_eq!((plane, work), (due, vec![0; count]));
         }
     }
 }

@@ -1,139 +1,168 @@
-//! A plain Rust program of the same transforms: what one would write without
-//! proofs, with some care for caches. Arguments are taken to be right, but for
-//! the pixels, which are looked through as the engine does.
+//! A plain Rust program of the same transforms: what one would write for
+//! speed without proofs. It takes its arguments to be right, but answers as
+//! the engine does for the pixels and planes in them, and zeroes the work area
+//! as the engine does.
+//!
+//! Rows and columns are worked alike. A *tile* is a number of lines of `n`
+//! values each, the lines of the lows first, then those of the highs: a row is
+//! a tile with one value a line, a strip of columns one with up to [`STRIP`].
+//! Every stage is then a flat loop over slices, which the compiler vectorises.
 
-/// Columns that are worked side by side.
-const BLOCK: usize = 16;
+/// The most columns that are worked side by side.
+const STRIP: usize = 64;
 
-/// One value of each column of a block.
-type Across = [i32; BLOCK];
-
-/// Checks the pixels and moves their middle to zero.
-fn enter(depth: u8, pixels: &[u16], plane: &mut [i32]) -> bool {
-    if pixels.iter().any(|&p| p >> depth != 0) {
-        return false;
-    }
-    let middle = 1 << (depth - 1);
-    for (value, &pixel) in plane.iter_mut().zip(pixels) {
-        *value = i32::from(pixel) - middle;
-    }
-    true
+/// A loop over a tile that changes each value by two neighbours.
+trait Sweep {
+    fn run(self, op: impl Fn(i32, i32, i32) -> i32);
 }
 
-/// Lows before highs, from a line in which they alternate.
-fn part<T: Copy>(line: &[T], out: &mut [T]) {
-    let (lows, highs) = out.split_at_mut(line.len().div_ceil(2));
-    for (low, &value) in lows.iter_mut().zip(line.iter().step_by(2)) {
-        *low = value;
-    }
-    for (high, &value) in highs.iter_mut().zip(line.iter().skip(1).step_by(2)) {
-        *high = value;
-    }
+/// Changes every high value by the lows on its two sides.
+struct HighsByLows<'a> {
+    lows: &'a [i32],
+    highs: &'a mut [i32],
+    n: usize,
 }
 
-/// The reverse of [`part`].
-fn join<T: Copy>(parted: &[T], out: &mut [T]) {
-    let (lows, highs) = parted.split_at(parted.len().div_ceil(2));
-    for (value, &low) in out.iter_mut().step_by(2).zip(lows) {
-        *value = low;
-    }
-    for (value, &high) in out.iter_mut().skip(1).step_by(2).zip(highs) {
-        *value = high;
-    }
-}
-
-/// A stage on single values or on a value of each column of a block.
-trait Lane: Copy {
-    fn zero() -> Self;
-    /// own op(first neighbour, second neighbour)
-    fn with(&mut self, a: &Self, b: &Self, op: impl Fn(i32, i32, i32) -> i32);
-}
-
-impl Lane for i32 {
-    fn zero() -> i32 {
-        0
-    }
+impl Sweep for HighsByLows<'_> {
     #[inline(always)]
-    fn with(&mut self, a: &i32, b: &i32, op: impl Fn(i32, i32, i32) -> i32) {
-        *self = op(*self, *a, *b);
-    }
-}
-
-impl Lane for Across {
-    fn zero() -> Across {
-        [0; BLOCK]
-    }
-    #[inline(always)]
-    fn with(&mut self, a: &Across, b: &Across, op: impl Fn(i32, i32, i32) -> i32) {
-        for i in 0..BLOCK {
-            self[i] = op(self[i], a[i], b[i]);
+    fn run(self, op: impl Fn(i32, i32, i32) -> i32) {
+        let (lows, n) = (self.lows, self.n);
+        let (inner, last) = self.highs.split_at_mut(lows.len() - n);
+        for ((high, &a), &b) in inner.iter_mut().zip(lows).zip(&lows[n..]) {
+            *high = op(*high, a, b);
+        }
+        for (high, &a) in last.iter_mut().zip(&lows[lows.len() - n..]) {
+            *high = op(*high, a, a);
         }
     }
 }
 
-/// Changes every high value by the lows on its two sides.
-#[inline(always)]
-fn highs_by_lows<T: Lane>(lows: &[T], highs: &mut [T], op: impl Fn(i32, i32, i32) -> i32 + Copy) {
-    for (high, pair) in highs.iter_mut().zip(lows.windows(2)) {
-        high.with(&pair[0], &pair[1], op);
-    }
-    if highs.len() == lows.len() {
-        let last = lows.len() - 1;
-        highs[last].with(&lows[last], &lows[last], op);
-    }
-}
-
 /// Changes every low value by the highs on its two sides.
-#[inline(always)]
-fn lows_by_highs<T: Lane>(lows: &mut [T], highs: &[T], op: impl Fn(i32, i32, i32) -> i32 + Copy) {
-    lows[0].with(&highs[0], &highs[0], op);
-    for (low, pair) in lows[1..].iter_mut().zip(highs.windows(2)) {
-        low.with(&pair[0], &pair[1], op);
-    }
-    if lows.len() > highs.len() {
-        let last = highs.len() - 1;
-        lows[last + 1].with(&highs[last], &highs[last], op);
+struct LowsByHighs<'a> {
+    lows: &'a mut [i32],
+    highs: &'a [i32],
+    n: usize,
+}
+
+impl Sweep for LowsByHighs<'_> {
+    #[inline(always)]
+    fn run(self, op: impl Fn(i32, i32, i32) -> i32) {
+        let (highs, n) = (self.highs, self.n);
+        let (first, rest) = self.lows.split_at_mut(n);
+        for (low, &a) in first.iter_mut().zip(highs) {
+            *low = op(*low, a, a);
+        }
+        let (inner, last) = rest.split_at_mut(highs.len() - n);
+        for ((low, &a), &b) in inner.iter_mut().zip(highs).zip(&highs[n..]) {
+            *low = op(*low, a, b);
+        }
+        for (low, &a) in last.iter_mut().zip(&highs[highs.len() - n..]) {
+            *low = op(*low, a, a);
+        }
     }
 }
 
-/// What one pass does with a line that is parted into lows and highs.
+/// What a pass does with the lows and highs of a tile.
 trait Pass {
-    fn run<T: Lane>(&self, lows: &mut [T], highs: &mut [T]);
+    fn run(&self, lows: &mut [i32], highs: &mut [i32], n: usize);
+}
+
+/// Parts a line into lows and highs, each value by `enter`.
+#[inline(always)]
+fn part<T: Copy>(line: &[T], out: &mut [i32], enter: impl Fn(T) -> i32) {
+    let (lows, highs) = out.split_at_mut(line.len().div_ceil(2));
+    let pairs = line.chunks_exact(2);
+    if let [last] = pairs.remainder() {
+        lows[lows.len() - 1] = enter(*last);
+    }
+    for ((pair, low), high) in pairs.zip(lows).zip(highs) {
+        (*low, *high) = (enter(pair[0]), enter(pair[1]));
+    }
+}
+
+/// The reverse of [`part`].
+#[inline(always)]
+fn join(parted: &[i32], out: &mut [i32]) {
+    let (lows, highs) = parted.split_at(parted.len().div_ceil(2));
+    let mut pairs = out.chunks_exact_mut(2);
+    for ((pair, &low), &high) in pairs.by_ref().zip(lows).zip(highs) {
+        pair.copy_from_slice(&[low, high]);
+    }
+    if let [last] = pairs.into_remainder() {
+        *last = lows[lows.len() - 1];
+    }
+}
+
+/// Where line `y` of `h` stands once the lows are first.
+fn parted(y: usize, h: usize) -> usize {
+    match y % 2 {
+        0 => y / 2,
+        _ => h.div_ceil(2) + y / 2,
+    }
+}
+
+/// The sides of the part that each level works, from the first level on.
+fn parts((width, height): (usize, usize), levels: u8) -> Vec<(usize, usize)> {
+    let half = |&(w, h): &(usize, usize)| Some((w.div_ceil(2), h.div_ceil(2)));
+    std::iter::successors(Some((width, height)), half)
+        .take(levels.into())
+        .collect()
+}
+
+/// Whether every pixel is below 2^depth.
+fn pixels_right(depth: u8, pixels: &[u16]) -> bool {
+    pixels.iter().fold(0, |all, &pixel| all | pixel) >> depth == 0
+}
+
+/// Works the rows of the whole picture forward, from its pixels.
+fn first_rows(depth: u8, pixels: &[u16], width: usize, plane: &mut [i32], pass: &impl Pass) {
+    let middle = 1 << (depth - 1);
+    for (pixels, row) in pixels
+        .chunks_exact(width)
+        .zip(plane.chunks_exact_mut(width))
+    {
+        part(pixels, row, |pixel| i32::from(pixel) - middle);
+        let (lows, highs) = row.split_at_mut(width.div_ceil(2));
+        pass.run(lows, highs, 1);
+    }
 }
 
 /// Works the rows of a part of the plane forward.
-fn rows(plane: &mut [i32], width: usize, w: usize, h: usize, line: &mut [i32], pass: &impl Pass) {
+fn rows(
+    plane: &mut [i32],
+    width: usize,
+    (w, h): (usize, usize),
+    line: &mut [i32],
+    pass: &impl Pass,
+) {
     let line = &mut line[..w];
     for row in plane.chunks_exact_mut(width).take(h) {
-        part(&row[..w], line);
-        let (lows, highs) = line.split_at_mut(w.div_ceil(2));
-        pass.run(lows, highs);
-        row[..w].copy_from_slice(line);
+        line.copy_from_slice(&row[..w]);
+        part(line, &mut row[..w], |value| value);
+        let (lows, highs) = row[..w].split_at_mut(w.div_ceil(2));
+        pass.run(lows, highs, 1);
     }
 }
 
-/// Works columns `from` to `to` of a part of the plane forward, a block at a
-/// time.
+/// Works columns `from` to `to` of a part of the plane forward.
 fn columns(
     plane: &mut [i32],
     width: usize,
     (from, to): (usize, usize),
     h: usize,
-    block: &mut [Across],
+    tile: &mut [i32],
     pass: &impl Pass,
 ) {
-    let block = &mut block[..h];
-    let low_count = h.div_ceil(2);
-    for x in (from..to).step_by(BLOCK) {
-        let n = BLOCK.min(to - x);
+    for x in (from..to).step_by(STRIP) {
+        let n = STRIP.min(to - x);
+        let tile = &mut tile[..h * n];
         for (y, row) in plane.chunks_exact(width).take(h).enumerate() {
-            let at = if y % 2 == 0 { y / 2 } else { low_count + y / 2 };
-            block[at][..n].copy_from_slice(&row[x..x + n]);
+            tile[parted(y, h) * n..][..n].copy_from_slice(&row[x..x + n]);
         }
-        let (lows, highs) = block.split_at_mut(low_count);
-        pass.run(lows, highs);
-        for (row, values) in plane.chunks_exact_mut(width).zip(block.iter()) {
-            row[x..x + n].copy_from_slice(&values[..n]);
+        let (lows, highs) = tile.split_at_mut(h.div_ceil(2) * n);
+        pass.run(lows, highs, n);
+        for (row, line) in plane.chunks_exact_mut(width).zip(tile.chunks_exact(n)) {
+            row[x..x + n].copy_from_slice(line);
         }
     }
 }
@@ -141,26 +170,19 @@ fn columns(
 struct Reversible;
 
 impl Pass for Reversible {
-    #[inline(always)]
-    fn run<T: Lane>(&self, lows: &mut [T], highs: &mut [T]) {
-        highs_by_lows(lows, highs, |own, a, b| own - ((a + b) >> 1));
-        lows_by_highs(lows, highs, |own, a, b| own + ((a + b + 2) >> 2));
+    fn run(&self, lows: &mut [i32], highs: &mut [i32], n: usize) {
+        HighsByLows { lows, highs, n }.run(|own, a, b| own - ((a + b) >> 1));
+        LowsByHighs { lows, highs, n }.run(|own, a, b| own + ((a + b + 2) >> 2));
     }
 }
 
 struct ReversibleBack;
 
 impl Pass for ReversibleBack {
-    #[inline(always)]
-    fn run<T: Lane>(&self, lows: &mut [T], highs: &mut [T]) {
-        lows_by_highs(lows, highs, |own, a, b| own - ((a + b + 2) >> 2));
-        highs_by_lows(lows, highs, |own, a, b| own + ((a + b) >> 1));
+    fn run(&self, lows: &mut [i32], highs: &mut [i32], n: usize) {
+        LowsByHighs { lows, highs, n }.run(|own, a, b| own - ((a + b + 2) >> 2));
+        HighsByLows { lows, highs, n }.run(|own, a, b| own + ((a + b) >> 1));
     }
-}
-
-fn sides(width: usize, height: usize, level: usize) -> (usize, usize) {
-    let side = |n: usize| (0..level).fold(n, |n, _| n.div_ceil(2));
-    (side(width), side(height))
 }
 
 /// 5/3 forward; false where a pixel is too large.
@@ -168,114 +190,110 @@ pub fn forward53(
     depth: u8,
     levels: u8,
     pixels: &[u16],
-    (width, height): (usize, usize),
+    size: (usize, usize),
     plane: &mut [i32],
     work: &mut [i32],
 ) -> bool {
-    if !enter(depth, pixels, plane) {
+    if !pixels_right(depth, pixels) {
         return false;
     }
-    let mut line = vec![0; width];
-    let mut block = vec![Across::zero(); height];
-    for level in 0..levels.into() {
-        let (w, h) = sides(width, height, level);
-        rows(plane, width, w, h, &mut line, &Reversible);
-        columns(plane, width, (0, w), h, &mut block, &Reversible);
+    let width = size.0;
+    for (level, (w, h)) in parts(size, levels).into_iter().enumerate() {
+        match level {
+            0 => first_rows(depth, pixels, width, plane, &Reversible),
+            _ => rows(plane, width, (w, h), work, &Reversible),
+        }
+        columns(plane, width, (0, w), h, work, &Reversible);
     }
     work.fill(0);
     true
 }
 
-/// 5/3 back; false where a pixel leaves its depth. The plane is taken to be
-/// one that does not overflow.
+/// The bits of all values together, each moved up by `middle`: those above
+/// some place are 0 where no value lies that far from 0.
+#[inline(always)]
+fn together(values: &[i32], middle: i32) -> u32 {
+    let moved = |value: i32| value.wrapping_add(middle) as u32;
+    values.iter().fold(0, |bits, &value| bits | moved(value))
+}
+
+/// No picture's plane has values that do not lie within 2^22; from those that
+/// do no sum of a level leaves 32 bits.
+const SMALL: u32 = 22;
+
+/// Undoes the columns of a part of the plane; false where a value is too
+/// large.
+fn columns_back(plane: &mut [i32], width: usize, (w, h): (usize, usize), tile: &mut [i32]) -> bool {
+    for x in (0..w).step_by(STRIP) {
+        let n = STRIP.min(w - x);
+        let tile = &mut tile[..h * n];
+        let mut bits = 0;
+        for (row, line) in plane.chunks_exact(width).zip(tile.chunks_exact_mut(n)) {
+            line.copy_from_slice(&row[x..x + n]);
+            bits |= together(line, 1 << SMALL);
+        }
+        if bits >> (SMALL + 1) != 0 {
+            return false;
+        }
+        let (lows, highs) = tile.split_at_mut(h.div_ceil(2) * n);
+        ReversibleBack.run(lows, highs, n);
+        for (y, row) in plane.chunks_exact_mut(width).take(h).enumerate() {
+            row[x..x + n].copy_from_slice(&tile[parted(y, h) * n..][..n]);
+        }
+    }
+    true
+}
+
+/// Undoes the rows of a part of the plane; the bits of what they hold then.
+fn rows_back(
+    plane: &mut [i32],
+    width: usize,
+    (w, h): (usize, usize),
+    line: &mut [i32],
+    middle: i32,
+) -> u32 {
+    let line = &mut line[..w];
+    let mut bits = 0;
+    for row in plane.chunks_exact_mut(width).take(h) {
+        line.copy_from_slice(&row[..w]);
+        let (lows, highs) = line.split_at_mut(w.div_ceil(2));
+        ReversibleBack.run(lows, highs, 1);
+        bits |= together(line, middle);
+        join(line, &mut row[..w]);
+    }
+    bits
+}
+
+/// 5/3 back; false where no picture has the plane.
 pub fn inverse53(
     depth: u8,
     levels: u8,
     plane: &[i32],
-    (width, height): (usize, usize),
+    size: (usize, usize),
     pixels: &mut [u16],
     work: &mut [i32],
 ) -> bool {
-    work.copy_from_slice(plane);
-    let mut line = vec![0; width];
-    let mut block = vec![Across::zero(); height];
-    for level in (0..levels.into()).rev() {
-        let (w, h) = sides(width, height, level);
-        for x in (0..w).step_by(BLOCK) {
-            let n = BLOCK.min(w - x);
-            let block = &mut block[..h];
-            for (row, values) in work.chunks_exact(width).zip(block.iter_mut()) {
-                values[..n].copy_from_slice(&row[x..x + n]);
-            }
-            let (lows, highs) = block.split_at_mut(h.div_ceil(2));
-            ReversibleBack.run(lows, highs);
-            for (y, row) in work.chunks_exact_mut(width).take(h).enumerate() {
-                let at = if y % 2 == 0 {
-                    y / 2
-                } else {
-                    h.div_ceil(2) + y / 2
-                };
-                row[x..x + n].copy_from_slice(&block[at][..n]);
-            }
-        }
-        let line = &mut line[..w];
-        for row in work.chunks_exact_mut(width).take(h) {
-            line.copy_from_slice(&row[..w]);
-            let (lows, highs) = line.split_at_mut(w.div_ceil(2));
-            ReversibleBack.run(lows, highs);
-            join(line, &mut row[..w]);
-        }
-    }
+    let width = size.0;
     let middle = 1 << (depth - 1);
-    let fits = work.iter().all(|&v| -middle <= v && v < middle);
-    if fits {
-        for (pixel, &value) in pixels.iter_mut().zip(work.iter()) {
-            *pixel = (value + middle) as u16;
+    work.copy_from_slice(plane);
+    let mut tile = vec![0; size.1.max(width) * STRIP];
+    let mut bits = 0;
+    for part in parts(size, levels).into_iter().rev() {
+        if !columns_back(work, width, part, &mut tile) {
+            work.fill(0);
+            return false;
         }
+        bits = rows_back(work, width, part, &mut tile, middle);
     }
-    work.fill(0);
-    fits
-}
-
-/// One stage: own and product are aligned, added and cut once.
-#[derive(Clone, Copy)]
-struct Stage {
-    constant: i64,
-    own_shift: u32,
-    product_shift: u32,
-    cut: u32,
-    /// Where the node has more bits than the sum.
-    widen: u32,
-}
-
-impl Stage {
-    fn new(decimal: (i128, i128), bits: u8, own: Option<u8>, multiplied: u8, f: u8) -> Stage {
-        let (numerator, denominator) = decimal;
-        let twice = (numerator << (bits + 1)) + denominator;
-        let product = bits + multiplied;
-        let full = product.max(own.unwrap_or(0));
-        Stage {
-            constant: twice.div_euclid(2 * denominator) as i64,
-            own_shift: u32::from(full - own.unwrap_or(full)),
-            product_shift: u32::from(full - product),
-            cut: u32::from(full.saturating_sub(f)),
-            widen: u32::from(f.saturating_sub(full)),
-        }
+    if bits >> depth != 0 {
+        work.fill(0);
+        return false;
     }
-
-    #[inline(always)]
-    fn work(self, own: i32, a: i32, b: i32) -> i32 {
-        let sum = i64::from(a) + i64::from(b);
-        let total =
-            (i64::from(own) << self.own_shift) + ((self.constant * sum) << self.product_shift);
-        ((total >> self.cut) << self.widen) as i32
+    for (pixel, value) in pixels.iter_mut().zip(work) {
+        *pixel = (*value + middle) as u16;
+        *value = 0;
     }
-
-    #[inline(always)]
-    fn scale(self, value: i32) -> i32 {
-        let total = (self.constant * i64::from(value)) << self.product_shift;
-        ((total >> self.cut) << self.widen) as i32
-    }
+    true
 }
 
 /// Numerators and denominators of the constants, and 1 over the last one.
@@ -288,46 +306,185 @@ const CONSTANTS: [(i128, i128); 6] = [
     (1_000_000_000, 1_149_604_398),
 ];
 
-struct Lifting([Stage; 6]);
+/// Bits that a value has: integer and fractional.
+#[derive(Clone, Copy)]
+struct Bits {
+    integer: u8,
+    fraction: u8,
+}
+
+/// A stage: the own value, shifted, and a constant times the sum of two
+/// neighbours are added and cut once. Where the node has more bits than the
+/// product, or the own value more than both, the constant is shifted too.
+#[derive(Clone, Copy)]
+struct Stage {
+    constant: i64,
+    own_shift: u32,
+    cut: u32,
+    /// Whether the sum of two neighbours fits 31 bits.
+    short: bool,
+}
+
+impl Stage {
+    /// `own` and `f` are the fractional bits of the own value and of the node.
+    fn new(node: usize, constant_bits: u8, own: u8, multiplied: Bits, f: u8) -> Stage {
+        let (numerator, denominator) = CONSTANTS[node];
+        let twice = (numerator << (constant_bits + 1)) + denominator;
+        let nearest = twice.div_euclid(2 * denominator) as i64;
+        let product = constant_bits + multiplied.fraction;
+        let full = product.max(own).max(f);
+        Stage {
+            constant: nearest << (full - product),
+            own_shift: u32::from(full - own),
+            cut: u32::from(full - f),
+            short: multiplied.integer + multiplied.fraction <= 30,
+        }
+    }
+
+    /// Runs the stage with the product that is fastest for its numbers: the
+    /// plainest x86-64 multiplies unsigned 32-bit numbers alone, so values are
+    /// raised by 2^31 before it, and the product is too large by a multiple
+    /// of 2^31. Neighbours are added before it where their sum fits.
+    fn run(self, sweep: impl Sweep) {
+        let c = self.constant.unsigned_abs() as u32;
+        let one = u64::from(c) << 31;
+        match (self.short, self.constant < 0) {
+            _ if self.cut > 31 || self.own_shift > 31 => self.run_any(sweep),
+            (true, false) => self.run_raised(sweep, one, |a, b| times(c, raised(a + b))),
+            (true, true) => self.run_raised(sweep, one, |a, b| times(c, raised(-(a + b)))),
+            (false, false) => {
+                let product = |a, b| times(c, raised(a)) + times(c, raised(b));
+                self.run_raised(sweep, 2 * one, product);
+            }
+            (false, true) => {
+                let product = |a, b| 4 * one - times(c, raised(a)) - times(c, raised(b));
+                self.run_raised(sweep, 2 * one, product);
+            }
+        }
+    }
+
+    /// `product` is too large by `more`. An own value with no bit below the
+    /// cut is added after it.
+    #[inline(always)]
+    fn run_raised(self, sweep: impl Sweep, more: u64, product: impl Fn(i32, i32) -> u64) {
+        let (own_shift, cut) = (self.own_shift, self.cut);
+        let base = (more >> cut) as i32;
+        let moved = |a, b| ((product(a, b) >> cut) as i32).wrapping_sub(base);
+        if own_shift == cut {
+            sweep.run(|own, a, b| own.wrapping_add(moved(a, b)));
+        } else if own_shift > cut {
+            sweep.run(|own, a, b| (own << (own_shift - cut)).wrapping_add(moved(a, b)));
+        } else {
+            let base = ((more + (1 << (31 + own_shift))) >> cut) as i32;
+            sweep.run(|own, a, b| {
+                let total = product(a, b) + (u64::from(raised(own)) << own_shift);
+                ((total >> cut) as i32).wrapping_sub(base)
+            });
+        }
+    }
+
+    fn run_any(self, sweep: impl Sweep) {
+        sweep.run(|own, a, b| {
+            let sum = i64::from(a) + i64::from(b);
+            let total = (i64::from(own) << self.own_shift) + self.constant * sum;
+            (total >> self.cut) as i32
+        });
+    }
+}
+
+/// A value and 2^31 more.
+#[inline(always)]
+fn raised(value: i32) -> u32 {
+    value as u32 ^ (1 << 31)
+}
+
+#[inline(always)]
+fn times(c: u32, value: u32) -> u64 {
+    u64::from(c) * u64::from(value)
+}
+
+/// A scaling at the end of a pass.
+#[derive(Clone, Copy)]
+struct Scale {
+    c: u32,
+    /// Makes what the product is too large by a multiple of what the cut takes
+    /// away.
+    pad: u64,
+    base: i32,
+    cut: u32,
+}
+
+impl Scale {
+    /// Of a stage whose constant is above zero, without its own value.
+    fn new(stage: Stage) -> Scale {
+        let (c, cut) = (stage.constant as u32, stage.cut);
+        let more = u64::from(c) << 31;
+        let level = more.next_multiple_of(1 << cut);
+        Scale {
+            c,
+            pad: level - more,
+            base: (level >> cut) as i32,
+            cut,
+        }
+    }
+
+    #[inline(always)]
+    fn of(self, value: i32) -> i32 {
+        let total = times(self.c, raised(value)) + self.pad;
+        ((total >> self.cut) as i32).wrapping_sub(self.base)
+    }
+}
+
+/// A loop whose values are scaled once they are changed.
+struct Scaled<S>(S, Scale);
+
+impl<S: Sweep> Sweep for Scaled<S> {
+    #[inline(always)]
+    fn run(self, op: impl Fn(i32, i32, i32) -> i32) {
+        let Scaled(sweep, scale) = self;
+        sweep.run(|own, a, b| scale.of(op(own, a, b)));
+    }
+}
+
+/// One pass of the 9/7 lifting: P1, U1, P2, U2, then G1 and G2.
+struct Lifting([Stage; 4], [Scale; 2]);
 
 impl Lifting {
-    /// `nodes` are the pairs of bytes of a pass; the second is f.
-    fn new(constant_bits: &[u8], input: u8, nodes: &[u8]) -> Lifting {
-        let f = |node: usize| nodes[2 * node + 1];
-        let stage = |node: usize, own: Option<u8>, multiplied: u8| {
+    /// `nodes` are the pairs of bytes of a pass: integer and fractional bits.
+    fn new(constant_bits: &[u8], input: Bits, nodes: &[u8]) -> Lifting {
+        let bits = |node: usize| Bits {
+            integer: nodes[2 * node],
+            fraction: nodes[2 * node + 1],
+        };
+        let stage = |node: usize, own: u8, multiplied: Bits| {
             Stage::new(
-                CONSTANTS[node],
+                node,
                 constant_bits[node],
                 own,
                 multiplied,
-                f(node),
+                bits(node).fraction,
             )
         };
-        Lifting([
-            stage(0, Some(input), input),
-            stage(1, Some(input), f(0)),
-            stage(2, Some(f(0)), f(1)),
-            stage(3, Some(f(1)), f(2)),
-            stage(4, None, f(3)),
-            stage(5, None, f(2)),
-        ])
+        let stages = [
+            stage(0, input.fraction, input),
+            stage(1, input.fraction, bits(0)),
+            stage(2, bits(0).fraction, bits(1)),
+            stage(3, bits(1).fraction, bits(2)),
+        ];
+        let scales = [stage(4, 0, bits(3)), stage(5, 0, bits(2))];
+        Lifting(stages, scales.map(Scale::new))
     }
 }
 
 impl Pass for Lifting {
-    #[inline(always)]
-    fn run<T: Lane>(&self, lows: &mut [T], highs: &mut [T]) {
-        let [p1, u1, p2, u2, g1, g2] = self.0;
-        highs_by_lows(lows, highs, |own, a, b| p1.work(own, a, b));
-        lows_by_highs(lows, highs, |own, a, b| u1.work(own, a, b));
-        highs_by_lows(lows, highs, |own, a, b| p2.work(own, a, b));
-        lows_by_highs(lows, highs, |own, a, b| u2.work(own, a, b));
-        let nothing = T::zero();
-        for low in lows {
-            low.with(&nothing, &nothing, |own, _, _| g1.scale(own));
-        }
+    fn run(&self, lows: &mut [i32], highs: &mut [i32], n: usize) {
+        let Lifting([p1, u1, p2, u2], [g1, g2]) = *self;
+        p1.run(HighsByLows { lows, highs, n });
+        u1.run(LowsByHighs { lows, highs, n });
+        p2.run(HighsByLows { lows, highs, n });
+        u2.run(Scaled(LowsByHighs { lows, highs, n }, g1));
         for high in highs {
-            high.with(&nothing, &nothing, |own, _, _| g2.scale(own));
+            *high = g2.of(*high);
         }
     }
 }
@@ -336,29 +493,37 @@ impl Pass for Lifting {
 pub fn forward97(
     table: &[u8],
     pixels: &[u16],
-    (width, height): (usize, usize),
+    size: (usize, usize),
     plane: &mut [i32],
     work: &mut [i32],
 ) -> bool {
     let (depth, levels) = (table[3], table[7]);
     let constant_bits = &table[11..17];
-    if !enter(depth, pixels, plane) {
+    if !pixels_right(depth, pixels) {
         return false;
     }
-    let mut line = vec![0; width];
-    let mut block = vec![Across::zero(); height];
-    let mut bits = depth;
-    for level in 0..usize::from(levels) {
-        let (w, h) = sides(width, height, level);
+    let width = size.0;
+    let mut input = Bits {
+        integer: 0,
+        fraction: depth,
+    };
+    for (level, (w, h)) in parts(size, levels).into_iter().enumerate() {
         let nodes = &table[20 + 36 * level..][..36];
-        let row_pass = Lifting::new(constant_bits, bits, &nodes[..12]);
-        let low_pass = Lifting::new(constant_bits, nodes[9], &nodes[12..24]);
-        let high_pass = Lifting::new(constant_bits, nodes[11], &nodes[24..]);
+        let bits = |at: usize| Bits {
+            integer: nodes[at],
+            fraction: nodes[at + 1],
+        };
+        let row_pass = Lifting::new(constant_bits, input, &nodes[..12]);
+        let low_pass = Lifting::new(constant_bits, bits(8), &nodes[12..24]);
+        let high_pass = Lifting::new(constant_bits, bits(10), &nodes[24..]);
+        match level {
+            0 => first_rows(depth, pixels, width, plane, &row_pass),
+            _ => rows(plane, width, (w, h), work, &row_pass),
+        }
         let middle = w.div_ceil(2);
-        rows(plane, width, w, h, &mut line, &row_pass);
-        columns(plane, width, (0, middle), h, &mut block, &low_pass);
-        columns(plane, width, (middle, w), h, &mut block, &high_pass);
-        bits = nodes[21];
+        columns(plane, width, (0, middle), h, work, &low_pass);
+        columns(plane, width, (middle, w), h, work, &high_pass);
+        input = bits(20);
     }
     work.fill(0);
     true

@@ -1,7 +1,9 @@
 //! One call to the engine and one to the reference, with equal lent memory;
 //! answers and memory are compared in whole.
 
-use reference::{calls, Width};
+use reference::refusal::answer;
+use reference::{calls, Place, Width};
+use suzdrepa_sys as sys;
 
 /// The answer that both gave.
 pub type Answer = Result<(), reference::Refusal>;
@@ -9,11 +11,13 @@ pub type Answer = Result<(), reference::Refusal>;
 /// Asserts that the engine's result says what the reference's says.
 pub fn same(ours: Result<(), suzdrepa::Refusal>, due: Answer) -> Answer {
     let ours_plain = ours.map_err(|refusal| {
-        let place = refusal.place().map(|p| (p.level, p.pass, p.node));
-        (refusal.number(), place)
+        (
+            refusal.number(),
+            refusal.place().map(suzdrepa::Place::numbers),
+        )
     });
     let due_plain = due.map_err(|refusal| {
-        let place = refusal.place.map(|p| (p.level, p.pass, p.node));
+        let place = refusal.place.map(|p| [p.level, p.pass, p.node]);
         (refusal.number, place)
     });
     assert_eq!(ours_plain, due_plain, "engine left, reference right");
@@ -28,6 +32,39 @@ pub fn table_form(table: &[u8]) -> Answer {
     same(suzdrepa::table_form(table), calls::table_form(table))
 }
 
+/// `place` is any numbers; `lent` is what range and error hold before the call.
+/// Gives the answer and what they hold afterwards.
+pub fn table_bound(table: &[u8], place: [u8; 3], lent: (u64, u64)) -> (Answer, (u64, u64)) {
+    let [level, pass, node] = place;
+    let mut due_bound = lent;
+    let place = Place { level, pass, node };
+    let due = calls::table_bound(table, place, &mut due_bound.0, &mut due_bound.1);
+    let mut ours_bound = lent;
+    // SAFETY: pointer and length are those of a slice; range and error are
+    // numbers of their own.
+    let bare = unsafe {
+        sys::suz_table_bound(
+            table.as_ptr(),
+            table.len(),
+            level,
+            pass,
+            node,
+            &mut ours_bound.0,
+            &mut ours_bound.1,
+        )
+    };
+    assert_eq!(bare, answer(due), "engine left, reference right");
+    assert_eq!(ours_bound, due_bound, "range and error");
+    if let Some(place) = suzdrepa::Place::from_numbers(level, pass, node) {
+        let ours = suzdrepa::table_bound(table, place);
+        if let Ok(bound) = ours {
+            assert_eq!((bound.range, bound.error), due_bound);
+        }
+        assert_eq!(same(ours.map(|_| ()), due), due);
+    }
+    (due, due_bound)
+}
+
 pub fn table_value(table: &[u8], tag: u8) -> Answer {
     let ours = suzdrepa::table_value(table, tag);
     let due = calls::table_value(table, tag);
@@ -37,23 +74,42 @@ pub fn table_value(table: &[u8], tag: u8) -> Answer {
     same(ours.map(|_| ()), due.map(|_| ()))
 }
 
-/// `place` is level, pass and node. `out` is lent memory before the call.
+/// `place` is level, pass and node, any numbers: the bare call takes them all,
+/// the wrapper those that its types have. `out` is lent memory before the
+/// call.
 pub fn table_change(table: &[u8], place: [u8; 3], width: Width, out: &[u8]) -> Answer {
     let [level, pass, node] = place;
-    let (mut ours_out, mut due_out) = (out.to_vec(), out.to_vec());
-    let ours = suzdrepa::change_width_into(
-        table,
-        level,
-        pass,
-        node,
-        width.integer_bits,
-        width.fraction_bits,
-        &mut ours_out,
-    );
+    let Width {
+        integer_bits,
+        fraction_bits,
+    } = width;
+    let mut due_out = out.to_vec();
     let due = calls::table_change(table, level, pass, node, width, &mut due_out);
-    let answer = same(ours, due);
+    let mut ours_out = out.to_vec();
+    // SAFETY: pointers and lengths are those of a slice and of a vector.
+    let bare = unsafe {
+        sys::suz_table_change(
+            table.as_ptr(),
+            table.len(),
+            level,
+            pass,
+            node,
+            integer_bits,
+            fraction_bits,
+            ours_out.as_mut_ptr(),
+            ours_out.len(),
+        )
+    };
+    assert_eq!(bare, answer(due), "engine left, reference right");
     assert_eq!(ours_out, due_out, "out after a change");
-    answer
+    if let Some(place) = suzdrepa::Place::from_numbers(level, pass, node) {
+        let mut ours_out = out.to_vec();
+        let width = suzdrepa::Width::new(integer_bits, fraction_bits);
+        let ours = suzdrepa::change_width_into(table, place, width, &mut ours_out);
+        assert_eq!(same(ours, due), due);
+        assert_eq!(ours_out, due_out, "out after a change");
+    }
+    due
 }
 
 /// What is lent to a transform: input, output and work area, as they stand

@@ -2,7 +2,7 @@
 
 use crate::chance::Chance;
 use reference::precision::verdict;
-use reference::table::MOST_FRACTION_BITS;
+use reference::table::MAX_FRACTION_BITS;
 use reference::{Place, Width, WidthTable};
 
 /// All nodes (12, 20), kept ones (12, 2), all constants with 24 bits.
@@ -73,7 +73,7 @@ fn lower_constant(table: &mut WidthTable, node: usize, steps: usize) {
 fn raise_fraction(table: &mut WidthTable, place: Place, steps: usize) {
     push(table, steps, |table| {
         let width = table.width_mut(place);
-        width.fraction_bits < MOST_FRACTION_BITS && {
+        width.fraction_bits < MAX_FRACTION_BITS && {
             width.fraction_bits += 1;
             true
         }

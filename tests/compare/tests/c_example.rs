@@ -63,7 +63,7 @@ fn the_macros_take_an_answer_apart() {
          uint32_t a = 0x06030507u;\n\
          printf(\"%u %u %u %u %lu\\n\", SUZ_NUMBER(a), SUZ_LEVEL(a), SUZ_PASS(a), SUZ_NODE(a),\n\
          (unsigned long)SUZ_TABLE_LENGTH(5));\n\
-         for (uint32_t n = 0; n <= 12; n++) printf(\"%s\\n\", suz_refusal_text(n));\n\
+         for (uint32_t n = 0; n <= 255; n++) printf(\"%s\\n\", suz_refusal_text(n));\n\
          return 0;\n\
          }\n",
     )
@@ -74,5 +74,5 @@ fn the_macros_take_an_answer_apart() {
     assert_eq!(lines[0], "7 5 3 6 200");
     assert_eq!(lines[1], "done");
     assert_eq!(lines[8], "a kept node's error is not below two steps");
-    assert_eq!(lines[13], "unknown");
+    assert_eq!(lines[256], "unknown");
 }

@@ -5,67 +5,10 @@ use compare::chance::Chance;
 use compare::tables::{any, damaged, generous};
 use reference::refusal::answer;
 use reference::{calls, Width};
-// Brings the static library to the linker.
-use suzdrepa as _;
-
-extern "C" {
-    fn suz_table_check(table: *const u8, table_len: usize) -> u32;
-    fn suz_table_form(table: *const u8, table_len: usize) -> u32;
-    fn suz_table_value(
-        table: *const u8,
-        table_len: usize,
-        tag: u8,
-        start: *mut u32,
-        length: *mut u32,
-    ) -> u32;
-    fn suz_table_change(
-        table: *const u8,
-        table_len: usize,
-        level: u8,
-        pass: u8,
-        node: u8,
-        integer_bits: u8,
-        fraction_bits: u8,
-        out: *mut u8,
-        out_len: usize,
-    ) -> u32;
-    fn suz_forward97(
-        table: *const u8,
-        table_len: usize,
-        pixels: *const u16,
-        pixels_len: usize,
-        width: usize,
-        height: usize,
-        plane: *mut i32,
-        plane_len: usize,
-        work: *mut i32,
-        work_len: usize,
-    ) -> u32;
-    fn suz_forward53(
-        depth: u8,
-        levels: u8,
-        pixels: *const u16,
-        pixels_len: usize,
-        width: usize,
-        height: usize,
-        plane: *mut i32,
-        plane_len: usize,
-        work: *mut i32,
-        work_len: usize,
-    ) -> u32;
-    fn suz_inverse53(
-        depth: u8,
-        levels: u8,
-        plane: *const i32,
-        plane_len: usize,
-        width: usize,
-        height: usize,
-        pixels: *mut u16,
-        pixels_len: usize,
-        work: *mut i32,
-        work_len: usize,
-    ) -> u32;
-}
+use suzdrepa_sys::{
+    suz_forward53, suz_forward97, suz_inverse53, suz_table_change, suz_table_check, suz_table_form,
+    suz_table_value,
+};
 
 fn some_table(chance: &mut Chance) -> Vec<u8> {
     let table = match chance.below(2) {

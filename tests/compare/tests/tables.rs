@@ -351,9 +351,77 @@ fn changes_of_any_bytes_into_any_memory() {
 #[test]
 fn the_allocating_change_gives_the_same_table() {
     let bytes = generous(8, 3).bytes().unwrap();
-    let new = suzdrepa::change_width(&bytes, 3, 2, 6, 7, 9).unwrap();
+    let place = |level| suzdrepa::Place::new(level, suzdrepa::Pass::LowColumns, suzdrepa::Node::G2);
+    let width = suzdrepa::Width::new(7, 9);
+    let new = suzdrepa::change_width(&bytes, place(3), width).unwrap();
     let (due, _) = generous(8, 3).changed(3, 2, 6, Width::new(7, 9));
     assert_eq!(new, due.bytes().unwrap());
-    let refusal = suzdrepa::change_width(&bytes, 4, 2, 6, 7, 9).unwrap_err();
+    let refusal = suzdrepa::change_width(&bytes, place(4), width).unwrap_err();
     assert_eq!(refusal.number(), 4);
+}
+
+/// The wrapper's type says of a table what the reference says.
+#[test]
+fn the_type_of_the_wrapper() {
+    let mut chance = Chance::new(15);
+    for _ in 0..rounds(3000) {
+        let table = any(&mut chance);
+        let bytes = table.bytes().unwrap();
+        let ours = suzdrepa::WidthTable::from_bytes(&bytes).unwrap();
+        assert_eq!((ours.depth(), ours.levels()), (table.depth, table.levels));
+        let constants = suzdrepa::Node::ALL.map(|node| ours.constant_bits(node));
+        assert_eq!(constants, table.constant_bits);
+        let widths = |width: suzdrepa::Width| (width.integer_bits, width.fraction_bits);
+        for (ours_at, at) in ours.places().zip(table.places()) {
+            assert_eq!(ours_at.numbers(), [at.level, at.pass, at.node]);
+            assert_eq!(ours.is_kept(ours_at), table.is_kept(at));
+            let due = table.width(at);
+            assert_eq!(
+                ours.width(ours_at).map(widths),
+                Some((due.integer_bits, due.fraction_bits))
+            );
+        }
+        assert_eq!(ours.places().count(), table.places().len());
+        assert_eq!(ours.to_bytes(), bytes);
+        let _ = both::same(ours.check(), precision::verdict(&table));
+        // A change of a width and one of a constant.
+        let at = *chance.of(&table.places());
+        let width = Width::new(chance.within(0, 13) as u8, chance.within(0, 21) as u8);
+        let (due, done) = table.clone().changed(at.level, at.pass, at.node, width);
+        let place = suzdrepa::Place::from_numbers(at.level, at.pass, at.node).unwrap();
+        let new = ours.with_width(
+            place,
+            suzdrepa::Width::new(width.integer_bits, width.fraction_bits),
+        );
+        match both::same(new.as_ref().map(|_| ()).map_err(|r| *r), done) {
+            Ok(()) => assert_eq!(new.unwrap().to_bytes(), due.bytes().unwrap()),
+            Err(_) => assert_eq!(due, table),
+        }
+        let (node, bits) = (*chance.of(&suzdrepa::Node::ALL), chance.within(0, 26) as u8);
+        let mut due = table.clone();
+        due.constant_bits[usize::from(node.number()) - 1] = bits;
+        let new = ours.with_constant(node, bits);
+        match both::same(new.as_ref().map(|_| ()).map_err(|r| *r), due.sound()) {
+            Ok(()) => assert_eq!(new.unwrap().to_bytes(), due.bytes().unwrap()),
+            Err(refusal) => assert_eq!(refusal.number, 4),
+        }
+    }
+    // Tables built from nothing.
+    for depth in 0..=13 {
+        for levels in (0..=6).chain([255]) {
+            let width = suzdrepa::Width::new;
+            let ours = suzdrepa::WidthTable::kept_and_others(
+                depth,
+                levels,
+                24,
+                width(12, 2),
+                width(12, 20),
+            );
+            let right = (1..=12).contains(&depth) && (1..=5).contains(&levels);
+            assert_eq!(ours.is_ok(), right);
+            if let Ok(ours) = ours {
+                assert_eq!(ours.to_bytes(), generous(depth, levels).bytes().unwrap());
+            }
+        }
+    }
 }

@@ -3,8 +3,8 @@
 //! first width times height elements, as success of any transform does.
 
 use crate::places::side_admitted;
-use crate::precision::verdict;
-use crate::refusal::Refusal;
+use crate::precision::{bound_of, verdict};
+use crate::refusal::{Place, Refusal};
 use crate::table::{value_of_tag, Width, WidthTable};
 use crate::{fixed97, reversible53};
 use std::ops::Range;
@@ -17,6 +17,20 @@ pub fn table_check(table: &[u8]) -> Result<(), Refusal> {
 /// Reads a width table and does not judge it: 1 to 5.
 pub fn table_form(table: &[u8]) -> Result<(), Refusal> {
     WidthTable::read(table)?;
+    Ok(())
+}
+
+/// Range and error of a node: 1 to 5 of the bytes, 4 for the node, then 6 and
+/// 7 of the nodes before it.
+pub fn table_bound(
+    table: &[u8],
+    place: Place,
+    range: &mut u64,
+    error: &mut u64,
+) -> Result<(), Refusal> {
+    let bound = bound_of(&WidthTable::read(table)?, place)?;
+    let number = |bound: u128| u64::try_from(bound).expect("what enters a node fits its width");
+    (*range, *error) = (number(bound.range), number(bound.error));
     Ok(())
 }
 

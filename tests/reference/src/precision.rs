@@ -113,19 +113,41 @@ pub fn bounds(table: &WidthTable) -> Vec<(Place, Bound)> {
     all
 }
 
+/// One node: 6, then 7.
+fn verdict_of(table: &WidthTable, place: Place, bound: Bound) -> Result<(), Refusal> {
+    let width = table.width(place);
+    if !fits(bound, width) {
+        return Err(Refusal::at(6, place));
+    }
+    if table.is_kept(place) && !below_two_steps(bound, width) {
+        return Err(Refusal::at(7, place));
+    }
+    Ok(())
+}
+
 /// Accepted, or 4, or the first 6 or 7 in table order; at one node 6 first.
 pub fn verdict(table: &WidthTable) -> Result<(), Refusal> {
     table.sound()?;
     for (place, bound) in bounds(table) {
-        let width = table.width(place);
-        if !fits(bound, width) {
-            return Err(Refusal::at(6, place));
-        }
-        if table.is_kept(place) && !below_two_steps(bound, width) {
-            return Err(Refusal::at(7, place));
-        }
+        verdict_of(table, place, bound)?;
     }
     Ok(())
+}
+
+/// The bound of one node, or 4 where the table is unsound or lacks the node,
+/// or the first 6 or 7 of the nodes before it.
+pub fn bound_of(table: &WidthTable, place: Place) -> Result<Bound, Refusal> {
+    table.sound()?;
+    if !table.places().contains(&place) {
+        return Err(Refusal::plain(4));
+    }
+    for (before, bound) in bounds(table) {
+        if before == place {
+            return Ok(bound);
+        }
+        verdict_of(table, before, bound)?;
+    }
+    unreachable!("every node has its bound");
 }
 
 #[cfg(test)]
@@ -229,6 +251,31 @@ mod tests {
         assert!(!fits(bound(most, 1), width));
         assert!(below_two_steps(bound(0, 2 * step(4) - 1), width));
         assert!(!below_two_steps(bound(0, 2 * step(4)), width));
+    }
+
+    #[test]
+    fn bounds_up_to_the_first_refused_node() {
+        let table = generous(8, 2);
+        for (at, bound) in bounds(&table) {
+            assert_eq!(bound_of(&table, at), Ok(bound));
+        }
+        for at in [
+            place(0, 1, 1),
+            place(3, 1, 1),
+            place(1, 4, 1),
+            place(1, 1, 7),
+        ] {
+            assert_eq!(bound_of(&table, at), Err(Refusal::plain(4)));
+        }
+        let (narrow, _) = table.changed(1, 2, 3, Width::new(1, 20));
+        let refused = Refusal::at(6, place(1, 2, 3));
+        for (at, bound) in bounds(&narrow) {
+            let due = match at <= place(1, 2, 3) {
+                true => Ok(bound),
+                false => Err(refused),
+            };
+            assert_eq!(bound_of(&narrow, at), due);
+        }
     }
 
     #[test]

@@ -4,11 +4,11 @@
 use crate::refusal::{Place, Refusal};
 use std::ops::Range;
 
-pub const MOST_LEVELS: u8 = 5;
-pub const MOST_DEPTH: u8 = 12;
-pub const MOST_INTEGER_BITS: u8 = 12;
-pub const MOST_FRACTION_BITS: u8 = 20;
-pub const MOST_CONSTANT_BITS: u8 = 24;
+pub const MAX_LEVELS: u8 = 5;
+pub const MAX_DEPTH: u8 = 12;
+pub const MAX_INTEGER_BITS: u8 = 12;
+pub const MAX_FRACTION_BITS: u8 = 20;
+pub const MAX_CONSTANT_BITS: u8 = 24;
 
 /// Integer and fractional bits of a node.
 #[derive(Clone, Copy, Debug, Default, PartialEq, Eq)]
@@ -26,8 +26,8 @@ impl Width {
     }
 
     pub fn within_limits(self) -> bool {
-        (1..=MOST_INTEGER_BITS).contains(&self.integer_bits)
-            && self.fraction_bits <= MOST_FRACTION_BITS
+        (1..=MAX_INTEGER_BITS).contains(&self.integer_bits)
+            && self.fraction_bits <= MAX_FRACTION_BITS
     }
 
     /// Whether the integer `v` is one that the node can hold.
@@ -46,7 +46,7 @@ pub struct WidthTable {
     /// F of P1, U1, P2, U2, G1, G2.
     pub constant_bits: [u8; 6],
     /// By level, pass and node; zeros at unused levels.
-    pub widths: [[[Width; 6]; 3]; MOST_LEVELS as usize],
+    pub widths: [[[Width; 6]; 3]; MAX_LEVELS as usize],
 }
 
 impl WidthTable {
@@ -56,7 +56,7 @@ impl WidthTable {
             depth,
             levels,
             constant_bits: [constant_bits; 6],
-            widths: [[[Width::default(); 6]; 3]; MOST_LEVELS as usize],
+            widths: [[[Width::default(); 6]; 3]; MAX_LEVELS as usize],
         };
         for level in &mut table.widths[..levels as usize] {
             *level = [[width; 6]; 3];
@@ -213,15 +213,15 @@ impl WidthTable {
 }
 
 fn depth_allowed(depth: u8) -> bool {
-    (1..=MOST_DEPTH).contains(&depth)
+    (1..=MAX_DEPTH).contains(&depth)
 }
 
 fn levels_allowed(levels: u8) -> bool {
-    (1..=MOST_LEVELS).contains(&levels)
+    (1..=MAX_LEVELS).contains(&levels)
 }
 
 fn constant_allowed(bits: u8) -> bool {
-    (1..=MOST_CONSTANT_BITS).contains(&bits)
+    (1..=MAX_CONSTANT_BITS).contains(&bits)
 }
 
 /// The value of the field at the start and what follows the field.

@@ -11,13 +11,14 @@ use reference::places::kept_node;
 use reference::WidthTable;
 use roll::pgm::Picture;
 use std::process::ExitCode;
+use suzdrepa::MAX_SIDE;
 
 fn measure(arguments: &[String]) -> Result<bool, (u8, String)> {
     let (table_path, picture_path, side) = match arguments {
         [table, picture] => (table, picture, 64),
         [table, picture, side] => match side.parse() {
-            Ok(side) if (2..=4096).contains(&side) => (table, picture, side),
-            _ => return Err((2, format!("SIDE is 2 to 4096, not `{side}`"))),
+            Ok(side) if (2..=MAX_SIDE).contains(&side) => (table, picture, side),
+            _ => return Err((2, format!("SIDE is 2 to {MAX_SIDE}, not `{side}`"))),
         },
         _ => return Err((2, "usage: distance TABLE IN.pgm [SIDE]".into())),
     };

@@ -1,0 +1,130 @@
+//! The C interface of the proved engine, as `include/suzdrepa.h` declares it,
+//! and the link to its static library `libengine.a`.
+//!
+//! The header says what each call does. Most programs want the safe crate
+//! `suzdrepa`; this one is for those who hold raw memory, or who must pass
+//! numbers that the safe types shut out.
+//!
+//! # Safety
+//!
+//! Every call is total in its numbers: no depth, level, side or tag does any
+//! harm. Of the memory a call asks three things:
+//!
+//! * a pointer and the length after it name memory that is the caller's, in
+//!   whole elements; the pointer is not null and is aligned even where the
+//!   length is 0, as a slice's pointer is,
+//! * what the call writes (`*mut`) overlaps nothing else that it is given,
+//! * `start`, `length`, `range` and `error` each point to one number.
+//!
+//! No call keeps a pointer, unwinds, or has any state between calls.
+//!
+//! ```
+//! let pixels = [5u16, 7, 4, 4];
+//! let (mut plane, mut work) = ([0i32; 4], [0i32; 4]);
+//! // SAFETY: pointers and lengths are those of arrays of their own.
+//! let answer = unsafe {
+//!     suzdrepa_sys::suz_forward53(
+//!         3, 1,
+//!         pixels.as_ptr(), pixels.len(),
+//!         2, 2,
+//!         plane.as_mut_ptr(), plane.len(),
+//!         work.as_mut_ptr(), work.len(),
+//!     )
+//! };
+//! assert_eq!((answer, plane), (0, [1, 1, -2, -2]));
+//! ```
+
+#![no_std]
+
+// Limits.
+pub const SUZ_MAX_DEPTH: u8 = 12;
+pub const SUZ_MAX_LEVELS: u8 = 5;
+pub const SUZ_MAX_SIDE: usize = 4096;
+pub const SUZ_MAX_INTEGER_BITS: u8 = 12;
+pub const SUZ_MAX_FRACTION_BITS: u8 = 20;
+pub const SUZ_MAX_CONSTANT_BITS: u8 = 24;
+
+extern "C" {
+    /// Reads a width table and judges it: 1 to 5, then 6 and 7.
+    pub fn suz_table_check(table: *const u8, table_len: usize) -> u32;
+
+    /// Reads a width table and does not judge it: 1 to 5.
+    pub fn suz_table_form(table: *const u8, table_len: usize) -> u32;
+
+    /// Where the value of a tag stands in the table's bytes: 2 for the tag,
+    /// then 1 to 5.
+    pub fn suz_table_value(
+        table: *const u8,
+        table_len: usize,
+        tag: u8,
+        start: *mut u32,
+        length: *mut u32,
+    ) -> u32;
+
+    /// Range and error of a node, in units of 2^-32: 1 to 5, 4, then 6 or 7 of
+    /// the nodes before it.
+    pub fn suz_table_bound(
+        table: *const u8,
+        table_len: usize,
+        level: u8,
+        pass: u8,
+        node: u8,
+        range: *mut u64,
+        error: *mut u64,
+    ) -> u32;
+
+    /// A new table with another width at one node: 1 to 5, 4, 9.
+    pub fn suz_table_change(
+        table: *const u8,
+        table_len: usize,
+        level: u8,
+        pass: u8,
+        node: u8,
+        integer_bits: u8,
+        fraction_bits: u8,
+        out: *mut u8,
+        out_len: usize,
+    ) -> u32;
+
+    /// 9/7 forward under a width table: 1 to 5, 6 and 7, 8, 9, 10.
+    pub fn suz_forward97(
+        table: *const u8,
+        table_len: usize,
+        pixels: *const u16,
+        pixels_len: usize,
+        width: usize,
+        height: usize,
+        plane: *mut i32,
+        plane_len: usize,
+        work: *mut i32,
+        work_len: usize,
+    ) -> u32;
+
+    /// 5/3 forward: 4, 8, 9, 10.
+    pub fn suz_forward53(
+        depth: u8,
+        levels: u8,
+        pixels: *const u16,
+        pixels_len: usize,
+        width: usize,
+        height: usize,
+        plane: *mut i32,
+        plane_len: usize,
+        work: *mut i32,
+        work_len: usize,
+    ) -> u32;
+
+    /// 5/3 back: 4, 8, 9, 11.
+    pub fn suz_inverse53(
+        depth: u8,
+        levels: u8,
+        plane: *const i32,
+        plane_len: usize,
+        width: usize,
+        height: usize,
+        pixels: *mut u16,
+        pixels_len: usize,
+        work: *mut i32,
+        work_len: usize,
+    ) -> u32;
+}

@@ -1,0 +1,453 @@
+//! Width tables (document 01: books): as bytes, and as a type of their own.
+
+use crate::{Bound, Node, Pass, Place, Refusal, Width};
+use std::fmt;
+use suzdrepa_sys as sys;
+
+/// Reads a width table and judges it.
+///
+/// `Ok` means that under this table every picture of its depth can be worked
+/// by [`forward97`](crate::forward97) without any value leaving its width and
+/// with every coefficient less than two steps from the exact one.
+///
+/// Refused 1 to 5 where the bytes are malformed, 6 where a node does not fit,
+/// 7 where a kept coefficient would be too far off; 6 and 7 name the first
+/// such node.
+pub fn check_table(table: &[u8]) -> Result<(), Refusal> {
+    // SAFETY: pointer and length are those of a slice.
+    Refusal::from_answer(unsafe { sys::suz_table_check(table.as_ptr(), table.len()) })
+}
+
+/// Reads a width table without judging it: refused 1 to 5 where the bytes are
+/// malformed.
+pub fn table_form(table: &[u8]) -> Result<(), Refusal> {
+    // SAFETY: pointer and length are those of a slice.
+    Refusal::from_answer(unsafe { sys::suz_table_form(table.as_ptr(), table.len()) })
+}
+
+/// Range and error of a node's values under a width table.
+///
+/// Refused 1 to 5 where the bytes are malformed, 4 where the table lacks the
+/// node, then 6 or 7 where a node before it in table order is refused: past a
+/// refused node bounds may leave 64 bits. The first refused node itself has
+/// its bound.
+pub fn table_bound(table: &[u8], place: Place) -> Result<Bound, Refusal> {
+    let [level, pass, node] = place.numbers();
+    let mut bound = Bound { range: 0, error: 0 };
+    // SAFETY: pointer and length are those of a slice; range and error are
+    // numbers of their own.
+    Refusal::from_answer(unsafe {
+        sys::suz_table_bound(
+            table.as_ptr(),
+            table.len(),
+            level,
+            pass,
+            node,
+            &mut bound.range,
+            &mut bound.error,
+        )
+    })?;
+    Ok(bound)
+}
+
+/// The value of a field of a width table, as a part of the given bytes.
+///
+/// Tag 1 is the depth, 2 the levels, 3 the bits of the six constants, 4 the
+/// widths of all nodes (integer bits, then fractional bits, 18 nodes a
+/// level). Any other tag is refused 2; then the whole form is judged, 1 to 5.
+pub fn table_value(table: &[u8], tag: u8) -> Result<&[u8], Refusal> {
+    let (mut start, mut length) = (0, 0);
+    // SAFETY: pointer and length are those of a slice; start and length are
+    // numbers of their own.
+    let answer =
+        unsafe { sys::suz_table_value(table.as_ptr(), table.len(), tag, &mut start, &mut length) };
+    Refusal::from_answer(answer)?;
+    Ok(&table[start as usize..][..length as usize])
+}
+
+/// A new width table with another width at one node.
+///
+/// Refused 1 to 5 where the bytes are malformed, then 4 where the table lacks
+/// the node or the width is outside its limits. The new table is not judged.
+pub fn change_width(table: &[u8], place: Place, width: Width) -> Result<Vec<u8>, Refusal> {
+    // A table is written as long as it was read.
+    let mut out = vec![0; table.len()];
+    change_width_into(table, place, width, &mut out)?;
+    Ok(out)
+}
+
+/// As [`change_width`], but writes the new table to the start of `out`;
+/// refused 9 where `out` is shorter than the table.
+pub fn change_width_into(
+    table: &[u8],
+    place: Place,
+    width: Width,
+    out: &mut [u8],
+) -> Result<(), Refusal> {
+    let [level, pass, node] = place.numbers();
+    // SAFETY: pointers and lengths are those of slices; `out` is exclusive.
+    Refusal::from_answer(unsafe {
+        sys::suz_table_change(
+            table.as_ptr(),
+            table.len(),
+            level,
+            pass,
+            node,
+            width.integer_bits,
+            width.fraction_bits,
+            out.as_mut_ptr(),
+            out.len(),
+        )
+    })
+}
+
+// Where the values of the four fields start in the bytes of a table.
+const DEPTH: usize = 3;
+const LEVELS: usize = 7;
+const CONSTANTS: usize = 11;
+const NODES: usize = 20;
+
+// Bytes of the nodes of a pass, and of a level: a node has two.
+const PASS_BYTES: usize = 2 * Node::ALL.len();
+const LEVEL_BYTES: usize = PASS_BYTES * Pass::ALL.len();
+
+/// A width table of right form: every number is within its limits. Whether it
+/// is accepted is [`check`](WidthTable::check)'s to say.
+///
+/// ```
+/// use suzdrepa::{Node, Pass, Place, Refusal, Width, WidthTable};
+///
+/// // Pictures of 8 bits, three levels, constants with 24 bits.
+/// let (kept, others) = (Width::new(12, 2), Width::new(12, 20));
+/// let table = WidthTable::kept_and_others(8, 3, 24, kept, others)?;
+/// assert_eq!(table.check(), Ok(()));
+///
+/// let first = Place::new(1, Pass::Rows, Node::P1);
+/// let narrow = table.with_width(first, Width::new(2, 20))?;
+/// assert_eq!(narrow.check(), Err(Refusal::DoesNotFit(first)));
+///
+/// let bytes = table.to_bytes();
+/// assert_eq!(WidthTable::from_bytes(&bytes)?, table);
+/// # Ok::<(), Refusal>(())
+/// ```
+#[derive(Clone, Debug, PartialEq, Eq, Hash)]
+pub struct WidthTable {
+    /// What [`table_form`] has found right.
+    bytes: Vec<u8>,
+}
+
+impl WidthTable {
+    /// The greatest depth of a picture; the least is 1.
+    pub const MAX_DEPTH: u8 = sys::SUZ_MAX_DEPTH;
+    /// The most levels; the least is 1.
+    pub const MAX_LEVELS: u8 = sys::SUZ_MAX_LEVELS;
+    /// The most bits of a constant; the least is 1.
+    pub const MAX_CONSTANT_BITS: u8 = sys::SUZ_MAX_CONSTANT_BITS;
+    /// The most integer bits of a node; the least is 1.
+    pub const MAX_INTEGER_BITS: u8 = sys::SUZ_MAX_INTEGER_BITS;
+    /// The most fractional bits of a node; the least is 0.
+    pub const MAX_FRACTION_BITS: u8 = sys::SUZ_MAX_FRACTION_BITS;
+
+    /// The length in bytes of a table of so many levels.
+    pub const fn length(levels: u8) -> usize {
+        NODES + LEVEL_BYTES * levels as usize
+    }
+
+    /// Reads a table; refused 1 to 5.
+    pub fn from_bytes(bytes: &[u8]) -> Result<WidthTable, Refusal> {
+        WidthTable::from_vec(bytes.to_vec())
+    }
+
+    fn from_vec(bytes: Vec<u8>) -> Result<WidthTable, Refusal> {
+        table_form(&bytes)?;
+        Ok(WidthTable { bytes })
+    }
+
+    /// The same bits for every constant and the same width at every node;
+    /// refused 4 where a number is outside its limits.
+    pub fn uniform(
+        depth: u8,
+        levels: u8,
+        constant_bits: u8,
+        width: Width,
+    ) -> Result<WidthTable, Refusal> {
+        WidthTable::kept_and_others(depth, levels, constant_bits, width, width)
+    }
+
+    /// As [`uniform`](WidthTable::uniform), but the kept nodes, whose values
+    /// are the coefficients, have a width of their own.
+    pub fn kept_and_others(
+        depth: u8,
+        levels: u8,
+        constant_bits: u8,
+        kept: Width,
+        others: Width,
+    ) -> Result<WidthTable, Refusal> {
+        let mut bytes = vec![1, 0, 1, depth, 2, 0, 1, levels, 3, 0, 6];
+        bytes.extend([constant_bits; Node::ALL.len()]);
+        let [high, low] = (LEVEL_BYTES as u16 * u16::from(levels)).to_be_bytes();
+        bytes.extend([4, high, low]);
+        for place in places(levels) {
+            let width = match place.is_kept(levels) {
+                true => kept,
+                false => others,
+            };
+            bytes.extend([width.integer_bits, width.fraction_bits]);
+        }
+        WidthTable::from_vec(bytes)
+    }
+
+    /// The bytes of the table.
+    pub fn as_bytes(&self) -> &[u8] {
+        &self.bytes
+    }
+
+    /// The bytes of the table, to keep.
+    pub fn to_bytes(&self) -> Vec<u8> {
+        self.bytes.clone()
+    }
+
+    /// Bits of a pixel.
+    pub fn depth(&self) -> u8 {
+        self.bytes[DEPTH]
+    }
+
+    pub fn levels(&self) -> u8 {
+        self.bytes[LEVELS]
+    }
+
+    /// The fractional bits of the constant that a node multiplies by.
+    pub fn constant_bits(&self, node: Node) -> u8 {
+        self.bytes[CONSTANTS + usize::from(node.number() - 1)]
+    }
+
+    /// The width of a node; `None` where the table lacks its level.
+    pub fn width(&self, place: Place) -> Option<Width> {
+        if !(1..=self.levels()).contains(&place.level) {
+            return None;
+        }
+        let [level, pass, node] = place.numbers().map(|number| usize::from(number - 1));
+        let at = NODES + LEVEL_BYTES * level + PASS_BYTES * pass + 2 * node;
+        Some(Width::new(self.bytes[at], self.bytes[at + 1]))
+    }
+
+    /// Every node of the table, in table order.
+    ///
+    /// ```
+    /// # use suzdrepa::{Width, WidthTable};
+    /// let table = WidthTable::uniform(8, 2, 16, Width::new(12, 12))?;
+    /// assert_eq!(table.places().count(), 36);
+    /// assert_eq!(table.places().next().unwrap().numbers(), [1, 1, 1]);
+    /// # Ok::<(), suzdrepa::Refusal>(())
+    /// ```
+    pub fn places(&self) -> impl Iterator<Item = Place> {
+        places(self.levels())
+    }
+
+    /// Whether the node's values are coefficients of the plane.
+    pub fn is_kept(&self, place: Place) -> bool {
+        place.is_kept(self.levels())
+    }
+
+    /// A table with another width at one node; refused 4 where the table lacks
+    /// the node or the width is outside its limits.
+    pub fn with_width(&self, place: Place, width: Width) -> Result<WidthTable, Refusal> {
+        let bytes = change_width(&self.bytes, place, width)?;
+        Ok(WidthTable { bytes })
+    }
+
+    /// A table with other bits for the constant of a node; refused 4 where
+    /// they are outside their limits.
+    ///
+    /// ```
+    /// # use suzdrepa::{Node, Refusal, Width, WidthTable};
+    /// let table = WidthTable::uniform(8, 2, 16, Width::new(12, 12))?;
+    /// let finer = table.with_constant(Node::G1, 20)?;
+    /// assert_eq!(finer.constant_bits(Node::G1), 20);
+    /// assert_eq!(table.with_constant(Node::G1, 25), Err(Refusal::OutsideLimits));
+    /// # Ok::<(), Refusal>(())
+    /// ```
+    pub fn with_constant(&self, node: Node, bits: u8) -> Result<WidthTable, Refusal> {
+        let mut bytes = self.bytes.clone();
+        bytes[CONSTANTS + usize::from(node.number() - 1)] = bits;
+        WidthTable::from_vec(bytes)
+    }
+
+    /// Judges the table, as [`check_table`] does: refused 6 or 7.
+    pub fn check(&self) -> Result<(), Refusal> {
+        check_table(&self.bytes)
+    }
+
+    /// Range and error of a node's values, as [`table_bound`] has them:
+    /// refused 4 where the table lacks the node, 6 or 7 where one before it is
+    /// refused.
+    ///
+    /// ```
+    /// use suzdrepa::{Node, Pass, Place, Refusal, Width, WidthTable};
+    ///
+    /// let first = Place::new(1, Pass::Rows, Node::P1);
+    /// let table = WidthTable::uniform(8, 1, 24, Width::new(2, 20))?;
+    /// // The first node's values get larger than two integer bits hold.
+    /// let bound = table.bound(first)?;
+    /// assert!(bound.range_as_f64() > 2.0);
+    /// assert_eq!(table.check(), Err(Refusal::DoesNotFit(first)));
+    /// // Past it nothing is told.
+    /// let second = Place::new(1, Pass::Rows, Node::U1);
+    /// assert_eq!(table.bound(second), Err(Refusal::DoesNotFit(first)));
+    /// # Ok::<(), Refusal>(())
+    /// ```
+    pub fn bound(&self, place: Place) -> Result<Bound, Refusal> {
+        table_bound(&self.bytes, place)
+    }
+}
+
+/// Every node of so many levels, in table order.
+fn places(levels: u8) -> impl Iterator<Item = Place> {
+    (1..=levels).flat_map(|level| {
+        Pass::ALL.into_iter().flat_map(move |pass| {
+            let place = move |node| Place::new(level, pass, node);
+            Node::ALL.into_iter().map(place)
+        })
+    })
+}
+
+impl AsRef<[u8]> for WidthTable {
+    fn as_ref(&self) -> &[u8] {
+        &self.bytes
+    }
+}
+
+/// Depth, levels, the bits of the constants, and a line of widths for each
+/// pass.
+impl fmt::Display for WidthTable {
+    fn fmt(&self, f: &mut fmt::Formatter<'_>) -> fmt::Result {
+        writeln!(f, "depth {} bits, {} levels", self.depth(), self.levels())?;
+        write!(f, "bits of the constants:")?;
+        for node in Node::ALL {
+            write!(f, " {node} {}", self.constant_bits(node))?;
+        }
+        for place in self.places() {
+            if place.node == Node::P1 {
+                write!(f, "\nlevel {}, {}:", place.level, place.pass)?;
+            }
+            if let Some(width) = self.width(place) {
+                write!(f, " {} {width}", place.node)?;
+            }
+        }
+        Ok(())
+    }
+}
+
+#[cfg(test)]
+mod tests {
+    use super::*;
+
+    const KEPT: Width = Width::new(12, 2);
+    const OTHERS: Width = Width::new(11, 20);
+
+    fn table(levels: u8) -> WidthTable {
+        WidthTable::kept_and_others(8, levels, 24, KEPT, OTHERS).unwrap()
+    }
+
+    #[test]
+    fn round_trip() {
+        for levels in 1..=5 {
+            let table = table(levels);
+            let bytes = table.to_bytes();
+            assert_eq!(bytes.len(), WidthTable::length(levels));
+            assert_eq!(WidthTable::from_bytes(&bytes), Ok(table.clone()));
+            assert_eq!((table.depth(), table.levels()), (8, levels));
+            for place in table.places() {
+                let due = if table.is_kept(place) { KEPT } else { OTHERS };
+                assert_eq!(table.width(place), Some(due));
+            }
+            // Four bands at the last level, three at the others.
+            let kept = table.places().filter(|&place| table.is_kept(place));
+            assert_eq!(kept.count(), 3 * usize::from(levels) + 1);
+        }
+        assert_eq!(WidthTable::from_bytes(&[1, 0]), Err(Refusal::CutShort));
+        assert_eq!(table(5).as_ref().len(), 200);
+    }
+
+    /// The bytes that the type reads by are those that the engine names.
+    #[test]
+    fn values_are_where_the_engine_has_them() {
+        let mut table = table(2);
+        for (bits, node) in (7..).zip(Node::ALL) {
+            table = table.with_constant(node, bits).unwrap();
+        }
+        let value = |tag| table_value(table.as_bytes(), tag).unwrap();
+        assert_eq!(value(1), [table.depth()]);
+        assert_eq!(value(2), [table.levels()]);
+        assert_eq!(value(3), Node::ALL.map(|node| table.constant_bits(node)));
+        let widths: Vec<u8> = table
+            .places()
+            .filter_map(|place| table.width(place))
+            .flat_map(|width| [width.integer_bits, width.fraction_bits])
+            .collect();
+        assert_eq!(value(4), widths);
+    }
+
+    #[test]
+    fn one_width_is_changed() {
+        let old = table(3);
+        for at in old.places() {
+            let new = old.with_width(at, Width::new(7, 9)).unwrap();
+            for place in old.places() {
+                let due = match place == at {
+                    true => Some(Width::new(7, 9)),
+                    false => old.width(place),
+                };
+                assert_eq!(new.width(place), due);
+            }
+        }
+    }
+
+    #[test]
+    fn numbers_outside_their_limits_are_refused() {
+        let refused = Err(Refusal::OutsideLimits);
+        let max = Width::new(WidthTable::MAX_INTEGER_BITS, WidthTable::MAX_FRACTION_BITS);
+        let most = WidthTable::uniform(
+            WidthTable::MAX_DEPTH,
+            WidthTable::MAX_LEVELS,
+            WidthTable::MAX_CONSTANT_BITS,
+            max,
+        );
+        assert!(most.is_ok());
+        for (depth, levels, constant_bits, integer_bits, fraction_bits) in [
+            (0, 1, 24, 12, 20),
+            (13, 1, 24, 12, 20),
+            (8, 0, 24, 12, 20),
+            (8, 6, 24, 12, 20),
+            (8, 255, 24, 12, 20),
+            (8, 1, 0, 12, 20),
+            (8, 1, 25, 12, 20),
+            (8, 1, 24, 0, 20),
+            (8, 1, 24, 13, 20),
+            (8, 1, 24, 12, 21),
+        ] {
+            let width = Width::new(integer_bits, fraction_bits);
+            let table = WidthTable::uniform(depth, levels, constant_bits, width);
+            assert_eq!(table, refused);
+        }
+        let table = table(2);
+        let place = |level| Place::new(level, Pass::Rows, Node::P1);
+        assert_eq!(table.with_width(place(0), max), refused);
+        assert_eq!(table.with_width(place(3), max), refused);
+        assert_eq!(table.with_width(place(1), Width::new(0, 0)), refused);
+        assert_eq!(table.width(place(0)), None);
+        assert_eq!(table.width(place(3)), None);
+    }
+
+    #[test]
+    fn text() {
+        assert_eq!(
+            table(1).to_string(),
+            "depth 8 bits, 1 levels\n\
+             bits of the constants: P1 24 U1 24 P2 24 U2 24 G1 24 G2 24\n\
+             level 1, rows: P1 (11, 20) U1 (11, 20) P2 (11, 20) U2 (11, 20) G1 (11, 20) G2 (11, 20)\n\
+             level 1, columns of row-low: P1 (11, 20) U1 (11, 20) P2 (11, 20) U2 (11, 20) G1 (12, 2) G2 (12, 2)\n\
+             level 1, columns of row-high: P1 (11, 20) U1 (11, 20) P2 (11, 20) U2 (11, 20) G1 (12, 2) G2 (12, 2)"
+        );
+    }
+}

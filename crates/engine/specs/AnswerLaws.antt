@@ -1,107 +1,62 @@
 -- What the answers of the calls below say of the C interface's.
 use Prim.Native.Nat.{ℕ}
-use mathlib.Core.Bool.{Bool}
+use mathlib.Core.Bool.{Bool, true}
+use mathlib.Core.List.{List}
+use mathlib.Core.Path.{_≡_, refl, sym, _∙_, ap, subst, subst₂}
 use lib.Dec.{leb}
 use lib.ListN.{length}
 use lib.IntN.{ℤ}
 use Rattle.numbers.specs.Lists.{over}
-use mathlib.Core.List.{List}
-use mathlib.Core.Path.{_≡_, refl, sym, _∙_, ap, subst}
-use native.Mathlib.Omega.{arith}
-use Rattle.refusals.specs.declared.Refusal.{Refusal}
-use Rattle.refusals.specs.declared.Outcome.{Outcome}
-use Rattle.refusals.specs.declared.Outcome.the-variants.{Done, Refused}
-use Rattle.refusals.specs.declared.Refusal.the-variants.{OutsideLimits, SliceTooShort}
-use Rattle.refusals.specs.Refusals.{asks, answered}
+use Rattle.refusals.specs.Answers.{Reason, Answer, done, refused, passed, asks, _then_, answered}
+use Rattle.refusals.specs.AnswerLaws.{gives-done, gives-refused, then-right, then-refused, answered-done, answered-refused}
 use Rattle.width_table.specs.declared.WidthTable.{WidthTable}
-use Rattle.width_table.specs.declared.TableAnswer.{TableAnswer}
-use Rattle.width_table.specs.declared.Written.the-variants.{Bytes, NotWritten}
-use Rattle.width_table.specs.declared.Named.the-variants.{Value, NotNamed}
-use Rattle.refusals.specs.RefusalLaws.{then-right, then-refused, answered-done}
+use Rattle.width_table.specs.Table.{formRight}
 use Rattle.width_table.specs.Fields.{tableSize, valueStart, valueLength}
-use Rattle.width_table.specs.Bytes.{levelsIn, form, tableIn, emptyTable, reading, written, writable, writing, tableBytes, bytesAfter}
-use Rattle.width_table.specs.Changes.{changeable, withWidth, widthChanged}
+use Rattle.width_table.specs.Bytes.{levelsIn, form, tableIn, writable, writing, tableBytes, bytesAfter}
+use Rattle.width_table.specs.Names.{nameable, naming}
+use Rattle.width_table.specs.Changes.{changeable, withWidth, tableAfterWidth, constantChangeable, withConstant, tableAfterConstant}
 use Rattle.width_table.specs.RoundTrip.{read-sized}
-use Rattle.width_table.specs.ChangeLaws.{width-form}
+use Rattle.width_table.specs.ChangeLaws.{width-form, constant-form}
 use Rattle.precision.specs.Verdict.{verdict}
-use Rattle.precision.specs.BoundCalls.{boundTold, boundAnswer}
-use Rattle.precision.specs.declared.BoundAnswer.{BoundAnswer}
+use Rattle.precision.specs.BoundCalls.{boundable}
 use Rattle.irreversible.specs.Calls.{fixedAnswer, fixedPlaneAfter, fixedWork}
-use Rattle.width_table.specs.Names.{nameable, named, naming}
-use Rattle.engine.specs.Answers.{checked, boundAnswered, boundIn, rangeAfter, errorAfter, startAfter, lengthAfter, changeAnswer, changeOut, answer97, plane97, work97}
+use Rattle.engine.specs.Answers.{checked, startAfter, lengthAfter, boundAnswered, boundIn, rangeAfter, errorAfter, newTableAnswer, newTableOut, answer97, plane97, work97}
 
-module _ (bytes : List ℕ) (tag : ℕ) where
-  -- a tag that is not named
-  pub name-refused : (r : Refusal) → naming bytes tag ≡ NotNamed r → nameable bytes tag ≡ Refused r
+-- ---- a tag that is named
+
+module _ (bytes : List ℕ) (tag start len : ℕ) where
+  -- what the call gives
+  pub record GivesPlace (o : Answer Unit) (s l : ℕ) : Type 0 where
+    pub answers : nameable bytes tag ≡ o
+    pub leaves-start : s ≡ startAfter bytes tag start
+    pub leaves-length : l ≡ lengthAfter bytes tag len
+
+  gives-place : (o : Answer Unit) → nameable bytes tag ≡ o → GivesPlace o (answered o (valueStart (levelsIn bytes) tag) start) (answered o (valueLength (levelsIn bytes) tag) len)
+  unfolding startAfter lengthAfter
+  gives-place o e = record {
+    answers = e;
+    leaves-start = sym (ap (λ (o : Answer Unit). answered o (valueStart (levelsIn bytes) tag) start) e);
+    leaves-length = sym (ap (λ (o : Answer Unit). answered o (valueLength (levelsIn bytes) tag) len) e);
+  }
+
+  pub name-refused : (r : Reason) → naming bytes tag ≡ refused r → GivesPlace (refused r) start len
   unfolding naming
-  name-refused r e = go (nameable bytes tag) refl
-    where
-      go : (o : Outcome) → nameable bytes tag ≡ o → nameable bytes tag ≡ Refused r
-      go Done q =
-          let z : Value (valueStart (levelsIn bytes) tag) (valueLength (levelsIn bytes) tag) ≡ NotNamed r = sym (ap (λ (o : Outcome). named o (valueStart (levelsIn bytes) tag) (valueLength (levelsIn bytes) tag)) q) ∙ e in
-          let n : _≡_ {A = ℕ} 0 1 = cc in
-          absurd (omega arith)
-      go (Refused s) q =
-          let z : NotNamed s ≡ NotNamed r = sym (ap (λ (o : Outcome). named o (valueStart (levelsIn bytes) tag) (valueLength (levelsIn bytes) tag)) q) ∙ e in
-          let n : s ≡ r = cc in
-          q ∙ ap (λ (x : Refusal). Refused x) n
+  name-refused r e = gives-place (refused r) (gives-refused (nameable bytes tag) _ r e)
 
-  -- a tag that is named
-  pub record Found (start len : ℕ) : Type 0 where
-    pub done : nameable bytes tag ≡ Done
-    pub starts : start ≡ valueStart (levelsIn bytes) tag
-    pub long : len ≡ valueLength (levelsIn bytes) tag
-
-  pub name-found : (start len : ℕ) → naming bytes tag ≡ Value start len → Found start len
+  pub name-found : (s l : ℕ) → naming bytes tag ≡ done (s, l) → GivesPlace passed s l
   unfolding naming
-  name-found start len e = go (nameable bytes tag) refl
-    where
-      go : (o : Outcome) → nameable bytes tag ≡ o → Found start len
-      go Done q =
-          let z : Value (valueStart (levelsIn bytes) tag) (valueLength (levelsIn bytes) tag) ≡ Value start len = sym (ap (λ (o : Outcome). named o (valueStart (levelsIn bytes) tag) (valueLength (levelsIn bytes) tag)) q) ∙ e in
-          record { done = q; starts = cc; long = cc }
-      go (Refused r) q =
-          let z : NotNamed r ≡ Value start len = sym (ap (λ (o : Outcome). named o (valueStart (levelsIn bytes) tag) (valueLength (levelsIn bytes) tag)) q) ∙ e in
-          let n : _≡_ {A = ℕ} 0 1 = cc in
-          absurd (omega arith)
+  name-found s l e =
+      let (right, place) = gives-done (nameable bytes tag) (valueStart (levelsIn bytes) tag, valueLength (levelsIn bytes) tag) e in
+      subst (λ (p : ℕ × ℕ). GivesPlace passed (p .0) (p .1)) place (gives-place passed right)
 
-  pub start-kept : (r : Refusal) (s : ℕ) → nameable bytes tag ≡ Refused r → s ≡ startAfter bytes tag s
-  unfolding startAfter
-  start-kept r s e = sym (ap (λ (o : Outcome). answered o (valueStart (levelsIn bytes) tag) s) e)
-
-  pub length-kept : (r : Refusal) (s : ℕ) → nameable bytes tag ≡ Refused r → s ≡ lengthAfter bytes tag s
-  unfolding lengthAfter
-  length-kept r s e = sym (ap (λ (o : Outcome). answered o (valueLength (levelsIn bytes) tag) s) e)
-
-  pub start-written : (s : ℕ) → nameable bytes tag ≡ Done → valueStart (levelsIn bytes) tag ≡ startAfter bytes tag s
-  unfolding startAfter
-  start-written s e = sym (ap (λ (o : Outcome). answered o (valueStart (levelsIn bytes) tag) s) e)
-
-  pub length-written : (s : ℕ) → nameable bytes tag ≡ Done → valueLength (levelsIn bytes) tag ≡ lengthAfter bytes tag s
-  unfolding lengthAfter
-  length-written s e = sym (ap (λ (o : Outcome). answered o (valueLength (levelsIn bytes) tag) s) e)
-
--- ---- a table that is read
-
-module _ (bytes : List ℕ) (a : TableAnswer) (e : a ≡ reading bytes) where
-  pub read-refused : (r : Refusal) → a .outcome ≡ Refused r → form bytes ≡ Refused r
-  unfolding reading
-  read-refused r q = sym (ap (λ (x : TableAnswer). x .outcome) e) ∙ q
-
-  pub read-right : a .outcome ≡ Done → form bytes ≡ Done
-  unfolding reading
-  read-right q = sym (ap (λ (x : TableAnswer). x .outcome) e) ∙ q
-
-  pub read-table : a .outcome ≡ Done → a .table ≡ tableIn bytes
-  unfolding reading
-  read-table q = ap (λ (x : TableAnswer). x .table) e ∙ answered-done (tableIn bytes) emptyTable (read-right q)
+-- ---- a table that is judged
 
 module _ (bytes : List ℕ) where
-  pub check-refused : (r : Refusal) → form bytes ≡ Refused r → checked bytes ≡ Refused r
+  pub check-refused : (r : Reason) → form bytes ≡ refused r → checked bytes ≡ refused r
   unfolding checked
   check-refused r e = then-refused (form bytes) (verdict (tableIn bytes)) r e
 
-  pub check-judged : form bytes ≡ Done → checked bytes ≡ verdict (tableIn bytes)
+  pub check-judged : form bytes ≡ passed → checked bytes ≡ verdict (tableIn bytes)
   unfolding checked
   check-judged e = then-right (form bytes) (verdict (tableIn bytes)) e
 
@@ -109,131 +64,106 @@ module _ (bytes : List ℕ) where
 
 module _ (bytes : List ℕ) (level pass node range error : ℕ) where
   -- what the call gives
-  pub record GivesBound (o : Outcome) (r e : ℕ) : Type 0 where
+  pub record GivesBound (o : Answer Unit) (r e : ℕ) : Type 0 where
     pub answers : boundAnswered bytes level pass node ≡ o
     pub leaves-range : r ≡ rangeAfter bytes level pass node range
     pub leaves-error : e ≡ errorAfter bytes level pass node error
 
-  gives-bound : (o : Outcome) → boundAnswered bytes level pass node ≡ o → GivesBound o (answered o (boundIn bytes level pass node .range) range) (answered o (boundIn bytes level pass node .error) error)
+  gives-bound : (o : Answer Unit) → boundAnswered bytes level pass node ≡ o → GivesBound o (answered o (boundIn bytes level pass node .range) range) (answered o (boundIn bytes level pass node .error) error)
   unfolding rangeAfter errorAfter
   gives-bound o e = record {
     answers = e;
-    leaves-range = sym (ap (λ (o : Outcome). answered o (boundIn bytes level pass node .range) range) e);
-    leaves-error = sym (ap (λ (o : Outcome). answered o (boundIn bytes level pass node .error) error) e);
+    leaves-range = sym (ap (λ (o : Answer Unit). answered o (boundIn bytes level pass node .range) range) e);
+    leaves-error = sym (ap (λ (o : Answer Unit). answered o (boundIn bytes level pass node .error) error) e);
   }
 
-  pub bound-unread : (r : Refusal) → form bytes ≡ Refused r → GivesBound (Refused r) range error
+  pub bound-unread : (r : Reason) → form bytes ≡ refused r → GivesBound (refused r) range error
   unfolding boundAnswered
-  bound-unread r e = gives-bound (Refused r) (then-refused (form bytes) _ r e)
+  bound-unread r e = gives-bound (refused r) (then-refused (form bytes) _ r e)
 
-  module _ (e : form bytes ≡ Done) (t : WidthTable) (is : t ≡ tableIn bytes) (a : BoundAnswer) (told : a ≡ boundAnswer t level pass node) where
-    same : a ≡ boundTold (boundAnswered bytes level pass node) (boundIn bytes level pass node)
-    unfolding boundAnswer boundAnswered
-    same = told ∙ ap (λ (t : WidthTable). boundAnswer t level pass node) is ∙ ap (λ (o : Outcome). boundTold o (boundIn bytes level pass node)) (sym (then-right (form bytes) _ e))
-
-    answered-as : (o : Outcome) → a .outcome ≡ o → boundAnswered bytes level pass node ≡ o
-    answered-as o q = sym (ap (λ (x : BoundAnswer). x .outcome) same) ∙ q
-
-    pub bound-refused : (r : Refusal) → a .outcome ≡ Refused r → GivesBound (Refused r) range error
-    bound-refused r q = gives-bound (Refused r) (answered-as (Refused r) q)
-
-    pub bound-done : a .outcome ≡ Done → GivesBound Done (a .range) (a .error)
-    bound-done q =
-        let d = answered-as Done q in
-        subst (λ (x : BoundAnswer). GivesBound Done (x .range) (x .error)) (sym (same ∙ ap (λ (o : Outcome). boundTold o (boundIn bytes level pass node)) d)) (gives-bound Done d)
+  pub bound-read : form bytes ≡ passed → (o : Answer Unit) → boundable (tableIn bytes) level pass node ≡ o
+      → GivesBound o (answered o (boundIn bytes level pass node .range) range) (answered o (boundIn bytes level pass node .error) error)
+  unfolding boundAnswered
+  bound-read e o q = gives-bound o (then-right (form bytes) _ e ∙ q)
 
 -- ---- a table that is written
 
 module _ (t : WidthTable) (lent : List ℕ) where
-  pub write-done : (n : ℕ) → writing t lent ≡ Bytes n → writable t lent ≡ Done
+  pub write-done : (n : ℕ) → writing t lent ≡ done n → writable t lent ≡ passed
   unfolding writing
-  write-done n e = go (writable t lent) refl
-    where
-      go : (o : Outcome) → writable t lent ≡ o → writable t lent ≡ Done
-      go Done q = q
-      go (Refused r) q =
-          let z : NotWritten r ≡ Bytes n = sym (ap (λ (o : Outcome). written o (tableSize (t .levels))) q) ∙ e in
-          let m : _≡_ {A = ℕ} 0 1 = cc in
-          absurd (omega arith)
+  write-done n e = gives-done (writable t lent) _ e .0
 
-  pub write-refused : (r : Refusal) → writing t lent ≡ NotWritten r → writable t lent ≡ Refused r
+  pub write-refused : (r : Reason) → writing t lent ≡ refused r → writable t lent ≡ refused r
   unfolding writing
-  write-refused r e = go (writable t lent) refl
-    where
-      go : (o : Outcome) → writable t lent ≡ o → writable t lent ≡ Refused r
-      go Done q =
-          let z : Bytes (tableSize (t .levels)) ≡ NotWritten r = sym (ap (λ (o : Outcome). written o (tableSize (t .levels))) q) ∙ e in
-          let m : _≡_ {A = ℕ} 0 1 = cc in
-          absurd (omega arith)
-      go (Refused s) q =
-          let z : NotWritten s ≡ NotWritten r = sym (ap (λ (o : Outcome). written o (tableSize (t .levels))) q) ∙ e in
-          let n : s ≡ r = cc in
-          q ∙ ap (λ (x : Refusal). Refused x) n
+  write-refused r e = gives-refused (writable t lent) _ r e
 
--- ---- a change of one width
+-- ---- a new table from the old one
 
-module _ (bytes : List ℕ) (level pass node IB f : ℕ) (out : List ℕ) where
-  abbrev new : WidthTable
-  new = withWidth (tableIn bytes) level pass node IB f
+module _ (bytes : List ℕ) (change : Answer Unit) (new : WidthTable) (out : List ℕ) where
+  abbrev room : ℕ → Answer Unit
+  room L = asks (leb (tableSize L) (length out)) 9 passed
 
-  abbrev room : Outcome
-  room = asks (leb (tableSize (levelsIn bytes)) (length out)) SliceTooShort Done
-
-  abbrev after : Outcome → List ℕ
+  abbrev after : Answer Unit → List ℕ
   after o = answered o (over (tableBytes new) out) out
 
   -- what the call gives
-  pub record Gives (o : Outcome) (l : List ℕ) : Type 0 where
-    pub answers : changeAnswer bytes level pass node IB f out ≡ o
-    pub leaves : l ≡ changeOut bytes level pass node IB f out
+  pub record Gives (o : Answer Unit) (l : List ℕ) : Type 0 where
+    pub answers : newTableAnswer bytes change new out ≡ o
+    pub leaves : l ≡ newTableOut bytes change new out
 
-  gives : (o : Outcome) → changeAnswer bytes level pass node IB f out ≡ o → Gives o (after o)
-  unfolding changeOut
+  gives : (o : Answer Unit) → newTableAnswer bytes change new out ≡ o → Gives o (after o)
+  unfolding newTableOut
   gives o e = record { answers = e; leaves = sym (ap after e) }
 
-  pub change-unread : (r : Refusal) → form bytes ≡ Refused r → Gives (Refused r) out
-  unfolding changeAnswer
-  change-unread r e = gives (Refused r) (then-refused (form bytes) _ r e)
+  pub change-unread : (r : Reason) → form bytes ≡ refused r → Gives (refused r) out
+  unfolding newTableAnswer
+  change-unread r e = gives (refused r) (then-refused (form bytes) _ r e)
 
-  module _ (e : form bytes ≡ Done) where
-    pub change-refused : (r : Refusal) → changeable (tableIn bytes) level pass node IB f ≡ Refused r → Gives (Refused r) out
-    unfolding changeAnswer
-    change-refused r q = gives (Refused r) (then-right (form bytes) _ e ∙ then-refused (changeable (tableIn bytes) level pass node IB f) room r q)
+  -- what it gives where a change's answer and its table go to the lent bytes
+  abbrev GivesWritten : Answer Unit → WidthTable → Type 0
+  GivesWritten o made = Gives (o then writable made out) (answered o (bytesAfter made out) out)
 
-    pub change-done : changeable (tableIn bytes) level pass node IB f ≡ Done → Gives (writable new out) (bytesAfter new out)
-    unfolding changeAnswer writable tableIn bytesAfter
-    change-done q =
-        let formed : writable new out ≡ room = ap (λ (b : Bool). asks b OutsideLimits room) (width-form (tableIn bytes) (read-sized bytes e) level pass node IB f q) in
-        gives (writable new out) (then-right (form bytes) _ e ∙ then-right (changeable (tableIn bytes) level pass node IB f) room q ∙ sym formed)
+  -- an accepted change keeps the form and the levels, so that 9 alone is left
+  change-read : form bytes ≡ passed → new .levels ≡ levelsIn bytes → (change ≡ passed → formRight new ≡ true)
+      → (o : Answer Unit) (made : WidthTable) → o ≡ change → made ≡ answered change new (tableIn bytes) → GivesWritten o made
+  unfolding newTableAnswer writable bytesAfter
+  change-read e levels right o made answer table = subst₂ GivesWritten (sym answer) (sym table) (go change refl)
+    where
+      go : (o : Answer Unit) → change ≡ o → GivesWritten o (answered o new (tableIn bytes))
+      go (done tt) q =
+          let formed : writable new out ≡ room (levelsIn bytes) = ap (λ (b : Bool). asks b 4 (room (new .levels))) (right q) ∙ ap room levels in
+          gives (writable new out) (then-right (form bytes) _ e ∙ then-right change (room (levelsIn bytes)) q ∙ sym formed)
+      go (refused r) q = gives (refused r) (then-right (form bytes) _ e ∙ then-refused change (room (levelsIn bytes)) r q)
 
--- the answer of a change
-module _ (t : WidthTable) (level pass node IB f : ℕ) (a : TableAnswer) (e : a ≡ widthChanged t level pass node IB f) where
-  pub change-answer : (o : Outcome) → a .outcome ≡ o → changeable t level pass node IB f ≡ o
-  unfolding widthChanged
-  change-answer o q = sym (ap (λ (x : TableAnswer). x .outcome) e) ∙ q
+module _ (bytes : List ℕ) (out : List ℕ) (e : form bytes ≡ passed) (o : Answer Unit) (made : WidthTable) where
+  pub width-changed : (level pass node IB f : ℕ) → let change = changeable (tableIn bytes) level pass node IB f in
+      o ≡ change → made ≡ tableAfterWidth (tableIn bytes) level pass node IB f → GivesWritten bytes change (withWidth (tableIn bytes) level pass node IB f) out o made
+  unfolding tableAfterWidth tableIn
+  width-changed level pass node IB f = change-read bytes _ (withWidth (tableIn bytes) level pass node IB f) out e refl (width-form (tableIn bytes) (read-sized bytes e) level pass node IB f) o made
 
-  pub change-table : a .outcome ≡ Done → a .table ≡ withWidth t level pass node IB f
-  unfolding widthChanged
-  change-table q = ap (λ (x : TableAnswer). x .table) e ∙ answered-done (withWidth t level pass node IB f) t (change-answer Done q)
+  pub constant-changed : (node F : ℕ) → let change = constantChangeable (tableIn bytes) node F in
+      o ≡ change → made ≡ tableAfterConstant (tableIn bytes) node F → GivesWritten bytes change (withConstant (tableIn bytes) node F) out o made
+  unfolding tableAfterConstant tableIn
+  constant-changed node F = change-read bytes _ (withConstant (tableIn bytes) node F) out e refl (constant-form (tableIn bytes) (read-sized bytes e) node F) o made
 
 -- ---- 9/7
 
 module _ (bytes : List ℕ) (w h : ℕ) (pixels : List ℕ) (plane work : List ℤ) where
   -- what the call gives
-  pub record Gives97 (o : Outcome) (p q : List ℤ) : Type 0 where
+  pub record Gives97 (o : Answer Unit) (p q : List ℤ) : Type 0 where
     pub answers : answer97 bytes w h pixels plane work ≡ o
     pub leaves-plane : p ≡ plane97 bytes w h pixels plane work
     pub leaves-work : q ≡ work97 bytes w h pixels plane work
 
-  pub unread97 : (r : Refusal) → form bytes ≡ Refused r → Gives97 (Refused r) plane work
+  pub unread97 : (r : Reason) → form bytes ≡ refused r → Gives97 (refused r) plane work
   unfolding answer97 plane97 work97
   unread97 r e = record {
     answers = then-refused (form bytes) (fixedAnswer (tableIn bytes) w h pixels plane work) r e;
-    leaves-plane = sym (ap (λ (o : Outcome). answered o (fixedPlaneAfter (tableIn bytes) w h pixels plane work) plane) e);
-    leaves-work = sym (ap (λ (o : Outcome). answered o (fixedWork (tableIn bytes) w h pixels plane work) work) e);
+    leaves-plane = sym (answered-refused (fixedPlaneAfter (tableIn bytes) w h pixels plane work) plane e);
+    leaves-work = sym (answered-refused (fixedWork (tableIn bytes) w h pixels plane work) work e);
   }
 
-  pub read97 : form bytes ≡ Done → Gives97 (fixedAnswer (tableIn bytes) w h pixels plane work) (fixedPlaneAfter (tableIn bytes) w h pixels plane work) (fixedWork (tableIn bytes) w h pixels plane work)
+  pub read97 : form bytes ≡ passed → Gives97 (fixedAnswer (tableIn bytes) w h pixels plane work) (fixedPlaneAfter (tableIn bytes) w h pixels plane work) (fixedWork (tableIn bytes) w h pixels plane work)
   unfolding answer97 plane97 work97
   read97 e = record {
     answers = then-right (form bytes) (fixedAnswer (tableIn bytes) w h pixels plane work) e;

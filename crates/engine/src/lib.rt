@@ -1,55 +1,24 @@
 // The C interface (include/suzdrepa.h): thin functions over the layers below. Every definition that the contracts cite is in specs/.
 ghost use mathlib.Core.Path.{_≡_};
+ghost use Rattle.refusals.specs.Answers.{_then_, answered, code};
+ghost use Rattle.refusals.specs.Told.{told};
 ghost use Rattle.width_table.specs.Bytes.{form, writable, bytesAfter};
 ghost use Rattle.width_table.specs.Names.{nameable};
 ghost use Rattle.reversible.specs.Calls.{forwardAnswer, forwardPlane, forwardWork, backAnswer, backPixels, backWork};
-ghost use Rattle.engine.specs.Answers.{placeCode, refusalCode, code, checked, boundAnswered, rangeAfter, errorAfter, startAfter, lengthAfter, changeAnswer, changeOut, answer97, plane97, work97};
-use refusals::NodePlace;
+ghost use Rattle.engine.specs.Answers.{checked, boundAnswered, rangeAfter, errorAfter, startAfter, lengthAfter, changeAnswer, changeOut, constantChangeAnswer, constantChangeOut, tableFrom, answer97, plane97, work97};
 use refusals::Outcome;
-use refusals::Refusal;
+use refusals::refusal_code;
 use width_table::Named;
+use width_table::TableAnswer;
 use width_table::WidthTable;
 use width_table::Written;
-
-fn place_code(place: NodePlace) -> u32
-    ensures { λ r. ⌜ r ≡ placeCode place ⌝ }
-{
-    256 * (place.level as u32) + 65536 * (place.pass as u32) + 16777216 * (place.node as u32)
-}
-
-fn refusal_code(refusal: Refusal) -> u32
-    ensures { λ r. ⌜ r ≡ refusalCode refusal ⌝ }
-{
-    match refusal {
-        Refusal::CutShort => 1,
-        Refusal::WrongTag => 2,
-        Refusal::WrongLength => 3,
-        Refusal::OutsideLimits => 4,
-        Refusal::TrailingBytes => 5,
-        Refusal::DoesNotFit(place) => 6 + place_code(place),
-        Refusal::ErrorTooLarge(place) => 7 + place_code(place),
-        Refusal::SideNotAdmitted => 8,
-        Refusal::SliceTooShort => 9,
-        Refusal::PixelTooLarge => 10,
-        Refusal::NoPicture => 11,
-    }
-}
-
-fn code_of(outcome: Outcome) -> u32
-    ensures { λ r. ⌜ r ≡ code outcome ⌝ }
-{
-    match outcome {
-        Outcome::Done => 0,
-        Outcome::Refused(why) => refusal_code(why),
-    }
-}
 
 // Whether bytes are those of a width table: 0, or 1 to 5.
 #[no_mangle]
 pub extern "C" fn suz_table_form(table: &[u8]) -> u32
     ensures { λ r. ⌜ r ≡ code (form (now (table .entry))) ⌝ }
 {
-    code_of(width_table::form_of(table))
+    refusals::code(width_table::form_of(table))
 }
 
 // Where the value of a tag stands in the table's bytes; start and length are written where the answer is 0.
@@ -80,7 +49,7 @@ pub extern "C" fn suz_table_check(table: &[u8]) -> u32
         Outcome::Refused(why) => refusal_code(why),
         Outcome::Done => {
             let held = read.table;
-            code_of(precision::judge(held))
+            refusals::code(precision::judge(held))
         }
     }
 }
@@ -119,14 +88,29 @@ pub extern "C" fn suz_table_bound(
     }
 }
 
-// The width of one node set in a table, which goes to out.
-fn change_written(table: WidthTable, out: &mut [u8]) -> u32
+// A table goes to out: 4, 9.
+fn table_written(table: WidthTable, out: &mut [u8]) -> u32
     ensures answer { λ r. ⌜ r ≡ code (writable table (now (out .entry))) ⌝ }
     ensures out { λ _. ⌜ now (out .exit) ≡ bytesAfter table (now (out .entry)) ⌝ }
 {
     match table.write(out) {
         Written::Bytes(_) => 0,
         Written::NotWritten(why) => refusal_code(why),
+    }
+}
+
+// The table of an accepted change goes to out.
+fn change_written(change: TableAnswer, out: &mut [u8]) -> u32
+    ensures answer { λ r. ⌜ r ≡ code (told (change .outcome) then writable (change .table) (now (out .entry))) ⌝ }
+    ensures out { λ _. ⌜ now (out .exit) ≡ answered (told (change .outcome)) (bytesAfter (change .table) (now (out .entry))) (now (out .entry)) ⌝ }
+{
+    let outcome = change.outcome;
+    match outcome {
+        Outcome::Refused(why) => refusal_code(why),
+        Outcome::Done => {
+            let new = change.table;
+            table_written(new, out)
+        }
     }
 }
 
@@ -150,17 +134,41 @@ pub extern "C" fn suz_table_change(
         Outcome::Refused(why) => refusal_code(why),
         Outcome::Done => {
             let old = read.table;
-            let change = old.with_width(level, pass, node, integer, fraction);
-            let answer = change.outcome;
-            match answer {
-                Outcome::Refused(why) => refusal_code(why),
-                Outcome::Done => {
-                    let new = change.table;
-                    change_written(new, out)
-                }
-            }
+            change_written(old.with_width(level, pass, node, integer, fraction), out)
         }
     }
+}
+
+// Reads a table, sets the bits of one stage's constant, and writes the new table to out: 1 to 5, 4, 9.
+#[no_mangle]
+pub extern "C" fn suz_table_change_constant(table: &[u8], node: u8, bits: u8, out: &mut [u8]) -> u32
+    ensures answer { λ r. ⌜ r ≡ code (constantChangeAnswer (now (table .entry)) node bits (now (out .entry))) ⌝ }
+    ensures out { λ _. ⌜ now (out .exit) ≡ constantChangeOut (now (table .entry)) node bits (now (out .entry)) ⌝ }
+{
+    let read = WidthTable::read(table);
+    let outcome = read.outcome;
+    match outcome {
+        Outcome::Refused(why) => refusal_code(why),
+        Outcome::Done => {
+            let old = read.table;
+            change_written(old.with_constant(node, bits), out)
+        }
+    }
+}
+
+// Writes a table of these parts to out: 4, 9. The widths are those of a table in memory, with zeros at unused levels.
+#[no_mangle]
+pub extern "C" fn suz_table_write(
+    depth: u8,
+    levels: u8,
+    constants: &[u8; WidthTable::CONSTANTS],
+    widths: &[u8; WidthTable::NODE_BYTES],
+    out: &mut [u8],
+) -> u32
+    ensures answer { λ r. ⌜ r ≡ code (writable (tableFrom depth levels (now (constants .entry)) (now (widths .entry))) (now (out .entry))) ⌝ }
+    ensures out { λ _. ⌜ now (out .exit) ≡ bytesAfter (tableFrom depth levels (now (constants .entry)) (now (widths .entry))) (now (out .entry)) ⌝ }
+{
+    table_written(WidthTable::new(depth, levels, *constants, *widths), out)
 }
 
 // 5/3 forward: 4, 8, 9, 10.
@@ -178,7 +186,7 @@ pub extern "C" fn suz_forward53(
     ensures plane { λ _. ⌜ now (plane .exit) ≡ forwardPlane depth levels width height (now (pixels .entry)) (now (plane .entry)) (now (work .entry)) ⌝ }
     ensures work { λ _. ⌜ now (work .exit) ≡ forwardWork depth levels width height (now (pixels .entry)) (now (plane .entry)) (now (work .entry)) ⌝ }
 {
-    code_of(reversible::forward(depth, levels, pixels, width, height, plane, work))
+    refusals::code(reversible::forward(depth, levels, pixels, width, height, plane, work))
 }
 
 // 5/3 back: 4, 8, 9, 11.
@@ -196,7 +204,7 @@ pub extern "C" fn suz_inverse53(
     ensures pixels { λ _. ⌜ now (pixels .exit) ≡ backPixels depth levels width height (now (plane .entry)) (now (pixels .entry)) (now (work .entry)) ⌝ }
     ensures work { λ _. ⌜ now (work .exit) ≡ backWork depth levels width height (now (plane .entry)) (now (pixels .entry)) (now (work .entry)) ⌝ }
 {
-    code_of(reversible::back(depth, levels, plane, width, height, pixels, work))
+    refusals::code(reversible::back(depth, levels, plane, width, height, pixels, work))
 }
 
 // 9/7 forward: 1 to 5 of the bytes, then 6, 7, 8, 9, 10.
@@ -219,7 +227,7 @@ pub extern "C" fn suz_forward97(
         Outcome::Refused(why) => refusal_code(why),
         Outcome::Done => {
             let held = read.table;
-            code_of(irreversible::forward(held, pixels, width, height, plane, work))
+            refusals::code(irreversible::forward(held, pixels, width, height, plane, work))
         }
     }
 }

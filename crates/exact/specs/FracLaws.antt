@@ -76,7 +76,7 @@ unfolding _⊕_ _⊗_
     law : (c a b k p q : ℤ) → c *ℤ (a *ℤ q +ℤ b *ℤ p) *ℤ (k *ℤ p *ℤ (k *ℤ q)) ≡ (c *ℤ a *ℤ (k *ℤ q) +ℤ c *ℤ b *ℤ (k *ℤ p)) *ℤ (k *ℤ (p *ℤ q))
     law c a b k p q = simp ring
 
-pub ⊗-distr : (c d x : Frac) → (c ⊕ d) ⊗ x ≈ c ⊗ x ⊕ d ⊗ x
+⊗-distr : (c d x : Frac) → (c ⊕ d) ⊗ x ≈ c ⊗ x ⊕ d ⊗ x
 unfolding _⊕_ _⊗_
 ⊗-distr c d x = record { eq = law (c .num) (d .num) (x .num) (pos (c .den)) (pos (d .den)) (pos (x .den)) }
   where
@@ -117,18 +117,18 @@ unfolding _⊗_ whole
     law : (a p : ℤ) → pos 1 *ℤ a *ℤ p ≡ a *ℤ (pos 1 *ℤ p)
     law a p = simp *ℤ-one-l
 
-pub neg-⊕ : (x y : Frac) → neg (x ⊕ y) ≈ neg x ⊕ neg y
+neg-⊕ : (x y : Frac) → neg (x ⊕ y) ≈ neg x ⊕ neg y
 unfolding _⊕_ neg
 neg-⊕ x y = record { eq = ap (λ (t : ℤ). t *ℤ pos (x .den * y .den)) (law (x .num) (y .num) (pos (x .den)) (pos (y .den))) }
   where
     law : (a b p q : ℤ) → negℤ (a *ℤ q +ℤ b *ℤ p) ≡ negℤ a *ℤ q +ℤ negℤ b *ℤ p
     law = by-dif _ λ a a'. by-dif _ λ b b'. by-dif _ λ p p'. by-dif _ λ q q'. simp difs (omega arith)
 
-pub neg-⊗ : (c x : Frac) → c ⊗ neg x ≈ neg (c ⊗ x)
+neg-⊗ : (c x : Frac) → c ⊗ neg x ≈ neg (c ⊗ x)
 unfolding _⊗_ neg
 neg-⊗ c x = record { eq = ap (λ (t : ℤ). t *ℤ pos (c .den * x .den)) (*ℤ-neg-r (c .num) (x .num)) }
 
-pub neg-⊗-l : (c x : Frac) → neg c ⊗ x ≈ neg (c ⊗ x)
+neg-⊗-l : (c x : Frac) → neg c ⊗ x ≈ neg (c ⊗ x)
 unfolding _⊗_ neg
 neg-⊗-l c x = record { eq = ap (λ (t : ℤ). t *ℤ pos (c .den * x .den)) (*ℤ-neg-l (c .num) (x .num)) }
 
@@ -195,7 +195,7 @@ through a b v =
     (≈-trans (⊕-zero-l (neg b ⊕ v)) (⊕-comm (neg b) v))))
 
 -- (a - b) + b is a
-pub plus-back : (a b : Frac) → (a ⊕ neg b) ⊕ b ≈ a
+plus-back : (a b : Frac) → (a ⊕ neg b) ⊕ b ≈ a
 unfolding neg whole
 plus-back a b =
     ≈-trans (⊕-comm (a ⊕ neg b) b)

@@ -1,33 +1,34 @@
--- Demand 3 of a 9/7 call that is not refused: what stands in the plane is within two steps of the exact transform (`call-near`).
-use Prim.Native.Nat.{ℕ, _+_, _*_, _-_, _^_, _<_, _≤_}
+-- Demand 3 of a 9/7 call that is not refused: what stands in the plane is less than two steps from the exact transform (`call-near`), and no
+-- value on the way left its width (`call-widths`).
+use Prim.Native.Nat.{ℕ, suc, _+_, _*_, _-_, _<_, _≤_}
 use mathlib.Core.List.{List}
 use mathlib.Core.Path.{_≡_, sym, _∙_, ap, subst}
 use native.Mathlib.Omega.{arith}
 use lib.ListN.{length, getD, drop, List·getD-append}
 use lib.IntN.{ℤ, pos}
 use Rattle.numbers.specs.Lists.{over}
-use Rattle.refusals.specs.declared.Outcome.the-variants.{Done}
-use Rattle.refusals.specs.RefusalLaws.{then-done, answered-done}
-use Rattle.lines.specs.Planes.{rowByRow}
+use Rattle.refusals.specs.Answers.{passed}
+use Rattle.refusals.specs.AnswerLaws.{then-done, answered-done}
+use Rattle.lines.specs.Planes.{side, rowByRow}
 use Rattle.lines.specs.RowLaws.{place-in, rows-length, rows-at}
 use Rattle.width_table.specs.declared.WidthTable.{WidthTable}
 use Rattle.exact.specs.Picture.{exactPlane}
 use Rattle.pictures.specs.Pictures.{pixelsRight}
 use Rattle.pictures.specs.PictureLaws.{Room, sized, sized-then, sized-done, pixels-done, pixel-below}
 use Rattle.precision.specs.Verdict.{verdict, Accepted}
-use Rattle.irreversible.specs.Transforms.{fixedPlane}
-use Rattle.irreversible.specs.Claims.{Picture, bitsPlane, Near}
-use Rattle.irreversible.specs.Demand3.{two-steps}
+use Rattle.irreversible.specs.Transforms.{fixedAfter, fixedPlane}
+use Rattle.irreversible.specs.Claims.{Picture, bitsPlane, Near, LevelInWidth}
+use Rattle.irreversible.specs.Demand3.{two-steps, widths}
 use Rattle.irreversible.specs.Calls.{fixedAnswer, fixedPlaneAfter}
 
-module _ (t : WidthTable) (w h : ℕ) (pixels : List ℕ) (plane work : List ℤ) (e : fixedAnswer t w h pixels plane work ≡ Done) where
+module _ (t : WidthTable) (w h : ℕ) (pixels : List ℕ) (plane work : List ℤ) (e : fixedAnswer t w h pixels plane work ≡ passed) where
   -- the table is accepted
   pub accepted : Accepted t
   unfolding fixedAnswer
   accepted = then-done (verdict t) _ e .0
 
   -- the slices have room, and the pixels are right
-  judged : (sized (t .levels) w h (length pixels) (length plane) (length work) ≡ Done) × (pixelsRight (t .depth) w h pixels ≡ Done)
+  judged : (sized (t .levels) w h (length pixels) (length plane) (length work) ≡ passed) × (pixelsRight (t .depth) w h pixels ≡ passed)
   unfolding fixedAnswer
   judged = then-done (sized (t .levels) w h (length pixels) (length plane) (length work)) _ (sym (sized-then (t .levels) w h (length pixels) (length plane) (length work) _) ∙ then-done (verdict t) _ e .1)
 
@@ -59,3 +60,6 @@ module _ (t : WidthTable) (w h : ℕ) (pixels : List ℕ) (plane work : List ℤ
   call-near r c i j =
       subst (λ (v : ℤ). Near v (bitsPlane t w h r c) (exactPlane pixels (t .depth) (t .levels) w h r c)) (sym (stands r c i j))
       (two-steps t pixels w h accepted picture r c i j)
+
+  pub call-widths : (k : ℕ) → k < t .levels → LevelInWidth t (suc k) (side k w) (side k h) (fixedAfter t k pixels w h)
+  call-widths = widths t pixels w h accepted picture

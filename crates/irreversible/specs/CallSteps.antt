@@ -1,7 +1,7 @@
 -- What the steps of the 9/7 call ask of each other.
 use Prim.Native.Nat.{ℕ, suc, _+_, _*_, _-_, _<_, _≤_, _^_}
 use mathlib.Core.List.{List}
-use mathlib.Core.Path.{_≡_, refl, sym, ap}
+use mathlib.Core.Path.{_≡_, refl, sym}
 use native.Mathlib.Omega.{arith}
 use native.Mathlib.Nat.{mul-le-mul-right, mul-comm}
 use lib.ListN.{length, take}
@@ -11,12 +11,10 @@ use Rattle.numbers.specs.Lists.{over}
 use Rattle.lines.specs.Lines.{Liftable, lows, highs}
 use Rattle.lines.specs.Planes.{side, rowByRow}
 use Rattle.lines.specs.PlaneLaws.{side-le}
-use Rattle.refusals.specs.declared.Outcome.{Outcome}
-use Rattle.refusals.specs.declared.Outcome.the-variants.{Done, Refused}
-use Rattle.refusals.specs.declared.Refusal.{Refusal}
-use Rattle.refusals.specs.Refusals.{_then_, answered}
-use Rattle.refusals.specs.RefusalLaws.{answered-done}
+use Rattle.refusals.specs.Answers.{Reason, Answer, refused, passed, _then_}
+use Rattle.refusals.specs.AnswerLaws.{answered-done, answered-refused}
 use Rattle.width_table.specs.declared.WidthTable.{WidthTable}
+use Rattle.width_table.specs.Limits.{form-levels}
 use Rattle.width_table.specs.Nodes.{Rows, LowColumns, HighColumns}
 use Rattle.lifting.specs.Patch.{at}
 use Rattle.lifting.specs.Runs.{as-type}
@@ -139,7 +137,7 @@ pub first-ready : {t : WidthTable} {pixels : List ℕ} {plane tile : List ℤ} {
 unfolding side
 first-ready {t} {pixels} {plane} {tile} {w} {h} ready =
     let x = loaded pixels (2 ^ (t .depth - 1)) w h (at plane) in
-    let one : 0 < t .levels = promise t (ready .accepted) .levels .0 in
+    let one : 0 < t .levels = form-levels t (promise t (ready .accepted) .form) .0 in
     let none = after-none t pixels w h (at plane) x (omega (arith, ready .picture .width .0)) refl in
     record {
       is-level = is-level t pixels plane tile plane tile w h ready refl refl 0 one (at plane) x none;
@@ -153,7 +151,7 @@ first-ready {t} {pixels} {plane} {tile} {w} {h} ready =
     }
 
 -- the answer, by the lengths of plane and work area
-unfoldable pub answerOf : WidthTable → ℕ → ℕ → List ℕ → ℕ → ℕ → Outcome
+unfoldable pub answerOf : WidthTable → ℕ → ℕ → List ℕ → ℕ → ℕ → Answer Unit
 answerOf t w h pixels b c = verdict t then sided (t .levels) w h then holds (w * h) (length pixels) then holds (w * h) b then holds (w * h) c then pixelsRight (t .depth) w h pixels
 
 module _ (t : WidthTable) (w h : ℕ) (pixels : List ℕ) (plane work : List ℤ) where
@@ -163,17 +161,17 @@ module _ (t : WidthTable) (w h : ℕ) (pixels : List ℕ) (plane work : List ℤ
   answer-is = refl
 
   -- a call that is refused leaves all as it was
-  module _ {r : Refusal} (e : fixedAnswer t w h pixels plane work ≡ Refused r) where
+  module _ {r : Reason} (e : fixedAnswer t w h pixels plane work ≡ refused r) where
     pub plane-kept : plane ≡ fixedPlaneAfter t w h pixels plane work
     unfolding fixedPlaneAfter
-    plane-kept = sym (ap (λ (o : Outcome). answered o (over (rowByRow w h (fixedPlane t pixels w h)) plane) plane) e)
+    plane-kept = sym (answered-refused (over (rowByRow w h (fixedPlane t pixels w h)) plane) plane e)
 
     pub work-kept : work ≡ fixedWork t w h pixels plane work
     unfolding fixedWork
-    work-kept = sym (ap (λ (o : Outcome). answered o (zeroed (w * h) work) work) e)
+    work-kept = sym (answered-refused (zeroed (w * h) work) work e)
 
   -- one that is not leaves the transform, and zeros
-  module _ (e : fixedAnswer t w h pixels plane work ≡ Done) where
+  module _ (e : fixedAnswer t w h pixels plane work ≡ passed) where
     pub plane-done : over (rowByRow w h (fixedPlane t pixels w h)) plane ≡ fixedPlaneAfter t w h pixels plane work
     unfolding fixedPlaneAfter
     plane-done = sym (answered-done (over (rowByRow w h (fixedPlane t pixels w h)) plane) plane e)

@@ -4,8 +4,7 @@ use mathlib.Core.List.{List}
 use lib.ListN.{length}
 use lib.IntN.{ℤ}
 use Rattle.numbers.specs.Lists.{over}
-use Rattle.refusals.specs.declared.Outcome.{Outcome}
-use Rattle.refusals.specs.Refusals.{_then_, answered}
+use Rattle.refusals.specs.Answers.{Answer, _then_, answered}
 use Rattle.lines.specs.Planes.{rowByRow}
 use Rattle.width_table.specs.declared.WidthTable.{WidthTable}
 use Rattle.pictures.specs.Pictures.{sided, holds, pixelsRight, zeroed}
@@ -14,7 +13,7 @@ use Rattle.irreversible.specs.Transforms.{fixedPlane}
 
 module _ (t : WidthTable) (w h : ℕ) (pixels : List ℕ) (plane work : List ℤ) where
   -- 4, 6 and 7 as one step, 8, 9, 10
-  unfoldable pub fixedAnswer : Outcome
+  unfoldable pub fixedAnswer : Answer Unit
   fixedAnswer =
       verdict t
       then sided (t .levels) w h

@@ -17,6 +17,7 @@ use Rattle.width_table.specs.Nodes.{Node, P1, U1, P2, U2, G1, G2}
 use Rattle.exact.specs.Exact.{alpha, beta, gamma, delta, zeta, zetaInverse}
 use Rattle.stages.specs.Fixed.{meant, nearest}
 use Rattle.numbers.specs.Tests.{both}
+use Rattle.width_table.specs.Table.{maxConstantBits}
 
 -- the constant of each stage
 abbrev pub constantOf : Node → Frac
@@ -40,7 +41,7 @@ unfolding clear
 clearTo c zero = true
 clearTo c (suc k) = clear c (suc k) && clearTo c k
 
-tested : (n : Node) → T (clearTo (constantOf n) 24)
+tested : (n : Node) → T (clearTo (constantOf n) maxConstantBits)
 unfolding clearTo clear nearest
 tested P1 = tt
 tested U1 = tt
@@ -59,12 +60,12 @@ clear-at c (suc k) F a b h = go (decLt F (suc k)) (λ i. clear-at c k F a i (bot
     go (yes i) before = before (omega arith)
     go (no i) before = subst (λ (j : ℕ). T (clear c j)) (omega arith) (both (clear c (suc k)) (clearTo c k) h .0)
 
-half : (n : Node) (F : ℕ) → 1 ≤ F → F ≤ 24 → 2 * natAbs (nearest (constantOf n) F *ℤ pos (constantOf n .den) +ℤ negℤ (constantOf n .num) *ℤ pos (2 ^ F)) < constantOf n .den
+half : (n : Node) (F : ℕ) → 1 ≤ F → F ≤ maxConstantBits → 2 * natAbs (nearest (constantOf n) F *ℤ pos (constantOf n .den) +ℤ negℤ (constantOf n .num) *ℤ pos (2 ^ F)) < constantOf n .den
 unfolding clear
-half n F a b = ltb→lt _ _ (clear-at (constantOf n) 24 F a b (tested n))
+half n F a b = ltb→lt _ _ (clear-at (constantOf n) maxConstantBits F a b (tested n))
 
 -- Twice the distance is strictly below 2^-F.
-pub no-tie : (n : Node) (F : ℕ) → 1 ≤ F → F ≤ 24 → whole (pos 2) ⊗ magnitude (awayFrom (constantOf n) F (nearest (constantOf n) F)) <F meant (pos 1) F
+pub no-tie : (n : Node) (F : ℕ) → 1 ≤ F → F ≤ maxConstantBits → whole (pos 2) ⊗ magnitude (awayFrom (constantOf n) F (nearest (constantOf n) F)) <F meant (pos 1) F
 unfolding _⊗_ _⊕_ neg whole magnitude meant
 no-tie n F a b = law _ (2 ^ F) (constantOf n .den) (pow-pos F) (half n F a b)
   where
@@ -72,7 +73,7 @@ no-tie n F a b = law _ (2 ^ F) (constantOf n .den) (pow-pos F) (half n F a b)
     law e P d z h = simp difs (omega (arith, mul-lt-mul-of-pos-right h z))
 
 -- Every other multiple of 2^-F is farther.
-pub is-nearest : (n : Node) (F : ℕ) → 1 ≤ F → F ≤ 24 → (z : ℤ) → ¬ (z ≡ nearest (constantOf n) F) → magnitude (awayFrom (constantOf n) F (nearest (constantOf n) F)) <F magnitude (awayFrom (constantOf n) F z)
+pub is-nearest : (n : Node) (F : ℕ) → 1 ≤ F → F ≤ maxConstantBits → (z : ℤ) → ¬ (z ≡ nearest (constantOf n) F) → magnitude (awayFrom (constantOf n) F (nearest (constantOf n) F)) <F magnitude (awayFrom (constantOf n) F z)
 unfolding _⊕_ neg magnitude meant
 is-nearest n F a b z other = farther (natAbs (at N)) (natAbs (at z)) (2 ^ F * D) (mul-pos (pow-pos F) (constantOf n .above)) (half n F a b) apart
   where

@@ -1,4 +1,4 @@
--- Demand 3: under every accepted table each coefficient lies within two of its own steps of the exact one (`two-steps`), and no
+-- Demand 3: under every accepted table each coefficient lies less than two of its own steps from the exact one (`two-steps`), and no
 -- value on the way leaves its width (`widths`).
 use Prim.Native.Nat.{ℕ, zero, suc, _+_, _*_, _-_, _^_, _<_, _≤_}
 use mathlib.Core.Path.{_≡_, _∙_, ap, subst}
@@ -14,13 +14,14 @@ use lib.IntN.{pos, natAbs, _-ℤ_}
 use Rattle.numbers.specs.Dif.{difs}
 use Rattle.exact.specs.Fractions.{Frac}
 use Rattle.width_table.specs.Nodes.{Node, Pass, Rows, TableNode, columnPass}
+use Rattle.width_table.specs.Limits.{form-depth, form-levels, form-widths}
 use Rattle.lines.specs.Lines.{lows, Liftable}
 use Rattle.exact.specs.Exact.{exactPass}
 use Rattle.stages.specs.Fixed.{meant}
 use Rattle.lines.specs.Planes.{Plane, OnLine, rows, columns, rowsFirst, levels, side}
 use Rattle.lines.specs.PlaneLaws.{rows-first-in, rows-first-keeps, roomy}
 use Rattle.width_table.specs.declared.WidthTable.{WidthTable}
-use Rattle.width_table.specs.Table.{integerBits, fractionBits, inputBits}
+use Rattle.width_table.specs.Table.{maxFractionBits, integerBits, fractionBits, inputBits}
 use Rattle.precision.specs.Bounds.{entering, boundOf}
 use Rattle.precision.specs.Verdict.{Accepted, AcceptPromise}
 use Rattle.exact.specs.Picture.{exactSample, exactPlane}
@@ -79,7 +80,7 @@ module _ (t : WidthTable) (ok : AcceptPromise t) (pixels : List ℕ) (w h : ℕ)
   pixel-good r c i j =
       let p = getD pixels (r * w + c) 0 in
       let H = 2 ^ (t .depth - 1) in
-      let e : 2 ^ t .depth ≡ 2 * H = ap (λ (k : ℕ). 2 ^ k) (deeper (t .depth) (ok .depth .0)) ∙ pow-add 2 1 (t .depth - 1) in
+      let e : 2 ^ t .depth ≡ 2 * H = ap (λ (k : ℕ). 2 ^ k) (deeper (t .depth) (form-depth t (ok .form) .0)) ∙ pow-add 2 1 (t .depth - 1) in
       let q : p < 2 ^ t .depth = picture .depth (r * w + c) (omega (arith, mul-le-mul-right w i)) in
       let s : natAbs (pos p -ℤ pos H) ≤ H = pixel-law p H (omega arith) in
       record {
@@ -101,8 +102,8 @@ module _ (t : WidthTable) (ok : AcceptPromise t) (pixels : List ℕ) (w h : ℕ)
     big-h : Liftable (side k h)
     big-h = roomy (t .levels) h (picture .height .0) k i
 
-    fractions : (p : Pass) (n : Node) → fractionBits t (suc k) p n ≤ 20
-    fractions p n = ok .fractions (suc k) (omega arith) (omega arith) p n
+    fractions : (p : Pass) (n : Node) → fractionBits t (suc k) p n ≤ maxFractionBits
+    fractions p n = form-widths t (ok .form) (suc k) (omega arith) (omega arith) p n .2
 
     good-in : (r c : ℕ) → InPart k w h r c → GoodFor (keptNode (suc k) w h r c) (suc k) r c
     unfolding GoodFor boundOf exactAfter fixedAfter newV newX rowV rowX side
@@ -148,26 +149,26 @@ module _ (t : WidthTable) (ok : AcceptPromise t) (pixels : List ℕ) (w h : ℕ)
   result : (r c : ℕ) → r < h → c < w → Near (fixedPlane t pixels w h r c) (bitsPlane t w h r c) (exactPlane pixels (t .depth) (t .levels) w h r c)
   unfolding fixedPlane bitsPlane exactPlane exactAfter GoodFor
   result r c p q =
-      let K = kept-everywhere (t .levels) w h r c (ok .levels .0) p q in
+      let K = kept-everywhere (t .levels) w h r c (form-levels t (ok .form) .0) p q in
       let k = keptNode (t .levels) w h r c in
-      near (boundOf t k) (fractionBits t (k .level) (k .pass) (k .node)) _ _ (omega (arith, ok .fractions (k .level) (K .least) (K .most) (k .pass) (k .node)))
+      near (boundOf t k) (fractionBits t (k .level) (k .pass) (k .node)) _ _ (omega (arith, form-widths t (ok .form) (k .level) (K .least) (K .most) (k .pass) (k .node) .2))
       (ok .steps (k .level) (K .least) (K .most) (k .pass) (k .node) (K .kept))
-      (good-everywhere (t .levels) (ok .levels .0) (omega arith) r c p q)
+      (good-everywhere (t .levels) (form-levels t (ok .form) .0) (omega arith) r c p q)
 
   in-width : (k : ℕ) → k < t .levels → LevelInWidth t (suc k) (side k w) (side k h) (fixedAfter t k pixels w h)
   unfolding boundOf
   in-width k i =
-      level-in-width t (suc k) (λ p n. ok .fractions (suc k) (omega arith) i p n) (side k w) (side k h) (roomy (t .levels) w (picture .width .0) k i) (roomy (t .levels) h (picture .height .0) k i) (entering t (suc k)) (fixedAfter t k pixels w h) (exactAfter k) (λ r c a b. after k (omega arith) .inside r c (a, b))
-      (λ p n. ok .integers (suc k) (omega arith) i p n .0) (λ p n. ok .fit (suc k) (omega arith) i p n)
+      level-in-width t (suc k) (λ p n. form-widths t (ok .form) (suc k) (omega arith) i p n .2) (side k w) (side k h) (roomy (t .levels) w (picture .width .0) k i) (roomy (t .levels) h (picture .height .0) k i) (entering t (suc k)) (fixedAfter t k pixels w h) (exactAfter k) (λ r c a b. after k (omega arith) .inside r c (a, b))
+      (λ p n. form-widths t (ok .form) (suc k) (omega arith) i p n .0) (λ p n. ok .fit (suc k) (omega arith) i p n)
 
   kept-held : (r c : ℕ) → r < h → c < w → (let k = keptNode (t .levels) w h r c in Holds (integerBits t (k .level) (k .pass) (k .node)) (fractionBits t (k .level) (k .pass) (k .node)) (fixedPlane t pixels w h r c))
   unfolding fixedPlane exactAfter GoodFor
   kept-held r c p q =
-      let K = kept-everywhere (t .levels) w h r c (ok .levels .0) p q in
+      let K = kept-everywhere (t .levels) w h r c (form-levels t (ok .form) .0) p q in
       let k = keptNode (t .levels) w h r c in
-      holds (boundOf t k) (fractionBits t (k .level) (k .pass) (k .node)) (integerBits t (k .level) (k .pass) (k .node)) _ _ (omega (arith, ok .fractions (k .level) (K .least) (K .most) (k .pass) (k .node)))
-      (ok .integers (k .level) (K .least) (K .most) (k .pass) (k .node) .0) (ok .fit (k .level) (K .least) (K .most) (k .pass) (k .node))
-      (good-everywhere (t .levels) (ok .levels .0) (omega arith) r c p q)
+      holds (boundOf t k) (fractionBits t (k .level) (k .pass) (k .node)) (integerBits t (k .level) (k .pass) (k .node)) _ _ (omega (arith, form-widths t (ok .form) (k .level) (K .least) (K .most) (k .pass) (k .node) .2))
+      (form-widths t (ok .form) (k .level) (K .least) (K .most) (k .pass) (k .node) .0) (ok .fit (k .level) (K .least) (K .most) (k .pass) (k .node))
+      (good-everywhere (t .levels) (form-levels t (ok .form) .0) (omega arith) r c p q)
 
 pub two-steps : TwoSteps
 two-steps t pixels w h ok picture r c p q = result t (promise t ok) pixels w h picture r c p q

@@ -10,7 +10,7 @@ use Rattle.lines.specs.Lines.{lows, Liftable}
 use Rattle.exact.specs.Exact.{exactPass}
 use Rattle.lines.specs.Planes.{Plane, rows, columns}
 use Rattle.width_table.specs.declared.WidthTable.{WidthTable}
-use Rattle.width_table.specs.Table.{constantBits, integerBits, fractionBits, inputBits}
+use Rattle.width_table.specs.Table.{maxFractionBits, constantBits, integerBits, fractionBits, inputBits}
 use Rattle.stages.specs.Rule.{Bound}
 use Rattle.precision.specs.Bounds.{rowBound, passBound}
 use Rattle.irreversible.specs.Transforms.{fixedLine}
@@ -34,7 +34,7 @@ unfoldable pub newX : ℕ → ℕ → Plane Frac → Plane Frac
 unfolding rowX
 newX w h x = columns (λ c. exactPass) h (rowX w x)
 
-module _ (t : WidthTable) (l : ℕ) (bits : (p : Pass) (n : Node) → fractionBits t l p n ≤ 20) (w h : ℕ) (wide : Liftable w) (tall : Liftable h) (b : Bound) (v : Plane ℤ) (x : Plane Frac) (given : (r c : ℕ) → r < h → c < w → Good b (inputBits t l Rows) (v r c) (x r c)) where
+module _ (t : WidthTable) (l : ℕ) (bits : (p : Pass) (n : Node) → fractionBits t l p n ≤ maxFractionBits) (w h : ℕ) (wide : Liftable w) (tall : Liftable h) (b : Bound) (v : Plane ℤ) (x : Plane Frac) (given : (r c : ℕ) → r < h → c < w → Good b (inputBits t l Rows) (v r c) (x r c)) where
   small : (p : Pass) → Small (fractionBits t l p)
   small p n = omega (arith, bits p n)
 

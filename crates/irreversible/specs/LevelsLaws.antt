@@ -1,5 +1,5 @@
 -- The levels in memory, under an accepted table (`After`): what stands after each, and that the next one is safe.
-use Prim.Native.Nat.{ℕ, zero, suc, _+_, _*_, _-_, _^_, _<_, _≤_}
+use Prim.Native.Nat.{ℕ, suc, _+_, _*_, _-_, _^_, _<_, _≤_}
 use mathlib.Core.List.{List}
 use mathlib.Core.Path.{_≡_, refl, _∙_, ap}
 use native.Mathlib.Omega.{arith}
@@ -9,9 +9,9 @@ use Rattle.numbers.specs.Lists.{over}
 use Rattle.lines.specs.Planes.{side, levels, rowByRow}
 use Rattle.lines.specs.PlaneLaws.{Roomy, roomy, side-le}
 use Rattle.lines.specs.RowLaws.{place-in}
-use Rattle.width_table.specs.Nodes.{G1, G2, Pass, Rows, LowColumns, HighColumns}
+use Rattle.width_table.specs.Nodes.{Rows}
+use Rattle.width_table.specs.Limits.{form-levels, form-constants, form-widths, form-input}
 use Rattle.width_table.specs.declared.WidthTable.{WidthTable}
-use Rattle.width_table.specs.Table.{inputBits}
 use Rattle.lifting.specs.Patch.{at, patch, patch-in, patch-above}
 use Rattle.lifting.specs.Kernels.{SafeKernel}
 use Rattle.lifting.specs.Strips.{pixelLine}
@@ -27,17 +27,9 @@ use Rattle.irreversible.specs.LevelLaws.{BitsRight, levelWorked, SafeLev
 
 -- the limits of a level of an accepted table
 module _ (t : WidthTable) (ok : AcceptPromise t) where
-  -- what enters a pass has at most 20 fractional bits
-  pub input-small : (l : ℕ) (p : Pass) → 1 ≤ l → l ≤ t .levels → inputBits t l p ≤ 20
-  input-small zero p a b = absurd (omega arith)
-  input-small (suc zero) Rows a b = omega (arith, ok .depth .1)
-  input-small (suc (suc l)) Rows a b = ok .fractions (suc l) (omega arith) (omega arith) LowColumns G1
-  input-small (suc l) LowColumns a b = ok .fractions (suc l) a b Rows G1
-  input-small (suc l) HighColumns a b = ok .fractions (suc l) a b Rows G2
-
   -- all bits of a level
   pub bits-right : (l : ℕ) → 1 ≤ l → l ≤ t .levels → BitsRight t l
-  bits-right l a b p = record { constants = ok .constants; fractions = λ i. ok .fractions l a b p i; enters = input-small l p a b }
+  bits-right l a b p = record { constants = form-constants t (ok .form); fractions = λ i. form-widths t (ok .form) l a b p i .2; enters = form-input t (ok .form) l a b p }
 
 module _ (t : WidthTable) (pixels : List ℕ) (w h : ℕ) (accepted : Accepted t) (picture : Picture t pixels w h) where
   ok : AcceptPromise t
@@ -102,8 +94,8 @@ pub pixels-safe : (t : WidthTable) (pixels : List ℕ) (w h : ℕ) → Accepted 
 unfolding fixedAfter levels side sample
 pixels-safe t pixels w h accepted picture r i =
     let ok = promise t accepted in
-    let s = sized t pixels w h accepted picture 0 (ok .levels .0) in
-    line-safe t 1 (bits-right t ok 1 (omega arith) (ok .levels .0)) Rows w (sample pixels (t .depth) w r) (wide t pixels w h accepted picture 0 (ok .levels .0)) (s .inRows r i) (λ c j. s .given r c i j) _ (λ c j. refl)
+    let s = sized t pixels w h accepted picture 0 (form-levels t (ok .form) .0) in
+    line-safe t 1 (bits-right t ok 1 (omega arith) (form-levels t (ok .form) .0)) Rows w (sample pixels (t .depth) w r) (wide t pixels w h accepted picture 0 (form-levels t (ok .form) .0)) (s .inRows r i) (λ c j. s .given r c i j) _ (λ c j. refl)
 
 -- all levels
 pub after-all : (t : WidthTable) (pixels : List ℕ) (w h : ℕ) (old new : List ℤ) → 1 ≤ w → w * h ≤ length old → length new ≡ length old → After t pixels w h (t .levels) (at old) (at new) → new ≡ over (rowByRow w h (fixedPlane t pixels w h)) old

@@ -1,6 +1,6 @@
 -- The 9/7 transform in fixed point, and demand 3.
 --
--- Definitions (with those of lines, exact, width_table, pictures and precision, all that demand 3 rests on):
+-- Definitions (with those of numbers, refusals, lines, exact, stages, width_table, pictures and precision, all that demand 3 rests on):
 --   Fixed        the fixed-point 9/7 lifting of one line: nearest constants, one cut towards minus infinity
 --   Transforms   the plane of a picture under a table
 --   Claims       demand 3 as two statements: TwoSteps and Widths
@@ -8,7 +8,7 @@
 --   Sized        values below 2^10 in magnitude: what holds of each value on the way
 -- Proved of them:
 --   Demand3      two-steps : TwoSteps, widths : Widths
---   CallLaws     call-near: demand 3 of every call that is not refused
+--   CallLaws     call-near, call-widths: demand 3 of every call that is not refused
 --   Constants    no-tie, is-nearest: a constant at F bits is the nearest multiple, for F from 1 to 24
 --   Subbands     kept-LL, kept-HL, kept-LH, kept-HH: the kept node of each subband of each level
 --   Sizes        sum-size, product-size: 64 bits hold the sum of a stage

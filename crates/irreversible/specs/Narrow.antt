@@ -21,9 +21,10 @@ use Rattle.stages.specs.Held.{weighed, nodesBring}
 use Rattle.stages.specs.RuleLaws.{timesGain-one, ownAt, error-sum}
 use Rattle.stages.specs.GainTable.{forwardGains, forwardSource, forward-gain}
 use Rattle.width_table.specs.Nodes.{Node, P1, U1, P2, U2, G1, G2, Pass, Rows, LowColumns, HighColumns, nodeAt, lastNode}
+use Rattle.width_table.specs.Limits.{form-levels}
 use Rattle.width_table.specs.Numbered.{nodeOf}
 use Rattle.width_table.specs.declared.WidthTable.{WidthTable}
-use Rattle.width_table.specs.Table.{constantBits, fractionBits, inputBits}
+use Rattle.width_table.specs.Table.{maxLevels, constantBits, fractionBits, inputBits}
 use Rattle.precision.specs.Bounds.{boundAfter, boundAt, rowBound, passBound, entering, boundOf}
 use Rattle.precision.specs.Verdict.{keptAt, AcceptPromise}
 
@@ -231,13 +232,13 @@ grown-is t (suc (suc l)) =
     pass-range t (suc l) (entering t (suc l)) LowColumns G1
     ∙ ap (λ (x : ℕ). timesGain x (gainTo G1 0)) (pass-range t (suc l) (entering t (suc l)) Rows G1 ∙ ap (λ (x : ℕ). timesGain x (gainTo G1 0)) (grown-is t (suc l)))
 
-grown-tested : T (below (λ l. leb (grown l) (grown 5)) 6)
+grown-tested : T (below (λ l. leb (grown l) (grown maxLevels)) (maxLevels + 1))
 unfolding below grown timesGain upDiv
 grown-tested = tt
 
--- P1 of the columns of row-low at level 5
+-- P1 of the columns of row-low at the last level
 largest : ℕ
-largest = timesGain (timesGain (grown 5) (gainTo G1 0)) (gainTo P1 0)
+largest = timesGain (timesGain (grown maxLevels) (gainTo G1 0)) (gainTo P1 0)
 
 largest-small : largest ≤ 865 * 2 ^ 32
 unfolding largest grown timesGain upDiv
@@ -249,11 +250,11 @@ given-most t l b Rows = times-least (b .range) (gainTo G1 0) (lit≤ tt)
 given-most t l b LowColumns = omega (arith, pass-range t l b Rows G1)
 given-most t l b HighColumns = omega (arith, pass-range t l b Rows G2, times-most (b .range) (b .range) (gainTo G2 0) (gainTo G1 0) (omega arith) (lit≤ tt))
 
-range-most : (t : WidthTable) (l : ℕ) → l ≤ 5 → (p : Pass) (n : Node) → passBound t l (entering t l) p n .range ≤ largest
+range-most : (t : WidthTable) (l : ℕ) → l ≤ maxLevels → (p : Pass) (n : Node) → passBound t l (entering t l) p n .range ≤ largest
 unfolding largest
 range-most t l h p n =
-    let i : grown l ≤ grown 5 = leb→le (grown l) (grown 5) (below-each (λ l. leb (grown l) (grown 5)) 6 l (omega arith) grown-tested) in
-    let j : given t l (entering t l) p .range ≤ timesGain (grown 5) (gainTo G1 0) = le-trans (given-most t l (entering t l) p) (times-most (entering t l .range) (grown 5) (gainTo G1 0) (gainTo G1 0) (omega (arith, grown-is t l)) (omega arith)) in
+    let i : grown l ≤ grown maxLevels = leb→le (grown l) (grown maxLevels) (below-each (λ l. leb (grown l) (grown maxLevels)) (maxLevels + 1) l (omega arith) grown-tested) in
+    let j : given t l (entering t l) p .range ≤ timesGain (grown maxLevels) (gainTo G1 0) = le-trans (given-most t l (entering t l) p) (times-most (entering t l .range) (grown maxLevels) (gainTo G1 0) (gainTo G1 0) (omega (arith, grown-is t l)) (omega arith)) in
     rw (pass-range t l (entering t l) p n) (times-most _ _ (gainTo n 0) (gainTo P1 0) j (gain-most n))
 
 -- ---- errors
@@ -302,7 +303,7 @@ pub eleven-bits : (t : WidthTable) → AcceptPromise t → (l : ℕ) → 1 ≤ l
     → boundOf t (nodeAt l p n) .range + boundOf t (nodeAt l p n) .error + 2 ^ (32 - fractionBits t l p n) ≤ 2 ^ 10 * 2 ^ 32
 unfolding boundOf
 eleven-bits t ok l a b p n =
-    let five : l ≤ 5 = omega (arith, ok .levels .1) in
+    let five : l ≤ maxLevels = omega (arith, form-levels t (ok .form) .1) in
     omega (arith, step-most (fractionBits t l p n), range-most t l five p n, largest-small, pass-error t l (entering t l) p n, last-most t ok l a b p (isLow n))
 
 -- what enters a level

@@ -86,7 +86,7 @@ fits b f IB v x small room g = mag-of-abs v (rw (pow-add 2 (IB - 1) f) (lt-of-mu
     law : (a P W I K s : ℕ) → W * P ≡ K → s + W ≤ I * K → a * K ≤ s * P → 0 < K → a * K < I * P * K
     law a P W I K s e h k z = omega (arith, mul-le-mul-right P h)
 
--- within two steps
+-- less than two steps
 pub abs-< : (n : ℕ) (z : ℤ) → natAbs z < n → (negℤ (pos n) <ℤ z) × (z <ℤ pos n)
 abs-< n = by-dif _ λ a a'. λ h. simp difs (omega (arith, abs-of-dif a a'))
 

@@ -25,6 +25,7 @@ use Rattle.irreversible.specs.Sizes.{product-size}
 use Rattle.irreversible.specs.Sized.{Sized}
 use Rattle.irreversible.specs.StepLaws.{stepTop, stepOf, factorOf, step-applied, scale-applied}
 use Rattle.irreversible.specs.KernelLaws.{stageOf, scalingOf, kernelFrom, sU1, sP2, sU2, sG1, sG2, first-highs, first-lows, second-highs, second-lows}
+use Rattle.width_table.specs.Table.{maxConstantBits, maxFractionBits}
 
 -- a larger power
 pow-up : (i j : ℕ) → i ≤ j → 2 ^ i ≤ 2 ^ j
@@ -36,7 +37,7 @@ pow-up i j h = pow-le-pow-right (omega arith) h
 sized-most : (f : ℕ) (v : ℤ) → Sized f v → natAbs v ≤ 2 ^ (11 + f)
 sized-most f v h = le-trans (le-of-lt h) (pow-up (10 + f) (11 + f) (omega arith))
 
-sized-fits : (f : ℕ) (v : ℤ) → f ≤ 20 → Sized f v → SFits w32 v
+sized-fits : (f : ℕ) (v : ℤ) → f ≤ maxFractionBits → Sized f v → SFits w32 v
 sized-fits f v few h = record { sfits = mag-of-abs v (lt-of-lt-of-le h (pow-up (10 + f) 31 (omega arith))) }
 
 -- at most 2^62
@@ -63,7 +64,7 @@ turned-size b = by-dif _ λ a a'. simp difs (omega arith)
 
 -- the limits of a constant's bits
 abbrev pub ConstantBits : ℕ → Type 0
-ConstantBits F = (1 ≤ F) × (F ≤ 24)
+ConstantBits F = (1 ≤ F) × (F ≤ maxConstantBits)
 
 -- a constant is small
 constant-small : (n : Node) (F : ℕ) → ConstantBits F → natAbs (nearest (constantOf n) F) ≤ 2 ^ (13 + F)
@@ -78,7 +79,7 @@ constant-fits n F ok = fits-64 (13 + F) _ (omega (arith, ok .1)) (constant-small
 pub constant-raised : (n : Node) (F fm top : ℕ) → ConstantBits F → F + fm ≤ top → top ≤ 44 → SFits w64 (nearest (constantOf n) F *ℤ pos (2 ^ (top - (F + fm))))
 constant-raised n F fm top ok a b = fits-64 57 _ (omega arith) (times-size (13 + F) (top - (F + fm)) 57 (nearest (constantOf n) F) (pos (2 ^ (top - (F + fm)))) (constant-small n F ok) (le-refl _) (omega (arith, ok .1)))
 
-module _ (n : Node) (F fm : ℕ) (const : ConstantBits F) (small : fm ≤ 20) where
+module _ (n : Node) (F fm : ℕ) (const : ConstantBits F) (small : fm ≤ maxFractionBits) where
   -- a constant times a sum, at top bits
   sum-size : (top : ℕ) → F + fm ≤ top → top ≤ 44 → (x y : ℤ) → natAbs x ≤ 2 ^ (11 + fm) → natAbs y ≤ 2 ^ (11 + fm) → natAbs (nearest (constantOf n) F *ℤ pos (2 ^ (top - (F + fm))) *ℤ (x +ℤ y)) ≤ 2 ^ 57
   sum-size top above most x y hx hy =
@@ -95,9 +96,9 @@ module _ (n : Node) (F fm : ℕ) (const : ConstantBits F) (small : fm ≤ 20) wh
       small-sum : natAbs (x +ℤ y) < 2 ^ 31
       small-sum = lt-of-le-of-lt (abs-add x y) (omega (arith, hx, hy, pow-up (10 + fm) 30 (omega arith)))
 
-  module _ (f : ℕ) (less : f ≤ 20) where
+  module _ (f : ℕ) (less : f ≤ maxFractionBits) where
     -- a step whose operands and result are sized
-    pub step-safe : (fo : ℕ) → fo ≤ 20 → (own x y : ℤ) → Sized fo own → Sized fm x → Sized fm y → Sized f (step (constantOf n) F fm fo f own x y) → Safe (stageOf (constantOf n) F fm fo f) own x y
+    pub step-safe : (fo : ℕ) → fo ≤ maxFractionBits → (own x y : ℤ) → Sized fo own → Sized fm x → Sized fm y → Sized f (step (constantOf n) F fm fo f own x y) → Safe (stageOf (constantOf n) F fm fo f) own x y
     unfolding stepOf
     step-safe fo low own x y ho hx hy h =
         let top : ℕ = stepTop F fm fo f in
@@ -136,17 +137,17 @@ module _ (n : Node) (F fm : ℕ) (const : ConstantBits F) (small : fm ≤ 20) wh
 -- limits of the bits of a pass: constants, nodes and input
 pub record Limits (F : Node → ℕ) (fi : ℕ) (f : Node → ℕ) : Type 0 where
   pub constants : (i : Node) → ConstantBits (F i)
-  pub fractions : (i : Node) → f i ≤ 20
-  pub enters : fi ≤ 20
+  pub fractions : (i : Node) → f i ≤ maxFractionBits
+  pub enters : fi ≤ maxFractionBits
 
 module _ (F : Node → ℕ) (fi : ℕ) (f : Node → ℕ) (ok : Limits F fi f) (n : ℕ) (x : ℕ → ℤ) (works : Liftable n)
     (given : (k : ℕ) → k < n → Sized fi (x k))
     (inside : (i : Node) (k : ℕ) → k < countAt n i → Sized (f i) (valueAt F fi f n x i k)) where
   -- the stages, with the limits of the pass
-  lifts : (i : Node) (fm : ℕ) → fm ≤ 20 → (fo : ℕ) → fo ≤ 20 → (own a b : ℤ) → Sized fo own → Sized fm a → Sized fm b → Sized (f i) (step (constantOf i) (F i) fm fo (f i) own a b) → Safe (stageOf (constantOf i) (F i) fm fo (f i)) own a b
+  lifts : (i : Node) (fm : ℕ) → fm ≤ maxFractionBits → (fo : ℕ) → fo ≤ maxFractionBits → (own a b : ℤ) → Sized fo own → Sized fm a → Sized fm b → Sized (f i) (step (constantOf i) (F i) fm fo (f i) own a b) → Safe (stageOf (constantOf i) (F i) fm fo (f i)) own a b
   lifts i fm p fo q own a b = step-safe i (F i) fm (ok .constants i) p (f i) (ok .fractions i) fo q own a b
 
-  scales : (i : Node) (fm : ℕ) → fm ≤ 20 → (a : ℤ) → Sized fm a → Sized (f i) (scale (constantOf i) (F i) fm (f i) a) → FactorSafe (scalingOf (constantOf i) (F i) fm (f i)) a
+  scales : (i : Node) (fm : ℕ) → fm ≤ maxFractionBits → (a : ℤ) → Sized fm a → Sized (f i) (scale (constantOf i) (F i) fm (f i) a) → FactorSafe (scalingOf (constantOf i) (F i) fm (f i)) a
   scales i fm p a = scale-safe i (F i) fm (ok .constants i) p (f i) (ok .fractions i) a
 
   -- every stage of the pass

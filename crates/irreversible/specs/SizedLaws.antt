@@ -1,5 +1,5 @@
 -- Under every accepted table each value on the way is below 2^10 in magnitude (`sized`).
-use Prim.Native.Nat.{ℕ, zero, suc, _+_, _*_, _-_, _^_, _<_, _≤_}
+use Prim.Native.Nat.{ℕ, suc, _+_, _*_, _-_, _^_, _<_, _≤_}
 use mathlib.Core.Path.{_≡_, sym}
 use mathlib.Core.Bool.{Bool, true, false}
 use native.Mathlib.Omega.{arith}
@@ -17,10 +17,10 @@ use Rattle.lines.specs.Lines.{lows, Liftable}
 use Rattle.lines.specs.Planes.{Plane, side}
 use Rattle.lines.specs.PlaneLaws.{roomy}
 use Rattle.width_table.specs.Nodes.{Node, G1, G2, Pass, Rows, LowColumns, HighColumns, columnPass, lastNode}
+use Rattle.width_table.specs.Limits.{form-widths, form-input}
 use Rattle.width_table.specs.declared.WidthTable.{WidthTable}
-use Rattle.width_table.specs.Table.{constantBits, fractionBits, inputBits}
+use Rattle.width_table.specs.Table.{maxFractionBits, constantBits, fractionBits, inputBits}
 use Rattle.precision.specs.Bounds.{boundAt, rowBound, passBound, entering, boundOf}
-use Rattle.precision.specs.Verdict.{AcceptPromise}
 use Rattle.precision.specs.Promise.{promise}
 use Rattle.irreversible.specs.Fixed.{valueAt, countAt}
 use Rattle.irreversible.specs.Transforms.{fixedAfter}
@@ -51,7 +51,7 @@ line-sized F fi b f n v x big small room given i k h = good-sized _ _ _ _ (small
 
 -- ---- a level
 
-module _ (t : WidthTable) (l : ℕ) (bits : (p : Pass) (n : Node) → fractionBits t l p n ≤ 20) (w h : ℕ) (wide : Liftable w) (tall : Liftable h) (b : Bound) (v : Plane ℤ) (x : Plane Frac) (given : (r c : ℕ) → r < h → c < w → Good b (inputBits t l Rows) (v r c) (x r c)) (room : (p : Pass) (n : Node) → Room (passBound t l b p n) (fractionBits t l p n)) where
+module _ (t : WidthTable) (l : ℕ) (bits : (p : Pass) (n : Node) → fractionBits t l p n ≤ maxFractionBits) (w h : ℕ) (wide : Liftable w) (tall : Liftable h) (b : Bound) (v : Plane ℤ) (x : Plane Frac) (given : (r c : ℕ) → r < h → c < w → Good b (inputBits t l Rows) (v r c) (x r c)) (room : (p : Pass) (n : Node) → Room (passBound t l b p n) (fractionBits t l p n)) where
   small : (p : Pass) → Small (fractionBits t l p)
   small p n = omega (arith, bits p n)
 
@@ -69,21 +69,17 @@ module _ (t : WidthTable) (l : ℕ) (bits : (p : Pass) (n : Node) → fractionBi
 
 -- ---- all levels
 
-enters-few : (t : WidthTable) → AcceptPromise t → (k : ℕ) → k < t .levels → inputBits t (suc k) Rows ≤ 20
-enters-few t ok zero i = omega (arith, ok .depth .1)
-enters-few t ok (suc k) i = ok .fractions (suc k) (omega arith) (omega arith) LowColumns G1
-
 pub sized : AllSized
 unfolding boundOf rowV
 sized t pixels w h ok picture k i =
     let p = promise t ok in
-    let bits : (q : Pass) (n : Node) → fractionBits t (suc k) q n ≤ 20 = λ q n. p .fractions (suc k) (omega arith) i q n in
+    let bits : (q : Pass) (n : Node) → fractionBits t (suc k) q n ≤ maxFractionBits = λ q n. form-widths t (p .form) (suc k) (omega arith) i q n .2 in
     let wide = roomy (t .levels) w (picture .width .0) k i in
     let tall = roomy (t .levels) h (picture .height .0) k i in
     let good : (r c : ℕ) → r < side k h → c < side k w → Good (entering t (suc k)) (inputBits t (suc k) Rows) (fixedAfter t k pixels w h r c) (exactAfter t p pixels w h picture k r c) = λ r c a b. after t p pixels w h picture k (omega arith) .inside r c (a, b) in
     let room : (q : Pass) (n : Node) → Room (passBound t (suc k) (entering t (suc k)) q n) (fractionBits t (suc k) q n) = λ q n. eleven-bits t p (suc k) (omega arith) i q n in
     record {
-      given = λ r c a b. good-sized _ _ _ _ (omega (arith, enters-few t p k i)) (enters-eleven t p (suc k) (omega arith) i) (good r c a b);
+      given = λ r c a b. good-sized _ _ _ _ (omega (arith, form-input t (p .form) (suc k) (omega arith) i Rows)) (enters-eleven t p (suc k) (omega arith) i) (good r c a b);
       inRows = rows-sized t (suc k) bits (side k w) (side k h) wide tall (entering t (suc k)) (fixedAfter t k pixels w h) (exactAfter t p pixels w h picture k) good room;
       inColumns = columns-sized t (suc k) bits (side k w) (side k h) wide tall (entering t (suc k)) (fixedAfter t k pixels w h) (exactAfter t p pixels w h picture k) good room;
     }

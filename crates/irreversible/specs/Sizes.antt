@@ -15,6 +15,7 @@ use Rattle.width_table.specs.Nodes.{Node, P1, U1, P2, U2, G1, G2}
 use Rattle.stages.specs.Fixed.{nearest}
 use Rattle.irreversible.specs.Constants.{constantOf}
 use Rattle.numbers.specs.Tests.{both}
+use Rattle.width_table.specs.Table.{maxConstantBits, maxFractionBits}
 
 -- ---- a constant at F bits is at most 2 in magnitude
 
@@ -22,7 +23,7 @@ atMostTwo : Frac → ℕ → Bool
 atMostTwo c zero = true
 atMostTwo c (suc k) = leb (natAbs (nearest c (suc k))) (2 ^ (suc k + 1)) && atMostTwo c k
 
-tested : (n : Node) → T (atMostTwo (constantOf n) 24)
+tested : (n : Node) → T (atMostTwo (constantOf n) maxConstantBits)
 unfolding atMostTwo nearest
 tested P1 = tt
 tested U1 = tt
@@ -54,15 +55,15 @@ product a b i j s h k l = le-trans (mul-le-mul h k) (subst (λ (t : ℕ). t ≤ 
 twice : (a b i : ℕ) → a ≤ 2 ^ i → b ≤ 2 ^ i → a + b ≤ 2 ^ (i + 1)
 twice a b i h k = omega (arith, pow-add 2 i 1)
 
-module _ (n : Node) (F fm : ℕ) (some : 1 ≤ F) (most : F ≤ 24) (small : fm ≤ 20) where
+module _ (n : Node) (F fm : ℕ) (some : 1 ≤ F) (most : F ≤ maxConstantBits) (small : fm ≤ maxFractionBits) where
   -- the product of a constant and a sum of two neighbours
   pub product-size : (x y : ℤ) → natAbs x ≤ 2 ^ (11 + fm) → natAbs y ≤ 2 ^ (11 + fm) → natAbs (nearest (constantOf n) F *ℤ (x +ℤ y)) ≤ 2 ^ (13 + F + fm)
   product-size x y hx hy =
       subst (λ (t : ℕ). t ≤ 2 ^ (13 + F + fm)) (sym (abs-mul (nearest (constantOf n) F) (x +ℤ y)))
-      (product _ _ (F + 1) (11 + fm + 1) _ (two-at (constantOf n) 24 F some most (tested n)) (le-trans (abs-add x y) (twice _ _ (11 + fm) hx hy)) (omega arith))
+      (product _ _ (F + 1) (11 + fm + 1) _ (two-at (constantOf n) maxConstantBits F some most (tested n)) (le-trans (abs-add x y) (twice _ _ (11 + fm) hx hy)) (omega arith))
 
   -- the whole sum, at the larger of fo and F + fm bits
-  pub sum-size : (fo : ℕ) → fo ≤ 20 → (own x y : ℤ) → natAbs own ≤ 2 ^ (11 + fo) → natAbs x ≤ 2 ^ (11 + fm) → natAbs y ≤ 2 ^ (11 + fm) → natAbs (own *ℤ pos (2 ^ (max fo (F + fm) - fo)) +ℤ nearest (constantOf n) F *ℤ (x +ℤ y) *ℤ pos (2 ^ (max fo (F + fm) - (F + fm)))) ≤ 2 ^ 58
+  pub sum-size : (fo : ℕ) → fo ≤ maxFractionBits → (own x y : ℤ) → natAbs own ≤ 2 ^ (11 + fo) → natAbs x ≤ 2 ^ (11 + fm) → natAbs y ≤ 2 ^ (11 + fm) → natAbs (own *ℤ pos (2 ^ (max fo (F + fm) - fo)) +ℤ nearest (constantOf n) F *ℤ (x +ℤ y) *ℤ pos (2 ^ (max fo (F + fm) - (F + fm)))) ≤ 2 ^ 58
   sum-size fo small' own x y ho hx hy =
       le-trans (abs-add A B)
       (twice (natAbs A) (natAbs B) 57

@@ -1,5 +1,5 @@
 -- The 9/7 transform in fixed point under a width table (document 01: the lifting; pictures and planes).
-use Prim.Native.Nat.{ℕ, _+_, _*_, _-_, _^_}
+use Prim.Native.Nat.{ℕ}
 use mathlib.Core.List.{List}
 use lib.IntN.{ℤ}
 use Rattle.lines.specs.Planes.{Plane, OnLine, OnPart, rowsFirst, levels}

@@ -5,9 +5,10 @@ ghost use lib.IntN.{pos, _*ℤ_};
 ghost use mir.Syntax.{w64};
 ghost use mir.Val.{SFits};
 ghost use Rattle.lifting.specs.Patch.{at};
-ghost use Rattle.width_table.specs.Table.{constantBits};
+ghost use Rattle.width_table.specs.Table.{maxFractionBits, constantBits};
 ghost use Rattle.lines.specs.Planes.{rowByRow};
 ghost use Rattle.numbers.specs.Lists.{over};
+ghost use Rattle.refusals.specs.Told.{told};
 ghost use Rattle.precision.specs.Verdict.{Accepted};
 ghost use Rattle.stages.specs.Fixed.{nearest};
 ghost use Rattle.irreversible.specs.Constants.{constantOf};
@@ -29,8 +30,11 @@ use lifting::Step;
 use refusals::Outcome;
 use width_table::WidthTable;
 
-// The constants of P1, U1, P2, U2, G1 and G2, each at 1 to 24 bits.
-const NEAREST: [i64; 144] = [
+// At how many bits a constant may stand: 1 to this.
+const CONSTANT_BITS: usize = WidthTable::MAX_CONSTANT_BITS as usize;
+
+// The constants of P1, U1, P2, U2, G1 and G2, each at every number of bits.
+const NEAREST: [i64; WidthTable::CONSTANTS * CONSTANT_BITS] = [
     -3,
     -6,
     -13,
@@ -182,7 +186,7 @@ fn nearest_at(node: u8, bits: u8) -> i64
     requires { ⌜ IsNode node × ConstantBits bits ⌝ }
     ensures { λ r. ⌜ r ≡ nearest (constantOf (nodeOf node)) bits ⌝ }
 {
-    NEAREST[(node as usize - 1) * 24 + (bits as usize - 1)]
+    NEAREST[(node as usize - 1) * CONSTANT_BITS + (bits as usize - 1)]
 }
 
 // 2 to a power.
@@ -210,7 +214,7 @@ fn times(a: i64, b: i64) -> i64
 
 // A step by a constant of so many bits: the bits of the neighbours, of the own value and of the node.
 fn step_of(constant: i64, bits: u8, sides: u8, own: u8, kept: u8) -> Step
-    requires { ⌜ ConstantBits bits × (sides ≤ 20) × (own ≤ 20) × (kept ≤ 20) ⌝ }
+    requires { ⌜ ConstantBits bits × (sides ≤ maxFractionBits) × (own ≤ maxFractionBits) × (kept ≤ maxFractionBits) ⌝ }
     requires { ⌜ SFits w64 (constant *ℤ pos (2 ^ (stepTop bits sides own kept - (bits + sides)))) ⌝ }
     ensures { λ r. ⌜ r ≡ stepOf constant bits sides own kept ⌝ }
 {
@@ -226,7 +230,7 @@ fn step_of(constant: i64, bits: u8, sides: u8, own: u8, kept: u8) -> Step
 
 // A scaling by a constant of so many bits: the bits of the value and of the node.
 fn factor_of(constant: i64, bits: u8, value: u8, kept: u8) -> Factor
-    requires { ⌜ ConstantBits bits × (value ≤ 20) × (kept ≤ 20) ⌝ }
+    requires { ⌜ ConstantBits bits × (value ≤ maxFractionBits) × (kept ≤ maxFractionBits) ⌝ }
     requires { ⌜ SFits w64 (constant *ℤ pos (2 ^ (max (bits + value) kept - (bits + value)))) ⌝ }
     ensures { λ r. ⌜ r ≡ factorOf constant bits value kept ⌝ }
 {
@@ -241,7 +245,7 @@ fn factor_of(constant: i64, bits: u8, value: u8, kept: u8) -> Factor
 
 // A stage P1, U1, P2, U2, by its number: the bits of the neighbours, of the own value and of the node.
 fn stage(table: WidthTable, node: u8, sides: u8, own: u8, kept: u8) -> Step
-    requires { ⌜ Accepted table × IsNode node × (sides ≤ 20) × (own ≤ 20) × (kept ≤ 20) ⌝ }
+    requires { ⌜ Accepted table × IsNode node × (sides ≤ maxFractionBits) × (own ≤ maxFractionBits) × (kept ≤ maxFractionBits) ⌝ }
     ensures { λ r. ⌜ r ≡ stageOf (constantOf (nodeOf node)) (constantBits table (nodeOf node)) sides own kept ⌝ }
 {
     let bits = table.constant_bits(node);
@@ -250,7 +254,7 @@ fn stage(table: WidthTable, node: u8, sides: u8, own: u8, kept: u8) -> Step
 
 // A stage G1, G2, by its number: the bits of the value and of the node.
 fn scaling(table: WidthTable, node: u8, value: u8, kept: u8) -> Factor
-    requires { ⌜ Accepted table × IsNode node × (value ≤ 20) × (kept ≤ 20) ⌝ }
+    requires { ⌜ Accepted table × IsNode node × (value ≤ maxFractionBits) × (kept ≤ maxFractionBits) ⌝ }
     ensures { λ r. ⌜ r ≡ scalingOf (constantOf (nodeOf node)) (constantBits table (nodeOf node)) value kept ⌝ }
 {
     let bits = table.constant_bits(node);
@@ -263,23 +267,23 @@ fn kernel_of(table: WidthTable, level: u8, pass: u8) -> Kernel
     ensures { λ r. ⌜ SameKernel (kernelOf table level (passOf pass)) r ⌝ }
 {
     let enters = table.input_bits(level, pass);
-    let p1 = table.fraction_bits(level, pass, 1);
-    let u1 = table.fraction_bits(level, pass, 2);
-    let p2 = table.fraction_bits(level, pass, 3);
-    let u2 = table.fraction_bits(level, pass, 4);
-    let g1 = table.fraction_bits(level, pass, 5);
-    let g2 = table.fraction_bits(level, pass, 6);
+    let p1 = table.fraction_bits(level, pass, WidthTable::P1);
+    let u1 = table.fraction_bits(level, pass, WidthTable::U1);
+    let p2 = table.fraction_bits(level, pass, WidthTable::P2);
+    let u2 = table.fraction_bits(level, pass, WidthTable::U2);
+    let g1 = table.fraction_bits(level, pass, WidthTable::G1);
+    let g2 = table.fraction_bits(level, pass, WidthTable::G2);
     let kernel = Kernel::Two {
         first: Pair {
-            highs: stage(table, 1, enters, enters, p1),
-            lows: stage(table, 2, p1, enters, u1),
+            highs: stage(table, WidthTable::P1, enters, enters, p1),
+            lows: stage(table, WidthTable::U1, p1, enters, u1),
         },
         second: Pair {
-            highs: stage(table, 3, u1, p1, p2),
-            lows: stage(table, 4, p2, u1, u2),
+            highs: stage(table, WidthTable::P2, u1, p1, p2),
+            lows: stage(table, WidthTable::U2, p2, u1, u2),
         },
-        low: scaling(table, 5, u2, g1),
-        high: scaling(table, 6, p2, g2),
+        low: scaling(table, WidthTable::G1, u2, g1),
+        high: scaling(table, WidthTable::G2, p2, g2),
     };
     lifting::readied(kernel)
 }
@@ -298,7 +302,15 @@ fn work_columns(
     ensures { λ _. ⌜ at (now (plane .exit)) ≡ columned table level stride w h (at (now (plane .entry))) ⌝ }
 {
     let low = (w + 1) / 2;
-    lifting::columns(plane, tile, stride, 0, low, h, kernel_of(table, level, 2));
+    lifting::columns(
+        plane,
+        tile,
+        stride,
+        0,
+        low,
+        h,
+        kernel_of(table, level, WidthTable::LOW_COLUMNS),
+    );
     lifting::columns(
         plane,
         tile,
@@ -306,7 +318,7 @@ fn work_columns(
         low,
         w / 2,
         h,
-        kernel_of(table, level, 3),
+        kernel_of(table, level, WidthTable::HIGH_COLUMNS),
     );
 }
 
@@ -323,7 +335,14 @@ fn work_level(
     requires { ⌜ LevelReady table level (now plane) (now tile) stride w h ⌝ }
     ensures { λ _. ⌜ at (now (plane .exit)) ≡ levelWorked table level stride w h (at (now (plane .entry))) ⌝ }
 {
-    lifting::rows(plane, tile, stride, w, h, kernel_of(table, level, 1));
+    lifting::rows(
+        plane,
+        tile,
+        stride,
+        w,
+        h,
+        kernel_of(table, level, WidthTable::ROWS),
+    );
     work_columns(table, level, plane, tile, stride, w, h);
 }
 
@@ -340,7 +359,7 @@ fn first_level(
     ensures { λ _. ⌜ at (now (plane .exit)) ≡ levelWorked table 1 w w h (loaded (now (pixels .entry)) (2 ^ (table .depth - 1)) w h (at (now (plane .entry)))) ⌝ }
 {
     let middle = pictures::middle(table.depth);
-    let kernel = kernel_of(table, 1, 1);
+    let kernel = kernel_of(table, 1, WidthTable::ROWS);
     lifting::pixel_rows(pixels, middle, plane, tile, w, h, kernel);
     work_columns(table, 1, plane, tile, w, w, h);
 }
@@ -377,7 +396,7 @@ fn answer(
     second: usize,
     third: usize,
 ) -> Outcome
-    ensures { λ r. ⌜ r ≡ answerOf table w h (now (pixels .entry)) second third ⌝ }
+    ensures { λ r. ⌜ told r ≡ answerOf table w h (now (pixels .entry)) second third ⌝ }
 {
     match precision::judge(table) {
         Outcome::Refused(why) => Outcome::Refused(why),
@@ -400,7 +419,7 @@ pub fn forward(
     plane: &mut [i32],
     work: &mut [i32],
 ) -> Outcome
-    ensures answer { λ r. ⌜ r ≡ fixedAnswer table w h (now (pixels .entry)) (now (plane .entry)) (now (work .entry)) ⌝ }
+    ensures answer { λ r. ⌜ told r ≡ fixedAnswer table w h (now (pixels .entry)) (now (plane .entry)) (now (work .entry)) ⌝ }
     ensures plane { λ _. ⌜ now (plane .exit) ≡ fixedPlaneAfter table w h (now (pixels .entry)) (now (plane .entry)) (now (work .entry)) ⌝ }
     ensures work { λ _. ⌜ now (work .exit) ≡ fixedWork table w h (now (pixels .entry)) (now (plane .entry)) (now (work .entry)) ⌝ }
 {

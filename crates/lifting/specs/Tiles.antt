@@ -1,17 +1,17 @@
 -- A tile: n lines of s values, one after the other, the lines of the lows first and then those of the highs. A row is a tile with s = 1.
 -- Assumes nothing.
-use mathlib.Core.Path.{_≡_, refl, sym, ap, subst, _∙_}
+use mathlib.Core.Path.{_≡_, sym, ap, subst, _∙_}
 use mathlib.Core.List.{List}
 use Prim.Native.Nat.{ℕ, zero, suc, _+_, _*_, _-_, _/_, _%_, _<_, _≤_, _^_}
 use native.Mathlib.Omega.{arith}
 use native.Mathlib.Decide.{decLt}
-use native.Mathlib.Nat.{mul-comm, add-mul, mod-lt, div-add-mod', div-lt-iff-lt-mul, mul-add-div-right, mul-add-mod-self-right, div-eq-of-lt, mod-eq-of-lt, mul-le-mul-right}
+use native.Mathlib.Nat.{add-mul, mod-lt, div-add-mod', div-lt-iff-lt-mul, mul-add-div-right, mul-add-mod-self-right, div-eq-of-lt, mod-eq-of-lt, mul-le-mul-right}
 use lib.IntN.{ℤ}
 use lib.ListN.{length}
 use Rattle.lines.specs.Lines.{lows, highs, Liftable, lowAfter, highBefore, highAfter, onHighs, onLows, lowsFirst, interleaved}
 use Rattle.lines.specs.LineLaws.{some-lows, some-highs, first-low, first-high, even-place, odd-place, by-half, by-parity}
 use Rattle.lines.specs.Neighbours.{low-after-in, high-before-in, high-after-in, low-after-next, high-before-next, high-after-next, low-after-last, high-before-first, high-after-last}
-use Rattle.lifting.specs.Patch.{patch, patch-in, patch-below, patch-above, patch-out}
+use Rattle.lifting.specs.Patch.{patch, patch-in, patch-below, patch-above}
 use Rattle.lifting.specs.Runs.{as-type}
 use Rattle.lifting.specs.PatchLines.{lineAt, patchLines, lines-apart, lines-in}
 use Rattle.lifting.specs.declared.Pair.{Pair}

@@ -3,13 +3,13 @@ ghost use mathlib.Core.Path.{_≡_};
 ghost use Prim.Native.Nat.{ℕ, _+_, _*_, _-_, _/_, _<_, _≤_, _^_, min};
 ghost use lib.ListN.{length};
 ghost use lib.Signed.{shrZ};
-ghost use lib.IntN.{pos, negℤ, natAbs, _+ℤ_, _-ℤ_, _*ℤ_};
+ghost use lib.IntN.{pos, natAbs, _+ℤ_, _-ℤ_, _*ℤ_};
 ghost use mir.Syntax.{w32, w64};
 ghost use mir.Val.{SFits};
 ghost use Rattle.lines.specs.Lines.{interleaved};
 ghost use Rattle.lifting.specs.Steps.{applied, PlainStep, Safe, Same, SumSafe, turnedSum, signed, raisedStep, scaledBy, FactorSafe, SameFactor};
 ghost use Rattle.lifting.specs.Raise.{raised};
-ghost use Rattle.lifting.specs.Patch.{at, patch};
+ghost use Rattle.lifting.specs.Patch.{at, Free, patch};
 ghost use Rattle.lifting.specs.Runs.{ran, Runs, SafeRun};
 ghost use Rattle.lifting.specs.PatchLines.{lineAt, patchLines, Lying};
 ghost use Rattle.lifting.specs.Passes.{evens, odds, Liftable};
@@ -1031,7 +1031,8 @@ pub fn pixel_rows(
 )
     requires { ⌜ Part (now plane) w 0 w h × Liftable w × (w ≤ length (now tile)) × Forward kernel × (w * h ≤ length (now pixels)) ⌝ }
     requires { ⌜ ((r : ℕ) → r < h → SafeKernel kernel w (pixelLine (now pixels) middle (r * w))) ⌝ }
-    ensures { λ _. ⌜ at (now (plane .exit)) ≡ patchLines (lineAt 0 w) w h (λ r. worked kernel w (pixelLine (now (pixels .entry)) middle (r * w))) (at (now (plane .entry))) ⌝ }
+    ensures plane { λ _. ⌜ at (now (plane .exit)) ≡ patchLines (lineAt 0 w) w h (λ r. worked kernel w (pixelLine (now (pixels .entry)) middle (r * w))) (at (now (plane .entry))) ⌝ }
+    ensures tile { λ _. ⌜ Free (now (tile .entry)) (now (tile .exit)) ⌝ }
 {
     for r in 0..h {
         let from = r * w;
@@ -1044,12 +1045,16 @@ pub fn pixel_rows(
 pub fn rows(plane: &mut [i32], tile: &mut [i32], stride: usize, w: usize, h: usize, kernel: Kernel)
     requires { ⌜ Part (now plane) stride 0 w h × Liftable w × (w ≤ length (now tile)) ⌝ }
     requires { ⌜ ((r : ℕ) → r < h → SafeKernel kernel w (rowOf stride 0 (at (now plane)) r)) ⌝ }
-    ensures { λ _. ⌜ at (now (plane .exit)) ≡ rowsWorked kernel stride w h (at (now (plane .entry))) ⌝ }
+    ensures plane { λ _. ⌜ at (now (plane .exit)) ≡ rowsWorked kernel stride w h (at (now (plane .entry))) ⌝ }
+    ensures tile { λ _. ⌜ Free (now (tile .entry)) (now (tile .exit)) ⌝ }
 {
     for r in 0..h {
         strip(plane, tile, 1, r * stride, 1, w, kernel);
     }
 }
+
+// As many columns as a strip has at most.
+const STRIP: usize = 64;
 
 // The smaller of two numbers.
 fn smaller(a: usize, b: usize) -> usize
@@ -1070,9 +1075,10 @@ pub fn columns(
 )
     requires { ⌜ Part (now plane) stride from w h × Liftable h × (h ≤ length (now tile)) ⌝ }
     requires { ⌜ ((j : ℕ) → j < w → SafeKernel kernel h (columnOf stride from (at (now plane)) j)) ⌝ }
-    ensures { λ _. ⌜ at (now (plane .exit)) ≡ columnsWorked kernel stride from w h (at (now (plane .entry))) ⌝ }
+    ensures plane { λ _. ⌜ at (now (plane .exit)) ≡ columnsWorked kernel stride from w h (at (now (plane .entry))) ⌝ }
+    ensures tile { λ _. ⌜ Free (now (tile .entry)) (now (tile .exit)) ⌝ }
 {
-    let most = smaller(64, tile.len() / h);
+    let most = smaller(STRIP, tile.len() / h);
     let mut done = 0;
     while done < w {
         let s = smaller(most, w - done);

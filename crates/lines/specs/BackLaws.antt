@@ -29,7 +29,7 @@ module _ {A : Type 0} (R : A → A → Type 0) where
     pub there : Taken pass undo
     pub back : Taken undo pass
 
-  pub swapped : {pass undo : OnLine A} → Undoes pass undo → Undoes undo pass
+  swapped : {pass undo : OnLine A} → Undoes pass undo → Undoes undo pass
   swapped u = record { there = u .back; back = u .there }
 
   -- the same of a level: it reads no more than the plane that its part lies in
@@ -41,7 +41,7 @@ module _ {A : Type 0} (R : A → A → Type 0) where
     pub there : TakenPart level undo
     pub back : TakenPart undo level
 
-  pub turned : {level undo : OnPart A} → UndoesPart level undo → UndoesPart undo level
+  turned : {level undo : OnPart A} → UndoesPart level undo → UndoesPart undo level
   turned u = record { there = u .back; back = u .there }
 
 module _ {A : Type 0} {R : A → A → Type 0} (e : Same R) where

@@ -1,7 +1,7 @@
 -- Planes as lists, row by row.
-use Prim.Native.Nat.{ℕ, zero, suc, _+_, _*_, _-_, _/_, _%_, _<_, _≤_, min}
-use mathlib.Core.Bool.{Bool, true, false, _&&_}
-use mathlib.Core.List.{List, [], _∷_, _++_, map}
+use Prim.Native.Nat.{ℕ, zero, suc, _+_, _*_, _-_, _/_, _%_, _<_, _≤_}
+use mathlib.Core.Bool.{Bool}
+use mathlib.Core.List.{List, [], _∷_, map}
 use mathlib.Core.Path.{_≡_, refl, sym, _∙_, ap, ap₂, subst}
 use native.Mathlib.Omega.{arith}
 use native.Mathlib.Nat.{mod-lt, div-add-mod', div-lt-iff-lt-mul, mul-add-div-right, mul-add-mod-self-right, div-eq-of-lt, mod-eq-of-lt, mul-le-mul-right, mul-comm}
@@ -18,7 +18,7 @@ module _ (w h : ℕ) (some : 1 ≤ w) where
   place-in r c i j = omega (arith, mul-le-mul-right w i, mul-comm w h)
 
 module _ {A : Type 0} where
-  pub tabulate-length : (n : ℕ) (f : ℕ → A) → length (tabulate n f) ≡ n
+  tabulate-length : (n : ℕ) (f : ℕ → A) → length (tabulate n f) ≡ n
   unfolding tabulate
   tabulate-length zero f = refl
   tabulate-length (suc n) f = ap suc (tabulate-length n (λ k. f (suc k)))
@@ -40,7 +40,7 @@ module _ {A : Type 0} where
   tabulate-take (suc n) [] d h = absurd (omega arith)
   tabulate-take (suc n) (a ∷ l) d h = ap (λ (t : List A). a ∷ t) (tabulate-take n l d (omega arith))
 
-  pub every-tabulate : (right : A → Bool) (n : ℕ) (f : ℕ → A) → ((k : ℕ) → k < n → T (right (f k))) → T (every right (tabulate n f))
+  every-tabulate : (right : A → Bool) (n : ℕ) (f : ℕ → A) → ((k : ℕ) → k < n → T (right (f k))) → T (every right (tabulate n f))
   unfolding tabulate every
   every-tabulate right zero f h = tt
   every-tabulate right (suc n) f h =

@@ -11,11 +11,8 @@ use lib.IntN.{ℤ, pos}
 use lib.ListN.{length, getD, take, List·getD-append}
 use lib.Seq.{take-all, length-take-le}
 use Rattle.numbers.specs.Lists.{over}
-use Rattle.refusals.specs.declared.Refusal.{Refusal}
-use Rattle.refusals.specs.declared.Outcome.{Outcome}
-use Rattle.refusals.specs.declared.Outcome.the-variants.{Done, Refused}
-use Rattle.refusals.specs.Refusals.{_then_}
-use Rattle.refusals.specs.RefusalLaws.{asks-right, then-right, answered-done}
+use Rattle.refusals.specs.Answers.{Reason, Answer, refused, passed, _then_}
+use Rattle.refusals.specs.AnswerLaws.{asks-right, then-right, answered-done}
 use Rattle.lines.specs.Planes.{Plane, rowByRow}
 use Rattle.lines.specs.RowLaws.{place-in, rows-length, rows-at, tabulate-same}
 use Rattle.width_table.specs.Table.{depthRight, levelsRight}
@@ -24,8 +21,8 @@ use Rattle.pictures.specs.PictureLaws.{sized, sized-then, sized-right, over-tak
 use Rattle.reversible.specs.Reversible.{forward}
 use Rattle.reversible.specs.Calls.{limited, forwardAnswer, forwardPlane}
 use Rattle.listing.specs.declared.Head.{Head}
-use Rattle.listing.specs.Listing.{line, rowLines, refusedLine, maxPixels, maxText, copyDepth, copyLevels, copyWidth, copyHeight, copySize, copyPixels, copyForm, copyAnswer, headIn, headText, copyLines, copyText, listed}
-use Rattle.listing.specs.InputLaws.{Formed, form-done, pixels-length, maxInput, form-too-long, why-same}
+use Rattle.listing.specs.Listing.{line, rowLines, refusedLine, headBytes, maxPixels, maxInput, maxText, copyDepth, copyLevels, copyWidth, copyHeight, copySize, copyPixels, copyForm, copyAnswer, headIn, headText, copyLines, copyText, listed}
+use Rattle.listing.specs.InputLaws.{Formed, form-done, pixels-length, form-too-long, why-same}
 
 -- memory for all that the program admits
 pub record Memory (pixels : List ℕ) (plane work : List ℤ) (text : List ℕ) : Type 0 where
@@ -39,7 +36,7 @@ module _ (bytes : List ℕ) where
   count f = pixels-length bytes ∙ omega (arith, f .exact)
 
   -- what the forward call judges of an input of a right form
-  abbrev pub verdict : Outcome
+  abbrev pub verdict : Answer Unit
   verdict = pixelsRight (copyDepth bytes) (copyWidth bytes) (copyHeight bytes) (copyPixels bytes)
 
   pub forward-judges : (plane work : List ℤ) → Formed bytes → maxPixels ≤ length plane → maxPixels ≤ length work
@@ -55,18 +52,18 @@ module _ (bytes : List ℕ) where
 
   -- ---- the text of each answer
 
-  pub text-form : (r : Refusal) → copyForm bytes ≡ Refused r → copyText bytes ≡ refusedLine r
+  pub text-form : (r : Reason) → copyForm bytes ≡ refused r → copyText bytes ≡ refusedLine (r .0)
   unfolding copyText copyAnswer copyLines
-  text-form r e = ap (λ (o : Outcome). copyLines bytes (o then verdict)) e
+  text-form r e = ap (λ (o : Answer Unit). copyLines bytes (o then verdict)) e
 
-  pub text-refused : (r : Refusal) → copyForm bytes ≡ Done → verdict ≡ Refused r → copyText bytes ≡ refusedLine r
+  pub text-refused : (r : Reason) → copyForm bytes ≡ passed → verdict ≡ refused r → copyText bytes ≡ refusedLine (r .0)
   unfolding copyText copyAnswer copyLines
-  text-refused r e v = ap (λ (o : Outcome). copyLines bytes (o then verdict)) e ∙ ap (copyLines bytes) v
+  text-refused r e v = ap (λ (o : Answer Unit). copyLines bytes (o then verdict)) e ∙ ap (copyLines bytes) v
 
-  pub text-done : copyForm bytes ≡ Done → verdict ≡ Done
+  pub text-done : copyForm bytes ≡ passed → verdict ≡ passed
       → copyText bytes ≡ headText (headIn bytes) ++ rowLines (copyWidth bytes) (forward (copyLevels bytes) (copyWidth bytes) (copyHeight bytes) (sample (copyPixels bytes) (copyDepth bytes) (copyWidth bytes))) 0 (copyHeight bytes)
   unfolding copyText copyAnswer copyLines
-  text-done e v = ap (λ (o : Outcome). copyLines bytes (o then verdict)) e ∙ ap (copyLines bytes) v
+  text-done e v = ap (λ (o : Answer Unit). copyLines bytes (o then verdict)) e ∙ ap (copyLines bytes) v
 
 -- ---- rows of a plane that was written
 
@@ -83,35 +80,35 @@ rows-written w h q l old some e = rows-agree w (planeOf w l) q 0 h (λ r c i j.
 
 -- ---- the call's answer
 
-plane-written : (B L w h : ℕ) (pixels : List ℕ) (plane work : List ℤ) → forwardAnswer B L w h pixels plane work ≡ Done
+plane-written : (B L w h : ℕ) (pixels : List ℕ) (plane work : List ℤ) → forwardAnswer B L w h pixels plane work ≡ passed
     → forwardPlane B L w h pixels plane work ≡ over (rowByRow w h (forward L w h (sample pixels B w))) plane
 unfolding forwardPlane
 plane-written B L w h pixels plane work e = answered-done _ _ e
 
-module _ (bytes : List ℕ) (head : Head) (is : head ≡ headIn bytes) (right : copyForm bytes ≡ Done) where
+module _ (bytes : List ℕ) (head : Head) (is : head ≡ headIn bytes) (right : copyForm bytes ≡ passed) where
   formed : Formed bytes
   formed = form-done bytes right
 
   -- the sizes that the code counts with
-  pub area : (head .w * head .h ≡ copySize bytes) × (copySize bytes ≤ maxPixels) × (length bytes ≡ 6 + 2 * copySize bytes) × (1 ≤ head .w)
+  pub area : (head .w * head .h ≡ copySize bytes) × (copySize bytes ≤ maxPixels) × (length bytes ≡ headBytes + 2 * copySize bytes) × (1 ≤ head .w)
   area = (ap (λ (t : Head). t .w * t .h) is, formed .few, formed .exact, subst (λ (t : Head). 1 ≤ t .w) (sym is) (omega (arith, formed .wide .0)))
 
-  module _ (old after : List ℕ) (plane work : List ℤ) (o : Outcome) (read : after ≡ over (copyPixels bytes) old)
-      (told : o ≡ forwardAnswer (head .depth) (head .levels) (head .w) (head .h) (take (head .w * head .h) after) plane work)
+  module _ (old after : List ℕ) (plane work : List ℤ) (o : Answer Unit) (read : after ≡ over (copyPixels bytes) old)
+      (answer : o ≡ forwardAnswer (head .depth) (head .levels) (head .w) (head .h) (take (head .w * head .h) after) plane work)
       (for-plane : maxPixels ≤ length plane) (for-work : maxPixels ≤ length work) where
     same-pixels : take (head .w * head .h) after ≡ copyPixels bytes
     same-pixels = ap (take (head .w * head .h)) read ∙ over-take (head .w * head .h) (copyPixels bytes) old (count bytes formed ∙ sym (area .0))
 
     judged : o ≡ verdict bytes
-    judged = told ∙ (λ i. forwardAnswer (is i .depth) (is i .levels) (is i .w) (is i .h) (same-pixels i) plane work) ∙ forward-judges bytes plane work formed for-plane for-work
+    judged = answer ∙ (λ i. forwardAnswer (is i .depth) (is i .levels) (is i .w) (is i .h) (same-pixels i) plane work) ∙ forward-judges bytes plane work formed for-plane for-work
 
-    pub refused-text : (r : Refusal) → o ≡ Refused r → refusedLine r ≡ copyText bytes
+    pub refused-text : (r : Reason) → o ≡ refused r → refusedLine (r .0) ≡ copyText bytes
     refused-text r e = sym (text-refused bytes r right (sym judged ∙ e))
 
-    pub plane-text : (new : List ℤ) → new ≡ forwardPlane (head .depth) (head .levels) (head .w) (head .h) (take (head .w * head .h) after) plane work → o ≡ Done
+    pub plane-text : (new : List ℤ) → new ≡ forwardPlane (head .depth) (head .levels) (head .w) (head .h) (take (head .w * head .h) after) plane work → o ≡ passed
         → headText head ++ rowLines (head .w) (planeOf (head .w) new) 0 (head .h) ≡ copyText bytes
     plane-text new e d =
-        let v : verdict bytes ≡ Done = sym judged ∙ d in
+        let v : verdict bytes ≡ passed = sym judged ∙ d in
         let written = e ∙ (λ i. forwardPlane (is i .depth) (is i .levels) (is i .w) (is i .h) (same-pixels i) plane work)
         ∙ plane-written _ _ _ _ _ _ _ (forward-judges bytes plane work formed for-plane for-work ∙ v) in
         (λ i. headText (is i) ++ rowLines (is i .w) (planeOf (is i .w) new) 0 (is i .h))
@@ -135,5 +132,5 @@ enough bytes = go (decLt maxInput (length bytes))
     go : Dec (maxInput < length bytes) → copyText (take maxInput bytes) ≡ copyText bytes
     go (yes h) =
         let e = length-take-le maxInput bytes (omega arith) in
-        text-form (take maxInput bytes) _ (form-too-long (take maxInput bytes) (omega arith)) ∙ ap refusedLine (why-same bytes maxInput (omega arith)) ∙ sym (text-form bytes _ (form-too-long bytes (omega arith)))
+        text-form (take maxInput bytes) _ (form-too-long (take maxInput bytes) (omega arith)) ∙ ap (λ (r : Reason). refusedLine (r .0)) (why-same bytes maxInput (omega arith)) ∙ sym (text-form bytes _ (form-too-long bytes (omega arith)))
     go (no f) = ap copyText (take-all maxInput bytes (omega arith))

@@ -9,16 +9,12 @@ use borrow.Author.Tests.{le-leb, lt-leb}
 use lib.Dec.{T, leb, leb→le}
 use lib.ListN.{length, getD, take, drop, length-drop}
 use lib.Seq.{getD-drop, getD-take}
-use Rattle.refusals.specs.declared.Refusal.{Refusal}
-use Rattle.refusals.specs.declared.Refusal.the-variants.{CutShort, OutsideLimits, TrailingBytes, SideNotAdmitted, SliceTooShort}
-use Rattle.refusals.specs.declared.Outcome.{Outcome}
-use Rattle.refusals.specs.declared.Outcome.the-variants.{Done, Refused}
-use Rattle.refusals.specs.Refusals.{asks, _then_}
-use Rattle.refusals.specs.RefusalLaws.{asks-done, then-done}
+use Rattle.refusals.specs.Answers.{Reason, Answer, done, refused, passed, asks, _then_}
+use Rattle.refusals.specs.AnswerLaws.{asks-done, then-done}
 use Rattle.width_table.specs.Table.{depthRight, levelsRight}
 use Rattle.pictures.specs.Pictures.{sideRight, Admitted, sided, holds}
 use Rattle.pictures.specs.PictureLaws.{sided-done, holds-done}
-use Rattle.listing.specs.Listing.{pairs, maxPixels, copyDepth, copyLevels, copyWidth, copyHeight, copySize, copyPixels, copyForm}
+use Rattle.listing.specs.Listing.{pairs, headBytes, maxPixels, maxInput, copyDepth, copyLevels, copyWidth, copyHeight, copySize, copyPixels, copyForm}
 
 -- ---- pixels
 
@@ -39,21 +35,21 @@ pairs-at (a ∷ b ∷ l) (suc k) h =
     pairs-at l k (omega arith) ∙ sym (λ i. getD (a ∷ b ∷ l) (e i) 0 * 256 + getD (a ∷ b ∷ l) (f i) 0)
 
 module _ (bytes : List ℕ) where
-  pub pixels-length : length (copyPixels bytes) ≡ (length bytes - 6) / 2
+  pub pixels-length : length (copyPixels bytes) ≡ (length bytes - headBytes) / 2
   unfolding copyPixels
-  pixels-length = pairs-length (drop 6 bytes) ∙ ap (λ (n : ℕ). n / 2) (length-drop 6 bytes)
+  pixels-length = pairs-length (drop headBytes bytes) ∙ ap (λ (n : ℕ). n / 2) (length-drop headBytes bytes)
 
-  pub pixel-at : (k : ℕ) → 6 + 2 * k + 1 < length bytes → getD (copyPixels bytes) k 0 ≡ getD bytes (6 + 2 * k) 0 * 256 + getD bytes (6 + 2 * k + 1) 0
+  pub pixel-at : (k : ℕ) → headBytes + 2 * k + 1 < length bytes → getD (copyPixels bytes) k 0 ≡ getD bytes (headBytes + 2 * k) 0 * 256 + getD bytes (headBytes + 2 * k + 1) 0
   unfolding copyPixels
   pixel-at k h =
-      let e : 6 + (2 * k + 1) ≡ 6 + 2 * k + 1 = omega arith in
-      pairs-at (drop 6 bytes) k (omega (arith, length-drop 6 bytes))
-      ∙ (λ i. getD-drop 6 bytes (2 * k) 0 i * 256 + getD-drop 6 bytes (2 * k + 1) 0 i) ∙ ap (λ (n : ℕ). getD bytes (6 + 2 * k) 0 * 256 + getD bytes n 0) e
+      let e : headBytes + (2 * k + 1) ≡ headBytes + 2 * k + 1 = omega arith in
+      pairs-at (drop headBytes bytes) k (omega (arith, length-drop headBytes bytes))
+      ∙ (λ i. getD-drop headBytes bytes (2 * k) 0 i * 256 + getD-drop headBytes bytes (2 * k + 1) 0 i) ∙ ap (λ (n : ℕ). getD bytes (headBytes + 2 * k) 0 * 256 + getD bytes n 0) e
 
 -- ---- the form
 
 -- 8 and 9 apart from what is judged after them
-apart : (s t : Bool) (o : Outcome) → asks s SideNotAdmitted (asks t SliceTooShort o) ≡ (asks s SideNotAdmitted Done then asks t SliceTooShort Done) then o
+apart : (s t : Bool) (o : Answer Unit) → asks s 8 (asks t 9 o) ≡ (asks s 8 passed then asks t 9 passed) then o
 apart true true o = refl
 apart true false o = refl
 apart false t o = refl
@@ -61,54 +57,54 @@ apart false t o = refl
 abbrev limits : List ℕ → Bool
 limits bytes = depthRight (copyDepth bytes) && levelsRight (copyLevels bytes)
 
-abbrev sizes : List ℕ → Outcome
+abbrev sizes : List ℕ → Answer Unit
 sizes bytes = sided (copyLevels bytes) (copyWidth bytes) (copyHeight bytes) then holds (copySize bytes) maxPixels
 
-pub sizes-done : (bytes : List ℕ) → sizes bytes ≡ Done → Admitted (copyLevels bytes) (copyWidth bytes) × Admitted (copyLevels bytes) (copyHeight bytes) × (copySize bytes ≤ maxPixels)
+pub sizes-done : (bytes : List ℕ) → sizes bytes ≡ passed → Admitted (copyLevels bytes) (copyWidth bytes) × Admitted (copyLevels bytes) (copyHeight bytes) × (copySize bytes ≤ maxPixels)
 sizes-done bytes e =
     let s = then-done (sided (copyLevels bytes) (copyWidth bytes) (copyHeight bytes)) _ e in
     let d = sided-done _ _ _ (s .0) in
     (d .0, d .1, holds-done _ _ (s .1))
 
 -- what is left when the sizes are right
-abbrev body : List ℕ → Outcome
-body bytes = asks (leb (2 * copySize bytes) (length bytes - 6)) CutShort (asks (leb (length bytes - 6) (2 * copySize bytes)) TrailingBytes Done)
+abbrev body : List ℕ → Answer Unit
+body bytes = asks (leb (2 * copySize bytes) (length bytes - headBytes)) 1 (asks (leb (length bytes - headBytes) (2 * copySize bytes)) 5 passed)
 
 module _ (bytes : List ℕ) where
-  in-parts : copyForm bytes ≡ asks (leb 6 (length bytes)) CutShort (asks (limits bytes) OutsideLimits (sizes bytes then body bytes))
+  in-parts : copyForm bytes ≡ asks (leb headBytes (length bytes)) 1 (asks (limits bytes) 4 (sizes bytes then body bytes))
   unfolding copyForm sided holds
-  in-parts = ap (λ (o : Outcome). asks (leb 6 (length bytes)) CutShort (asks (limits bytes) OutsideLimits o))
+  in-parts = ap (λ (o : Answer Unit). asks (leb headBytes (length bytes)) 1 (asks (limits bytes) 4 o))
       (apart (sideRight (copyLevels bytes) (copyWidth bytes) && sideRight (copyLevels bytes) (copyHeight bytes)) (leb (copySize bytes) maxPixels) (body bytes))
 
-  pub form-short : length bytes < 6 → copyForm bytes ≡ Refused CutShort
-  form-short h = in-parts ∙ ap (λ (t : Bool). asks t CutShort (asks (limits bytes) OutsideLimits (sizes bytes then body bytes))) (lt-leb 6 (length bytes) h)
+  pub form-short : length bytes < headBytes → copyForm bytes ≡ refused (1, [])
+  form-short h = in-parts ∙ ap (λ (t : Bool). asks t 1 (asks (limits bytes) 4 (sizes bytes then body bytes))) (lt-leb headBytes (length bytes) h)
 
-  module _ (whole : 6 ≤ length bytes) where
-    past-head : copyForm bytes ≡ asks (limits bytes) OutsideLimits (sizes bytes then body bytes)
-    past-head = in-parts ∙ ap (λ (t : Bool). asks t CutShort (asks (limits bytes) OutsideLimits (sizes bytes then body bytes))) (le-leb 6 (length bytes) whole)
+  module _ (whole : headBytes ≤ length bytes) where
+    past-head : copyForm bytes ≡ asks (limits bytes) 4 (sizes bytes then body bytes)
+    past-head = in-parts ∙ ap (λ (t : Bool). asks t 1 (asks (limits bytes) 4 (sizes bytes then body bytes))) (le-leb headBytes (length bytes) whole)
 
-    pub form-limits : limits bytes ≡ false → copyForm bytes ≡ Refused OutsideLimits
-    form-limits e = past-head ∙ ap (λ (t : Bool). asks t OutsideLimits (sizes bytes then body bytes)) e
+    pub form-limits : limits bytes ≡ false → copyForm bytes ≡ refused (4, [])
+    form-limits e = past-head ∙ ap (λ (t : Bool). asks t 4 (sizes bytes then body bytes)) e
 
     module _ (limited : limits bytes ≡ true) where
       past-limits : copyForm bytes ≡ sizes bytes then body bytes
-      past-limits = past-head ∙ ap (λ (t : Bool). asks t OutsideLimits (sizes bytes then body bytes)) limited
+      past-limits = past-head ∙ ap (λ (t : Bool). asks t 4 (sizes bytes then body bytes)) limited
 
-      pub form-size : (r : Refusal) → sizes bytes ≡ Refused r → copyForm bytes ≡ Refused r
-      form-size r e = past-limits ∙ ap (λ (o : Outcome). o then body bytes) e
+      pub form-size : (r : Reason) → sizes bytes ≡ refused r → copyForm bytes ≡ refused r
+      form-size r e = past-limits ∙ ap (λ (o : Answer Unit). o then body bytes) e
 
-      module _ (room : sizes bytes ≡ Done) where
-        at-body : (s t : Bool) → leb (2 * copySize bytes) (length bytes - 6) ≡ s → leb (length bytes - 6) (2 * copySize bytes) ≡ t → copyForm bytes ≡ asks s CutShort (asks t TrailingBytes Done)
-        at-body s t e f = past-limits ∙ ap (λ (o : Outcome). o then body bytes) room ∙ (λ i. asks (e i) CutShort (asks (f i) TrailingBytes Done))
+      module _ (room : sizes bytes ≡ passed) where
+        at-body : (s t : Bool) → leb (2 * copySize bytes) (length bytes - headBytes) ≡ s → leb (length bytes - headBytes) (2 * copySize bytes) ≡ t → copyForm bytes ≡ asks s 1 (asks t 5 passed)
+        at-body s t e f = past-limits ∙ ap (λ (o : Answer Unit). o then body bytes) room ∙ (λ i. asks (e i) 1 (asks (f i) 5 passed))
 
-        pub form-cut : length bytes - 6 < 2 * copySize bytes → copyForm bytes ≡ Refused CutShort
-        form-cut h = at-body false _ (lt-leb (2 * copySize bytes) (length bytes - 6) h) refl
+        pub form-cut : length bytes - headBytes < 2 * copySize bytes → copyForm bytes ≡ refused (1, [])
+        form-cut h = at-body false _ (lt-leb (2 * copySize bytes) (length bytes - headBytes) h) refl
 
-        pub form-long : 2 * copySize bytes < length bytes - 6 → copyForm bytes ≡ Refused TrailingBytes
-        form-long h = at-body true false (le-leb (2 * copySize bytes) (length bytes - 6) (omega arith)) (lt-leb (length bytes - 6) (2 * copySize bytes) h)
+        pub form-long : 2 * copySize bytes < length bytes - headBytes → copyForm bytes ≡ refused (5, [])
+        form-long h = at-body true false (le-leb (2 * copySize bytes) (length bytes - headBytes) (omega arith)) (lt-leb (length bytes - headBytes) (2 * copySize bytes) h)
 
-        pub form-right : length bytes - 6 ≡ 2 * copySize bytes → copyForm bytes ≡ Done
-        form-right h = at-body true true (le-leb (2 * copySize bytes) (length bytes - 6) (omega arith)) (le-leb (length bytes - 6) (2 * copySize bytes) (omega arith))
+        pub form-right : length bytes - headBytes ≡ 2 * copySize bytes → copyForm bytes ≡ passed
+        form-right h = at-body true true (le-leb (2 * copySize bytes) (length bytes - headBytes) (omega arith)) (le-leb (length bytes - headBytes) (2 * copySize bytes) (omega arith))
 
 -- what a right form says
 pub record Formed (bytes : List ℕ) : Type 0 where
@@ -116,56 +112,52 @@ pub record Formed (bytes : List ℕ) : Type 0 where
   pub wide : Admitted (copyLevels bytes) (copyWidth bytes)
   pub tall : Admitted (copyLevels bytes) (copyHeight bytes)
   pub few : copySize bytes ≤ maxPixels
-  pub exact : length bytes ≡ 6 + 2 * copySize bytes
+  pub exact : length bytes ≡ headBytes + 2 * copySize bytes
 
-pub form-done : (bytes : List ℕ) → copyForm bytes ≡ Done → Formed bytes
+pub form-done : (bytes : List ℕ) → copyForm bytes ≡ passed → Formed bytes
 form-done bytes e =
-    let a = asks-done (leb 6 (length bytes)) _ _ (sym (in-parts bytes) ∙ e) in
+    let a = asks-done (leb headBytes (length bytes)) _ _ (sym (in-parts bytes) ∙ e) in
     let b = asks-done (limits bytes) _ _ (a .1) in
     let c = then-done (sizes bytes) _ (b .1) in
     let s = sizes-done bytes (c .0) in
-    let d = asks-done (leb (2 * copySize bytes) (length bytes - 6)) _ _ (c .1) in
-    let f = asks-done (leb (length bytes - 6) (2 * copySize bytes)) _ _ (d .1) in
+    let d = asks-done (leb (2 * copySize bytes) (length bytes - headBytes)) _ _ (c .1) in
+    let f = asks-done (leb (length bytes - headBytes) (2 * copySize bytes)) _ _ (d .1) in
     record {
       limited = b .0;
       wide = s .0;
       tall = s .1;
       few = s .2;
-      exact = omega (arith, leb→le 6 (length bytes) (a .0), leb→le (2 * copySize bytes) (length bytes - 6) (d .0), leb→le (length bytes - 6) (2 * copySize bytes) (f .0));
+      exact = omega (arith, leb→le headBytes (length bytes) (a .0), leb→le (2 * copySize bytes) (length bytes - headBytes) (d .0), leb→le (length bytes - headBytes) (2 * copySize bytes) (f .0));
     }
 
 -- ---- an input that is too long
 
--- as many bytes as decide: the head, the pixels, and one byte more
-abbrev pub maxInput : ℕ
-maxInput = 6 + 2 * maxPixels + 1
-
 -- why an input of so many bytes or more is refused, by its limits and its sizes
-abbrev refusalOf : Bool → Outcome → Refusal
-refusalOf false o = OutsideLimits
-refusalOf true Done = TrailingBytes
-refusalOf true (Refused r) = r
+abbrev refusalOf : Bool → Answer Unit → Reason
+refusalOf false o = (4, [])
+refusalOf true (done x) = (5, [])
+refusalOf true (refused r) = r
 
-abbrev pub whyLong : List ℕ → Refusal
+abbrev pub whyLong : List ℕ → Reason
 whyLong bytes = refusalOf (limits bytes) (sizes bytes)
 
-pub form-too-long : (bytes : List ℕ) → maxInput ≤ length bytes → copyForm bytes ≡ Refused (whyLong bytes)
+pub form-too-long : (bytes : List ℕ) → maxInput ≤ length bytes → copyForm bytes ≡ refused (whyLong bytes)
 form-too-long bytes h = past-head bytes (omega arith) ∙ go (limits bytes) (sizes bytes) (body bytes) (λ e. past (sizes-done bytes e .2))
   where
-    past : copySize bytes ≤ maxPixels → body bytes ≡ Refused TrailingBytes
-    past m = λ i. asks (le-leb (2 * copySize bytes) (length bytes - 6) (omega arith) i) CutShort (asks (lt-leb (length bytes - 6) (2 * copySize bytes) (omega arith) i) TrailingBytes Done)
+    past : copySize bytes ≤ maxPixels → body bytes ≡ refused (5, [])
+    past m = λ i. asks (le-leb (2 * copySize bytes) (length bytes - headBytes) (omega arith) i) 1 (asks (lt-leb (length bytes - headBytes) (2 * copySize bytes) (omega arith) i) 5 passed)
 
-    go : (l : Bool) (s b : Outcome) → (s ≡ Done → b ≡ Refused TrailingBytes) → asks l OutsideLimits (s then b) ≡ Refused (refusalOf l s)
+    go : (l : Bool) (s b : Answer Unit) → (s ≡ passed → b ≡ refused (5, [])) → asks l 4 (s then b) ≡ refused (refusalOf l s)
     go false s b e = refl
-    go true Done b e = e refl
-    go true (Refused r) b e = refl
+    go true (done x) b e = e refl
+    go true (refused r) b e = refl
 
 -- the first of them have the same head
-pub why-same : (bytes : List ℕ) (n : ℕ) → 6 ≤ n → whyLong (take n bytes) ≡ whyLong bytes
+pub why-same : (bytes : List ℕ) (n : ℕ) → headBytes ≤ n → whyLong (take n bytes) ≡ whyLong bytes
 why-same bytes n h = λ i. refusalOf (depthRight (same 0 (omega arith) i) && levelsRight (same 1 (omega arith) i))
     (let w = same 2 (omega arith) i * 256 + same 3 (omega arith) i in
     let h = same 4 (omega arith) i * 256 + same 5 (omega arith) i in
     sided (same 1 (omega arith) i) w h then holds (w * h) maxPixels)
   where
-    same : (k : ℕ) → k < 6 → getD (take n bytes) k 0 ≡ getD bytes k 0
+    same : (k : ℕ) → k < headBytes → getD (take n bytes) k 0 ≡ getD bytes k 0
     same k g = getD-take n bytes k 0 (omega arith)

@@ -5,11 +5,7 @@ use mathlib.Core.List.{List, [], _∷_, _++_}
 use lib.Dec.{leb, ltb}
 use lib.ListN.{length, getD, drop}
 use lib.IntN.{ℤ, pos, negsuc}
-use Rattle.refusals.specs.declared.Refusal.{Refusal}
-use Rattle.refusals.specs.declared.Refusal.the-variants.{CutShort, OutsideLimits, TrailingBytes, SideNotAdmitted, SliceTooShort}
-use Rattle.refusals.specs.declared.Outcome.{Outcome}
-use Rattle.refusals.specs.declared.Outcome.the-variants.{Done, Refused}
-use Rattle.refusals.specs.Refusals.{number, asks, _then_}
+use Rattle.refusals.specs.Answers.{Answer, done, refused, passed, asks, _then_}
 use Rattle.lines.specs.Planes.{Plane, tabulate}
 use Rattle.width_table.specs.Table.{depthRight, levelsRight}
 use Rattle.pictures.specs.Pictures.{sideRight, pixelsRight, sample}
@@ -56,9 +52,13 @@ unfoldable pub rowLines : ℕ → Plane ℤ → ℕ → ℕ → List ℕ
 rowLines w p r zero = []
 rowLines w p r (suc n) = line (tabulate w (p r)) ++ rowLines w p (suc r) n
 
--- "refused", a space and the number
-unfoldable pub refusedLine : Refusal → List ℕ
-refusedLine r = 114 ∷ 101 ∷ 102 ∷ 117 ∷ 115 ∷ 101 ∷ 100 ∷ space ∷ line (pos (number r) ∷ [])
+-- "refused" and a space
+abbrev pub refusedWord : List ℕ
+refusedWord = 114 ∷ 101 ∷ 102 ∷ 117 ∷ 115 ∷ 101 ∷ 100 ∷ space ∷ []
+
+-- the word, then the number
+unfoldable pub refusedLine : ℕ → List ℕ
+refusedLine number = refusedWord ++ line (pos number ∷ [])
 
 -- the line of 53, B, L, width and height
 abbrev pub headText : Head → List ℕ
@@ -76,9 +76,17 @@ pairs [] = []
 pairs (a ∷ []) = []
 pairs (a ∷ b ∷ rest) = (a * 256 + b) ∷ pairs rest
 
+-- the bytes of a head: B and L one each, width and height two each
+abbrev pub headBytes : ℕ
+headBytes = 6
+
 -- the pixels that there is memory for
 abbrev pub maxPixels : ℕ
 maxPixels = 4096
+
+-- as many bytes as decide: the head, the pixels, and one byte more
+abbrev pub maxInput : ℕ
+maxInput = headBytes + 2 * maxPixels + 1
 
 -- B, L, width, height and pixels, as the input holds them
 module _ (bytes : List ℕ) where
@@ -98,21 +106,21 @@ module _ (bytes : List ℕ) where
   copySize = copyWidth * copyHeight
 
   unfoldable pub copyPixels : List ℕ
-  copyPixels = pairs (drop 6 bytes)
+  copyPixels = pairs (drop headBytes bytes)
 
-  -- fewer than six head bytes, 1; then 4; 8; more pixels than there is memory for, 9; pixels cut short, 1; bytes after them, 5
-  unfoldable pub copyForm : Outcome
+  -- fewer bytes than a head has, 1; then 4; 8; more pixels than there is memory for, 9; pixels cut short, 1; bytes after them, 5
+  unfoldable pub copyForm : Answer Unit
   copyForm =
-      asks (leb 6 (length bytes)) CutShort
-      (asks (depthRight copyDepth && levelsRight copyLevels) OutsideLimits
-      (asks (sideRight copyLevels copyWidth && sideRight copyLevels copyHeight) SideNotAdmitted
-      (asks (leb copySize maxPixels) SliceTooShort
-      (asks (leb (2 * copySize) (length bytes - 6)) CutShort
-      (asks (leb (length bytes - 6) (2 * copySize)) TrailingBytes
-      Done)))))
+      asks (leb headBytes (length bytes)) 1
+      (asks (depthRight copyDepth && levelsRight copyLevels) 4
+      (asks (sideRight copyLevels copyWidth && sideRight copyLevels copyHeight) 8
+      (asks (leb copySize maxPixels) 9
+      (asks (leb (2 * copySize) (length bytes - headBytes)) 1
+      (asks (leb (length bytes - headBytes) (2 * copySize)) 5
+      passed)))))
 
   -- then 10
-  unfoldable pub copyAnswer : Outcome
+  unfoldable pub copyAnswer : Answer Unit
   copyAnswer = copyForm then pixelsRight copyDepth copyWidth copyHeight copyPixels
 
   -- B, L, width and height together
@@ -120,9 +128,9 @@ module _ (bytes : List ℕ) where
   headIn = record { depth = copyDepth; levels = copyLevels; w = copyWidth; h = copyHeight }
 
   -- the lines of an answer: the head and the plane's rows, or the refusal
-  unfoldable pub copyLines : Outcome → List ℕ
-  copyLines Done = headText headIn ++ rowLines copyWidth (forward copyLevels copyWidth copyHeight (sample copyPixels copyDepth copyWidth)) 0 copyHeight
-  copyLines (Refused r) = refusedLine r
+  unfoldable pub copyLines : Answer Unit → List ℕ
+  copyLines (done x) = headText headIn ++ rowLines copyWidth (forward copyLevels copyWidth copyHeight (sample copyPixels copyDepth copyWidth)) 0 copyHeight
+  copyLines (refused r) = refusedLine (r .0)
 
   -- what the program prints
   unfoldable pub copyText : List ℕ
@@ -130,9 +138,21 @@ module _ (bytes : List ℕ) where
 
 -- ---- the call
 
--- As many bytes as any text has: a number has at most eleven, and one byte follows it.
+-- as many bytes as a number has: a minus and ten digits
+abbrev pub numberBytes : ℕ
+numberBytes = 11
+
+-- with the byte that follows it
+abbrev pub maxNumber : ℕ
+maxNumber = numberBytes + 1
+
+-- the numbers of the head's line
+abbrev pub headNumbers : ℕ
+headNumbers = 5
+
+-- as many bytes as any text has
 abbrev pub maxText : ℕ
-maxText = 12 * (5 + maxPixels)
+maxText = maxNumber * (headNumbers + maxPixels)
 
 -- what the call writes over the front of the lent text: nothing where that is too short for some texts
 unfoldable pub listed : List ℕ → List ℕ → List ℕ

@@ -1,29 +1,39 @@
 // The exact-copy program's answer: its input parsed and judged, and its text, on slices. specs/Listing says what is printed.
 ghost use mathlib.Core.Path.{_≡_};
 ghost use mathlib.Core.List.{_∷_, [], _++_};
-ghost use Prim.Native.Nat.{_+_, _*_, _-_, _<_, _≤_};
+ghost use Prim.Native.Nat.{_+_, _*_, _<_, _≤_};
 ghost use lib.ListN.{length};
-ghost use lib.IntN.{pos, natAbs};
+ghost use lib.IntN.{natAbs};
 ghost use Rattle.numbers.specs.Lists.{over};
-ghost use Rattle.refusals.specs.Refusals.{number, _then_};
+ghost use Rattle.refusals.specs.Answers.{passed, _then_};
+ghost use Rattle.refusals.specs.Told.{toldRefusal, told};
 ghost use Rattle.pictures.specs.Pictures.{sided, holds, planeOf};
-ghost use Rattle.listing.specs.Listing.{natural, decimal, line, rowLines, refusedLine, copyPixels, copyForm, headIn, headText, copyText, listed, maxPixels};
+ghost use Rattle.listing.specs.Listing.{numberBytes, maxNumber, headBytes, headNumbers, natural, decimal, line, rowLines, refusedWord, refusedLine, copyPixels, copyForm, headIn, headText, copyText, listed, maxPixels, maxInput};
 ghost use Rattle.listing.specs.Writing.{Put};
 ghost use Rattle.listing.specs.AnswerLaws.{Memory};
-use pictures::limits_right;
 use pictures::sides_right;
 use pictures::slice_holds;
 use refusals::Outcome;
 use refusals::Refusal;
+use width_table::limits_right;
 
 // The pixels that there is memory for.
 pub const MAX_PIXELS: usize = 4096;
 
-// As many bytes of input as decide: the head, the pixels, and one byte more (specs/AnswerLaws, `enough`).
-pub const MAX_INPUT: usize = 8199;
+// As many bytes of input as decide: the head, the pixels, and one byte more (specs/AnswerLaws, `enough`; `max_input`).
+pub const MAX_INPUT: usize = HEAD + 2 * MAX_PIXELS + 1;
 
-// As many bytes as any text has: twelve for each pixel and for each of the head's five numbers.
-pub const MAX_TEXT: usize = 49212;
+// As many bytes as a number has.
+const NUMBER_BYTES: usize = 11;
+
+// With the byte that follows it.
+const MAX_NUMBER: usize = NUMBER_BYTES + 1;
+
+// The numbers of the head's line.
+const HEAD_NUMBERS: usize = 5;
+
+// As many bytes as any text has.
+pub const MAX_TEXT: usize = MAX_NUMBER * (HEAD_NUMBERS + MAX_PIXELS);
 
 // The bytes of a head: depth, levels, width and height.
 const HEAD: usize = 6;
@@ -60,10 +70,10 @@ fn magnitude(z: i32) -> u32
     }
 }
 
-// Writes a number, of eleven bytes at most.
+// Writes a number, of NUMBER_BYTES at most.
 fn put_number(text: &mut [u8], at: usize, z: i32) -> usize
-    requires { ⌜ at + 11 ≤ length (now text) ⌝ }
-    ensures { λ r. ⌜ Put (decimal z) (now (text .entry)) at (now (text .exit)) r × (r ≤ at + 11) ⌝ }
+    requires { ⌜ at + numberBytes ≤ length (now text) ⌝ }
+    ensures { λ r. ⌜ Put (decimal z) (now (text .entry)) at (now (text .exit)) r × (r ≤ at + numberBytes) ⌝ }
 {
     let n = magnitude(z);
     if z < 0 {
@@ -76,8 +86,8 @@ fn put_number(text: &mut [u8], at: usize, z: i32) -> usize
 
 // Writes a line of numbers.
 fn put_line(text: &mut [u8], at: usize, numbers: &[i32]) -> usize
-    requires { ⌜ (1 ≤ length (now numbers)) × (at + 12 * length (now numbers) ≤ length (now text)) ⌝ }
-    ensures { λ r. ⌜ Put (line (now (numbers .entry))) (now (text .entry)) at (now (text .exit)) r × (r ≤ at + 12 * length (now (numbers .entry))) ⌝ }
+    requires { ⌜ (1 ≤ length (now numbers)) × (at + maxNumber * length (now numbers) ≤ length (now text)) ⌝ }
+    ensures { λ r. ⌜ Put (line (now (numbers .entry))) (now (text .entry)) at (now (text .exit)) r × (r ≤ at + maxNumber * length (now (numbers .entry))) ⌝ }
 {
     let last = numbers.len() - 1;
     let mut next = at;
@@ -91,7 +101,7 @@ fn put_line(text: &mut [u8], at: usize, numbers: &[i32]) -> usize
 
 // Writes the rows of a plane, one to a line.
 fn put_rows(text: &mut [u8], at: usize, plane: &[i32], w: usize, h: usize) -> usize
-    requires { ⌜ (1 ≤ w) × (w * h ≤ length (now plane)) × (at + 12 * (w * h) ≤ length (now text)) ⌝ }
+    requires { ⌜ (1 ≤ w) × (w * h ≤ length (now plane)) × (at + maxNumber * (w * h) ≤ length (now text)) ⌝ }
     ensures { λ r. ⌜ Put (rowLines w (planeOf w (now (plane .entry))) 0 h) (now (text .entry)) at (now (text .exit)) r ⌝ }
 {
     let mut next = at;
@@ -100,25 +110,6 @@ fn put_rows(text: &mut [u8], at: usize, plane: &[i32], w: usize, h: usize) -> us
         next = put_line(text, next, &plane[start..start + w]);
     }
     next
-}
-
-// A refusal's number.
-fn number_of(why: Refusal) -> i32
-    ensures { λ r. ⌜ r ≡ pos (number why) ⌝ }
-{
-    match why {
-        Refusal::CutShort => 1,
-        Refusal::WrongTag => 2,
-        Refusal::WrongLength => 3,
-        Refusal::OutsideLimits => 4,
-        Refusal::TrailingBytes => 5,
-        Refusal::DoesNotFit(_) => 6,
-        Refusal::ErrorTooLarge(_) => 7,
-        Refusal::SideNotAdmitted => 8,
-        Refusal::SliceTooShort => 9,
-        Refusal::PixelTooLarge => 10,
-        Refusal::NoPicture => 11,
-    }
 }
 
 // Writes bytes as they are.
@@ -135,11 +126,11 @@ fn put_all(text: &mut [u8], at: usize, bytes: &[u8]) -> usize
 
 // Writes the line of a refusal at the front of the text.
 fn put_refused(text: &mut [u8], why: Refusal) -> usize
-    requires { ⌜ 20 ≤ length (now text) ⌝ }
-    ensures { λ r. ⌜ Put (refusedLine why) (now (text .entry)) 0 (now (text .exit)) r ⌝ }
+    requires { ⌜ length refusedWord + maxNumber ≤ length (now text) ⌝ }
+    ensures { λ r. ⌜ Put (refusedLine (toldRefusal why .0)) (now (text .entry)) 0 (now (text .exit)) r ⌝ }
 {
     let next = put_all(text, 0, b"refused ");
-    let numbers = [number_of(why)];
+    let numbers = [refusals::number(why) as i32];
     put_line(text, next, &numbers)
 }
 
@@ -152,7 +143,7 @@ fn two(high: u8, low: u8) -> u16
 
 // The pixels of an input that holds n of them and no more.
 fn read_pixels(bytes: &[u8], pixels: &mut [u16], n: usize)
-    requires { ⌜ (length (now bytes) ≡ 6 + 2 * n) × (n ≤ length (now pixels)) ⌝ }
+    requires { ⌜ (length (now bytes) ≡ headBytes + 2 * n) × (n ≤ length (now pixels)) ⌝ }
     ensures { λ _. ⌜ now (pixels .exit) ≡ over (copyPixels (now (bytes .entry))) (now (pixels .entry)) ⌝ }
 {
     for i in 0..n {
@@ -170,7 +161,7 @@ struct Head {
 
 // The head of an input that has a whole one.
 fn head_of(bytes: &[u8]) -> Head
-    requires { ⌜ 6 ≤ length (now bytes) ⌝ }
+    requires { ⌜ headBytes ≤ length (now bytes) ⌝ }
     ensures { λ r. ⌜ r ≡ headIn (now (bytes .entry)) ⌝ }
 {
     let w = two(bytes[2], bytes[3]);
@@ -185,7 +176,7 @@ fn head_of(bytes: &[u8]) -> Head
 
 // Refusals 8 and 9: admitted sides, and no more pixels than there is memory for.
 fn size_right(levels: u8, w: usize, h: usize) -> Outcome
-    ensures { λ r. ⌜ r ≡ sided levels w h then holds (w * h) maxPixels ⌝ }
+    ensures { λ r. ⌜ told r ≡ sided levels w h then holds (w * h) maxPixels ⌝ }
 {
     match sides_right(levels, w, h) {
         Outcome::Refused(why) => Outcome::Refused(why),
@@ -195,7 +186,7 @@ fn size_right(levels: u8, w: usize, h: usize) -> Outcome
 
 // All that is judged before the pixels' values: refusals 1, 4, 8, 9, 1 and 5, in that order.
 fn form_of(bytes: &[u8]) -> Outcome
-    ensures { λ r. ⌜ r ≡ copyForm (now (bytes .entry)) ⌝ }
+    ensures { λ r. ⌜ told r ≡ copyForm (now (bytes .entry)) ⌝ }
 {
     if bytes.len() < HEAD {
         return Outcome::Refused(Refusal::CutShort);
@@ -223,7 +214,7 @@ fn form_of(bytes: &[u8]) -> Outcome
 
 // Writes the lines of a plane at the front of the text: the head, then the rows.
 fn put_plane(text: &mut [u8], head: Head, plane: &[i32]) -> usize
-    requires { ⌜ (1 ≤ head .w) × (head .w * head .h ≤ length (now plane)) × (60 + 12 * (head .w * head .h) ≤ length (now text)) ⌝ }
+    requires { ⌜ (1 ≤ head .w) × (head .w * head .h ≤ length (now plane)) × (maxNumber * headNumbers + maxNumber * (head .w * head .h) ≤ length (now text)) ⌝ }
     ensures { λ r. ⌜ Put (headText head ++ rowLines (head .w) (planeOf (head .w) (now (plane .entry))) 0 (head .h)) (now (text .entry)) 0 (now (text .exit)) r ⌝ }
 {
     let w = head.w;
@@ -248,7 +239,7 @@ fn list_picture(
     work: &mut [i32],
     text: &mut [u8],
 ) -> usize
-    requires { ⌜ (head ≡ headIn (now bytes)) × (copyForm (now bytes) ≡ Outcome.Done) × Memory (now pixels) (now plane) (now work) (now text) ⌝ }
+    requires { ⌜ (head ≡ headIn (now bytes)) × (copyForm (now bytes) ≡ passed) × Memory (now pixels) (now plane) (now work) (now text) ⌝ }
     ensures { λ r. ⌜ Put (copyText (now (bytes .entry))) (now (text .entry)) 0 (now (text .exit)) r ⌝ }
 {
     let w = head.w as usize;
@@ -276,6 +267,13 @@ fn list_into(
         Outcome::Refused(why) => put_refused(text, why),
         Outcome::Done => list_picture(bytes, head_of(bytes), pixels, plane, work, text),
     }
+}
+
+// MAX_INPUT, tied to its definition: the program reads so many bytes and no more.
+pub fn max_input() -> usize
+    ensures { λ r. ⌜ r ≡ maxInput ⌝ }
+{
+    MAX_INPUT
 }
 
 // Writes what the exact-copy program prints for an input over the front of the text, and gives its length. A text shorter than

@@ -4,19 +4,16 @@
 --   Abs        magnitudes
 --   Floor      division rounded down; `>>` of a signed number
 --   Auto       overflow needs of signed code
---   Linear     linear facts in a context (`zarith`, `parts`)
---   Ring, Combine, Quote   identities of polynomials (`ring`, `combine-ring`)
+--   Ring, Quote   identities of polynomials (`ring`)
 --   Tests      computed tests (`between`, `every`) and their laws
 --   Lists      writing over the front of a list (`over`), parts of lists
---   Examples   worked examples of each
+--   Examples   worked examples of the tactics
 pub mod Dif
 pub mod Laws
 pub mod Abs
 pub mod Floor
 pub mod Auto
-pub mod Linear
 pub mod Ring
-pub mod Combine
 pub mod Quote
 pub mod Tests
 pub mod Lists

@@ -39,7 +39,7 @@ pub is-true : (t : Bool) → T t → t ≡ true
 is-true true h = refl
 is-true false h = absurd h
 
-pub is-false : (t : Bool) → T (not t) → t ≡ false
+is-false : (t : Bool) → T (not t) → t ≡ false
 is-false true h = absurd h
 is-false false h = refl
 
@@ -49,7 +49,7 @@ ltb-true a b h = is-true (ltb a b) (lt→ltb a b h)
 pub ltb-false : (a b : ℕ) → b ≤ a → ltb a b ≡ false
 ltb-false a b h = is-false (ltb a b) (le→nltb a b h)
 
-pub and-false : (t : Bool) → t && false ≡ false
+and-false : (t : Bool) → t && false ≡ false
 and-false true = refl
 and-false false = refl
 

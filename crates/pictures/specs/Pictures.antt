@@ -3,17 +3,14 @@ use Prim.Native.Nat.{ℕ, _+_, _*_, _-_, _^_, _<_, _≤_}
 use mathlib.Core.Bool.{Bool, _&&_}
 use mathlib.Core.List.{List}
 use lib.Dec.{leb, ltb}
-use lib.ListN.{length, getD, take, replicate}
+use lib.ListN.{getD, take, replicate}
 use lib.IntN.{ℤ, pos, _-ℤ_}
 use Rattle.numbers.specs.Tests.{every}
 use Rattle.numbers.specs.Lists.{over}
-use Rattle.refusals.specs.declared.Refusal.the-variants.{SideNotAdmitted, SliceTooShort, PixelTooLarge}
-use Rattle.refusals.specs.declared.Outcome.{Outcome}
-use Rattle.refusals.specs.declared.Outcome.the-variants.{Done}
-use Rattle.refusals.specs.Refusals.{asks}
+use Rattle.refusals.specs.Answers.{Answer, passed, asks}
 use Rattle.lines.specs.Planes.{Plane}
 
--- the greatest side
+-- the limit of a side
 abbrev pub maxSide : ℕ
 maxSide = 4096
 
@@ -26,16 +23,16 @@ abbrev pub Admitted : ℕ → ℕ → Type 0
 Admitted L n = (2 ^ (L - 1) < n) × (n ≤ maxSide)
 
 -- 8: both sides are admitted.
-unfoldable pub sided : ℕ → ℕ → ℕ → Outcome
-sided L w h = asks (sideRight L w && sideRight L h) SideNotAdmitted Done
+unfoldable pub sided : ℕ → ℕ → ℕ → Answer Unit
+sided L w h = asks (sideRight L w && sideRight L h) 8 passed
 
 -- 9: a lent slice of k elements holds n.
-unfoldable pub holds : ℕ → ℕ → Outcome
-holds n k = asks (leb n k) SliceTooShort Done
+unfoldable pub holds : ℕ → ℕ → Answer Unit
+holds n k = asks (leb n k) 9 passed
 
 -- 10: the first w * h pixels are below 2^B.
-unfoldable pub pixelsRight : ℕ → ℕ → ℕ → List ℕ → Outcome
-pixelsRight B w h pixels = asks (every (λ p. ltb p (2 ^ B)) (take (w * h) pixels)) PixelTooLarge Done
+unfoldable pub pixelsRight : ℕ → ℕ → ℕ → List ℕ → Answer Unit
+pixelsRight B w h pixels = asks (every (λ p. ltb p (2 ^ B)) (take (w * h) pixels)) 10 passed
 
 -- Pixels lie row by row. A pixel p enters as p - 2^(B-1).
 unfoldable pub sample : List ℕ → ℕ → ℕ → Plane ℤ

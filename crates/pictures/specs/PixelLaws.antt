@@ -12,12 +12,9 @@ use lib.ListN.{length, getD, take}
 use lib.Pow.{pow-mono, pow-pos, shl-exact}
 use lib.Seq.{take-suc, take-all}
 use Rattle.numbers.specs.Tests.{every, by-ltb}
-use Rattle.refusals.specs.declared.Refusal.the-variants.{SideNotAdmitted, SliceTooShort, PixelTooLarge}
-use Rattle.refusals.specs.declared.Outcome.the-variants.{Done, Refused}
-use Rattle.refusals.specs.Refusals.{asks}
-use Rattle.width_table.specs.Table.{depthRight, levelsRight}
+use Rattle.refusals.specs.Answers.{refused, passed, asks}
 use Rattle.pictures.specs.PictureLaws.{sided-done}
-use Rattle.pictures.specs.Pictures.{sideRight, sided, holds, pixelsRight}
+use Rattle.pictures.specs.Pictures.{maxSide, sideRight, sided, holds, pixelsRight}
 
 -- 1, shifted
 pub one-shifted : (k w : ℕ) → 1 + k ≤ w → (1 * 2 ^ k) % 2 ^ w ≡ 2 ^ k
@@ -27,50 +24,45 @@ and-false : (t : Bool) → t && false ≡ false
 and-false true = refl
 and-false false = refl
 
--- ---- depth and levels
-
-pub limits-are : (B L : ℕ) (s t u v : Bool) → leb 1 B ≡ s → leb B 12 ≡ t → leb 1 L ≡ u → leb L 5 ≡ v → (depthRight B && levelsRight L) ≡ ((s && t) && (u && v))
-limits-are B L s t u v d e f g = λ j. (d j && e j) && (f j && g j)
-
 -- ---- a side
 
 module _ (L n : ℕ) where
-  pub side-long : 4096 < n → sideRight L n ≡ false
-  side-long h = ap (λ (t : Bool). ltb (2 ^ (L - 1)) n && t) (lt-leb n 4096 h) ∙ and-false (ltb (2 ^ (L - 1)) n)
+  pub side-long : maxSide < n → sideRight L n ≡ false
+  side-long h = ap (λ (t : Bool). ltb (2 ^ (L - 1)) n && t) (lt-leb n maxSide h) ∙ and-false (ltb (2 ^ (L - 1)) n)
 
-  pub side-deep : n ≤ 4096 → 12 < L → sideRight L n ≡ false
-  side-deep h d = ap (λ (t : Bool). t && leb n 4096) (le-ltb (2 ^ (L - 1)) n (omega (arith, pow-mono {i = 12} {j = L - 1} (omega arith))))
+  pub side-deep : n ≤ maxSide → 12 < L → sideRight L n ≡ false
+  side-deep h d = ap (λ (t : Bool). t && leb n maxSide) (le-ltb (2 ^ (L - 1)) n (omega (arith, pow-mono {i = 12} {j = L - 1} (omega arith))))
 
-  pub side-short : n ≤ 4096 → (b : ℕ) → b ≡ 2 ^ (L - 1) → ltb b n ≡ sideRight L n
-  side-short h b e = ap (λ (t : ℕ). ltb t n) e ∙ sym (ap (λ (t : Bool). ltb (2 ^ (L - 1)) n && t) (le-leb n 4096 h) ∙ and-true (ltb (2 ^ (L - 1)) n))
+  pub side-short : n ≤ maxSide → (b : ℕ) → b ≡ 2 ^ (L - 1) → ltb b n ≡ sideRight L n
+  side-short h b e = ap (λ (t : ℕ). ltb t n) e ∙ sym (ap (λ (t : Bool). ltb (2 ^ (L - 1)) n && t) (le-leb n maxSide h) ∙ and-true (ltb (2 ^ (L - 1)) n))
     where
       and-true : (t : Bool) → t && true ≡ t
       and-true true = refl
       and-true false = refl
 
 -- two sides make a size that fits a machine word
-pub size-fits : (L w h : ℕ) → sided L w h ≡ Done → w * h ≤ 16777216
+pub size-fits : (L w h : ℕ) → sided L w h ≡ passed → w * h ≤ 16777216
 size-fits L w h e = let d = sided-done L w h e in mul-le-mul (d .0 .1) (d .1 .1)
 
 -- ---- refusals 8 and 9
 
 module _ (L w h : ℕ) where
-  asked : (s t : Bool) → sideRight L w ≡ s → sideRight L h ≡ t → sided L w h ≡ asks (s && t) SideNotAdmitted Done
+  asked : (s t : Bool) → sideRight L w ≡ s → sideRight L h ≡ t → sided L w h ≡ asks (s && t) 8 passed
   unfolding sided
-  asked s t d e = λ j. asks (d j && e j) SideNotAdmitted Done
+  asked s t d e = λ j. asks (d j && e j) 8 passed
 
-  pub wide-wrong : sideRight L w ≡ false → sided L w h ≡ Refused SideNotAdmitted
+  pub wide-wrong : sideRight L w ≡ false → sided L w h ≡ refused (8, [])
   wide-wrong d = asked false (sideRight L h) d refl
 
-  pub tall-wrong : sideRight L w ≡ true → sideRight L h ≡ false → sided L w h ≡ Refused SideNotAdmitted
+  pub tall-wrong : sideRight L w ≡ true → sideRight L h ≡ false → sided L w h ≡ refused (8, [])
   tall-wrong d e = asked true false d e
 
-  pub both-right : sideRight L w ≡ true → sideRight L h ≡ true → sided L w h ≡ Done
+  pub both-right : sideRight L w ≡ true → sideRight L h ≡ true → sided L w h ≡ passed
   both-right d e = asked true true d e
 
-pub slice-short : (n k : ℕ) → k < n → holds n k ≡ Refused SliceTooShort
+pub slice-short : (n k : ℕ) → k < n → holds n k ≡ refused (9, [])
 unfolding holds
-slice-short n k h = ap (λ (t : Bool). asks t SliceTooShort Done) (lt-leb n k h)
+slice-short n k h = ap (λ (t : Bool). asks t 9 passed) (lt-leb n k h)
 
 -- ---- refusal 10
 
@@ -113,12 +105,12 @@ pub largest-all : (l : List ℕ) (i m : ℕ) → Largest (take i l) m → length
 largest-all l i m is h b s = ap (every (λ p. ltb p b)) (sym (take-all i l h)) ∙ is b s
 
 module _ (B w h m : ℕ) (pixels : List ℕ) (is : Largest (take (w * h) pixels) m) where
-  judged : (t : Bool) → ltb m (2 ^ B) ≡ t → pixelsRight B w h pixels ≡ asks t PixelTooLarge Done
+  judged : (t : Bool) → ltb m (2 ^ B) ≡ t → pixelsRight B w h pixels ≡ asks t 10 passed
   unfolding pixelsRight
-  judged t e = ap (λ (t : Bool). asks t PixelTooLarge Done) (is (2 ^ B) (pow-pos B) ∙ e)
+  judged t e = ap (λ (t : Bool). asks t 10 passed) (is (2 ^ B) (pow-pos B) ∙ e)
 
-  pub pixels-small : m < 2 ^ B → pixelsRight B w h pixels ≡ Done
+  pub pixels-small : m < 2 ^ B → pixelsRight B w h pixels ≡ passed
   pixels-small q = judged true (lt-ltb _ _ q)
 
-  pub pixel-large : 2 ^ B ≤ m → pixelsRight B w h pixels ≡ Refused PixelTooLarge
+  pub pixel-large : 2 ^ B ≤ m → pixelsRight B w h pixels ≡ refused (10, [])
   pixel-large q = judged false (le-ltb _ _ q)

@@ -1,37 +1,20 @@
 // Pictures and planes in memory: refusals 8, 9 and 10, the middle of the pixels, the work area cleared.
 ghost use mathlib.Core.Path.{_≡_};
-ghost use mathlib.Core.Bool.{_&&_};
 ghost use Prim.Native.Nat.{_*_, _-_, _<_, _≤_, _^_};
 ghost use lib.ListN.{length};
-ghost use Rattle.width_table.specs.Table.{depthRight, levelsRight};
-ghost use Rattle.refusals.specs.Refusals.{_then_};
-ghost use Rattle.pictures.specs.Pictures.{sideRight, sided, holds, pixelsRight, zeroed};
+ghost use Rattle.width_table.specs.Table.{maxDepth};
+ghost use Rattle.refusals.specs.Answers.{_then_};
+ghost use Rattle.refusals.specs.Told.{told};
+ghost use Rattle.pictures.specs.Pictures.{maxSide, sideRight, sided, holds, pixelsRight, zeroed};
 ghost use Rattle.pictures.specs.PixelLaws.{Largest};
 use refusals::Outcome;
 use refusals::Refusal;
-use width_table::WidthTable;
 
-// The greatest side of a picture.
-pub const MAX_SIDE: usize = 4096;
-
-// 2 to this is the greatest side.
+// 2 to this is the limit of a side.
 const MAX_SIDE_BITS: u8 = 12;
 
-// Whether depth and levels are within their limits, the width table's.
-pub fn limits_right(depth: u8, levels: u8) -> bool
-    ensures { λ r. ⌜ r ≡ (depthRight depth && levelsRight levels) ⌝ }
-{
-    if depth < 1 {
-        return false;
-    }
-    if WidthTable::MAX_DEPTH < depth {
-        return false;
-    }
-    if levels < 1 {
-        return false;
-    }
-    levels <= WidthTable::MAX_LEVELS
-}
+// The limit of a side of a picture.
+pub const MAX_SIDE: usize = 1 << MAX_SIDE_BITS;
 
 // Whether a side is admitted for so many levels.
 pub fn side_admitted(levels: u8, side: usize) -> bool
@@ -51,7 +34,7 @@ pub fn side_admitted(levels: u8, side: usize) -> bool
 
 // Refusal 8.
 pub fn sides_right(levels: u8, w: usize, h: usize) -> Outcome
-    ensures { λ r. ⌜ r ≡ sided levels w h ⌝ }
+    ensures { λ r. ⌜ told r ≡ sided levels w h ⌝ }
 {
     if side_admitted(levels, w) {} else {
         return Outcome::Refused(Refusal::SideNotAdmitted);
@@ -64,7 +47,7 @@ pub fn sides_right(levels: u8, w: usize, h: usize) -> Outcome
 
 // Refusal 9, for a slice of so many elements that is to hold n.
 pub fn slice_holds(n: usize, length: usize) -> Outcome
-    ensures { λ r. ⌜ r ≡ holds n length ⌝ }
+    ensures { λ r. ⌜ told r ≡ holds n length ⌝ }
 {
     if length < n {
         return Outcome::Refused(Refusal::SliceTooShort);
@@ -81,7 +64,7 @@ pub fn room_right(
     second: usize,
     third: usize,
 ) -> Outcome
-    ensures { λ r. ⌜ r ≡ sided levels w h then holds (w * h) first then holds (w * h) second then holds (w * h) third ⌝ }
+    ensures { λ r. ⌜ told r ≡ sided levels w h then holds (w * h) first then holds (w * h) second then holds (w * h) third ⌝ }
 {
     match sides_right(levels, w, h) {
         Outcome::Refused(why) => Outcome::Refused(why),
@@ -116,8 +99,8 @@ fn largest(pixels: &[u16]) -> u16
 
 // Refusal 10: looks at all of the first w * h pixels.
 pub fn pixels_right(depth: u8, w: usize, h: usize, pixels: &[u16]) -> Outcome
-    requires { ⌜ (depth ≤ 12) × (w ≤ 4096) × (h ≤ 4096) × (w * h ≤ length (now pixels)) ⌝ }
-    ensures { λ r. ⌜ r ≡ pixelsRight depth w h (now (pixels .entry)) ⌝ }
+    requires { ⌜ (depth ≤ maxDepth) × (w ≤ maxSide) × (h ≤ maxSide) × (w * h ≤ length (now pixels)) ⌝ }
+    ensures { λ r. ⌜ told r ≡ pixelsRight depth w h (now (pixels .entry)) ⌝ }
 {
     let n = w * h;
     let most = largest(&pixels[..n]);
@@ -130,7 +113,7 @@ pub fn pixels_right(depth: u8, w: usize, h: usize, pixels: &[u16]) -> Outcome
 
 // The middle of the pixels' range.
 pub fn middle(depth: u8) -> u16
-    requires { ⌜ (1 ≤ depth) × (depth ≤ 12) ⌝ }
+    requires { ⌜ (1 ≤ depth) × (depth ≤ maxDepth) ⌝ }
     ensures { λ r. ⌜ r ≡ 2 ^ (depth - 1) ⌝ }
 {
     1u16 << (depth - 1)

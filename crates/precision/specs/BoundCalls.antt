@@ -3,34 +3,34 @@
 use Prim.Native.Nat.{ℕ, _+_, _*_, _-_}
 use mathlib.Core.List.{List}
 use lib.ListN.{take}
-use Rattle.refusals.specs.declared.Refusal.the-variants.{OutsideLimits}
-use Rattle.refusals.specs.declared.Outcome.{Outcome}
-use Rattle.refusals.specs.Refusals.{asks, answered}
+use Rattle.refusals.specs.Answers.{Answer, asks, answered}
 use Rattle.width_table.specs.declared.WidthTable.{WidthTable}
-use Rattle.width_table.specs.Nodes.{TableNode, nodeAt, bookOrder}
+use Rattle.width_table.specs.Nodes.{nodesPerPass, nodesPerLevel, TableNode, nodeAt, bookOrder}
 use Rattle.width_table.specs.Numbered.{nodeOf, passOf}
 use Rattle.width_table.specs.Table.{formRight}
 use Rattle.width_table.specs.Changes.{hasNode}
 use Rattle.stages.specs.Rule.{Bound}
 use Rattle.precision.specs.Bounds.{boundOf}
 use Rattle.precision.specs.Verdict.{firstRefusal}
-use Rattle.precision.specs.declared.BoundAnswer.{BoundAnswer}
 
--- The nodes of a table of L levels that come before a node in book order: 18 to a level, 6 to a pass. Level, pass and node count from 1.
+-- The nodes of a table of L levels that come before a node in book order. Level, pass and node count from 1.
 abbrev pub nodesBefore : ℕ → ℕ → ℕ → ℕ → List TableNode
-nodesBefore L level pass node = take ((level - 1) * 18 + ((pass - 1) * 6 + (node - 1))) (bookOrder L)
+nodesBefore L level pass node = take ((level - 1) * nodesPerLevel + ((pass - 1) * nodesPerPass + (node - 1))) (bookOrder L)
 
 -- 4 for the form and for a node that the table lacks, then 6 or 7 of the nodes before it
-unfoldable pub boundable : WidthTable → ℕ → ℕ → ℕ → Outcome
+unfoldable pub boundable : WidthTable → ℕ → ℕ → ℕ → Answer Unit
 boundable t level pass node =
-    asks (formRight t) OutsideLimits
-    (asks (hasNode (t .levels) level pass node) OutsideLimits
+    asks (formRight t) 4
+    (asks (hasNode (t .levels) level pass node) 4
     (firstRefusal t (nodesBefore (t .levels) level pass node)))
 
--- a bound where the answer is Done, else zeros
-abbrev pub boundTold : Outcome → Bound → BoundAnswer
-boundTold o b = record { outcome = o; range = answered o (b .range) 0; error = answered o (b .error) 0 }
+-- the bound of a node by its numbers
+abbrev pub boundNumbered : WidthTable → ℕ → ℕ → ℕ → Bound
+boundNumbered t level pass node = boundOf t (nodeAt level (passOf pass) (nodeOf node))
 
--- The call that tells the bound of a node.
-unfoldable pub boundAnswer : WidthTable → ℕ → ℕ → ℕ → BoundAnswer
-boundAnswer t level pass node = boundTold (boundable t level pass node) (boundOf t (nodeAt level (passOf pass) (nodeOf node)))
+-- range and error of the node where the call is done, else zeros
+abbrev pub rangeTold : WidthTable → ℕ → ℕ → ℕ → ℕ
+rangeTold t level pass node = answered (boundable t level pass node) (boundNumbered t level pass node .range) 0
+
+abbrev pub errorTold : WidthTable → ℕ → ℕ → ℕ → ℕ
+errorTold t level pass node = answered (boundable t level pass node) (boundNumbered t level pass node .error) 0

@@ -10,7 +10,7 @@ use lib.ListN.{getD, set}
 use lib.Pow.{pow-mono}
 use Rattle.numbers.specs.Tests.{every, both, ltb-true, ltb-false}
 use Rattle.exact.specs.Fractions.{upDiv}
-use Rattle.width_table.specs.Nodes.{Node}
+use Rattle.width_table.specs.Nodes.{Node, P2, G1, G2, nodeNumber}
 use Rattle.stages.specs.Stages.{low, high, stage, forward, bits}
 use Rattle.stages.specs.Gains.{samples, node, gain}
 use Rattle.stages.specs.GainTable.{forwardGains, forward-gain}
@@ -20,29 +20,29 @@ use Rattle.stages.specs.Held.{weighed}
 use Rattle.stages.specs.RuleLaws as RuleLaws
 use Rattle.stages.specs.RuleLaws.{timesGain-zero, timesGain-none, timesGain-one, weighed-ext, error-sum, bound-start, bound-kept}
 use Rattle.precision.specs.Bounds.{boundAt}
-use Rattle.precision.specs.Places.{gainAt, carriedTo, multiplied, other, bitsAt, ownAt, totalAt, ownFrom, ownsBelow}
-use Rattle.width_table.specs.Numbered.{nodeOf}
+use Rattle.precision.specs.Places.{places, mostFitting, gainAt, carriedTo, multiplied, other, bitsAt, ownAt, totalAt, ownFrom, ownsBelow}
+use Rattle.width_table.specs.Numbered.{nodeOf, IsNode}
 
--- an own error is at most this: 7.5 times 2^43
+-- an own error is at most this: 7.5 times mostFitting
 abbrev pub largest : ℕ
 largest = 15 * 2 ^ 42
 
 -- ---- the six nodes by number
 
-pub by-place : (P : ℕ → Type 0) → P 1 → P 2 → P 3 → P 4 → P 5 → P 6 → (k : ℕ) → 1 ≤ k → k ≤ 6 → P k
-by-place P a b c d e f zero i j = absurd (omega arith)
-by-place P a b c d e f (suc zero) i j = a
-by-place P a b c d e f (suc (suc zero)) i j = b
-by-place P a b c d e f (suc (suc (suc zero))) i j = c
-by-place P a b c d e f (suc (suc (suc (suc zero)))) i j = d
-by-place P a b c d e f (suc (suc (suc (suc (suc zero))))) i j = e
-by-place P a b c d e f (suc (suc (suc (suc (suc (suc zero)))))) i j = f
-by-place P a b c d e f (suc (suc (suc (suc (suc (suc (suc k))))))) i j = absurd (omega arith)
+pub by-place : (P : ℕ → Type 0) → P 1 → P 2 → P 3 → P 4 → P 5 → P 6 → (k : ℕ) → IsNode k → P k
+by-place P a b c d e f zero i = absurd (omega arith)
+by-place P a b c d e f (suc zero) i = a
+by-place P a b c d e f (suc (suc zero)) i = b
+by-place P a b c d e f (suc (suc (suc zero))) i = c
+by-place P a b c d e f (suc (suc (suc (suc zero)))) i = d
+by-place P a b c d e f (suc (suc (suc (suc (suc zero))))) i = e
+by-place P a b c d e f (suc (suc (suc (suc (suc (suc zero)))))) i = f
+by-place P a b c d e f (suc (suc (suc (suc (suc (suc (suc k))))))) i = absurd (omega arith)
 
-pub multiplied-most : (k : ℕ) → k ≤ 6 → multiplied k ≤ 5
-multiplied-most k h = go (eqb k 6)
+pub multiplied-place : (k : ℕ) → IsNode k → multiplied k < places
+multiplied-place k h = go (eqb k (nodeNumber G2))
   where
-    go : (t : Bool) → elim t [ true ↦ 3 | false ↦ k - 1 ] ≤ 5
+    go : (t : Bool) → elim t [ true ↦ nodeNumber P2 | false ↦ k - 1 ] < places
     go true = lit≤ tt
     go false = omega arith
 
@@ -72,7 +72,7 @@ product-most x g h k = le-trans (mul-le-mul-right g h) (mul-le-mul-left largest 
 -- ---- the bounds by number
 
 module _ (F : Node → ℕ) (fi : ℕ) (b : Bound) (f : Node → ℕ) where
-  pub owns-next : (k : ℕ) → 1 ≤ k → k ≤ 6 → set (ownsBelow F fi b f k) k (ownAt F fi b f k) ≡ ownsBelow F fi b f (k + 1)
+  pub owns-next : (k : ℕ) → IsNode k → set (ownsBelow F fi b f k) k (ownAt F fi b f k) ≡ ownsBelow F fi b f (k + 1)
   unfolding ownsBelow
   owns-next = by-place _ refl refl refl refl refl refl
 
@@ -83,7 +83,7 @@ module _ (F : Node → ℕ) (fi : ℕ) (b : Bound) (f : Node → ℕ) where
   fs i = f (nodeOf (suc i))
 
   -- the first stage multiplies the input, and G2 what P2 left
-  pub own-is : (k : ℕ) → 1 ≤ k → k ≤ 6 → ownAt F fi b f k ≡ ownFrom F fi b f k (totalAt F fi b f (multiplied k))
+  pub own-is : (k : ℕ) → IsNode k → ownAt F fi b f k ≡ ownFrom F fi b f k (totalAt F fi b f (multiplied k))
   unfolding ownAt ownFrom totalAt boundAt bits RuleLaws.ownAt Rule.ownFrom Rule.boundAt
   own-is =
       by-place _
@@ -91,15 +91,15 @@ module _ (F : Node → ℕ) (fi : ℕ) (b : Bound) (f : Node → ℕ) where
       refl refl refl refl
       (ap (λ (x : Bound). ownScale (Fs 5) (fs 2) (fs 5) (x .range + x .error)) (bound-kept forward (together b) Fs (λ s. fi) fs 4 high refl ∙ bound-kept forward (together b) Fs (λ s. fi) fs 3 high refl))
 
-  pub range-is : (k : ℕ) → 1 ≤ k → k ≤ 6 → timesGain (b .range) (gainAt 0 k) ≡ boundAt F fi b f (nodeOf k) .range
+  pub range-is : (k : ℕ) → IsNode k → timesGain (b .range) (gainAt 0 k) ≡ boundAt F fi b f (nodeOf k) .range
   unfolding boundAt Rule.boundAt Rule.rangeAt brought
   range-is = by-place _ (at 1 (lit≤ tt)) (at 2 (lit≤ tt)) (at 3 (lit≤ tt)) (at 4 (lit≤ tt)) (at 5 (lit≤ tt)) (at 6 (lit≤ tt))
     where
-      at : (k : ℕ) → k ≤ 6 → timesGain (b .range) (gainAt 0 k) ≡ timesGain (b .range) (gain forward (stage forward (k - 1) .side) k samples)
+      at : (k : ℕ) → k < places → timesGain (b .range) (gainAt 0 k) ≡ timesGain (b .range) (gain forward (stage forward (k - 1) .side) k samples)
       at k h = ap (timesGain (b .range)) (sym (forward-gain 0 k (omega arith) (omega arith)))
 
   -- the error of a node by numbers
-  error-at : (k : ℕ) → k ≤ 6 → Rule.errorAt forward (together b) Fs (λ s. fi) fs (stage forward (k - 1) .side) k ≡ timesGain (b .error) (gainAt 0 k) + weighed (λ i. gainAt (suc i) k) (RuleLaws.ownAt forward (together b) Fs (λ s. fi) fs) k
+  error-at : (k : ℕ) → k < places → Rule.errorAt forward (together b) Fs (λ s. fi) fs (stage forward (k - 1) .side) k ≡ timesGain (b .error) (gainAt 0 k) + weighed (λ i. gainAt (suc i) k) (RuleLaws.ownAt forward (together b) Fs (λ s. fi) fs) k
   unfolding brought
   error-at k h =
       omega (
@@ -109,7 +109,7 @@ module _ (F : Node → ℕ) (fi : ℕ) (b : Bound) (f : Node → ℕ) where
         weighed-ext (λ i. gain forward (stage forward (k - 1) .side) k (node i)) (λ i. gainAt (suc i) k) (RuleLaws.ownAt forward (together b) Fs (λ s. fi) fs) k (λ i l. forward-gain (suc i) k (omega arith) (omega arith)),
       )
 
-  pub error-is : (k : ℕ) → 1 ≤ k → k ≤ 6 → carriedTo (ownsBelow F fi b f 7) k 7 ≡ boundAt F fi b f (nodeOf k) .error
+  pub error-is : (k : ℕ) → IsNode k → carriedTo (ownsBelow F fi b f places) k places ≡ boundAt F fi b f (nodeOf k) .error
   unfolding carriedTo ownsBelow ownAt boundAt Rule.boundAt weighed
   error-is =
       by-place _
@@ -121,16 +121,16 @@ module _ (F : Node → ℕ) (fi : ℕ) (b : Bound) (f : Node → ℕ) where
       (simp timesGain-none (omega (arith, error-at 6 (lit≤ tt), timesGain-none (RuleLaws.ownAt forward (together b) Fs (λ s. fi) fs 3), timesGain-none (RuleLaws.ownAt forward (together b) Fs (λ s. fi) fs 4))))
 
   -- what the places below k carry to the place that k multiplies
-  pub total-is : (k : ℕ) → 1 ≤ k → k ≤ 6 → timesGain (b .range) (gainAt 0 (multiplied k)) + carriedTo (ownsBelow F fi b f k) (multiplied k) 7 ≡ totalAt F fi b f (multiplied k)
+  pub total-is : (k : ℕ) → IsNode k → timesGain (b .range) (gainAt 0 (multiplied k)) + carriedTo (ownsBelow F fi b f k) (multiplied k) places ≡ totalAt F fi b f (multiplied k)
   unfolding carriedTo ownsBelow ownAt totalAt boundAt Rule.boundAt weighed
   total-is =
       by-place _
       (simp (timesGain-zero, timesGain-one) (omega arith))
-      (simp timesGain-zero (omega (arith, range-is 1 (lit≤ tt) (lit≤ tt), error-at 1 (lit≤ tt))))
-      (simp timesGain-zero (omega (arith, range-is 2 (lit≤ tt) (lit≤ tt), error-at 2 (lit≤ tt))))
-      (simp timesGain-zero (omega (arith, range-is 3 (lit≤ tt) (lit≤ tt), error-at 3 (lit≤ tt))))
-      (simp timesGain-zero (omega (arith, range-is 4 (lit≤ tt) (lit≤ tt), error-at 4 (lit≤ tt))))
-      (simp (timesGain-zero, timesGain-none) (omega (arith, range-is 3 (lit≤ tt) (lit≤ tt), error-at 3 (lit≤ tt))))
+      (simp timesGain-zero (omega (arith, range-is 1 (lit≤ tt, lit≤ tt), error-at 1 (lit≤ tt))))
+      (simp timesGain-zero (omega (arith, range-is 2 (lit≤ tt, lit≤ tt), error-at 2 (lit≤ tt))))
+      (simp timesGain-zero (omega (arith, range-is 3 (lit≤ tt, lit≤ tt), error-at 3 (lit≤ tt))))
+      (simp timesGain-zero (omega (arith, range-is 4 (lit≤ tt, lit≤ tt), error-at 4 (lit≤ tt))))
+      (simp (timesGain-zero, timesGain-none) (omega (arith, range-is 3 (lit≤ tt, lit≤ tt), error-at 3 (lit≤ tt))))
 
 -- a stage's own error, from what the program reads
 module _ (F : Node → ℕ) (fi : ℕ) (b : Bound) (f : Node → ℕ) (k r : ℕ) where
@@ -140,13 +140,13 @@ module _ (F : Node → ℕ) (fi : ℕ) (b : Bound) (f : Node → ℕ) (k r : ℕ
     | false ↦ ownScale (F (nodeOf k)) (bitsAt F fi b f (multiplied k)) (bitsAt F fi b f k) r
   ]
 
-  pub own-lifts : {c m o n : ℕ} → k < 5 → c ≡ F (nodeOf k) → m ≡ bitsAt F fi b f (multiplied k) → o ≡ bitsAt F fi b f (other k) → n ≡ bitsAt F fi b f k → ownLift c m o n r ≡ ownFrom F fi b f k r
+  pub own-lifts : {c m o n : ℕ} → k < nodeNumber G1 → c ≡ F (nodeOf k) → m ≡ bitsAt F fi b f (multiplied k) → o ≡ bitsAt F fi b f (other k) → n ≡ bitsAt F fi b f k → ownLift c m o n r ≡ ownFrom F fi b f k r
   unfolding ownFrom
-  own-lifts h e1 e2 e3 e4 = simp (e1, e2, e3, e4) (sym (ap chosen (ltb-true k 5 h)))
+  own-lifts h e1 e2 e3 e4 = simp (e1, e2, e3, e4) (sym (ap chosen (ltb-true k (nodeNumber G1) h)))
 
-  pub own-scales : {c m n : ℕ} → 5 ≤ k → c ≡ F (nodeOf k) → m ≡ bitsAt F fi b f (multiplied k) → n ≡ bitsAt F fi b f k → ownScale c m n r ≡ ownFrom F fi b f k r
+  pub own-scales : {c m n : ℕ} → nodeNumber G1 ≤ k → c ≡ F (nodeOf k) → m ≡ bitsAt F fi b f (multiplied k) → n ≡ bitsAt F fi b f k → ownScale c m n r ≡ ownFrom F fi b f k r
   unfolding ownFrom
-  own-scales h e1 e2 e3 = simp (e1, e2, e3) (sym (ap chosen (ltb-false k 5 h)))
+  own-scales h e1 e2 e3 = simp (e1, e2, e3) (sym (ap chosen (ltb-false k (nodeNumber G1) h)))
 
 -- ---- sizes
 
@@ -177,7 +177,7 @@ loss-none f full h = ap (λ (t : Bool). elim t [ true ↦ 2 ^ (32 - f) | false �
 
 pub own-half : (F : Node → ℕ) (fi : ℕ) (b : Bound) (f : Node → ℕ) (k r : ℕ) → 1 ≤ F (nodeOf k) → 2 * ownFrom F fi b f k r ≤ r + 1 + 2 * 2 ^ 32
 unfolding ownFrom ownLift ownScale
-own-half F fi b f k r h = go (ltb k 5)
+own-half F fi b f k r h = go (ltb k (nodeNumber G1))
   where
     go : (t : Bool) → 2 * elim t [
       | true ↦ upDiv r (2 ^ F (nodeOf k)) + loss (bitsAt F fi b f k) (max (bitsAt F fi b f (other k)) (F (nodeOf k) + bitsAt F fi b f (multiplied k)))
@@ -200,11 +200,11 @@ held : (t : Bool) {x : ℕ} → x ≤ largest → elim t [ true ↦ x | false �
 held true h = h
 held false h = lit≤ tt
 
-module _ (F : Node → ℕ) (fi : ℕ) (b : Bound) (f : Node → ℕ) (small : b .range + b .error ≤ 2 ^ 43) (positive : (n : Node) → 1 ≤ F n) where
+module _ (F : Node → ℕ) (fi : ℕ) (b : Bound) (f : Node → ℕ) (small : b .range + b .error ≤ mostFitting) (positive : (n : Node) → 1 ≤ F n) where
   -- twice an own error, from what is carried to the place that is multiplied
-  own-most : (k : ℕ) → 1 ≤ k → k ≤ 6 → 65536 * (2 * ownAt F fi b f k) ≤ b .range * gainAt 0 (multiplied k) + weighted (ownsBelow F fi b f k) (multiplied k) 7 + 8 * 65535 + 65536 * (1 + 2 * 2 ^ 32)
-  own-most k i j =
-      omega (arith, own-is F fi b f k i j, own-half F fi b f k (totalAt F fi b f (multiplied k)) (positive (nodeOf k)), total-is F fi b f k i j, times-most (b .range) (gainAt 0 (multiplied k)), carried-most (ownsBelow F fi b f k) (multiplied k) 7)
+  own-most : (k : ℕ) → IsNode k → 65536 * (2 * ownAt F fi b f k) ≤ b .range * gainAt 0 (multiplied k) + weighted (ownsBelow F fi b f k) (multiplied k) places + 8 * 65535 + 65536 * (1 + 2 * 2 ^ 32)
+  own-most k i =
+      omega (arith, own-is F fi b f k i, own-half F fi b f k (totalAt F fi b f (multiplied k)) (positive (nodeOf k)), total-is F fi b f k i, times-most (b .range) (gainAt 0 (multiplied k)), carried-most (ownsBelow F fi b f k) (multiplied k) places)
 
   own-0 : ownAt F fi b f 0 ≤ largest
   unfolding ownAt
@@ -212,27 +212,27 @@ module _ (F : Node → ℕ) (fi : ℕ) (b : Bound) (f : Node → ℕ) (small : b
 
   own-1 : ownAt F fi b f 1 ≤ 5 * 2 ^ 40
   unfolding ownsBelow ownAt
-  own-1 = omega (arith, own-most 1 (lit≤ tt) (lit≤ tt))
+  own-1 = omega (arith, own-most 1 (lit≤ tt, lit≤ tt))
 
   own-2 : ownAt F fi b f 2 ≤ 77 * 2 ^ 38
   unfolding ownsBelow ownAt
-  own-2 = omega (arith, own-1, own-most 2 (lit≤ tt) (lit≤ tt))
+  own-2 = omega (arith, own-1, own-most 2 (lit≤ tt, lit≤ tt))
 
   own-3 : ownAt F fi b f 3 ≤ 63 * 2 ^ 38
   unfolding ownsBelow ownAt
-  own-3 = omega (arith, own-1, own-2, own-most 3 (lit≤ tt) (lit≤ tt))
+  own-3 = omega (arith, own-1, own-2, own-most 3 (lit≤ tt, lit≤ tt))
 
   own-4 : ownAt F fi b f 4 ≤ 9 * 2 ^ 42
   unfolding ownsBelow ownAt
-  own-4 = omega (arith, own-1, own-2, own-3, own-most 4 (lit≤ tt) (lit≤ tt))
+  own-4 = omega (arith, own-1, own-2, own-3, own-most 4 (lit≤ tt, lit≤ tt))
 
   own-5 : ownAt F fi b f 5 ≤ largest
   unfolding ownsBelow ownAt
-  own-5 = omega (arith, own-1, own-2, own-3, own-4, own-most 5 (lit≤ tt) (lit≤ tt))
+  own-5 = omega (arith, own-1, own-2, own-3, own-4, own-most 5 (lit≤ tt, lit≤ tt))
 
   own-6 : ownAt F fi b f 6 ≤ largest
   unfolding ownsBelow ownAt
-  own-6 = omega (arith, own-1, own-2, own-3, own-4, own-most 6 (lit≤ tt) (lit≤ tt))
+  own-6 = omega (arith, own-1, own-2, own-3, own-4, own-most 6 (lit≤ tt, lit≤ tt))
 
   pub owns-most : (k i : ℕ) → getD (ownsBelow F fi b f k) i 0 ≤ largest
   unfolding ownsBelow

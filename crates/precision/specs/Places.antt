@@ -1,26 +1,35 @@
 -- The places of a pass by number, as the program counts them: 0 the input, 1 to 6 the nodes.
-use Prim.Native.Nat.{ℕ, zero, suc, _+_, _-_, _^_, _≤_}
+use Prim.Native.Nat.{ℕ, zero, suc, _+_, _*_, _-_, _^_, _≤_}
 use mathlib.Core.Bool.{Bool, true, false}
 use mathlib.Core.List.{List, [], _∷_}
 use lib.Dec.{T, ltb, eqb}
 use mathlib.Core.Path.{_≡_}
 use lib.ListN.{getD}
-use Rattle.refusals.specs.declared.NodePlace.{NodePlace}
-use Rattle.refusals.specs.declared.Outcome.{Outcome}
-use Rattle.refusals.specs.declared.Outcome.the-variants.{Done}
-use Rattle.width_table.specs.Numbered.{nodeOf, passOf}
-use Rattle.width_table.specs.Nodes.{Node, G1, G2, Pass, Rows, LowColumns, HighColumns, TableNode, nodeAt, passNodes}
+use Rattle.refusals.specs.Answers.{Answer}
+use Rattle.width_table.specs.Numbered.{nodeOf, passOf, IsPass}
+use Rattle.width_table.specs.Nodes.{Node, P2, G1, G2, nodesPerPass, nodeNumber, Pass, Rows, LowColumns, HighColumns, nodeAt}
 use Rattle.width_table.specs.declared.WidthTable.{WidthTable}
-use Rattle.width_table.specs.Table.{constantBits, fractionBits, inputBits, formRight}
+use Rattle.width_table.specs.Table.{maxIntegerBits, constantBits, fractionBits, inputBits, formRight}
 use Rattle.stages.specs.Stages.{forward}
 use Rattle.stages.specs.GainTable.{forwardGains}
 use Rattle.stages.specs.RuleLaws as RuleLaws
 use Rattle.stages.specs.Rule.{Bound, together, timesGain, ownLift, ownScale}
 use Rattle.precision.specs.Bounds.{boundAt, boundOf, entering}
 use Rattle.precision.specs.declared.Bound as Code
-use Rattle.precision.specs.declared.PassAnswer.{PassAnswer}
-use Rattle.precision.specs.declared.Entered.{Entered}
-use Rattle.precision.specs.Verdict.{judgedBy, firstRefusal}
+use Rattle.precision.specs.Verdict.{judgedBy}
+use Rattle.precision.specs.BoundCalls.{boundNumbered}
+
+-- the input and the nodes
+abbrev pub places : ℕ
+places = nodesPerPass + 1
+
+-- range plus error of a node that fits is at most this, in whole numbers of 2^-32
+abbrev pub mostFitting : ℕ
+mostFitting = 2 ^ (maxIntegerBits - 1) * 2 ^ 32
+
+-- and of a place of the pass that it enters at most this
+abbrev pub mostTotal : ℕ
+mostTotal = 2 ^ 51
 
 -- the gain from place i to place j, in whole numbers of 2^-16
 abbrev pub gainAt : ℕ → ℕ → ℕ
@@ -33,7 +42,7 @@ carriedTo x j (suc n) = carriedTo x j n + timesGain (getD x n 0) (gainAt n j)
 
 -- the place whose value a stage multiplies, and that of the other operand of P1, U1, P2, U2
 abbrev pub multiplied : ℕ → ℕ
-multiplied k = elim (eqb k 6) [ true ↦ 3 | false ↦ k - 1 ]
+multiplied k = elim (eqb k (nodeNumber G2)) [ true ↦ nodeNumber P2 | false ↦ k - 1 ]
 
 abbrev pub other : ℕ → ℕ
 other k = k - 2
@@ -56,7 +65,7 @@ module _ (F : Node → ℕ) (fi : ℕ) (b : Bound) (f : Node → ℕ) where
 
   -- the own error of place k where r is the range plus error of the value that it multiplies
   unfoldable pub ownFrom : ℕ → ℕ → ℕ
-  ownFrom k r = elim (ltb k 5) [
+  ownFrom k r = elim (ltb k (nodeNumber G1)) [
     | true ↦ ownLift (F (nodeOf k)) (bitsAt (multiplied k)) (bitsAt (other k)) (bitsAt k) r
     | false ↦ ownScale (F (nodeOf k)) (bitsAt (multiplied k)) (bitsAt k) r
   ]
@@ -94,18 +103,18 @@ module _ (t : WidthTable) (l : ℕ) (p : Pass) where
   ownsOf = ownsBelow (constantBits t) (inputBits t l p) (fed t l p) (fractionBits t l p)
 
 -- a bound as the program holds it
-abbrev pub told : Bound → Code.Bound
-told b = record { range = b .range; error = b .error }
+abbrev pub asHeld : Bound → Code.Bound
+asHeld b = record { range = b .range; error = b .error }
 
 abbrev pub boundOfNode : WidthTable → ℕ → ℕ → ℕ → Code.Bound
-boundOfNode t l p n = told (boundOf t (nodeAt l (passOf p) (nodeOf n)))
+boundOfNode t l p n = asHeld (boundNumbered t l p n)
 
 -- the bound at a place, from the range of what enters the pass and from what each place has of its own
 abbrev pub boundFrom : ℕ → List ℕ → ℕ → Code.Bound
-boundFrom range own place = record { range = timesGain range (gainAt 0 place); error = carriedTo own place 7 }
+boundFrom range own place = record { range = timesGain range (gainAt 0 place); error = carriedTo own place places }
 
 -- the verdict on a node whose bound is so held
-unfoldable pub judgedAs : Code.Bound → ℕ → ℕ → Bool → NodePlace → Outcome
+unfoldable pub judgedAs : Code.Bound → ℕ → ℕ → Bool → List ℕ → Answer Unit
 judgedAs b = judgedBy (record { range = b .range; error = b .error })
 
 -- level l and pass p are ones of a table of right form
@@ -113,23 +122,15 @@ pub record At (t : WidthTable) (l p : ℕ) : Type 0 where
   pub form : T (formRight t)
   pub level-from : 1 ≤ l
   pub level-to : l ≤ t .levels
-  pub pass-from : 1 ≤ p
-  pub pass-to : p ≤ 3
+  pub pass : IsPass p
 
 -- and b is what enters the pass; it is small, since the node that feeds it fits
 pub record Enters (t : WidthTable) (l p : ℕ) (b : Code.Bound) : Type 0 where
   pub place : At t l p
-  pub is : b ≡ told (fed t l (passOf p))
-  pub small : b .range + b .error ≤ 2 ^ 43
+  pub is : b ≡ asHeld (fed t l (passOf p))
+  pub small : b .range + b .error ≤ mostFitting
 
--- the verdict on a pass, with the bounds of G1 and G2
-pub record PassJudged (t : WidthTable) (l p : ℕ) (r : PassAnswer) : Type 0 where
-  pub outcome : r .outcome ≡ firstRefusal t (passNodes l (passOf p))
-  pub low : r .low ≡ boundOfNode t l p 5
-  pub high : r .high ≡ boundOfNode t l p 6
-
--- the first refusal of the nodes before; where there is none, b enters next, and is small
-pub record Reached (t : WidthTable) (before : List TableNode) (b : Bound) (r : Entered) : Type 0 where
-  pub outcome : r .outcome ≡ firstRefusal t before
-  pub is : r .outcome ≡ Done → r .bound ≡ told b
-  pub small : r .outcome ≡ Done → r .bound .range + r .bound .error ≤ 2 ^ 43
+-- the program holds bound b, and it is small enough to enter a pass
+pub record Reached (b : Bound) (held : Code.Bound) : Type 0 where
+  pub is : held ≡ asHeld b
+  pub small : held .range + held .error ≤ mostFitting

@@ -4,14 +4,10 @@ use mathlib.Core.Bool.{Bool, true, false, _||_, not}
 use mathlib.Core.List.{List, [], _∷_}
 use mathlib.Core.Path.{_≡_}
 use lib.Dec.{T, leb, ltb, eqb}
-use Rattle.refusals.specs.declared.NodePlace.{NodePlace}
-use Rattle.refusals.specs.declared.Refusal.the-variants.{OutsideLimits, DoesNotFit, ErrorTooLarge}
-use Rattle.refusals.specs.declared.Outcome.{Outcome}
-use Rattle.refusals.specs.declared.Outcome.the-variants.{Done}
-use Rattle.refusals.specs.Refusals.{asks, _then_}
+use Rattle.refusals.specs.Answers.{Answer, passed, asks, asksGiving, _then_}
 use Rattle.width_table.specs.declared.WidthTable.{WidthTable}
 use Rattle.width_table.specs.Nodes.{Node, P1, U1, P2, U2, G1, G2, Pass, Rows, LowColumns, HighColumns, TableNode, nodeAt, passNumber, nodeNumber, bookOrder}
-use Rattle.width_table.specs.Table.{maxDepth, maxLevels, maxConstantBits, maxIntegerBits, maxFractionBits, integerBits, fractionBits, constantBits, formRight}
+use Rattle.width_table.specs.Table.{integerBits, fractionBits, formRight}
 use Rattle.stages.specs.Rule.{Bound}
 use Rattle.precision.specs.Bounds.{boundOf}
 
@@ -38,40 +34,35 @@ keptAt L l LowColumns n = keptColumn (eqb l L) n
 keptAt L l HighColumns n = keptColumn true n
 
 -- the level, pass (1 to 3) and node (1 to 6) that a refusal gives
-abbrev pub numbered : TableNode → NodePlace
-numbered p = record { level = p .level; pass = passNumber (p .pass); node = nodeNumber (p .node) }
+abbrev pub placeNumbers : TableNode → List ℕ
+placeNumbers p = p .level ∷ passNumber (p .pass) ∷ nodeNumber (p .node) ∷ []
 
 -- At one node fit comes first (6); a kept node also needs its error below two steps (7).
-abbrev pub judgedBy : Bound → ℕ → ℕ → Bool → NodePlace → Outcome
+abbrev pub judgedBy : Bound → ℕ → ℕ → Bool → List ℕ → Answer Unit
 judgedBy b IB f kept place =
-    asks (fits b IB f) (DoesNotFit place)
-    (asks (not kept || belowTwoSteps b f) (ErrorTooLarge place)
-    Done)
+    asksGiving (fits b IB f) (6, place)
+    (asksGiving (not kept || belowTwoSteps b f) (7, place)
+    passed)
 
-unfoldable pub judged : WidthTable → TableNode → Outcome
-judged t p = judgedBy (boundOf t p) (integerBits t (p .level) (p .pass) (p .node)) (fractionBits t (p .level) (p .pass) (p .node)) (keptAt (t .levels) (p .level) (p .pass) (p .node)) (numbered p)
+unfoldable pub judged : WidthTable → TableNode → Answer Unit
+judged t p = judgedBy (boundOf t p) (integerBits t (p .level) (p .pass) (p .node)) (fractionBits t (p .level) (p .pass) (p .node)) (keptAt (t .levels) (p .level) (p .pass) (p .node)) (placeNumbers p)
 
 -- the first refusal, in the order of the list
-unfoldable pub firstRefusal : WidthTable → List TableNode → Outcome
-firstRefusal t [] = Done
+unfoldable pub firstRefusal : WidthTable → List TableNode → Answer Unit
+firstRefusal t [] = passed
 firstRefusal t (p ∷ ps) = judged t p then firstRefusal t ps
 
 -- Form comes first (4), then the nodes in book order (6 and 7 as one step).
-unfoldable pub verdict : WidthTable → Outcome
-verdict t = asks (formRight t) OutsideLimits (firstRefusal t (bookOrder (t .levels)))
+unfoldable pub verdict : WidthTable → Answer Unit
+verdict t = asks (formRight t) 4 (firstRefusal t (bookOrder (t .levels)))
 
 abbrev pub Accepted : WidthTable → Type 0
-Accepted t = verdict t ≡ Done
+Accepted t = verdict t ≡ passed
 
--- What acceptance promises, and all that it asks (Promise): the form is right, every node fits, every kept node's error is below
--- two steps.
+-- What acceptance promises, and all that it asks (Promise): the form is right, every node fits, every kept node's error is below two
+-- steps.
 pub record AcceptPromise (t : WidthTable) : Type 0 where
-  pub depth : (1 ≤ t .depth) × (t .depth ≤ maxDepth)
-  pub levels : (1 ≤ t .levels) × (t .levels ≤ maxLevels)
-  pub constants : (n : Node) → (1 ≤ constantBits t n) × (constantBits t n ≤ maxConstantBits)
-  pub integers : (l : ℕ) → 1 ≤ l → l ≤ t .levels → (p : Pass) (n : Node) → (1 ≤ integerBits t l p n) × (integerBits t l p n ≤ maxIntegerBits)
-  pub fractions : (l : ℕ) → 1 ≤ l → l ≤ t .levels → (p : Pass) (n : Node) → fractionBits t l p n ≤ maxFractionBits
-  pub unused : (l : ℕ) → t .levels < l → l ≤ maxLevels → (p : Pass) (n : Node) → (integerBits t l p n ≡ 0) × (fractionBits t l p n ≡ 0)
+  pub form : T (formRight t)
   pub fit : (l : ℕ) → 1 ≤ l → l ≤ t .levels → (p : Pass) (n : Node)
       → boundOf t (nodeAt l p n) .range + boundOf t (nodeAt l p n) .error + 2 ^ (32 - fractionBits t l p n) ≤ 2 ^ (integerBits t l p n - 1) * 2 ^ 32
   pub steps : (l : ℕ) → 1 ≤ l → l ≤ t .levels → (p : Pass) (n : Node) → T (keptAt (t .levels) l p n)

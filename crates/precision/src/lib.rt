@@ -6,24 +6,35 @@ use refusals::Refusal;
 use width_table::WidthTable;
 ghost use mathlib.Core.Path.{_≡_};
 ghost use Prim.Native.Nat.{ℕ, _+_, _*_, _-_, _^_, _<_, _≤_, max};
+ghost use mathlib.Core.List.{[], _∷_};
 ghost use lib.Dec.{T};
 ghost use lib.ListN.{getD, take};
 ghost use Rattle.exact.specs.Fractions.{upDiv};
 ghost use Rattle.stages.specs.Rule.{timesGain, loss, ownLift, ownScale};
 ghost use Rattle.precision.specs.Verdict.{keptAt, judged, firstRefusal, verdict};
-ghost use Rattle.precision.specs.Places.{gainAt, carriedTo, multiplied, other, bitsOf, ownErrorOf, ownsOf, boundOfNode, boundFrom, judgedAs, fedAfter, At, Enters, PassJudged, Reached};
-ghost use Rattle.width_table.specs.Numbered.{nodeOf, passOf};
+ghost use Rattle.precision.specs.Places.{places, mostTotal, asHeld, gainAt, carriedTo, multiplied, other, bitsOf, ownErrorOf, ownsOf, boundOfNode, boundFrom, judgedAs, fedAfter, At, Enters, Reached};
+ghost use Rattle.width_table.specs.Numbered.{nodeOf, passOf, IsNode, IsPass};
 ghost use Rattle.precision.specs.PlaceLaws.{largest};
 ghost use Rattle.precision.specs.Bounds.{entering, boundOf};
-ghost use Rattle.precision.specs.BoundCalls.{nodesBefore, boundTold, boundAnswer};
-ghost use Rattle.refusals.specs.declared.Outcome.the-variants.{Refused};
-ghost use Rattle.width_table.specs.Table.{formRight};
-ghost use Rattle.width_table.specs.Nodes.{nodeAt, passNodes, levelNodes, bookOrder};
+ghost use Rattle.precision.specs.BoundCalls.{nodesBefore, boundable, boundNumbered, rangeTold, errorTold};
+ghost use Rattle.refusals.specs.Answers.{passed, refused, answered};
+ghost use Rattle.refusals.specs.Told.{toldRefusal, told};
+ghost use Rattle.width_table.specs.Table.{maxConstantBits, maxIntegerBits, maxFractionBits, formRight};
+ghost use Rattle.width_table.specs.Nodes.{G1, G2, nodesPerPass, passNumber, passesPerLevel, Rows, nodeAt, passNodes, levelNodes, bookOrder};
 
 // Range and error of a place.
 struct Bound {
     range: u64,
     error: u64,
+}
+
+impl Bound {
+    // The places of a pass: 0 the input, 1 to 6 the nodes.
+    const PLACES: u8 = WidthTable::NODES + 1;
+    // 1 and 1/2 in whole numbers of 2^-32.
+    const ONE: u64 = 1 << 32;
+
+    const HALF: u64 = Bound::ONE / 2;
 }
 
 // 2^bits.
@@ -36,7 +47,7 @@ fn power(bits: u8) -> u64
 
 // x / 2^bits, rounded up.
 fn up_div(x: u64, bits: u8) -> u64
-    requires { ⌜ (x ≤ 2 ^ 51) × (bits ≤ 25) ⌝ }
+    requires { ⌜ (x ≤ mostTotal) × (bits ≤ maxConstantBits + 1) ⌝ }
     ensures { λ r. ⌜ (r ≡ upDiv x (2 ^ bits)) × (r ≤ 2 ^ 52) ⌝ }
 {
     let divisor = power(bits);
@@ -52,7 +63,7 @@ fn larger(x: u8, y: u8) -> u8
 
 // 2^-f where f is below the full precision.
 fn loss_of(f: u8, full: u8) -> u64
-    requires { ⌜ f ≤ 32 ⌝ }
+    requires { ⌜ f ≤ maxFractionBits ⌝ }
     ensures { λ r. ⌜ (r ≡ loss f full) × (r ≤ 2 ^ 32) ⌝ }
 {
     if f < full { power(32 - f) } else { 0 }
@@ -61,10 +72,10 @@ fn loss_of(f: u8, full: u8) -> u64
 // The gain from one place to another, in whole numbers of 2^-16. Place 0 is the input, places 1 to 6 are the nodes; a line for each
 // place that it comes from.
 fn gain(from: u8, to: u8) -> u64
-    requires { ⌜ (from ≤ 6) × (to ≤ 6) ⌝ }
+    requires { ⌜ (from < places) × (to < places) ⌝ }
     ensures { λ r. ⌜ r ≡ gainAt from to ⌝ }
 {
-    let gains: [[u64; 7]; 7] = [
+    let gains: [[u64; Bound::PLACES as usize]; Bound::PLACES as usize] = [
         [65536, 273434, 94510, 138260, 111285, 127934, 120267],
         [0, 65536, 6945, 65536, 45749, 52593, 57008],
         [0, 0, 65536, 115725, 168186, 193347, 100665],
@@ -78,19 +89,19 @@ fn gain(from: u8, to: u8) -> u64
 
 // A product by the gain from one place to another, rounded up by itself.
 fn times_gain(x: u64, from: u8, to: u8) -> u64
-    requires { ⌜ (x ≤ largest) × (from ≤ 6) × (to ≤ 6) ⌝ }
+    requires { ⌜ (x ≤ largest) × (from < places) × (to < places) ⌝ }
     ensures { λ r. ⌜ (r ≡ timesGain x (gainAt from to)) × (r ≤ 2 ^ 48) ⌝ }
 {
     (x * gain(from, to) + 65535) / 65536
 }
 
 // The error at a place: what each place has of its own, carried to it.
-fn error_at(own: [u64; 7], place: u8) -> u64
-    requires { ⌜ (place ≤ 6) × ((i : ℕ) → getD own i 0 ≤ largest) ⌝ }
-    ensures { λ r. ⌜ (r ≡ carriedTo own place 7) × (r ≤ 7 * 2 ^ 48) ⌝ }
+fn error_at(own: [u64; Bound::PLACES as usize], place: u8) -> u64
+    requires { ⌜ (place < places) × ((i : ℕ) → getD own i 0 ≤ largest) ⌝ }
+    ensures { λ r. ⌜ (r ≡ carriedTo own place places) × (r ≤ places * 2 ^ 48) ⌝ }
 {
     let mut error = 0;
-    for from in 0..7 {
+    for from in 0..Bound::PLACES {
         error += times_gain(own[from as usize], from, place);
     }
     error
@@ -99,7 +110,7 @@ fn error_at(own: [u64; 7], place: u8) -> u64
 // Own error of a stage P1, U1, P2, U2 whose constant has so many bits; the value that it multiplies has `multiplied` bits and `total`
 // is its range plus error.
 fn own_lift(constant: u8, multiplied: u8, other: u8, f: u8, total: u64) -> u64
-    requires { ⌜ (constant ≤ 24) × (multiplied ≤ 20) × (f ≤ 20) × (total ≤ 2 ^ 51) ⌝ }
+    requires { ⌜ (constant ≤ maxConstantBits) × (multiplied ≤ maxFractionBits) × (f ≤ maxFractionBits) × (total ≤ mostTotal) ⌝ }
     ensures { λ r. ⌜ r ≡ ownLift constant multiplied other f total ⌝ }
 {
     let product = constant + multiplied;
@@ -108,16 +119,16 @@ fn own_lift(constant: u8, multiplied: u8, other: u8, f: u8, total: u64) -> u64
 
 // Own error of a stage G1, G2.
 fn own_scale(constant: u8, multiplied: u8, f: u8, total: u64) -> u64
-    requires { ⌜ (constant ≤ 24) × (multiplied ≤ 20) × (f ≤ 20) × (total ≤ 2 ^ 51) ⌝ }
+    requires { ⌜ (constant ≤ maxConstantBits) × (multiplied ≤ maxFractionBits) × (f ≤ maxFractionBits) × (total ≤ mostTotal) ⌝ }
     ensures { λ r. ⌜ r ≡ ownScale constant multiplied f total ⌝ }
 {
     up_div(total, constant + 1) + loss_of(f, constant + multiplied)
 }
 
 // Range and error at a place, from the range of what enters the pass and from what each place has of its own.
-fn bound_at(range: u64, own: [u64; 7], place: u8) -> Bound
-    requires { ⌜ (range ≤ largest) × (place ≤ 6) × ((i : ℕ) → getD own i 0 ≤ largest) ⌝ }
-    ensures { λ r. ⌜ (r ≡ boundFrom range own place) × (r .range + r .error ≤ 2 ^ 51) ⌝ }
+fn bound_at(range: u64, own: [u64; Bound::PLACES as usize], place: u8) -> Bound
+    requires { ⌜ (range ≤ largest) × (place < places) × ((i : ℕ) → getD own i 0 ≤ largest) ⌝ }
+    ensures { λ r. ⌜ (r ≡ boundFrom range own place) × (r .range + r .error ≤ mostTotal) ⌝ }
 {
     Bound {
         range: times_gain(range, 0, place),
@@ -128,8 +139,8 @@ fn bound_at(range: u64, own: [u64; 7], place: u8) -> Bound
 // The fractional bits at a place of a pass.
 fn bits_at(table: WidthTable, level: u8, pass: u8, place: u8) -> u8
     requires { ⌜ At table level pass ⌝ }
-    requires { ⌜ place ≤ 6 ⌝ }
-    ensures { λ r. ⌜ (r ≡ bitsOf table level (passOf pass) place) × (r ≤ 20) ⌝ }
+    requires { ⌜ place < places ⌝ }
+    ensures { λ r. ⌜ (r ≡ bitsOf table level (passOf pass) place) × (r ≤ maxFractionBits) ⌝ }
 {
     if place == 0 {
         return table.input_bits(level, pass);
@@ -142,7 +153,11 @@ fn multiplied_place(node: u8) -> u8
     requires { ⌜ 1 ≤ node ⌝ }
     ensures { λ r. ⌜ r ≡ multiplied node ⌝ }
 {
-    if node == 6 { 3 } else { node - 1 }
+    if node == WidthTable::G2 {
+        WidthTable::P2
+    } else {
+        node - 1
+    }
 }
 
 // The other operand of P1, U1, P2, U2: P1 and U1 have the input, the others the node two before.
@@ -155,13 +170,14 @@ fn other_place(node: u8) -> u8
 // The own error of a stage, where `total` is the range plus error of the value that it multiplies.
 fn own_error(table: WidthTable, level: u8, pass: u8, node: u8, total: u64) -> u64
     requires { ⌜ At table level pass ⌝ }
-    requires { ⌜ (1 ≤ node) × (node ≤ 6) × (total ≤ 2 ^ 51) ⌝ }
+    requires { ⌜ IsNode node ⌝ }
+    requires { ⌜ total ≤ mostTotal ⌝ }
     ensures { λ r. ⌜ r ≡ ownErrorOf table level (passOf pass) node total ⌝ }
 {
     let constant = table.constant_bits(node);
     let multiplied = bits_at(table, level, pass, multiplied_place(node));
     let f = bits_at(table, level, pass, node);
-    if node < 5 {
+    if node < WidthTable::G1 {
         let other = bits_at(table, level, pass, other_place(node));
         return own_lift(constant, multiplied, other, f, total);
     }
@@ -169,12 +185,13 @@ fn own_error(table: WidthTable, level: u8, pass: u8, node: u8, total: u64) -> u6
 }
 
 // What each place of a pass has of its own: the input its error, a node its own error.
-fn own_errors(table: WidthTable, level: u8, pass: u8, input: Bound) -> [u64; 7]
+fn own_errors(table: WidthTable, level: u8, pass: u8, input: Bound) -> [u64; Bound::PLACES as usize]
     requires { ⌜ Enters table level pass input ⌝ }
-    ensures { λ r. ⌜ r ≡ ownsOf table level (passOf pass) 7 ⌝ }
+    ensures { λ r. ⌜ r ≡ ownsOf table level (passOf pass) places ⌝ }
 {
-    let mut own = [input.error, 0, 0, 0, 0, 0, 0];
-    for node in 1..7 {
+    let mut own = [0u64; Bound::PLACES as usize];
+    own[0] = input.error;
+    for node in 1..Bound::PLACES {
         let operand = bound_at(input.range, own, multiplied_place(node));
         own[node as usize] = own_error(table, level, pass, node, operand.range + operand.error);
     }
@@ -183,19 +200,20 @@ fn own_errors(table: WidthTable, level: u8, pass: u8, input: Bound) -> [u64; 7]
 
 // Kept nodes are G1 and G2 of the columns, but G1 of the columns of row-low at the last level only.
 fn is_kept(levels: u8, level: u8, pass: u8, node: u8) -> bool
-    requires { ⌜ (1 ≤ pass) × (pass ≤ 3) × (1 ≤ node) × (node ≤ 6) ⌝ }
+    requires { ⌜ IsPass pass ⌝ }
+    requires { ⌜ IsNode node ⌝ }
     ensures { λ r. ⌜ r ≡ keptAt levels level (passOf pass) (nodeOf node) ⌝ }
 {
-    if pass == 1 {
+    if pass == WidthTable::ROWS {
         return false;
     }
-    if node < 5 {
+    if node < WidthTable::G1 {
         return false;
     }
-    if node == 6 {
+    if node == WidthTable::G2 {
         return true;
     }
-    if pass == 3 {
+    if pass == WidthTable::HIGH_COLUMNS {
         return true;
     }
     level == levels
@@ -203,11 +221,11 @@ fn is_kept(levels: u8, level: u8, pass: u8, node: u8) -> bool
 
 // A node fits (else 6); a kept one has an error below two steps (else 7).
 fn judge_bound(bound: Bound, integer: u8, fraction: u8, kept: bool, place: NodePlace) -> Outcome
-    requires { ⌜ (bound .range + bound .error ≤ 2 ^ 51) × (1 ≤ integer) × (integer ≤ 12) × (fraction ≤ 20) ⌝ }
-    ensures { λ r. ⌜ r ≡ judgedAs bound integer fraction kept place ⌝ }
+    requires { ⌜ (bound .range + bound .error ≤ mostTotal) × (1 ≤ integer) × (integer ≤ maxIntegerBits) × (fraction ≤ maxFractionBits) ⌝ }
+    ensures { λ r. ⌜ told r ≡ judgedAs bound integer fraction kept (place .level ∷ place .pass ∷ place .node ∷ []) ⌝ }
 {
     let step = power(32 - fraction);
-    if bound.range + bound.error + step <= power(integer - 1) * 4294967296 {} else {
+    if bound.range + bound.error + step <= power(integer - 1) * Bound::ONE {} else {
         return Outcome::Refused(Refusal::DoesNotFit(place));
     }
     if kept {} else {
@@ -223,8 +241,9 @@ fn judge_bound(bound: Bound, integer: u8, fraction: u8, kept: bool, place: NodeP
 // The verdict on one node.
 fn judge_node(table: WidthTable, level: u8, pass: u8, node: u8, bound: Bound) -> Outcome
     requires { ⌜ At table level pass ⌝ }
-    requires { ⌜ (1 ≤ node) × (node ≤ 6) × (bound .range + bound .error ≤ 2 ^ 51) × (bound ≡ boundOfNode table level pass node) ⌝ }
-    ensures { λ r. ⌜ r ≡ judged table (nodeAt level (passOf pass) (nodeOf node)) ⌝ }
+    requires { ⌜ IsNode node ⌝ }
+    requires { ⌜ (bound .range + bound .error ≤ mostTotal) × (bound ≡ boundOfNode table level pass node) ⌝ }
+    ensures { λ r. ⌜ told r ≡ judged table (nodeAt level (passOf pass) (nodeOf node)) ⌝ }
 {
     judge_bound(
         bound,
@@ -241,12 +260,12 @@ fn judge_nodes(
     level: u8,
     pass: u8,
     input: Bound,
-    own: [u64; 7],
+    own: [u64; Bound::PLACES as usize],
     count: u8,
 ) -> Outcome
     requires { ⌜ Enters table level pass input ⌝ }
-    requires { ⌜ (own ≡ ownsOf table level (passOf pass) 7) × (count ≤ 6) ⌝ }
-    ensures { λ r. ⌜ r ≡ firstRefusal table (take count (passNodes level (passOf pass))) ⌝ }
+    requires { ⌜ (own ≡ ownsOf table level (passOf pass) places) × (count < places) ⌝ }
+    ensures { λ r. ⌜ told r ≡ firstRefusal table (take count (passNodes level (passOf pass))) ⌝ }
 {
     for done in 0..count {
         let node = done + 1;
@@ -269,13 +288,15 @@ struct PassAnswer {
 // The verdict on a pass, and the bounds that it leaves.
 fn judge_pass(table: WidthTable, level: u8, pass: u8, input: Bound) -> PassAnswer
     requires { ⌜ Enters table level pass input ⌝ }
-    ensures { λ r. ⌜ PassJudged table level pass r ⌝ }
+    ensures outcome { λ r. ⌜ told (r .outcome) ≡ firstRefusal table (passNodes level (passOf pass)) ⌝ }
+    ensures low { λ r. ⌜ r .low ≡ asHeld (boundOf table (nodeAt level (passOf pass) G1)) ⌝ }
+    ensures high { λ r. ⌜ r .high ≡ asHeld (boundOf table (nodeAt level (passOf pass) G2)) ⌝ }
 {
     let own = own_errors(table, level, pass, input);
     PassAnswer {
-        outcome: judge_nodes(table, level, pass, input, own, 6),
-        low: bound_at(input.range, own, 5),
-        high: bound_at(input.range, own, 6),
+        outcome: judge_nodes(table, level, pass, input, own, WidthTable::NODES),
+        low: bound_at(input.range, own, WidthTable::G1),
+        high: bound_at(input.range, own, WidthTable::G2),
     }
 }
 
@@ -288,9 +309,10 @@ struct Entered {
 // Into the pass that follows the first passes of a level, as many as `done` says: columns take what the rows leave; after all three
 // come the rows of the next level, which take the low-low.
 fn enter_pass(table: WidthTable, level: u8, done: u8, input: Bound) -> Entered
-    requires { ⌜ Enters table level 1 input ⌝ }
-    requires { ⌜ done ≤ 3 ⌝ }
-    ensures { λ r. ⌜ Reached table (take (done * 6) (levelNodes level)) (fedAfter table level done) r ⌝ }
+    requires { ⌜ Enters table level (passNumber Rows) input ⌝ }
+    requires { ⌜ done ≤ passesPerLevel ⌝ }
+    ensures outcome { λ r. ⌜ told (r .outcome) ≡ firstRefusal table (take (done * nodesPerPass) (levelNodes level)) ⌝ }
+    ensures bound { λ r. ⌜ (told (r .outcome) ≡ passed → Reached (fedAfter table level done) (r .bound)) ⌝ }
 {
     if done == 0 {
         return Entered {
@@ -298,7 +320,7 @@ fn enter_pass(table: WidthTable, level: u8, done: u8, input: Bound) -> Entered
             bound: input,
         };
     }
-    let rows = judge_pass(table, level, 1, input);
+    let rows = judge_pass(table, level, WidthTable::ROWS, input);
     let first = rows.outcome;
     let low = rows.low;
     if done == 1 {
@@ -314,7 +336,7 @@ fn enter_pass(table: WidthTable, level: u8, done: u8, input: Bound) -> Entered
         },
         Outcome::Done => {}
     }
-    let low_columns = judge_pass(table, level, 2, low);
+    let low_columns = judge_pass(table, level, WidthTable::LOW_COLUMNS, low);
     let second = low_columns.outcome;
     let high = rows.high;
     if done == 2 {
@@ -330,7 +352,7 @@ fn enter_pass(table: WidthTable, level: u8, done: u8, input: Bound) -> Entered
         },
         Outcome::Done => {}
     }
-    let high_columns = judge_pass(table, level, 3, high);
+    let high_columns = judge_pass(table, level, WidthTable::HIGH_COLUMNS, high);
     let third = high_columns.outcome;
     let low_low = low_columns.low;
     Entered {
@@ -342,14 +364,15 @@ fn enter_pass(table: WidthTable, level: u8, done: u8, input: Bound) -> Entered
 // Into the rows of the level that follows the first `done` levels. The first level starts with range 1/2 and no error.
 fn enter_level(table: WidthTable, done: u8) -> Entered
     requires { ⌜ T (formRight table) × (done ≤ table .levels) ⌝ }
-    ensures { λ r. ⌜ Reached table (bookOrder done) (entering table (done + 1)) r ⌝ }
+    ensures outcome { λ r. ⌜ told (r .outcome) ≡ firstRefusal table (bookOrder done) ⌝ }
+    ensures bound { λ r. ⌜ (told (r .outcome) ≡ passed → Reached (entering table (done + 1)) (r .bound)) ⌝ }
 {
     let mut input = Bound {
-        range: 2147483648,
+        range: Bound::HALF,
         error: 0,
     };
     for before in 0..done {
-        let answer = enter_pass(table, before + 1, 3, input);
+        let answer = enter_pass(table, before + 1, WidthTable::PASSES, input);
         let outcome = answer.outcome;
         match outcome {
             Outcome::Refused(why) => return Entered {
@@ -368,7 +391,7 @@ fn enter_level(table: WidthTable, done: u8) -> Entered
 
 // The verdict on a width table: its form (else 4), then its nodes in book order (else 6 or 7).
 pub fn judge(table: WidthTable) -> Outcome
-    ensures { λ r. ⌜ r ≡ verdict table ⌝ }
+    ensures { λ r. ⌜ told r ≡ verdict table ⌝ }
 {
     if table.form_right() {} else {
         return Outcome::Refused(Refusal::OutsideLimits);
@@ -386,7 +409,9 @@ pub struct BoundAnswer {
 
 // The answer with no bound.
 fn no_bound(why: Refusal) -> BoundAnswer
-    ensures { λ r. ⌜ r ≡ record { outcome = Refused why; range = 0; error = 0 } ⌝ }
+    ensures outcome { λ r. ⌜ told (r .outcome) ≡ refused (toldRefusal why) ⌝ }
+    ensures range { λ r. ⌜ r .range ≡ 0 ⌝ }
+    ensures error { λ r. ⌜ r .error ≡ 0 ⌝ }
 {
     BoundAnswer {
         outcome: Outcome::Refused(why),
@@ -398,8 +423,10 @@ fn no_bound(why: Refusal) -> BoundAnswer
 // The bound of a node of a table of right form.
 fn bound_in(table: WidthTable, level: u8, pass: u8, node: u8) -> BoundAnswer
     requires { ⌜ At table level pass ⌝ }
-    requires { ⌜ (1 ≤ node) × (node ≤ 6) ⌝ }
-    ensures { λ r. ⌜ r ≡ boundTold (firstRefusal table (nodesBefore (table .levels) level pass node)) (boundOf table (nodeAt level (passOf pass) (nodeOf node))) ⌝ }
+    requires { ⌜ IsNode node ⌝ }
+    ensures outcome { λ r. ⌜ told (r .outcome) ≡ firstRefusal table (nodesBefore (table .levels) level pass node) ⌝ }
+    ensures range { λ r. ⌜ r .range ≡ answered (firstRefusal table (nodesBefore (table .levels) level pass node)) (boundNumbered table level pass node .range) 0 ⌝ }
+    ensures error { λ r. ⌜ r .error ≡ answered (firstRefusal table (nodesBefore (table .levels) level pass node)) (boundNumbered table level pass node .error) 0 ⌝ }
 {
     let rows = enter_level(table, level - 1);
     let earlier = rows.outcome;
@@ -429,7 +456,9 @@ fn bound_in(table: WidthTable, level: u8, pass: u8, node: u8) -> BoundAnswer
 
 // Range and error of a node: 4 where the form is not right or the table lacks the node, then 6 or 7 of the nodes before it.
 pub fn bound_of(table: WidthTable, level: u8, pass: u8, node: u8) -> BoundAnswer
-    ensures { λ r. ⌜ r ≡ boundAnswer table level pass node ⌝ }
+    ensures outcome { λ r. ⌜ told (r .outcome) ≡ boundable table level pass node ⌝ }
+    ensures range { λ r. ⌜ r .range ≡ rangeTold table level pass node ⌝ }
+    ensures error { λ r. ⌜ r .error ≡ errorTold table level pass node ⌝ }
 {
     if table.form_right() {} else {
         return no_bound(Refusal::OutsideLimits);

@@ -1,4 +1,9 @@
-// Why a call refuses. specs/Refusals sets out document 01's numbers and values for each case.
+// What calls answer. specs/Told sets out document 01's numbers and values for each case.
+ghost use mathlib.Core.Path.{_≡_};
+ghost use mathlib.Core.List.{[], _∷_};
+ghost use Prim.Native.Nat.{_*_};
+ghost use Rattle.refusals.specs.Answers.{bytesUp, code};
+ghost use Rattle.refusals.specs.Told.{toldRefusal, told};
 
 // A node of a width table: level from 1, pass 1 to 3, node 1 to 6.
 pub struct NodePlace {
@@ -25,4 +30,59 @@ pub enum Refusal {
 pub enum Outcome {
     Done,
     Refused(Refusal),
+}
+
+// A place as the bytes above the lowest: level, pass, node.
+fn place_code(place: NodePlace) -> u32
+    ensures { λ r. ⌜ r ≡ 256 * bytesUp (place .level ∷ place .pass ∷ place .node ∷ []) ⌝ }
+{
+    256 * (place.level as u32) + 65536 * (place.pass as u32) + 16777216 * (place.node as u32)
+}
+
+// A refusal as one number: its own in the lowest byte, its values above.
+pub fn refusal_code(refusal: Refusal) -> u32
+    ensures { λ r. ⌜ r ≡ bytesUp (toldRefusal refusal .0 ∷ toldRefusal refusal .1) ⌝ }
+{
+    match refusal {
+        Refusal::CutShort => 1,
+        Refusal::WrongTag => 2,
+        Refusal::WrongLength => 3,
+        Refusal::OutsideLimits => 4,
+        Refusal::TrailingBytes => 5,
+        Refusal::DoesNotFit(place) => 6 + place_code(place),
+        Refusal::ErrorTooLarge(place) => 7 + place_code(place),
+        Refusal::SideNotAdmitted => 8,
+        Refusal::SliceTooShort => 9,
+        Refusal::PixelTooLarge => 10,
+        Refusal::NoPicture => 11,
+    }
+}
+
+// The number of a refusal.
+pub fn number(refusal: Refusal) -> u8
+    ensures { λ r. ⌜ r ≡ toldRefusal refusal .0 ⌝ }
+{
+    match refusal {
+        Refusal::CutShort => 1,
+        Refusal::WrongTag => 2,
+        Refusal::WrongLength => 3,
+        Refusal::OutsideLimits => 4,
+        Refusal::TrailingBytes => 5,
+        Refusal::DoesNotFit(_) => 6,
+        Refusal::ErrorTooLarge(_) => 7,
+        Refusal::SideNotAdmitted => 8,
+        Refusal::SliceTooShort => 9,
+        Refusal::PixelTooLarge => 10,
+        Refusal::NoPicture => 11,
+    }
+}
+
+// An outcome as one number: 0 where the call was done.
+pub fn code(outcome: Outcome) -> u32
+    ensures { λ r. ⌜ r ≡ code (told outcome) ⌝ }
+{
+    match outcome {
+        Outcome::Done => 0,
+        Outcome::Refused(why) => refusal_code(why),
+    }
 }

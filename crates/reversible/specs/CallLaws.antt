@@ -1,6 +1,6 @@
 -- The 5/3 calls: there and back (`there-and-back`), back and there (`back-and-there`).
-use Prim.Native.Nat.{ℕ, zero, suc, _+_, _*_, _-_, _^_, _<_, _≤_}
-use mathlib.Core.Bool.{Bool, _&&_}
+use Prim.Native.Nat.{ℕ, _+_, _*_, _-_, _^_, _<_, _≤_}
+use mathlib.Core.Bool.{_&&_}
 use mathlib.Core.List.{List, map}
 use mathlib.Core.Path.{_≡_, sym, _∙_, ap, subst}
 use native.Mathlib.Omega.{arith}
@@ -9,11 +9,8 @@ use lib.ListN.{length, getD, take, drop, List·getD-append}
 use lib.IntN.{ℤ, pos, natAbs, _+ℤ_, _-ℤ_}
 use Rattle.numbers.specs.Tests.{every}
 use Rattle.numbers.specs.Lists.{over}
-use Rattle.refusals.specs.declared.Outcome.{Outcome}
-use Rattle.refusals.specs.declared.Outcome.the-variants.{Done}
-use Rattle.refusals.specs.Refusals.{asks, _then_}
-use Rattle.refusals.specs.RefusalLaws.{asks-done, asks-right, then-done, then-right, answered-done}
-use Rattle.lines.specs.Planes.{Plane, rowByRow}
+use Rattle.refusals.specs.Answers.{passed, _then_}
+use Rattle.refusals.specs.AnswerLaws.{asks-done, asks-right, then-done, then-right, answered-done}
 use Rattle.lines.specs.PlaneLaws.{Roomy, roomy, Agree}
 use Rattle.lines.specs.RowLaws.{place-in, rows-length, rows-same, rows-take, every-row, rows-map}
 use Rattle.width_table.specs.Table.{depthRight, levelsRight}
@@ -26,7 +23,7 @@ use Rattle.reversible.specs.Calls.{limited, forwardAnswer, forwardPlane,
 
 -- ---- there and back
 
-allowed : (B L w h a b c : ℕ) → T (depthRight B && levelsRight L) → Room L w h a b c → limited B L then sized L w h a b c ≡ Done
+allowed : (B L w h a b c : ℕ) → T (depthRight B && levelsRight L) → Room L w h a b c → limited B L then sized L w h a b c ≡ passed
 allowed B L w h a b c d r = then-right (limited B L) _ (asks-right (depthRight B && levelsRight L) _ _ d) ∙ sized-right L w h a b c r
 
 -- what a done forward call tells
@@ -35,7 +32,7 @@ record ForwardDone (B L w h : ℕ) (pixels : List ℕ) (plane work : List ℤ) :
   room : Room L w h (length pixels) (length plane) (length work)
   right : T (every (λ p. ltb p (2 ^ B)) (take (w * h) pixels))
 
-forward-done : (B L w h : ℕ) (pixels : List ℕ) (plane work : List ℤ) → forwardAnswer B L w h pixels plane work ≡ Done → ForwardDone B L w h pixels plane work
+forward-done : (B L w h : ℕ) (pixels : List ℕ) (plane work : List ℤ) → forwardAnswer B L w h pixels plane work ≡ passed → ForwardDone B L w h pixels plane work
 unfolding forwardAnswer
 forward-done B L w h pixels plane work e =
     let a = then-done (limited B L) _ e in
@@ -46,7 +43,7 @@ forward-done B L w h pixels plane work e =
       right = pixels-done B w h pixels (b .1);
     }
 
-module _ (B L w h : ℕ) (pixels : List ℕ) (plane work : List ℤ) (e : forwardAnswer B L w h pixels plane work ≡ Done) (pixels' : List ℕ) (work' : List ℤ) (rp : w * h ≤ length pixels') (rw' : w * h ≤ length work') where
+module _ (B L w h : ℕ) (pixels : List ℕ) (plane work : List ℤ) (e : forwardAnswer B L w h pixels plane work ≡ passed) (pixels' : List ℕ) (work' : List ℤ) (rp : w * h ≤ length pixels') (rw' : w * h ≤ length work') where
   abbrev made : List ℤ
   made = forwardPlane B L w h pixels plane work
 
@@ -99,7 +96,7 @@ module _ (B L w h : ℕ) (pixels : List ℕ) (plane work : List ℤ) (e : forwar
       ∙ rows-same w h some-w _ (λ r c. getD pixels (r * w + c) 0) (λ r c i j. ap natAbs (value r c i j))
       ∙ rows-take w h some-w pixels 0 (facts .room .first)
 
-  pub goes-back-done : backAnswer B L w h made pixels' work' ≡ Done
+  pub goes-back-done : backAnswer B L w h made pixels' work' ≡ passed
   unfolding backAnswer backAllowed
   goes-back-done =
       let f = facts in
@@ -118,7 +115,7 @@ record BackDone (B L w h : ℕ) (plane : List ℤ) (pixels : List ℕ) (work : L
   room : Room L w h (length pixels) (length plane) (length work)
   right : T (hasPicture B L w h plane)
 
-back-done : (B L w h : ℕ) (plane : List ℤ) (pixels : List ℕ) (work : List ℤ) → backAnswer B L w h plane pixels work ≡ Done → BackDone B L w h plane pixels work
+back-done : (B L w h : ℕ) (plane : List ℤ) (pixels : List ℕ) (work : List ℤ) → backAnswer B L w h plane pixels work ≡ passed → BackDone B L w h plane pixels work
 unfolding backAnswer backAllowed
 back-done B L w h plane pixels work e =
     let a = then-done (backAllowed B L w h plane pixels work) _ e in
@@ -129,7 +126,7 @@ back-done B L w h plane pixels work e =
       right = asks-done (hasPicture B L w h plane) _ _ (a .1) .0;
     }
 
-module _ (B L w h : ℕ) (plane : List ℤ) (pixels : List ℕ) (work : List ℤ) (e : backAnswer B L w h plane pixels work ≡ Done) (plane' work' : List ℤ) (rp : w * h ≤ length plane') (rw' : w * h ≤ length work') where
+module _ (B L w h : ℕ) (plane : List ℤ) (pixels : List ℕ) (work : List ℤ) (e : backAnswer B L w h plane pixels work ≡ passed) (plane' work' : List ℤ) (rp : w * h ≤ length plane') (rw' : w * h ≤ length work') where
   abbrev picture : List ℕ
   picture = backPixels B L w h plane pixels work
 
@@ -175,7 +172,7 @@ module _ (B L w h : ℕ) (plane : List ℤ) (pixels : List ℕ) (work : List ℤ
       rows-same w h big-w (forward L w h (sample picture B w)) (forward L w h (sample came B w)) (forward-agrees L w h wide-w wide-h (sample picture B w) (sample came B w) same-samples)
       ∙ found-plane B L w h wide-w wide-h big-w big-h plane (known .room .second) (known .right)
 
-  pub comes-forward-done : forwardAnswer B L w h picture plane' work' ≡ Done
+  pub comes-forward-done : forwardAnswer B L w h picture plane' work' ≡ passed
   unfolding forwardAnswer pixelsRight
   comes-forward-done =
       let k = known in

@@ -7,23 +7,20 @@ use lib.IntN.{ℤ, pos, natAbs, _+ℤ_}
 use lib.Signed.{leZ, ltZ}
 use Rattle.numbers.specs.Tests.{every}
 use Rattle.numbers.specs.Lists.{over}
-use Rattle.refusals.specs.declared.Refusal.the-variants.{OutsideLimits, NoPicture}
-use Rattle.refusals.specs.declared.Outcome.{Outcome}
-use Rattle.refusals.specs.declared.Outcome.the-variants.{Done, Refused}
-use Rattle.refusals.specs.Refusals.{asks, _then_, answered}
-use Rattle.lines.specs.Planes.{Plane, rowByRow}
+use Rattle.refusals.specs.Answers.{Answer, passed, asks, _then_, answered}
+use Rattle.lines.specs.Planes.{rowByRow}
 use Rattle.width_table.specs.Table.{depthRight, levelsRight}
 use Rattle.pictures.specs.Pictures.{sided, holds, pixelsRight, sample, planeOf, zeroed}
 use Rattle.reversible.specs.Reversible.{forward, back}
 
 -- 4: depth and levels are within their limits
-abbrev pub limited : ℕ → ℕ → Outcome
-limited B L = asks (depthRight B && levelsRight L) OutsideLimits Done
+abbrev pub limited : ℕ → ℕ → Answer Unit
+limited B L = asks (depthRight B && levelsRight L) 4 passed
 
 -- ---- forward: 4, 8, 9, 10
 
 module _ (B L w h : ℕ) (pixels : List ℕ) (plane work : List ℤ) where
-  unfoldable pub forwardAnswer : Outcome
+  unfoldable pub forwardAnswer : Answer Unit
   forwardAnswer =
       limited B L
       then sided L w h
@@ -53,7 +50,7 @@ unfoldable pub hasPicture : ℕ → ℕ → ℕ → ℕ → List ℤ → Bool
 hasPicture B L w h plane = every (isPixel B) (pixelsBack B L w h plane)
 
 module _ (B L w h : ℕ) (plane : List ℤ) (pixels : List ℕ) (work : List ℤ) where
-  unfoldable pub backAllowed : Outcome
+  unfoldable pub backAllowed : Answer Unit
   backAllowed =
       limited B L
       then sided L w h
@@ -61,8 +58,8 @@ module _ (B L w h : ℕ) (plane : List ℤ) (pixels : List ℕ) (work : List ℤ
       then holds (w * h) (length plane)
       then holds (w * h) (length work)
 
-  unfoldable pub backAnswer : Outcome
-  backAnswer = backAllowed then asks (hasPicture B L w h plane) NoPicture Done
+  unfoldable pub backAnswer : Answer Unit
+  backAnswer = backAllowed then asks (hasPicture B L w h plane) 11 passed
 
   unfoldable pub backPixels : List ℕ
   backPixels = answered backAnswer (over (map natAbs (pixelsBack B L w h plane)) pixels) pixels

@@ -25,6 +25,7 @@ use Rattle.reversible.specs.LevelLaws.{planeAt}
 use Rattle.reversible.specs.StepLaws.{middle}
 use Rattle.reversible.specs.Needs.{CallRoom}
 use Rattle.reversible.specs.BackLaws.{Tells, Between, tells-same, BackDone}
+use Rattle.width_table.specs.Table.{maxDepth}
 
 -- the values of samples of depth B
 abbrev pub IsSample : ℕ → ℤ → Type 0
@@ -41,7 +42,7 @@ below = by-dif _ λ a b. by-dif _ λ c d. simp difs (omega arith)
 pub sample-size : (n : ℕ) (q z : ℤ) → natAbs q ≤ n → Between (negℤ q) (q -ℤ pos 1) z → natAbs z ≤ n
 sample-size n = by-dif _ λ a b. by-dif _ λ c d. simp difs (omega arith)
 
-module _ (B : ℕ) (some : 1 ≤ B) (few : B ≤ 12) where
+module _ (B : ℕ) (some : 1 ≤ B) (few : B ≤ maxDepth) where
   doubled : 2 ^ B ≡ 2 ^ (B - 1) + 2 ^ (B - 1)
   doubled = omega (arith, middle B some few .0)
 

@@ -12,9 +12,10 @@ use Rattle.pictures.specs.MemoryLaws.{Stands}
 use Rattle.reversible.specs.Reversible.{forward, backLevel, back}
 use Rattle.reversible.specs.ReversibleLaws.{back-forward, back-agrees}
 use Rattle.reversible.specs.LevelLaws.{Sized, planeAt, levelForward, levelBack, forward-beyond, forward-stands, back-stands, forward-sized}
+use Rattle.width_table.specs.Table.{maxLevels}
 
 -- 4^k for at most five levels
-four-pow : (k : ℕ) → k ≤ 5 → 4 ^ k ≤ 1024
+four-pow : (k : ℕ) → k ≤ maxLevels → 4 ^ k ≤ 1024
 four-pow zero h = omega arith
 four-pow (suc zero) h = omega arith
 four-pow (suc (suc zero)) h = omega arith
@@ -80,7 +81,7 @@ module _ (L w h : ℕ) (aw : Admitted L w) (ah : Admitted L h) where
   unfolding side
   forward-first some x z e = forward-more 0 (omega arith) x x z (forward-none x) e
 
-  pub forward-part : (k : ℕ) → k < L → L ≤ 5 → (x y : ℕ → ℤ) → ForwardDone w h k x y → Sized (2 ^ 11) w h (planeAt w x) → Sized (2 ^ 21) (side k w) (side k h) (planeAt w y)
+  pub forward-part : (k : ℕ) → k < L → L ≤ maxLevels → (x y : ℕ → ℤ) → ForwardDone w h k x y → Sized (2 ^ 11) w h (planeAt w x) → Sized (2 ^ 21) (side k w) (side k h) (planeAt w y)
   forward-part k i five x y f small r c a b =
       let s = sides k i in
       subst (λ (t : ℤ). natAbs t ≤ 2 ^ 21) (sym (f .stands r c (omega (arith, s .in-h)) (omega (arith, s .in-w))))
@@ -102,7 +103,7 @@ module _ (L w h : ℕ) (aw : Admitted L w) (ah : Admitted L h) where
       })
 
   -- where the samples that come out are those of a picture, nothing on the way is large
-  pub back-part : (k : ℕ) → k ≤ L → L ≤ 5 → (x y : ℕ → ℤ) → BackLeft L w h k x y → Sized (2 ^ 11) w h (back L w h (planeAt w x)) → Sized (2 ^ 21) w h (planeAt w y)
+  pub back-part : (k : ℕ) → k ≤ L → L ≤ maxLevels → (x y : ℕ → ℤ) → BackLeft L w h k x y → Sized (2 ^ 11) w h (back L w h (planeAt w x)) → Sized (2 ^ 21) w h (planeAt w y)
   back-part k i five x y f small r c a b =
       let wide : Roomy k w = λ j t. roomy L w (aw .0) j (omega arith) in
       let tall : Roomy k h = λ j t. roomy L h (ah .0) j (omega arith) in

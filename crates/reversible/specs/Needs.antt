@@ -12,7 +12,7 @@ use Rattle.lifting.specs.Kernels.{Part, worked, SafeKernel, rowOf, columnOf, ro
 use Rattle.lifting.specs.Patch.{at, patch-in}
 use Rattle.lifting.specs.PatchLines.{lineAt, patchLines}
 use Rattle.lifting.specs.Strips.{pixelLine}
-use Rattle.pictures.specs.Pictures.{Admitted}
+use Rattle.pictures.specs.Pictures.{maxSide, Admitted}
 use Rattle.pictures.specs.PictureLaws.{Room}
 use Rattle.pictures.specs.MemoryLaws.{loaded, pixel-rows-worked}
 use Rattle.lines.specs.Lines.{Liftable}
@@ -21,6 +21,7 @@ use Rattle.lines.specs.RowLaws.{place-in}
 use Rattle.reversible.specs.LevelLaws.{Sized, planeAt, forward-rows-safe, forward-columns-safe, rows-sized, back-rows-safe, back-columns-safe, columns-sized}
 use Rattle.reversible.specs.Sizes.{forwardKernel, backKernel, forward-safe}
 use Rattle.reversible.specs.LoopLaws.{Sides, sides}
+use Rattle.width_table.specs.Table.{maxLevels, maxDepth}
 
 -- a part of w columns and h rows, with values of size b at most, and a tile for its lines
 pub record LevelRoom (b : ℕ) (plane : List ℤ) (tile W w h : ℕ) : Type 0 where
@@ -33,7 +34,7 @@ pub record LevelRoom (b : ℕ) (plane : List ℤ) (tile W w h : ℕ) : Type 0 wh
 
 -- a picture of w columns and h rows with samples of size 2^11 at most, a plane for it, and a tile for its lines
 pub record FirstRoom (B : ℕ) (pixels : List ℕ) (plane : List ℤ) (tile w h : ℕ) : Type 0 where
-  pub depth : (1 ≤ B) × (B ≤ 12)
+  pub depth : (1 ≤ B) × (B ≤ maxDepth)
   pub part : Part plane w 0 w h
   pub wide : Liftable w
   pub tall : Liftable h
@@ -44,7 +45,7 @@ pub record FirstRoom (B : ℕ) (pixels : List ℕ) (plane : List ℤ) (tile w h 
 
 -- admitted sides, and room for w * h values in the plane and for a line in the tile
 pub record LevelsRoom (L w h plane tile : ℕ) : Type 0 where
-  pub few : L ≤ 5
+  pub few : L ≤ maxLevels
   pub across : Admitted L w
   pub down : Admitted L h
   pub room : w * h ≤ plane
@@ -53,9 +54,9 @@ pub record LevelsRoom (L w h plane tile : ℕ) : Type 0 where
 
 -- a call that is allowed: depth and levels within their limits, admitted sides, slices of a, b and c elements that are long enough
 pub record CallRoom (B L w h a b c : ℕ) : Type 0 where
-  pub depth : (1 ≤ B) × (B ≤ 12)
+  pub depth : (1 ≤ B) × (B ≤ maxDepth)
   pub some : 1 ≤ L
-  pub few : L ≤ 5
+  pub few : L ≤ maxLevels
   pub room : Room L w h a b c
 
 -- and the picture's pixels are below 2^B
@@ -77,7 +78,7 @@ levels-room {w} {h} p plane tile e f =
     record { few = p .few; across = p .room .wide; down = p .room .tall; room = e; row = omega arith; column = omega arith }
 
 -- the part that level k + 1 works lies in the plane
-pub part-of : (L W H k : ℕ) (plane : List ℤ) → Sides L W H k → W ≤ 4096 → H ≤ 4096 → W * H ≤ length plane → Part plane W 0 (side k W) (side k H)
+pub part-of : (L W H k : ℕ) (plane : List ℤ) → Sides L W H k → W ≤ maxSide → H ≤ maxSide → W * H ≤ length plane → Part plane W 0 (side k W) (side k H)
 part-of L W H k plane s across few room = record {
   narrow = omega (arith, s .in-w);
   few = omega (arith, s .in-h);

@@ -1,15 +1,15 @@
 -- Refusal 11: the way back leaves the pixels' range exactly where no picture of that depth and size has the plane.
-use Prim.Native.Nat.{ℕ, zero, suc, _+_, _*_, _-_, _^_, _<_, _≤_}
-use mathlib.Core.Bool.{Bool, true, false, _&&_}
+use Prim.Native.Nat.{ℕ, _+_, _*_, _-_, _^_, _<_, _≤_}
+use mathlib.Core.Bool.{Bool}
 use mathlib.Core.List.{List, [], _∷_, map}
 use mathlib.Core.Logic.{_↔_}
 use mathlib.Core.Path.{_≡_, refl, sym, _∙_, ap, subst}
 use native.Mathlib.Omega.{arith}
-use lib.Dec.{T, leb, ltb, le→leb, lt→ltb, ltb→lt}
+use lib.Dec.{T, ltb, le→leb, lt→ltb, ltb→lt}
 use lib.ListN.{length, getD, take, length-map, List·getD-map}
 use lib.Seq.{getD-take}
 use lib.IntN.{ℤ, pos, negsuc, natAbs, _+ℤ_, _-ℤ_}
-use lib.Signed.{leZ, ltZ, leZ-yes, yes-nonNeg, pos-natAbs}
+use lib.Signed.{leZ, ltZ}
 use Rattle.lines.specs.Planes.{Plane, rowByRow}
 use Rattle.pictures.specs.Pictures.{sample, planeOf}
 use Rattle.numbers.specs.Tests.{every, both, and-intro}

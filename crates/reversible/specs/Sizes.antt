@@ -1,6 +1,6 @@
 -- How large the values of the 5/3 passes become, and that the machine's steps therefore fit.
 -- A pass forward at most doubles the size of a line's values; a pass back makes it at most three times as large.
-use Prim.Native.Nat.{ℕ, _+_, _*_, _-_, _/_, _<_, _≤_, _^_}
+use Prim.Native.Nat.{ℕ, _+_, _*_, _-_, _<_, _≤_, _^_}
 use mathlib.Core.Path.{_≡_, refl, sym, subst}
 use native.Mathlib.Omega.{arith}
 use lib.IntN.{ℤ, pos, negsuc, natAbs, _+ℤ_}

@@ -1,5 +1,5 @@
 -- What the steps of the forward call leave: samples in, levels, the work area cleared.
-use Prim.Native.Nat.{ℕ, zero, suc, _+_, _*_, _-_, _<_, _≤_, _^_}
+use Prim.Native.Nat.{ℕ, zero, suc, _*_, _-_, _<_, _≤_, _^_}
 use mathlib.Core.List.{List}
 use mathlib.Core.Path.{_≡_, sym, _∙_, ap, subst}
 use native.Mathlib.Omega.{arith}
@@ -20,12 +20,13 @@ use Rattle.reversible.specs.ReversibleLaws.{forward-agrees}
 use Rattle.reversible.specs.LevelLaws.{Sized, planeAt}
 use Rattle.reversible.specs.LoopLaws.{ForwardDone, sides, side-none}
 use Rattle.reversible.specs.Needs.{FirstRoom, ForwardRoom, lines-fit, levels-room, part-here, loaded-at, loaded-sized}
+use Rattle.width_table.specs.Table.{maxDepth}
 
 -- a pixel less the middle
 sample-small : (p q : ℕ) → p ≤ 2 * q → natAbs (pos p -ℤ pos q) ≤ q
 sample-small p q = simp difs (omega arith)
 
-pub middle : (B : ℕ) → 1 ≤ B → B ≤ 12 → (2 ^ B ≡ 2 * 2 ^ (B - 1)) × (2 ^ (B - 1) ≤ 2 ^ 11)
+pub middle : (B : ℕ) → 1 ≤ B → B ≤ maxDepth → (2 ^ B ≡ 2 * 2 ^ (B - 1)) × (2 ^ (B - 1) ≤ 2 ^ 11)
 middle zero h k = absurd (omega arith)
 middle (suc B) h k = let e : suc B - 1 ≡ B = omega arith in (omega (arith, ap (λ (t : ℕ). 2 ^ t) e), subst (λ (t : ℕ). 2 ^ t ≤ 2 ^ 11) (sym e) (pow-mono {i = B} {j = 11} (omega arith)))
 

@@ -4,11 +4,12 @@ ghost use Prim.Native.Nat.{ℕ, _+_, _*_, _-_, _<_, _≤_, _^_};
 ghost use lib.ListN.{length, getD};
 ghost use lib.IntN.{pos, natAbs, negℤ, _+ℤ_, _-ℤ_};
 ghost use Rattle.numbers.specs.Lists.{over};
-ghost use Rattle.refusals.specs.Refusals.{_then_};
+ghost use Rattle.refusals.specs.Answers.{_then_};
+ghost use Rattle.refusals.specs.Told.{told};
 ghost use Rattle.lines.specs.Planes.{rowByRow, side};
 ghost use Rattle.lifting.specs.Patch.{at, patch};
 ghost use Rattle.lifting.specs.Kernels.{Part};
-ghost use Rattle.pictures.specs.Pictures.{sided, holds, sample, zeroed};
+ghost use Rattle.pictures.specs.Pictures.{maxSide, sided, holds, sample, zeroed};
 ghost use Rattle.pictures.specs.MemoryLaws.{loaded};
 ghost use Rattle.reversible.specs.Reversible.{forward};
 ghost use Rattle.reversible.specs.Calls.{limited, forwardAnswer, forwardPlane, forwardWork, backAnswer, backPixels, backWork};
@@ -17,12 +18,20 @@ ghost use Rattle.reversible.specs.LoopLaws.{ForwardDone};
 ghost use Rattle.reversible.specs.Needs.{LevelRoom, FirstRoom, ForwardRoom, LevelsRoom, CallRoom};
 ghost use Rattle.reversible.specs.BackLaws.{Tells, Between, BackDone};
 ghost use Rattle.reversible.specs.FoundLaws.{IsSample, Found, TakenBack};
+ghost use Rattle.width_table.specs.Table.{maxDepth};
 use lifting::Kernel;
 use lifting::Pair;
 use lifting::Step;
 use refusals::Outcome;
 use refusals::Refusal;
-use width_table::WidthTable;
+
+// Elements of the tile of the way back: sixteen columns of MAX_SIDE.
+const TILE: usize = 16 * pictures::MAX_SIDE;
+
+// No picture gives a value beyond these; between them no sum of a level leaves 32 bits.
+const MAX_VALUE: i32 = 1 << 22;
+
+const MIN_VALUE: i32 = -MAX_VALUE;
 
 // Refusals 4, 8 and 9, for slices of so many elements.
 fn allowed(
@@ -34,18 +43,9 @@ fn allowed(
     second: usize,
     third: usize,
 ) -> Outcome
-    ensures { λ r. ⌜ r ≡ limited depth levels then sided levels w h then holds (w * h) first then holds (w * h) second then holds (w * h) third ⌝ }
+    ensures { λ r. ⌜ told r ≡ limited depth levels then sided levels w h then holds (w * h) first then holds (w * h) second then holds (w * h) third ⌝ }
 {
-    if depth < 1 {
-        return Outcome::Refused(Refusal::OutsideLimits);
-    }
-    if WidthTable::MAX_DEPTH < depth {
-        return Outcome::Refused(Refusal::OutsideLimits);
-    }
-    if levels < 1 {
-        return Outcome::Refused(Refusal::OutsideLimits);
-    }
-    if WidthTable::MAX_LEVELS < levels {
+    if width_table::limits_right(depth, levels) {} else {
         return Outcome::Refused(Refusal::OutsideLimits);
     }
     pictures::room_right(levels, w, h, first, second, third)
@@ -165,7 +165,7 @@ pub fn forward(
     plane: &mut [i32],
     work: &mut [i32],
 ) -> Outcome
-    ensures answer { λ r. ⌜ r ≡ forwardAnswer depth levels w h (now (pixels .entry)) (now (plane .entry)) (now (work .entry)) ⌝ }
+    ensures answer { λ r. ⌜ told r ≡ forwardAnswer depth levels w h (now (pixels .entry)) (now (plane .entry)) (now (work .entry)) ⌝ }
     ensures plane { λ _. ⌜ now (plane .exit) ≡ forwardPlane depth levels w h (now (pixels .entry)) (now (plane .entry)) (now (work .entry)) ⌝ }
     ensures work { λ _. ⌜ now (work .exit) ≡ forwardWork depth levels w h (now (pixels .entry)) (now (plane .entry)) (now (work .entry)) ⌝ }
 {
@@ -183,7 +183,7 @@ pub fn forward(
 
 // The side that k levels leave of a side of n.
 fn side_after(n: usize, k: u8) -> usize
-    requires { ⌜ (1 ≤ n) × (n ≤ 4096) ⌝ }
+    requires { ⌜ (1 ≤ n) × (n ≤ maxSide) ⌝ }
     ensures { λ r. ⌜ r ≡ side k n ⌝ }
 {
     let mut m = n;
@@ -260,7 +260,7 @@ fn level_back(values: &mut [i32], tile: &mut [i32], stride: usize, w: usize, h: 
     );
 }
 
-// All levels back, the last one first; false where a value lies beyond 2^22 (4194304), which no picture gives.
+// All levels back, the last one first; false where a value lies beyond MIN_VALUE or MAX_VALUE.
 fn levels_back(values: &mut [i32], tile: &mut [i32], w: usize, h: usize, levels: u8) -> bool
     requires { ⌜ LevelsRoom levels w h (length (now values)) (length (now tile)) ⌝ }
     ensures { λ r. ⌜ BackDone levels w h (at (now (values .entry))) (at (now (values .exit))) r ⌝ }
@@ -270,7 +270,7 @@ fn levels_back(values: &mut [i32], tile: &mut [i32], w: usize, h: usize, levels:
         k -= 1;
         let across = side_after(w, k);
         let down = side_after(h, k);
-        if part_between(values, w, across, down, -4194304, 4194304) {
+        if part_between(values, w, across, down, MIN_VALUE, MAX_VALUE) {
             level_back(values, tile, w, across, down);
         } else {
             return false;
@@ -291,7 +291,7 @@ fn copy_front(from: &[i32], to: &mut [i32], n: usize)
 
 // The middle of the pixels' range.
 fn middle(depth: u8) -> i32
-    requires { ⌜ (1 ≤ depth) × (depth ≤ 12) ⌝ }
+    requires { ⌜ (1 ≤ depth) × (depth ≤ maxDepth) ⌝ }
     ensures { λ r. ⌜ r ≡ pos (2 ^ (depth - 1)) ⌝ }
 {
     pictures::middle(depth) as i32
@@ -299,7 +299,7 @@ fn middle(depth: u8) -> i32
 
 // Whether n samples are those of pixels of that depth.
 fn samples_right(values: &[i32], n: usize, depth: u8) -> bool
-    requires { ⌜ (1 ≤ depth) × (depth ≤ 12) × (n ≤ length (now values)) ⌝ }
+    requires { ⌜ (1 ≤ depth) × (depth ≤ maxDepth) × (n ≤ length (now values)) ⌝ }
     ensures { λ r. ⌜ Tells ((j : ℕ) → j < n → IsSample depth (at (now (values .entry)) j)) r ⌝ }
 {
     let half = middle(depth);
@@ -314,7 +314,7 @@ fn found(
     w: usize,
     h: usize,
     values: &mut [i32],
-    tile: &mut [i32; 65536],
+    tile: &mut [i32; TILE],
 ) -> bool
     requires { ⌜ CallRoom depth levels w h (length (now values)) (length (now plane)) (length (now values)) ⌝ }
     ensures { λ r. ⌜ Found depth levels w h (now (plane .entry)) (at (now (values .exit))) r ⌝ }
@@ -338,7 +338,7 @@ fn pixel_of(v: i32, half: i32) -> u16
 
 // The first n samples go to the pixels.
 fn write_pixels(values: &[i32], pixels: &mut [u16], n: usize, depth: u8)
-    requires { ⌜ (1 ≤ depth) × (depth ≤ 12) × (n ≤ length (now values)) × (n ≤ length (now pixels)) ⌝ }
+    requires { ⌜ (1 ≤ depth) × (depth ≤ maxDepth) × (n ≤ length (now values)) × (n ≤ length (now pixels)) ⌝ }
     requires { ⌜ ((j : ℕ) → j < n → IsSample depth (at (now values) j)) ⌝ }
     ensures { λ _. ⌜ (λ k. getD (now (pixels .exit)) k 0) ≡ patch 0 n (λ k. natAbs (at (now (values .entry)) k +ℤ pos (2 ^ (depth - 1)))) (λ k. getD (now (pixels .entry)) k 0) ⌝ }
 {
@@ -357,7 +357,7 @@ fn take_back(
     h: usize,
     pixels: &mut [u16],
     work: &mut [i32],
-    tile: &mut [i32; 65536],
+    tile: &mut [i32; TILE],
 ) -> bool
     requires { ⌜ CallRoom depth levels w h (length (now pixels)) (length (now plane)) (length (now work)) ⌝ }
     ensures { λ r. ⌜ TakenBack depth levels w h (now (plane .entry)) (now (pixels .entry)) (now (pixels .exit)) r ⌝ }
@@ -374,7 +374,8 @@ fn take_back(
     }
 }
 
-// The picture of a 5/3 plane (the tile is made before anything is judged: docs/DECISIONS.md, back end): refusals 4, 8, 9 and 11; a work area of which the first w * h elements become 0, with 11 too.
+// The picture of a 5/3 plane: refusals 4, 8, 9 and 11. The first w * h elements of the work area become 0, with 11 too.
+// The tile is made before anything is judged (docs/DECISIONS.md, the compiler's back end).
 pub fn back(
     depth: u8,
     levels: u8,
@@ -384,11 +385,11 @@ pub fn back(
     pixels: &mut [u16],
     work: &mut [i32],
 ) -> Outcome
-    ensures answer { λ r. ⌜ r ≡ backAnswer depth levels w h (now (plane .entry)) (now (pixels .entry)) (now (work .entry)) ⌝ }
+    ensures answer { λ r. ⌜ told r ≡ backAnswer depth levels w h (now (plane .entry)) (now (pixels .entry)) (now (work .entry)) ⌝ }
     ensures pixels { λ _. ⌜ now (pixels .exit) ≡ backPixels depth levels w h (now (plane .entry)) (now (pixels .entry)) (now (work .entry)) ⌝ }
     ensures work { λ _. ⌜ now (work .exit) ≡ backWork depth levels w h (now (plane .entry)) (now (pixels .entry)) (now (work .entry)) ⌝ }
 {
-    let mut tile = [0i32; 65536];
+    let mut tile = [0i32; TILE];
     match allowed(depth, levels, w, h, pixels.len(), plane.len(), work.len()) {
         Outcome::Refused(why) => Outcome::Refused(why),
         Outcome::Done => {

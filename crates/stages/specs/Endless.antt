@@ -1,5 +1,5 @@
--- The sum in a gain is the sum over the endless line: beyond place m every answer is zero (`no-answer`), so that a longer sum is the same
--- fraction (`endless`) and gives the same gain (`endless-gain`). Place 0 of the node stands for every place (`anywhere`).
+-- The sum in a gain is the sum over the endless line: beyond place m every answer is zero (`no-answer-input`, `no-answer-node`), so that a
+-- longer sum is the same fraction (`endless`) and gives the same gain (`endless-gain`). Place 0 of the node stands for every place (`anywhere`).
 use mathlib.Core.List.{List}
 use Prim.Native.Nat.{ℕ, zero, suc, _+_, _*_, _-_, _<_, _≤_}
 use mathlib.Core.Path.{_≡_, refl, sym, _∙_, ap, subst}

@@ -29,7 +29,7 @@ unfolding made lift
 made-cong lifts c h i j = ⊕-cong h (⊗-cong (≈-refl c) (⊕-cong i j))
 made-cong scales c h i j = ⊗-cong (≈-refl c) h
 
-pub made-plus : (t : Kind) (c o o' x x' y y' : Frac) → made t c (o ⊕ o') (x ⊕ x') (y ⊕ y') ≈ made t c o x y ⊕ made t c o' x' y'
+made-plus : (t : Kind) (c o o' x x' y y' : Frac) → made t c (o ⊕ o') (x ⊕ x') (y ⊕ y') ≈ made t c o x y ⊕ made t c o' x' y'
 unfolding made lift
 made-plus lifts c o o' x x' y y' =
     ≈-trans (⊕-cong (≈-refl (o ⊕ o')) (≈-trans (⊗-cong (≈-refl c) (⊕-swap x x' y y')) (⊗-distl c (x ⊕ y) (x' ⊕ y'))))
@@ -40,7 +40,7 @@ made-plus scales c o o' x x' y y' = ⊗-distl c o o'
 swap-times : (c d x : Frac) → c ⊗ (d ⊗ x) ≈ d ⊗ (c ⊗ x)
 swap-times c d x = ≈-trans (≈-sym (⊗-assoc c d x)) (≈-trans (⊗-cong (⊗-comm c d) (≈-refl x)) (⊗-assoc d c x))
 
-pub made-times : (t : Kind) (c d o x y : Frac) → made t c (d ⊗ o) (d ⊗ x) (d ⊗ y) ≈ d ⊗ made t c o x y
+made-times : (t : Kind) (c d o x y : Frac) → made t c (d ⊗ o) (d ⊗ x) (d ⊗ y) ≈ d ⊗ made t c o x y
 unfolding made lift
 made-times lifts c d o x y =
     ≈-trans (⊕-cong (≈-refl (d ⊗ o)) (≈-trans (⊗-cong (≈-refl c) (≈-sym (⊗-distl d x y))) (swap-times c d (x ⊕ y))))
@@ -61,7 +61,7 @@ near-suc (negsuc (suc n)) = omega arith
 
 module _ (st : List Stage) where
   -- equal where they are put in, up to m places from k, and at the first m stages
-  pub held-seen : (x x' : Side → Line) (a a' : ℕ → Line) (m : ℕ) (s : Side) (k : ℤ) → ((t : Side) (p : ℤ) → natAbs p ≤ m + natAbs k → x t p ≈ x' t p) → ((i : ℕ) (p : ℤ) → i < m → natAbs p ≤ m + natAbs k → a i p ≈ a' i p) → held st x a m s k ≈ held st x' a' m s k
+  held-seen : (x x' : Side → Line) (a a' : ℕ → Line) (m : ℕ) (s : Side) (k : ℤ) → ((t : Side) (p : ℤ) → natAbs p ≤ m + natAbs k → x t p ≈ x' t p) → ((i : ℕ) (p : ℤ) → i < m → natAbs p ≤ m + natAbs k → a i p ≈ a' i p) → held st x a m s k ≈ held st x' a' m s k
   unfolding held
   held-seen x x' a a' zero s k h i = h s k (omega arith)
   held-seen x x' a a' (suc m) s k h i = go (λ t j n. held-seen x x' a a' m t j (λ t p l. h t p (omega arith)) (λ q p l e. i q p (omega arith) (omega arith))) (stage st m .side) s
@@ -72,7 +72,7 @@ module _ (st : List Stage) where
       go at high low = at low k (omega arith)
       go at high high = ⊕-cong (made-cong (stage st m .kind) (stage st m .constant) (at high k (omega arith)) (at low k (omega arith)) (at low (sucℤ k) (near-suc k))) (i m k (omega arith) (omega arith))
 
-  pub held-plus : (x x' : Side → Line) (a a' : ℕ → Line) (m : ℕ) (s : Side) (k : ℤ) → held st (λ t p. x t p ⊕ x' t p) (λ i p. a i p ⊕ a' i p) m s k ≈ held st x a m s k ⊕ held st x' a' m s k
+  held-plus : (x x' : Side → Line) (a a' : ℕ → Line) (m : ℕ) (s : Side) (k : ℤ) → held st (λ t p. x t p ⊕ x' t p) (λ i p. a i p ⊕ a' i p) m s k ≈ held st x a m s k ⊕ held st x' a' m s k
   unfolding held
   held-plus x x' a a' zero s k = ≈-refl _
   held-plus x x' a a' (suc m) s k = go (held-plus x x' a a' m) (stage st m .side) s
@@ -83,7 +83,7 @@ module _ (st : List Stage) where
       go at high low = at low k
       go at high high = ≈-trans (⊕-cong (≈-trans (made-cong (stage st m .kind) (stage st m .constant) (at high k) (at low k) (at low (sucℤ k))) (made-plus (stage st m .kind) (stage st m .constant) _ _ _ _ _ _)) (≈-refl _)) (⊕-swap _ _ _ _)
 
-  pub held-times : (d : Frac) (x : Side → Line) (a : ℕ → Line) (m : ℕ) (s : Side) (k : ℤ) → held st (λ t p. d ⊗ x t p) (λ i p. d ⊗ a i p) m s k ≈ d ⊗ held st x a m s k
+  held-times : (d : Frac) (x : Side → Line) (a : ℕ → Line) (m : ℕ) (s : Side) (k : ℤ) → held st (λ t p. d ⊗ x t p) (λ i p. d ⊗ a i p) m s k ≈ d ⊗ held st x a m s k
   unfolding held
   held-times d x a zero s k = ≈-refl _
   held-times d x a (suc m) s k = go (held-times d x a m) (stage st m .side) s
@@ -172,7 +172,7 @@ module _ (st : List Stage) (s : Side) (m : ℕ) where
 
   -- ---- all sources together
 
-  unfoldable pub viaNodes : ℕ → (ℕ → Line) → Frac
+  unfoldable viaNodes : ℕ → (ℕ → Line) → Frac
   viaNodes zero a = zeroF
   viaNodes (suc j) a = viaNodes j a ⊕ viaNode j (a j)
 
@@ -233,7 +233,7 @@ module _ (st : List Stage) (s : Side) (m : ℕ) where
   held-inputs x = ≈-trans (seen x (λ t p. feed low (x low) t p ⊕ feed high (x high) t p) none (λ i p. zeroF ⊕ zeroF) (λ t p l. feeds x t p) (λ i p l e. zeros)) (held-plus st (feed low (x low)) (feed high (x high)) none none m s (pos 0))
 
   -- what stands there is the sum of what each source alone brings
-  pub held-parts : (x : Side → Line) (a : ℕ → Line) → held st x a m s (pos 0) ≈ (viaInput low (x low) ⊕ viaInput high (x high)) ⊕ viaNodes m a
+  held-parts : (x : Side → Line) (a : ℕ → Line) → held st x a m s (pos 0) ≈ (viaInput low (x low) ⊕ viaInput high (x high)) ⊕ viaNodes m a
   held-parts x a =
       ≈-trans (seen x (λ t p. x t p ⊕ zeroF) a (λ i p. zeroF ⊕ firsts m a i p) (λ t p l. ≈-sym (⊕-zero-r _)) (λ i p l e. ≈-trans (≈-sym (firsts-are m a i p l)) (≈-sym (⊕-zero-l _))))
       (≈-trans (held-plus st x empty none (firsts m a) m s (pos 0))

@@ -72,13 +72,13 @@ weighs-within {w} {b} {q} {x} z h = within-weaken (mul-pos (w .above) z) (law (h
 
 -- ---- a line made of units
 
-pub same-is : (p k : ℤ) → T (same p k) → p ≡ k
+same-is : (p k : ℤ) → T (same p k) → p ≡ k
 same-is (pos m) (pos n) h = ap pos (eqb→eq m n h)
 same-is (pos m) (negsuc n) h = absurd h
 same-is (negsuc m) (pos n) h = absurd h
 same-is (negsuc m) (negsuc n) h = ap negsuc (eqb→eq m n h)
 
-pub unit-else : (p k : ℤ) → (p ≡ k → ⊥) → unit p k ≈ zeroF
+unit-else : (p k : ℤ) → (p ≡ k → ⊥) → unit p k ≈ zeroF
 unit-else p k apart = go (same p k) (same-is p k)
   where
     go : (t : Bool) → (T t → p ≡ k) → elim t [ true ↦ whole (pos 1) | false ↦ whole (pos 0) ] ≈ zeroF

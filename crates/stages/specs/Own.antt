@@ -21,24 +21,24 @@ use Rattle.stages.specs.Linear.{upDiv-most}
 
 -- ---- v / 2^f
 
-pub meant-up : (a : ℤ) (f full : ℕ) → f ≤ full → meant (a *ℤ pos (2 ^ (full - f))) full ≈ meant a f
+meant-up : (a : ℤ) (f full : ℕ) → f ≤ full → meant (a *ℤ pos (2 ^ (full - f))) full ≈ meant a f
 unfolding meant
 meant-up a f full h = record { eq = *ℤ-assoc a (pos (2 ^ (full - f))) (pos (2 ^ f)) ∙ ap (λ (t : ℕ). a *ℤ pos t) (sym (pow-add 2 (full - f) f) ∙ ap (λ (t : ℕ). 2 ^ t) (omega arith)) }
 
-pub meant-add : (a b : ℤ) (f : ℕ) → meant (a +ℤ b) f ≈ meant a f ⊕ meant b f
+meant-add : (a b : ℤ) (f : ℕ) → meant (a +ℤ b) f ≈ meant a f ⊕ meant b f
 unfolding meant _⊕_
 meant-add a b f = record { eq = law a b (pos (2 ^ f)) }
   where
     law : (a b p : ℤ) → (a +ℤ b) *ℤ (p *ℤ p) ≡ (a *ℤ p +ℤ b *ℤ p) *ℤ p
     law a b p = simp ring
 
-pub meant-mul : (a b : ℤ) (f g : ℕ) → meant (a *ℤ b) (f + g) ≈ meant a f ⊗ meant b g
+meant-mul : (a b : ℤ) (f g : ℕ) → meant (a *ℤ b) (f + g) ≈ meant a f ⊗ meant b g
 unfolding meant _⊗_
 meant-mul a b f g = record { eq = ap (λ (t : ℕ). a *ℤ b *ℤ pos t) (sym (pow-add 2 f g)) }
 
 -- ---- the nearest constant is off by at most half of 2^-F
 
-pub nearest-within : (c : Frac) (F : ℕ) → Within (meant (nearest c F) F ⊕ neg c) 1 (2 * 2 ^ F)
+nearest-within : (c : Frac) (F : ℕ) → Within (meant (nearest c F) F ⊕ neg c) 1 (2 * 2 ^ F)
 unfolding meant nearest neg _⊕_
 nearest-within c F = record { most = last (natAbs (N *ℤ pos (c .den) +ℤ negℤ (c .num) *ℤ pos (2 ^ F))) (2 ^ F) (subst (λ (t : ℕ). t ≤ c .den) (half (c .den) (2 ^ F) N (c .num)) near) }
   where
@@ -88,7 +88,7 @@ lossy-law z q m P W h = last (natAbs (pos m *ℤ q -ℤ z)) _ (ap natAbs (law m 
 pub pow-split : (i j : ℕ) → i ≤ j → 2 ^ j ≡ 2 ^ (j - i) * 2 ^ i
 pow-split i j h = ap (λ (t : ℕ). 2 ^ t) (omega arith) ∙ pow-add 2 (j - i) i
 
-pub cut-within : (full f : ℕ) (z : ℤ) → f ≤ 32 → Within (meant (cut full f z) f ⊕ neg (meant z full)) (loss f full) (2 ^ 32)
+cut-within : (full f : ℕ) (z : ℤ) → f ≤ 32 → Within (meant (cut full f z) f ⊕ neg (meant z full)) (loss f full) (2 ^ 32)
 unfolding loss meant neg _⊕_
 cut-within full f z small = go (ltb f full) (ltb→lt f full) (nltb→le f full)
   where

@@ -57,7 +57,7 @@ weighed-ext g h o (suc j) e = omega (arith, weighed-ext g h o j (λ i l. e i (om
 -- ---- before the first stage
 
 -- a bound that enters, on its side
-pub brought-start : (st : List Stage) (r : Bound → ℕ) (e : Entering) (s : Side) → brought st r e s 0 ≡ r (enters e s)
+brought-start : (st : List Stage) (r : Bound → ℕ) (e : Entering) (s : Side) → brought st r e s 0 ≡ r (enters e s)
 unfolding brought gain exactGain sumFrom sumTo inputAnswer held wholesOf upDiv _⊕_ whole magnitude
 brought-start st r (together b) low = timesGain-one (r b)
 brought-start st r (together b) high = timesGain-one (r b)
@@ -101,7 +101,7 @@ module _ (st : List Stage) (m : ℕ) (s : Side) (elsewhere : stage st m .side �
   sums-kept r highs = ap (λ (g : Side → ℤ → Frac). sumTo r (g high)) inputs-kept
   sums-kept r (node i) = ap (λ (g : ℕ → ℤ → Frac). sumTo r (g i)) nodes-kept
 
-  pub gain-kept : (i : Source) → gain st s (suc m) i ≡ gain st s m i
+  gain-kept : (i : Source) → gain st s (suc m) i ≡ gain st s m i
   unfolding gain exactGain
   gain-kept i = ap (wholesOf 65536) (sums-kept (suc m) i) ∙ endless-gain st s m i (suc m) (omega arith)
 
@@ -111,7 +111,7 @@ unfolding sumTo
 sum-none zero f h = magnitude-zero (h (pos 0))
 sum-none (suc r) f h = ≈-trans (⊕-cong (⊕-cong (sum-none r f h) (magnitude-zero (h (pos (suc r))))) (magnitude-zero (h (negsuc r)))) (≈-trans (⊕-zero-r _) (⊕-zero-r _))
 
-pub gain-later : (st : List Stage) (s : Side) (m i : ℕ) → m ≤ i → gain st s m (node i) ≡ 0
+gain-later : (st : List Stage) (s : Side) (m i : ℕ) → m ≤ i → gain st s m (node i) ≡ 0
 unfolding gain exactGain sumFrom nodeAnswer whole wholesOf
 gain-later st s m i h = wholes-≈ 65536 {y = zeroF} (sum-none m _ (λ p. node-later st s m i (unit p) h))
 

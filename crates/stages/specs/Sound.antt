@@ -43,10 +43,10 @@ lift-sub c O X Y o x y =
     (sub-sum O o (c ⊗ (X ⊕ Y)) (c ⊗ (x ⊕ y)))
 
 -- v - lift o x y is lift (O - o) (X - x) (Y - y) and what v has of its own
-pub lift-dev : (c v O X Y o x y : Frac) → v ⊕ neg (lift c o x y) ≈ lift c (O ⊕ neg o) (X ⊕ neg x) (Y ⊕ neg y) ⊕ (v ⊕ neg (lift c O X Y))
+lift-dev : (c v O X Y o x y : Frac) → v ⊕ neg (lift c o x y) ≈ lift c (O ⊕ neg o) (X ⊕ neg x) (Y ⊕ neg y) ⊕ (v ⊕ neg (lift c O X Y))
 lift-dev c v O X Y o x y = ≈-trans (≈-sym (through (lift c O X Y) (lift c o x y) v)) (⊕-cong (≈-sym (lift-sub c O X Y o x y)) (≈-refl _))
 
-pub scale-dev : (c v X x : Frac) → v ⊕ neg (c ⊗ x) ≈ c ⊗ (X ⊕ neg x) ⊕ (v ⊕ neg (c ⊗ X))
+scale-dev : (c v X x : Frac) → v ⊕ neg (c ⊗ x) ≈ c ⊗ (X ⊕ neg x) ⊕ (v ⊕ neg (c ⊗ X))
 scale-dev c v X x = ≈-trans (≈-sym (through (c ⊗ X) (c ⊗ x) v)) (⊕-cong (≈-sym (times-sub c X x)) (≈-refl _))
 
 -- the same for any stage

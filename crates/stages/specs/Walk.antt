@@ -25,18 +25,18 @@ pub data Two (a b x y : ℕ) : Type 0 where
   straight : a ≡ x → b ≡ y → Two a b x y
   crossed : a ≡ y → b ≡ x → Two a b x y
 
-pub two-back : {a b x y : ℕ} → Two a b x y → Two a b y x
+two-back : {a b x y : ℕ} → Two a b x y → Two a b y x
 two-back (straight p q) = crossed p q
 two-back (crossed p q) = straight p q
 
-pub nextLow : (n l h : ℕ) → Beside n l h → (m : ℕ) × Beside n m h × Two h (lowAfter n h) l m
+nextLow : (n l h : ℕ) → Beside n l h → (m : ℕ) × Beside n m h × Two h (lowAfter n h) l m
 nextLow n l h b = go (decLe l h)
   where
     go : Dec (l ≤ h) → (m : ℕ) × Beside n m h × Two h (lowAfter n h) l m
     go (yes e) = (lowAfter n h, low-after-beside n h (b .high-in), straight (omega arith) refl)
     go (no e) = (h, omega arith, crossed refl (omega (arith, low-after-next n h (omega arith))))
 
-pub nextHigh : (n l h : ℕ) → Beside n l h → (m : ℕ) × Beside n l m × Two (highBefore l) (highAfter n l) h m
+nextHigh : (n l h : ℕ) → Beside n l h → (m : ℕ) × Beside n l m × Two (highBefore l) (highAfter n l) h m
 nextHigh n l h b = go (decLe l h)
   where
     go : Dec (l ≤ h) → (m : ℕ) × Beside n l m × Two (highBefore l) (highAfter n l) h m
@@ -91,7 +91,7 @@ walkFrom n p = record {
     at-high (negsuc zero) = two-back (nextLow n (p .low) _ (nextHigh n (p .low) (p .high) (p .beside) .1) .2)
     at-high (negsuc (suc k)) = two-back (nextLow n (stand n p (negsuc k) .low) _ (nextHigh n (stand n p (negsuc k) .low) (stand n p (negsuc k) .high) (stand n p (negsuc k) .beside) .1) .2)
 
-pub walkTo : (n : ℕ) → Liftable n → (s : Side) (k : ℕ) → k < count n s → (w : Walk n) × (w .place s (pos 0) ≡ k)
+walkTo : (n : ℕ) → Liftable n → (s : Side) (k : ℕ) → k < count n s → (w : Walk n) × (w .place s (pos 0) ≡ k)
 unfolding walkFrom stand
 walkTo n works low k h = (walkFrom n (record { low = k; high = highAfter n k; beside = high-after-beside n k (some-highs n works) h }), refl)
 walkTo n works high k h = (walkFrom n (record { low = k; high = k; beside = omega arith }), refl)

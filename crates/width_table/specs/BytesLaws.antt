@@ -8,13 +8,14 @@ use native.Mathlib.Omega.{arith}
 use lib.Dec.{T, leb, eqb, leb→le, le→leb, eqb→eq, eqb-refl}
 use lib.ListN.{length, getD, take, drop, replicate, length-append, length-drop, take-append-drop, drop-of-length-le}
 use lib.Seq.{drop-drop, getD-drop, take-at, drop-at, length-take-le}
-use Rattle.refusals.specs.declared.Outcome.the-variants.{Done}
-use Rattle.refusals.specs.RefusalLaws.{asks-done, asks-right, then-done, then-right, answered-done}
-use Rattle.numbers.specs.Tests.{both, four, and-intro, between, every, between-≤}
+use Rattle.refusals.specs.Answers.{passed}
+use Rattle.refusals.specs.AnswerLaws.{asks-done, asks-right, then-done, then-right, answered-done}
+use Rattle.numbers.specs.Tests.{both, four, and-intro, every, between-≤}
 use Rattle.numbers.specs.Lists.{next-one, next-two, one-of, every-one, zeros}
 use Rattle.width_table.specs.declared.WidthTable.{WidthTable}
-use Rattle.width_table.specs.Table.{depthRight, levelsRight, constantRight, formRight}
-use Rattle.width_table.specs.Fields.{Field, nodeBytes, widthsRight, fields, sizeOf, tableSize, fieldBytes, bytesOf}
+use Rattle.width_table.specs.Nodes.{nodesPerPass}
+use Rattle.width_table.specs.Table.{maxLevels, depthRight, levelsRight, constantRight, formRight}
+use Rattle.width_table.specs.Fields.{depthTag, levelsTag, constantsTag, nodesTag, tagRight, headBytes, Field, nodeBytes, widthsRight, fixedFields, fields, fieldsAfter, sizeOf, startOf, tableSize, valueStart, fieldBytes, bytesOf}
 use Rattle.width_table.specs.Bytes.{announced, headed, field, formBy, depthIn, levelsIn, form, valueIn, tableIn, tableBytes}
 use Rattle.width_table.specs.FormLists.{Sized, formLists, form-lists}
 use Rattle.width_table.specs.Names.{nameable, valueOf}
@@ -23,85 +24,85 @@ use Rattle.width_table.specs.Names.{nameable, valueOf}
 
 -- a right field at place n of the bytes
 pub record FieldAt (f : Field) (n : ℕ) (bytes : List ℕ) : Type 0 where
-  pub whole : n + (3 + f .size) ≤ length bytes
+  pub whole : n + (headBytes + f .size) ≤ length bytes
   pub its : getD bytes n 0 ≡ f .tag
   pub says : getD bytes (n + 1) 0 * 256 + getD bytes (n + 2) 0 ≡ f .size
-  pub value : T (f .right (take (f .size) (drop (n + 3) bytes)))
+  pub value : T (f .right (take (f .size) (drop (n + headBytes) bytes)))
 
-pub field-done : (f : Field) (n : ℕ) (bytes : List ℕ) → field f (drop n bytes) ≡ Done → FieldAt f n bytes
+pub field-done : (f : Field) (n : ℕ) (bytes : List ℕ) → field f (drop n bytes) ≡ passed → FieldAt f n bytes
 unfolding field headed
 field-done f n bytes e =
     let b = drop n bytes in
     let g = then-done (headed (f .tag) (f .size) b) _ e in
-    let h = asks-done (leb 3 (length b)) _ _ (g .0) in
-    let i = asks-done (leb (announced b) (length b - 3)) _ _ (h .1) in
+    let h = asks-done (leb headBytes (length b)) _ _ (g .0) in
+    let i = asks-done (leb (announced b) (length b - headBytes)) _ _ (h .1) in
     let j = asks-done (eqb (getD b 0 0) (f .tag)) _ _ (i .1) in
     let k = asks-done (eqb (announced b) (f .size)) _ _ (j .1) in
-    let v = asks-done (f .right (take (f .size) (drop 3 b))) _ _ (g .1) in
+    let v = asks-done (f .right (take (f .size) (drop headBytes b))) _ _ (g .1) in
     let front : n + 0 ≡ n = omega arith in
     let says : announced b ≡ f .size = eqb→eq (announced b) (f .size) (k .0) in
     record {
-      whole = omega (arith, leb→le 3 (length b) (h .0), leb→le (announced b) (length b - 3) (i .0), says, length-drop n bytes);
+      whole = omega (arith, leb→le headBytes (length b) (h .0), leb→le (announced b) (length b - headBytes) (i .0), says, length-drop n bytes);
       its = ap (λ (m : ℕ). getD bytes m 0) (sym front) ∙ sym (getD-drop n bytes 0 0) ∙ eqb→eq (getD b 0 0) (f .tag) (j .0);
       says = ap₂ (λ (x y : ℕ). x * 256 + y) (sym (getD-drop n bytes 1 0)) (sym (getD-drop n bytes 2 0)) ∙ says;
-      value = subst (λ (l : List ℕ). T (f .right (take (f .size) l))) (drop-drop 3 n bytes) (v .0);
+      value = subst (λ (l : List ℕ). T (f .right (take (f .size) l))) (drop-drop headBytes n bytes) (v .0);
     }
 
 same : {a b : ℕ} → a ≡ b → T (eqb a b)
 same {a} e = subst (λ (n : ℕ). T (eqb a n)) e (eqb-refl a)
 
 -- at the front
-pub field-right : (f : Field) (bytes : List ℕ) → FieldAt f 0 bytes → field f bytes ≡ Done
+field-right : (f : Field) (bytes : List ℕ) → FieldAt f 0 bytes → field f bytes ≡ passed
 unfolding field headed
 field-right f bytes r =
-    then-right (headed (f .tag) (f .size) bytes) _ head ∙ asks-right (f .right (take (f .size) (drop 3 bytes))) _ _ (r .value)
+    then-right (headed (f .tag) (f .size) bytes) _ head ∙ asks-right (f .right (take (f .size) (drop headBytes bytes))) _ _ (r .value)
   where
-    head : headed (f .tag) (f .size) bytes ≡ Done
+    head : headed (f .tag) (f .size) bytes ≡ passed
     head =
-        asks-right (leb 3 (length bytes)) _ _ (le→leb 3 (length bytes) (omega (arith, r .whole)))
-        ∙ asks-right (leb (announced bytes) (length bytes - 3)) _ _ (le→leb (announced bytes) (length bytes - 3) (omega (arith, r .says, r .whole)))
+        asks-right (leb headBytes (length bytes)) _ _ (le→leb headBytes (length bytes) (omega (arith, r .whole)))
+        ∙ asks-right (leb (announced bytes) (length bytes - headBytes)) _ _ (le→leb (announced bytes) (length bytes - headBytes) (omega (arith, r .says, r .whole)))
         ∙ asks-right (eqb (getD bytes 0 0) (f .tag)) _ _ (same (r .its))
         ∙ asks-right (eqb (announced bytes) (f .size)) _ _ (same (r .says))
 
 -- its bytes, and what follows
-pub field-bytes : (f : Field) (n : ℕ) (bytes : List ℕ) → f .size < 256 → FieldAt f n bytes
-    → drop n bytes ≡ fieldBytes f (take (f .size) (drop (n + 3) bytes)) ++ drop (n + (3 + f .size)) bytes
+field-bytes : (f : Field) (n : ℕ) (bytes : List ℕ) → f .size < 256 → FieldAt f n bytes
+    → drop n bytes ≡ fieldBytes f (take (f .size) (drop (n + headBytes) bytes)) ++ drop (n + (headBytes + f .size)) bytes
 field-bytes f n bytes small r =
     let high : getD bytes (n + 1) 0 ≡ f .size / 256 = omega (arith, r .says) in
     let low : getD bytes (n + 2) 0 ≡ f .size % 256 = omega (arith, r .says) in
-    let s : n + 2 + 1 ≡ n + 3 = omega arith in
-    let p : n + 3 + f .size ≡ n + (3 + f .size) = omega arith in
-    let v = drop (n + 3) bytes in
+    let s : n + 2 + 1 ≡ n + headBytes = omega arith in
+    let p : n + headBytes + f .size ≡ n + (headBytes + f .size) = omega arith in
+    let v = drop (n + headBytes) bytes in
     next-two bytes 0 n (omega (arith, r .whole))
     ∙ ap (λ (l : List ℕ). getD bytes n 0 ∷ getD bytes (n + 1) 0 ∷ l) (next-one bytes 0 (n + 2) (omega (arith, r .whole)))
     ∙ (λ u. r .its u ∷ high u ∷ low u ∷ drop (s u) bytes)
     ∙ ap (λ (l : List ℕ). f .tag ∷ f .size / 256 ∷ f .size % 256 ∷ l)
-    (sym (take-append-drop (f .size) v) ∙ ap (λ (l : List ℕ). take (f .size) v ++ l) (drop-drop (f .size) (n + 3) bytes ∙ ap (λ (m : ℕ). drop m bytes) p))
+    (sym (take-append-drop (f .size) v) ∙ ap (λ (l : List ℕ). take (f .size) v ++ l) (drop-drop (f .size) (n + headBytes) bytes ∙ ap (λ (m : ℕ). drop m bytes) p))
 
 -- ---- fields in order
 
 -- right fields from place n on, to the end
 abbrev pub RightFrom : List Field → ℕ → List ℕ → Type 0
 RightFrom [] n bytes = length bytes ≡ n
-RightFrom (f ∷ fs) n bytes = FieldAt f n bytes × RightFrom fs (n + (3 + f .size)) bytes
+RightFrom (f ∷ fs) n bytes = FieldAt f n bytes × RightFrom fs (n + (headBytes + f .size)) bytes
 
-right-from : (fs : List Field) (n : ℕ) (bytes : List ℕ) → n ≤ length bytes → formBy fs (drop n bytes) ≡ Done → RightFrom fs n bytes
+right-from : (fs : List Field) (n : ℕ) (bytes : List ℕ) → n ≤ length bytes → formBy fs (drop n bytes) ≡ passed → RightFrom fs n bytes
 unfolding formBy
 right-from [] n bytes h e = omega (arith, eqb→eq (length (drop n bytes)) 0 (asks-done (eqb (length (drop n bytes)) 0) _ _ e .0), length-drop n bytes)
 right-from (f ∷ fs) n bytes h e =
     let g = then-done (field f (drop n bytes)) _ e in
     let r = field-done f n bytes (g .0) in
-    (r, right-from fs (n + (3 + f .size)) bytes (r .whole) (ap (formBy fs) (sym (drop-drop (3 + f .size) n bytes)) ∙ g .1))
+    (r, right-from fs (n + (headBytes + f .size)) bytes (r .whole) (ap (formBy fs) (sym (drop-drop (headBytes + f .size) n bytes)) ∙ g .1))
 
 -- a table has these values, and they are short
 abbrev Holds : WidthTable → List Field → ℕ → List ℕ → Type 0
 Holds t [] n bytes = Unit
-Holds t (f ∷ fs) n bytes = (f .size < 256) × (take (f .size) (drop (n + 3) bytes) ≡ f .held t) × Holds t fs (n + (3 + f .size)) bytes
+Holds t (f ∷ fs) n bytes = (f .size < 256) × (take (f .size) (drop (n + headBytes) bytes) ≡ f .held t) × Holds t fs (n + (headBytes + f .size)) bytes
 
 holds-bytes : (t : WidthTable) (fs : List Field) (n : ℕ) (bytes : List ℕ) → RightFrom fs n bytes → Holds t fs n bytes → bytesOf fs t ≡ drop n bytes
 holds-bytes t [] n bytes r h = sym (drop-of-length-le bytes {i = n} (omega (arith, r)))
 holds-bytes t (f ∷ fs) n bytes r h =
-    ap₂ (λ (v l : List ℕ). fieldBytes f v ++ l) (sym (h .1)) (holds-bytes t fs (n + (3 + f .size)) bytes (r .1) (h .2))
+    ap₂ (λ (v l : List ℕ). fieldBytes f v ++ l) (sym (h .1)) (holds-bytes t fs (n + (headBytes + f .size)) bytes (r .1) (h .2))
     ∙ sym (field-bytes f n bytes (h .0) (r .0))
 
 -- what a table has for each field is right and as long as it is to be
@@ -109,7 +110,7 @@ abbrev Right : WidthTable → List Field → Type 0
 Right t [] = Unit
 Right t (f ∷ fs) = (length (f .held t) ≡ f .size) × T (f .right (f .held t)) × Right t fs
 
-bytes-right : (t : WidthTable) (fs : List Field) → Right t fs → formBy fs (bytesOf fs t) ≡ Done
+bytes-right : (t : WidthTable) (fs : List Field) → Right t fs → formBy fs (bytesOf fs t) ≡ passed
 unfolding formBy
 bytes-right t [] r = refl
 bytes-right t (f ∷ fs) r =
@@ -124,10 +125,10 @@ bytes-right t (f ∷ fs) r =
     }
     in
     then-right (field f l) _ (field-right f l at)
-    ∙ ap (formBy fs) (sym (drop-drop (f .size) 3 l) ∙ drop-at v rest (f .size) (r .0))
+    ∙ ap (formBy fs) (sym (drop-drop (f .size) headBytes l) ∙ drop-at v rest (f .size) (r .0))
     ∙ bytes-right t fs (r .2)
 
-pub bytes-sized : (t : WidthTable) (fs : List Field) → Right t fs → length (bytesOf fs t) ≡ sizeOf fs
+bytes-sized : (t : WidthTable) (fs : List Field) → Right t fs → length (bytesOf fs t) ≡ sizeOf fs
 bytes-sized t [] r = refl
 bytes-sized t (f ∷ fs) r = omega (arith, length-append (f .held t) (bytesOf fs t), r .0, bytes-sized t fs (r .2))
 
@@ -136,7 +137,7 @@ bytes-sized t (f ∷ fs) r = omega (arith, length-append (f .held t) (bytesOf fs
 abbrev pub Form : List ℕ → Type 0
 Form bytes = RightFrom (fields (levelsIn bytes)) 0 bytes
 
-module _ (bytes : List ℕ) (e : form bytes ≡ Done) where
+module _ (bytes : List ℕ) (e : form bytes ≡ passed) where
   abbrev N : ℕ
   N = nodeBytes (levelsIn bytes)
 
@@ -149,17 +150,17 @@ module _ (bytes : List ℕ) (e : form bytes ≡ Done) where
 
   -- the numbers of the first two fields
   pub depth-byte : T (depthRight (depthIn bytes))
-  depth-byte = every-one depthRight bytes 0 3 (omega (arith, form-long)) (form-done .0 .value)
+  depth-byte = every-one depthRight bytes 0 (startOf fixedFields depthTag) (omega (arith, form-long)) (form-done .0 .value)
 
   pub levels-byte : T (levelsRight (levelsIn bytes))
-  levels-byte = every-one levelsRight bytes 0 7 (omega (arith, form-long)) (form-done .1 .0 .value)
+  levels-byte = every-one levelsRight bytes 0 (startOf fixedFields levelsTag) (omega (arith, form-long)) (form-done .1 .0 .value)
 
-  pub levels-most : levelsIn bytes ≤ 5
-  levels-most = between-≤ 1 5 (levelsIn bytes) levels-byte .1
+  pub levels-most : levelsIn bytes ≤ maxLevels
+  levels-most = between-≤ 1 maxLevels (levelsIn bytes) levels-byte .1
 
   -- the value of the fourth field
-  pub nodes-long : length (valueIn bytes 4) ≡ N
-  nodes-long = length-take-le N (drop 20 bytes) (omega (arith, length-drop 20 bytes, form-long))
+  pub nodes-long : length (valueIn bytes nodesTag) ≡ N
+  nodes-long = let start = valueStart (levelsIn bytes) nodesTag in length-take-le N (drop start bytes) (omega (arith, length-drop start bytes, form-long))
 
   -- the table that they hold has the fields' values
   values : Holds (tableIn bytes) (fields (levelsIn bytes)) 0 bytes
@@ -167,14 +168,14 @@ module _ (bytes : List ℕ) (e : form bytes ≡ Done) where
   values =
       let few = levels-most in (
         omega arith,
-        one-of bytes 0 3 (omega (arith, form-long)),
+        one-of bytes 0 (startOf fixedFields depthTag) (omega (arith, form-long)),
         (
           omega arith,
-          one-of bytes 0 7 (omega (arith, form-long)),
+          one-of bytes 0 (startOf fixedFields levelsTag) (omega (arith, form-long)),
           (
             omega arith,
             refl,
-            (omega arith, sym (take-at (valueIn bytes 4) (replicate (180 - N) 0) N nodes-long), tt),
+            (omega arith, sym (take-at (valueIn bytes nodesTag) (replicate (nodeBytes maxLevels - N) 0) N nodes-long), tt),
           ),
         ),
       )
@@ -185,22 +186,22 @@ module _ (bytes : List ℕ) (e : form bytes ≡ Done) where
   read-written = holds-bytes (tableIn bytes) (fields (levelsIn bytes)) 0 bytes form-done values
 
   -- where a tag's value lies
-  value-of : (tag : ℕ) → T (between 1 4 tag) → valueOf bytes tag ≡ valueIn bytes tag
+  value-of : (tag : ℕ) → T (tagRight tag) → valueOf bytes tag ≡ valueIn bytes tag
   unfolding valueOf nameable
-  value-of tag h = answered-done _ _ (asks-right (between 1 4 tag) _ _ h ∙ e)
+  value-of tag h = answered-done _ _ (asks-right (tagRight tag) _ _ h ∙ e)
 
-  pub depth-value : valueOf bytes 1 ≡ tableIn bytes .depth ∷ []
-  depth-value = value-of 1 tt ∙ values .1
+  pub depth-value : valueOf bytes depthTag ≡ tableIn bytes .depth ∷ []
+  depth-value = value-of depthTag tt ∙ values .1
 
-  pub levels-value : valueOf bytes 2 ≡ tableIn bytes .levels ∷ []
-  levels-value = value-of 2 tt ∙ values .2 .1
+  pub levels-value : valueOf bytes levelsTag ≡ tableIn bytes .levels ∷ []
+  levels-value = value-of levelsTag tt ∙ values .2 .1
 
-  pub constants-value : valueOf bytes 3 ≡ tableIn bytes .constants
-  constants-value = value-of 3 tt ∙ values .2 .2 .1
+  pub constants-value : valueOf bytes constantsTag ≡ tableIn bytes .constants
+  constants-value = value-of constantsTag tt ∙ values .2 .2 .1
 
-  pub nodes-value : valueOf bytes 4 ≡ take (nodeBytes (tableIn bytes .levels)) (tableIn bytes .nodes)
+  pub nodes-value : valueOf bytes nodesTag ≡ take (nodeBytes (tableIn bytes .levels)) (tableIn bytes .nodes)
   unfolding tableIn
-  nodes-value = value-of 4 tt ∙ values .2 .2 .2 .1
+  nodes-value = value-of nodesTag tt ∙ values .2 .2 .2 .1
 
 -- ---- a table of right form is read back from its bytes
 
@@ -228,16 +229,16 @@ module _ (t : WidthTable) (s : Sized t) (r : RightForm t) where
   used = take (nodeBytes (t .levels)) (t .nodes)
 
   abbrev last : List ℕ
-  last = bytesOf (drop 3 (fields (t .levels))) t
+  last = bytesOf (fieldsAfter (t .levels) constantsTag) t
 
   used-long : length used ≡ nodeBytes (t .levels)
-  used-long = length-take-le (nodeBytes (t .levels)) (t .nodes) (omega (arith, between-≤ 1 5 (t .levels) (r .levels) .1, s .nodes))
+  used-long = length-take-le (nodeBytes (t .levels)) (t .nodes) (omega (arith, between-≤ 1 maxLevels (t .levels) (r .levels) .1, s .nodes))
 
   fields-right : Right t (fields (t .levels))
   unfolding every
   fields-right = (refl, and-intro (depthRight (t .depth)) true (r .depth) tt, (refl, and-intro (levelsRight (t .levels)) true (r .levels) tt, (s .constants, r .constants, (used-long, r .widths, tt))))
 
-  pub form-written : form (tableBytes t) ≡ Done
+  pub form-written : form (tableBytes t) ≡ passed
   unfolding form tableBytes
   form-written = bytes-right t (fields (t .levels)) fields-right
 
@@ -249,10 +250,10 @@ module _ (t : WidthTable) (s : Sized t) (r : RightForm t) where
   unfolding tableBytes tableIn
   written-read =
       let N = nodeBytes (t .levels) in
-      let c : take 6 (t .constants ++ last) ≡ t .constants = take-at (t .constants) last 6 (s .constants) in
-      let z : drop N (t .nodes) ≡ replicate (180 - N) 0 = zeros (drop N (t .nodes)) (r .unused) ∙ ap (λ (n : ℕ). replicate n 0) (length-drop N (t .nodes) ∙ ap (λ (n : ℕ). n - N) (s .nodes)) in
-      let v : take N (drop 9 (t .constants ++ last)) ≡ used = ap (take N) (sym (drop-drop 3 6 (t .constants ++ last)) ∙ ap (drop 3) (drop-at (t .constants) last 6 (s .constants))) ∙ take-at used [] N used-long in
-      let n : take N (drop 9 (t .constants ++ last)) ++ replicate (180 - N) 0 ≡ t .nodes = ap₂ (λ (a b : List ℕ). a ++ b) v (sym z) ∙ take-append-drop N (t .nodes) in
+      let c : take nodesPerPass (t .constants ++ last) ≡ t .constants = take-at (t .constants) last nodesPerPass (s .constants) in
+      let z : drop N (t .nodes) ≡ replicate (nodeBytes maxLevels - N) 0 = zeros (drop N (t .nodes)) (r .unused) ∙ ap (λ (n : ℕ). replicate n 0) (length-drop N (t .nodes) ∙ ap (λ (n : ℕ). n - N) (s .nodes)) in
+      let v : take N (drop (headBytes + nodesPerPass) (t .constants ++ last)) ≡ used = ap (take N) (sym (drop-drop headBytes nodesPerPass (t .constants ++ last)) ∙ ap (drop headBytes) (drop-at (t .constants) last nodesPerPass (s .constants))) ∙ take-at used [] N used-long in
+      let n : take N (drop (headBytes + nodesPerPass) (t .constants ++ last)) ++ replicate (nodeBytes maxLevels - N) 0 ≡ t .nodes = ap₂ (λ (a b : List ℕ). a ++ b) v (sym z) ∙ take-append-drop N (t .nodes) in
       ap₂ (λ (a b : List ℕ). table a b) c n
     where
       table : List ℕ → List ℕ → WidthTable

@@ -5,17 +5,13 @@ use mathlib.Core.Bool.{true, false}
 use mathlib.Core.List.{List, [], _∷_, _++_, map}
 use lib.ListN.{replicate, take, set}
 use Rattle.numbers.specs.Tests.{every}
-use Rattle.refusals.specs.Refusals.{told, number}
+use Rattle.refusals.specs.Answers.{done, refused, code}
 use Rattle.width_table.specs.declared.WidthTable.{WidthTable}
-use Rattle.width_table.specs.declared.Written.{Written}
-use Rattle.width_table.specs.declared.Written.the-variants.{Bytes, NotWritten}
-use Rattle.width_table.specs.declared.Named.{Named}
-use Rattle.width_table.specs.declared.Named.the-variants.{Value, NotNamed}
-use Rattle.width_table.specs.Nodes.{Rows, LowColumns, P2}
-use Rattle.width_table.specs.Table.{formRight, integerBits, fractionBits, inputBits}
-use Rattle.width_table.specs.Fields.{widthsRight}
-use Rattle.width_table.specs.Bytes.{tableBytes, headed, field, formBy, form, tableIn, reading, emptyTable, writable, writing, bytesAfter}
-use Rattle.width_table.specs.Changes.{changeable, widthChanged, constantChangeable, constantChanged}
+use Rattle.width_table.specs.Nodes.{nodesPerPass, nodesPerLevel, Rows, LowColumns, P2}
+use Rattle.width_table.specs.Table.{maxLevels, formRight, integerBits, fractionBits, inputBits}
+use Rattle.width_table.specs.Fields.{nodeBytes, widthsRight}
+use Rattle.width_table.specs.Bytes.{tableBytes, headed, field, formBy, form, tableIn, tableRead, emptyTable, writable, writing, bytesAfter}
+use Rattle.width_table.specs.Changes.{changeable, tableAfterWidth, constantChangeable, tableAfterConstant}
 use Rattle.width_table.specs.Names.{nameable, naming, valueOf}
 use Rattle.width_table.specs.Readers.{constantBitsAt, integerBitsAt, fractionBitsAt, inputBitsAt}
 
@@ -27,7 +23,7 @@ pairs (suc n) IB f = IB ∷ f ∷ pairs n IB f
 
 -- every constant F, every node (IB, f)
 abbrev pub uniform : ℕ → ℕ → ℕ → ℕ → ℕ → WidthTable
-uniform B L F IB f = record { depth = B; levels = L; constants = replicate 6 F; nodes = pairs (18 * L) IB f ++ replicate (180 - 36 * L) 0 }
+uniform B L F IB f = record { depth = B; levels = L; constants = replicate nodesPerPass F; nodes = pairs (nodesPerLevel * L) IB f ++ replicate (nodeBytes maxLevels - nodeBytes L) 0 }
 
 -- a table with one of the nodes' numbers put in
 abbrev with : WidthTable → ℕ → ℕ → WidthTable
@@ -39,34 +35,33 @@ usual = uniform 8 1 24 12 20
 abbrev good : List ℕ
 good = tableBytes usual
 
--- ---- reading
+-- ---- reading: answers as numbers, 0 where the call is done
 
 -- the first: a right table; then the bytes end early, another tag, another length, numbers outside their limits, a byte too many
 pub readings :
-    map (λ b. told (form b)) (
+    map (λ b. code (form b)) (
     good ∷ [] ∷ take 2 good ∷ set good 0 9 ∷ set good 2 0 ∷ set good 3 0 ∷ take 4 (set good 3 13) ∷ set good 7 2 ∷ set good 7 6 ∷ set good 11 25 ∷ set good 20 0 ∷ set good 21 21
     ∷ take 55 good ∷ (good ++ (0 ∷ [])) ∷ take 20 (set good 17 5) ∷ [])
-    ≡ [] ∷ (1 ∷ []) ∷ (1 ∷ []) ∷ (2 ∷ []) ∷ (3 ∷ []) ∷ (4 ∷ []) ∷ (4 ∷ []) ∷ (3 ∷ []) ∷ (4 ∷ []) ∷ (4 ∷ []) ∷ (4 ∷ []) ∷ (4 ∷ [])
-    ∷ (1 ∷ []) ∷ (5 ∷ []) ∷ (1 ∷ []) ∷ []
+    ≡ 0 ∷ 1 ∷ 1 ∷ 2 ∷ 3 ∷ 4 ∷ 4 ∷ 3 ∷ 4 ∷ 4 ∷ 4 ∷ 4 ∷ 1 ∷ 5 ∷ 1 ∷ []
 unfolding form formBy field headed every widthsRight tableBytes
 readings = refl
 
 -- A head whose announced value is cut short is 1, whatever its tag and length; a whole one of another tag is 2; length 0 is
 -- always whole; a cut value of another length is 1, a whole one 3; a depth of 0 is 4 though all else is missing.
 pub heads :
-    map (λ b. told (form b)) (
+    map (λ b. code (form b)) (
     (9 ∷ 0 ∷ 5 ∷ []) ∷ (9 ∷ 0 ∷ 0 ∷ []) ∷ (1 ∷ 0 ∷ 0 ∷ []) ∷ (1 ∷ 0 ∷ 2 ∷ 8 ∷ []) ∷ (1 ∷ 0 ∷ 2 ∷ 8 ∷ 8 ∷ []) ∷ (1 ∷ 1 ∷ 1 ∷ 8 ∷ []) ∷ (1 ∷ 0 ∷ 1 ∷ 0 ∷ []) ∷ (1 ∷ 0 ∷ 1 ∷ 8 ∷ []) ∷ [])
-    ≡ (1 ∷ []) ∷ (2 ∷ []) ∷ (3 ∷ []) ∷ (1 ∷ []) ∷ (3 ∷ []) ∷ (1 ∷ []) ∷ (4 ∷ []) ∷ (1 ∷ []) ∷ []
+    ≡ 1 ∷ 2 ∷ 3 ∷ 1 ∷ 3 ∷ 1 ∷ 4 ∷ 1 ∷ []
 unfolding form formBy field headed every widthsRight
 heads = refl
 
 -- 5 comes after a right fourth field alone; fractional bits 0 are right
-pub ends : map (λ b. told (form b)) ((set good 20 0 ++ (0 ∷ [])) ∷ (take 55 good ++ []) ∷ set good 21 0 ∷ []) ≡ (4 ∷ []) ∷ (1 ∷ []) ∷ [] ∷ []
+pub ends : map (λ b. code (form b)) ((set good 20 0 ++ (0 ∷ [])) ∷ (take 55 good ++ []) ∷ set good 21 0 ∷ []) ≡ 4 ∷ 1 ∷ 0 ∷ []
 unfolding form formBy field headed every widthsRight tableBytes
 ends = refl
 
-pub read-back : (reading good .table ≡ usual) × (reading (take 55 good) .table ≡ emptyTable)
-unfolding reading tableIn form formBy field headed every widthsRight tableBytes
+pub read-back : (tableRead good ≡ usual) × (tableRead (take 55 good) ≡ emptyTable)
+unfolding tableRead tableIn form formBy field headed every widthsRight tableBytes
 read-back = (refl, refl)
 
 -- book order: the columns of row-low come second, P2 third; level 2 takes what G1 of those columns leaves
@@ -87,63 +82,65 @@ forms = refl
 
 -- ---- naming a tag
 
-abbrev place : Named → List ℕ
-place (Value start len) = start ∷ len ∷ []
-place (NotNamed r) = number r ∷ []
-
 pub names :
-    place (naming good 0) ∷ place (naming [] 0) ∷ place (naming good 1) ∷ place (naming good 2) ∷ place (naming good 3) ∷ place (naming good 4) ∷ place (naming good 5) ∷ place (naming [] 4) ∷ place (naming (good ++ (0 ∷ [])) 1) ∷ valueOf good 1 ∷ valueOf good 3 ∷ valueOf [] 3 ∷ []
-    ≡ (2 ∷ []) ∷ (2 ∷ []) ∷ (3 ∷ 1 ∷ []) ∷ (7 ∷ 1 ∷ []) ∷ (11 ∷ 6 ∷ []) ∷ (20 ∷ 36 ∷ []) ∷ (2 ∷ []) ∷ (1 ∷ []) ∷ (5 ∷ []) ∷ (8 ∷ []) ∷ (24 ∷ 24 ∷ 24 ∷ 24 ∷ 24 ∷ 24 ∷ []) ∷ [] ∷ []
-unfolding naming valueOf nameable form formBy field headed every widthsRight tableBytes
+    map (naming good) (1 ∷ 2 ∷ 3 ∷ 4 ∷ []) ≡ done (3, 1) ∷ done (7, 1) ∷ done (11, 6) ∷ done (20, 36) ∷ []
+unfolding naming nameable form formBy field headed every widthsRight tableBytes
 names = refl
+
+-- the name is judged before the bytes
+pub no-names :
+    code (naming good 0) ∷ code (naming [] 0) ∷ code (naming good 5) ∷ code (naming [] 4) ∷ code (naming (good ++ (0 ∷ [])) 1) ∷ [] ≡ 2 ∷ 2 ∷ 2 ∷ 1 ∷ 5 ∷ []
+unfolding naming nameable form formBy field headed every widthsRight tableBytes
+no-names = refl
+
+pub values : valueOf good 1 ∷ valueOf good 3 ∷ valueOf [] 3 ∷ [] ≡ (8 ∷ []) ∷ (24 ∷ 24 ∷ 24 ∷ 24 ∷ 24 ∷ 24 ∷ []) ∷ [] ∷ []
+unfolding valueOf nameable form formBy field headed every widthsRight tableBytes
+values = refl
 
 -- ---- changes
 
-abbrev change : ℕ → ℕ → ℕ → ℕ → ℕ → List ℕ
-change l p k IB f = told (widthChanged usual l p k IB f .outcome)
+abbrev change : ℕ → ℕ → ℕ → ℕ → ℕ → ℕ
+change l p k IB f = code (changeable usual l p k IB f)
 
 -- two that are right; a level above L, also for a width of 0; no such level, pass or node; numbers outside their limits
 pub changes :
     change 1 1 1 3 7 ∷ change 1 3 6 1 0 ∷ change 2 1 1 3 7 ∷ change 2 1 1 0 0 ∷ change 6 1 1 3 7 ∷ change 0 1 1 3 7 ∷ change 1 4 1 3 7 ∷ change 1 0 1 3 7 ∷ change 1 1 7 3 7 ∷ change 1 1 0 3 7 ∷ change 1 1 1 0 7 ∷ change 1 1 1 13 7 ∷ change 1 1 1 12 21 ∷ []
-    ≡ [] ∷ [] ∷ (4 ∷ []) ∷ (4 ∷ []) ∷ (4 ∷ []) ∷ (4 ∷ []) ∷ (4 ∷ []) ∷ (4 ∷ []) ∷ (4 ∷ []) ∷ (4 ∷ []) ∷ (4 ∷ []) ∷ (4 ∷ []) ∷ (4 ∷ []) ∷ []
-unfolding widthChanged changeable formRight every
+    ≡ 0 ∷ 0 ∷ 4 ∷ 4 ∷ 4 ∷ 4 ∷ 4 ∷ 4 ∷ 4 ∷ 4 ∷ 4 ∷ 4 ∷ 4 ∷ []
+unfolding changeable formRight every
 changes = refl
 
 -- the last node of the table, and the old table where the change is refused
-pub changed : (tableBytes (widthChanged usual 1 3 6 1 0 .table) ≡ set (set good 54 1) 55 0) × (widthChanged usual 2 1 1 3 7 .table ≡ usual)
-unfolding widthChanged changeable formRight every tableBytes
+pub changed : (tableBytes (tableAfterWidth usual 1 3 6 1 0) ≡ set (set good 54 1) 55 0) × (tableAfterWidth usual 2 1 1 3 7 ≡ usual)
+unfolding tableAfterWidth changeable formRight every tableBytes
 changed = (refl, refl)
 
 -- a table that is not right is refused 4, though the change would mend it
 pub not-mended :
-    (told (widthChanged (with usual 0 0) 1 1 1 12 20 .outcome) ≡ 4 ∷ [])
-    × (widthChanged (with usual 0 0) 1 1 1 12 20 .table ≡ with usual 0 0)
-    × (told (constantChanged (uniform 8 1 25 12 20) 1 24 .outcome) ≡ 4 ∷ [])
-unfolding widthChanged changeable constantChanged constantChangeable formRight every
+    (changeable (with usual 0 0) 1 1 1 12 20 ≡ refused (4, []))
+    × (tableAfterWidth (with usual 0 0) 1 1 1 12 20 ≡ with usual 0 0)
+    × (constantChangeable (uniform 8 1 25 12 20) 1 24 ≡ refused (4, []))
+unfolding tableAfterWidth changeable constantChangeable formRight every
 not-mended = (refl, refl, refl)
 
-abbrev changeF : ℕ → ℕ → List ℕ
-changeF k F = told (constantChanged usual k F .outcome)
+abbrev changeF : ℕ → ℕ → ℕ
+changeF k F = code (constantChangeable usual k F)
 
 pub constants :
-    changeF 1 1 ∷ changeF 6 24 ∷ changeF 0 1 ∷ changeF 7 1 ∷ changeF 1 0 ∷ changeF 1 25 ∷ constantChanged usual 6 9 .table .constants ∷ []
-    ≡ [] ∷ [] ∷ (4 ∷ []) ∷ (4 ∷ []) ∷ (4 ∷ []) ∷ (4 ∷ []) ∷ (24 ∷ 24 ∷ 24 ∷ 24 ∷ 24 ∷ 9 ∷ []) ∷ []
-unfolding constantChanged constantChangeable formRight every
-constants = refl
+    (changeF 1 1 ∷ changeF 6 24 ∷ changeF 0 1 ∷ changeF 7 1 ∷ changeF 1 0 ∷ changeF 1 25 ∷ [] ≡ 0 ∷ 0 ∷ 4 ∷ 4 ∷ 4 ∷ 4 ∷ [])
+    × (tableAfterConstant usual 6 9 .constants ≡ 24 ∷ 24 ∷ 24 ∷ 24 ∷ 24 ∷ 9 ∷ [])
+unfolding tableAfterConstant constantChangeable formRight every
+constants = (refl, refl)
 
 -- ---- writing
 
-abbrev wrote : Written → List ℕ
-wrote (Bytes n) = n ∷ []
-wrote (NotWritten r) = number r ∷ []
-
 -- 4 before 9; a table that no judge would accept is written; bytes past its length stay
 pub writes :
-    wrote (writing usual (replicate 57 7)) ∷ wrote (writing usual (replicate 55 7)) ∷ wrote (writing (uniform 8 1 25 12 20) []) ∷ wrote (writing (with usual 36 1) (replicate 57 7)) ∷ wrote (writing (uniform 8 1 24 2 0) (replicate 56 7))
-    ∷ bytesAfter usual (replicate 57 7) ∷ bytesAfter usual (replicate 55 7) ∷ []
-    ≡ (56 ∷ []) ∷ (9 ∷ []) ∷ (4 ∷ []) ∷ (4 ∷ []) ∷ (56 ∷ []) ∷ (good ++ (7 ∷ [])) ∷ replicate 55 7 ∷ []
+    (writing usual (replicate 57 7) ∷ writing usual (replicate 55 7) ∷ writing (uniform 8 1 25 12 20) [] ∷ writing (with usual 36 1) (replicate 57 7) ∷ writing (uniform 8 1 24 2 0) (replicate 56 7) ∷ []
+    ≡ done 56 ∷ refused (9, []) ∷ refused (4, []) ∷ refused (4, []) ∷ done 56 ∷ [])
+    × (bytesAfter usual (replicate 57 7) ≡ good ++ (7 ∷ []))
+    × (bytesAfter usual (replicate 55 7) ≡ replicate 55 7)
 unfolding writing bytesAfter writable formRight every tableBytes
-writes = refl
+writes = (refl, refl, refl)
 
 -- ---- widths by number: 0 where there is no such node
 

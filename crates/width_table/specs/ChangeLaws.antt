@@ -1,7 +1,7 @@
 -- Changes that are accepted: the new number is there, every other number is as it was, the form stays right, and the same change twice is once.
-use Prim.Native.Nat.{ℕ, suc, _+_, _*_, _-_, _/_, _≤_}
+use Prim.Native.Nat.{ℕ, _+_, _*_, _-_, _/_, _<_, _≤_}
 use mathlib.Core.Bool.{Bool, true, false, _&&_}
-use mathlib.Core.List.{List, [], _∷_}
+use mathlib.Core.List.{List}
 use mathlib.Core.Path.{_≡_, refl, sym, _∙_, ap, ap₂, subst}
 use native.Mathlib.Omega.{arith}
 use borrow.Author.Tests.{le-leb}
@@ -10,16 +10,16 @@ use lib.ListN.{getD, set, length-set}
 use lib.Seq.{getD-set-same, getD-set-other, set-set, set-comm}
 use Rattle.numbers.specs.Tests.{between, every, three, four, and-intro, is-true, by-leb, between-≤, to-between}
 use Rattle.numbers.specs.Lists.{every-set}
-use Rattle.refusals.specs.declared.Outcome.the-variants.{Done}
-use Rattle.refusals.specs.RefusalLaws.{asks-done}
+use Rattle.refusals.specs.Answers.{passed}
+use Rattle.refusals.specs.AnswerLaws.{asks-done}
 use Rattle.width_table.specs.declared.WidthTable.{WidthTable}
-use Rattle.width_table.specs.declared.TableAnswer.{TableAnswer}
-use Rattle.width_table.specs.Nodes.{Node, P1, U1, P2, U2, G1, G2, bookOrder}
-use Rattle.width_table.specs.Table.{depthRight, levelsRight, constantRight, widthRight, constantBits, nodePlace, nodeRight, formRight}
-use Rattle.width_table.specs.Changes.{hasNode, changeable, withWidth, widthChanged, constantChangeable, withConstant, constantChanged}
+use Rattle.width_table.specs.Numbered.{IsNode, IsPass}
+use Rattle.width_table.specs.Nodes.{nodesPerPass, passesPerLevel, nodesPerLevel, everyNode, bookOrder}
+use Rattle.width_table.specs.Table.{maxLevels, widthBytes, passBytes, depthRight, levelsRight, constantRight, widthRight, constantBits, nodePlace, nodeRight, formRight}
+use Rattle.width_table.specs.Changes.{hasNode, changeable, withWidth, constantChangeable, withConstant}
 use Rattle.width_table.specs.Readers.{orZero, constantBitsAt, integerBitsAt, fractionBitsAt}
-use Rattle.width_table.specs.FormLists.{Sized, holds, holds-at, holds-all, pairRight, placeRight, book-places, constants-list}
-use Rattle.width_table.specs.FormLaws.{node-in, width-changes, constant-changes}
+use Rattle.width_table.specs.FormLists.{Sized, allNodes, holds, holds-at, holds-all, pairRight, placeRight, book-places, constants-list}
+use Rattle.width_table.specs.FormLaws.{node-in, few-levels}
 
 -- ---- parts
 
@@ -39,15 +39,15 @@ or-zero true x y h = h tt
 or-zero false x y h = refl
 
 -- the numbers of a node stand at no other node's places
-one-node : (a b c x y z k : ℕ) → b ≤ 2 → c ≤ 5 → y ≤ 2 → z ≤ 5
-    → (a * 3 + b) * 12 + c * 2 ≤ k → k ≤ (a * 3 + b) * 12 + c * 2 + 1 → (x * 3 + y) * 12 + z * 2 ≤ k → k ≤ (x * 3 + y) * 12 + z * 2 + 1
+one-node : (a b c x y z k : ℕ) → b < passesPerLevel → c < nodesPerPass → y < passesPerLevel → z < nodesPerPass
+    → (a * passesPerLevel + b) * passBytes + c * widthBytes ≤ k → k ≤ (a * passesPerLevel + b) * passBytes + c * widthBytes + 1 → (x * passesPerLevel + y) * passBytes + z * widthBytes ≤ k → k ≤ (x * passesPerLevel + y) * passBytes + z * widthBytes + 1
     → (a ≡ x) × (b ≡ y) × (c ≡ z)
 one-node a b c x y z k h i j m o p q r =
     let d : a ≡ x = omega arith in
     let e : b ≡ y = omega arith in
     (d, e, omega arith)
 
-less-one : (a b : ℕ) → a ≤ suc b → a - 1 ≤ b
+less-one : (a b : ℕ) → (1 ≤ a) × (a ≤ b) → a - 1 < b
 less-one a b h = omega arith
 
 more-one : (a b : ℕ) → 1 ≤ a → 1 ≤ b → a - 1 ≡ b - 1 → a ≡ b
@@ -60,28 +60,29 @@ at-second : (k m : ℕ) → k ≡ m + 1 → (m ≤ k) × (k ≤ m + 1)
 at-second k m e = (omega arith, omega arith)
 
 abbrev Limits : ℕ → ℕ → ℕ → ℕ → Type 0
-Limits L l p n = ((1 ≤ l) × (l ≤ L)) × ((1 ≤ p) × (p ≤ 3)) × ((1 ≤ n) × (n ≤ 6))
+Limits L l p n = ((1 ≤ l) × (l ≤ L)) × IsPass p × IsNode n
 
 nodes-apart : (L M l p n l′ p′ n′ k : ℕ) → Limits L l p n → Limits M l′ p′ n′ → (l ≡ l′ → p ≡ p′ → n ≡ n′ → ⊥)
     → nodePlace l p n ≤ k → k ≤ nodePlace l p n + 1 → nodePlace l′ p′ n′ ≤ k → k ≤ nodePlace l′ p′ n′ + 1 → ⊥
 nodes-apart L M l p n l′ p′ n′ k h i differs a b c d =
-    let w = one-node (l - 1) (p - 1) (n - 1) (l′ - 1) (p′ - 1) (n′ - 1) k (less-one p 2 (h .1 .1)) (less-one n 5 (h .2 .1)) (less-one p′ 2 (i .1 .1)) (less-one n′ 5 (i .2 .1)) a b c d in
+    let w = one-node (l - 1) (p - 1) (n - 1) (l′ - 1) (p′ - 1) (n′ - 1) k (less-one p passesPerLevel (h .1)) (less-one n nodesPerPass (h .2)) (less-one p′ passesPerLevel (i .1)) (less-one n′ nodesPerPass (i .2)) a b c d in
     differs (more-one l l′ (h .0 .0) (i .0 .0) (w .0)) (more-one p p′ (h .1 .0) (i .1 .0) (w .1)) (more-one n n′ (h .2 .0) (i .2 .0) (w .2))
 
--- the form by its four rules
-abbrev stages : List Node
-stages = P1 ∷ U1 ∷ P2 ∷ U2 ∷ G1 ∷ G2 ∷ []
+-- at a used level a right width is right
+used-right : (L k IB f : ℕ) → k / nodesPerLevel + 1 ≤ L → widthRight IB f ≡ true → pairRight L k IB f ≡ true
+used-right L k IB f h e = ap (λ (x : Bool). elim x [ true ↦ widthRight IB f | false ↦ eqb IB 0 && eqb f 0 ]) (le-leb (k / nodesPerLevel + 1) L h) ∙ e
 
+-- the form by its four rules
 record Rules (t : WidthTable) : Type 0 where
   depth : T (depthRight (t .depth))
   levels : T (levelsRight (t .levels))
-  constants : T (every (λ n. constantRight (constantBits t n)) stages)
-  nodes : T (holds (placeRight (t .levels) (t .nodes)) 0 90)
+  constants : T (every (λ n. constantRight (constantBits t n)) everyNode)
+  nodes : T (holds (placeRight (t .levels) (t .nodes)) 0 allNodes)
 
 rules : (t : WidthTable) → formRight t ≡ true → Rules t
 unfolding formRight
 rules t e =
-    let (a, b, c, d) = four (depthRight (t .depth)) (levelsRight (t .levels)) (every (λ n. constantRight (constantBits t n)) stages) (every (nodeRight t) (bookOrder 5)) (holding e) in
+    let (a, b, c, d) = four (depthRight (t .depth)) (levelsRight (t .levels)) (every (λ n. constantRight (constantBits t n)) everyNode) (every (nodeRight t) (bookOrder maxLevels)) (holding e) in
     record { depth = a; levels = b; constants = c; nodes = subst T (book-places t) d }
 
 formed : (t : WidthTable) → Rules t → formRight t ≡ true
@@ -89,8 +90,8 @@ unfolding formRight
 formed t r =
     let d = depthRight (t .depth) in
     let l = levelsRight (t .levels) in
-    let c = every (λ n. constantRight (constantBits t n)) stages in
-    is-true (formRight t) (and-intro (d && l && c) (every (nodeRight t) (bookOrder 5)) (and-intro (d && l) c (and-intro d l (r .depth) (r .levels)) (r .constants)) (subst T (sym (book-places t)) (r .nodes)))
+    let c = every (λ n. constantRight (constantBits t n)) everyNode in
+    is-true (formRight t) (and-intro (d && l && c) (every (nodeRight t) (bookOrder maxLevels)) (and-intro (d && l) c (and-intro d l (r .depth) (r .levels)) (r .constants)) (subst T (sym (book-places t)) (r .nodes)))
 
 -- ---- a node's width
 
@@ -104,7 +105,7 @@ pub record WidthIs (t u : WidthTable) (level pass node IB f : ℕ) : Type 0 wher
   pub otherInteger : (l p n : ℕ) → (l ≡ level → p ≡ pass → n ≡ node → ⊥) → integerBitsAt u l p n ≡ integerBitsAt t l p n
   pub otherFraction : (l p n : ℕ) → (l ≡ level → p ≡ pass → n ≡ node → ⊥) → fractionBitsAt u l p n ≡ fractionBitsAt t l p n
 
-module _ (t : WidthTable) (s : Sized t) (level pass node IB f : ℕ) (ok : changeable t level pass node IB f ≡ Done) where
+module _ (t : WidthTable) (s : Sized t) (level pass node IB f : ℕ) (ok : changeable t level pass node IB f ≡ passed) where
   abbrev changed : WidthTable
   changed = withWidth t level pass node IB f
 
@@ -115,36 +116,36 @@ module _ (t : WidthTable) (s : Sized t) (level pass node IB f : ℕ) (ok : chang
   unfolding changeable
   accepted = all-true (formRight t) (hasNode (t .levels) level pass node) (widthRight IB f) (asks-done (formRight t && hasNode (t .levels) level pass node && widthRight IB f) _ _ ok .0)
 
-  few : t .levels ≤ 5
-  few = between-≤ 1 5 (t .levels) (rules t (accepted .0) .levels) .1
+  few : t .levels ≤ maxLevels
+  few = few-levels t (accepted .0)
 
   limits : Limits (t .levels) level pass node
   limits = node-in (t .levels) level pass node (accepted .1)
 
   -- a node of its levels is one of all levels
-  has-it : hasNode 5 level pass node ≡ true
+  has-it : hasNode maxLevels level pass node ≡ true
   has-it =
-      is-true (hasNode 5 level pass node)
-      (and-intro (between 1 5 level && between 1 3 pass) (between 1 6 node)
-      (and-intro (between 1 5 level) (between 1 3 pass) (to-between 1 5 level (limits .0 .0) (omega (arith, few, limits .0 .1))) (to-between 1 3 pass (limits .1 .0) (limits .1 .1)))
-      (to-between 1 6 node (limits .2 .0) (limits .2 .1)))
+      is-true (hasNode maxLevels level pass node)
+      (and-intro (between 1 maxLevels level && between 1 passesPerLevel pass) (between 1 nodesPerPass node)
+      (and-intro (between 1 maxLevels level) (between 1 passesPerLevel pass) (to-between 1 maxLevels level (limits .0 .0) (omega (arith, few, limits .0 .1))) (to-between 1 passesPerLevel pass (limits .1 .0) (limits .1 .1)))
+      (to-between 1 nodesPerPass node (limits .2 .0) (limits .2 .1)))
 
   -- what stands at a place: the new width, and every other number as it was
-  pub new-integer : getD (changed .nodes) place 0 ≡ IB
+  new-integer : getD (changed .nodes) place 0 ≡ IB
   new-integer =
       getD-set-other (set (t .nodes) place IB) (place + 1) place f 0 (λ e. omega arith)
       ∙ getD-set-same (t .nodes) place IB 0 (omega (arith, s .nodes, few, limits .0 .0, limits .0 .1, limits .1 .0, limits .1 .1, limits .2 .0, limits .2 .1))
 
-  pub new-fraction : getD (changed .nodes) (place + 1) 0 ≡ f
+  new-fraction : getD (changed .nodes) (place + 1) 0 ≡ f
   new-fraction = getD-set-same (set (t .nodes) place IB) (place + 1) f 0 (omega (arith, length-set (t .nodes) place IB, s .nodes, few, limits .0 .0, limits .0 .1, limits .1 .0, limits .1 .1, limits .2 .0, limits .2 .1))
 
   pub other : (k : ℕ) → (k ≡ place → ⊥) → (k ≡ place + 1 → ⊥) → getD (changed .nodes) k 0 ≡ getD (t .nodes) k 0
   other k a b = getD-set-other (set (t .nodes) place IB) (place + 1) k f 0 b ∙ getD-set-other (t .nodes) place k IB 0 a
 
   -- the two numbers of another node are as they were
-  apart : (l p n : ℕ) → T (hasNode 5 l p n) → (l ≡ level → p ≡ pass → n ≡ node → ⊥) → (k : ℕ) → nodePlace l p n ≤ k → k ≤ nodePlace l p n + 1 → getD (changed .nodes) k 0 ≡ getD (t .nodes) k 0
+  apart : (l p n : ℕ) → T (hasNode maxLevels l p n) → (l ≡ level → p ≡ pass → n ≡ node → ⊥) → (k : ℕ) → nodePlace l p n ≤ k → k ≤ nodePlace l p n + 1 → getD (changed .nodes) k 0 ≡ getD (t .nodes) k 0
   apart l p n h differs k a b =
-      let no-place = nodes-apart 5 (t .levels) l p n level pass node k (node-in 5 l p n (is-true (hasNode 5 l p n) h)) limits differs a b in
+      let no-place = nodes-apart maxLevels (t .levels) l p n level pass node k (node-in maxLevels l p n (is-true (hasNode maxLevels l p n) h)) limits differs a b in
       other k (λ e. let (x, y) = at-first k place e in no-place x y) (λ e. let (x, y) = at-second k place e in no-place x y)
 
   pub width-is : WidthIs t changed level pass node IB f
@@ -155,34 +156,29 @@ module _ (t : WidthTable) (s : Sized t) (level pass node IB f : ℕ) (ok : chang
     constants = refl;
     integer = ap (λ (x : Bool). orZero x (getD (changed .nodes) place 0)) has-it ∙ new-integer;
     fraction = ap (λ (x : Bool). orZero x (getD (changed .nodes) (place + 1) 0)) has-it ∙ new-fraction;
-    otherInteger = λ l p n differs. or-zero (hasNode 5 l p n) _ _ (λ h. apart l p n h differs (nodePlace l p n) (omega arith) (omega arith));
-    otherFraction = λ l p n differs. or-zero (hasNode 5 l p n) _ _ (λ h. apart l p n h differs (nodePlace l p n + 1) (omega arith) (omega arith));
+    otherInteger = λ l p n differs. or-zero (hasNode maxLevels l p n) _ _ (λ h. apart l p n h differs (nodePlace l p n) (omega arith) (omega arith));
+    otherFraction = λ l p n differs. or-zero (hasNode maxLevels l p n) _ _ (λ h. apart l p n h differs (nodePlace l p n + 1) (omega arith) (omega arith));
   }
 
   pub width-form : formRight changed ≡ true
   width-form =
       let r = rules t (accepted .0) in
-      let q = ((level - 1) * 3 + (pass - 1)) * 6 + (node - 1) in
+      let q = ((level - 1) * passesPerLevel + (pass - 1)) * nodesPerPass + (node - 1) in
       let L = t .levels in
-      let e : 2 * q ≡ place = omega arith in
-      let up : q / 18 + 1 ≤ L = omega (arith, limits .0 .0, limits .0 .1, limits .1 .0, limits .1 .1, limits .2 .0, limits .2 .1) in
+      let e : widthBytes * q ≡ place = omega arith in
+      let up : q / nodesPerLevel + 1 ≤ L = omega (arith, limits .0 .0, limits .0 .1, limits .1 .0, limits .1 .1, limits .2 .0, limits .2 .1) in
       let here : placeRight L (changed .nodes) q ≡ true =
-      ap₂ (pairRight L q) (ap (λ (k : ℕ). getD (changed .nodes) k 0) e ∙ new-integer) (ap (λ (k : ℕ). getD (changed .nodes) (k + 1) 0) e ∙ new-fraction)
-      ∙ ap (λ (x : Bool). elim x [ true ↦ widthRight IB f | false ↦ eqb IB 0 && eqb f 0 ]) (le-leb (q / 18 + 1) L up)
-      ∙ accepted .2
+      ap₂ (pairRight L q) (ap (λ (k : ℕ). getD (changed .nodes) k 0) e ∙ new-integer) (ap (λ (k : ℕ). getD (changed .nodes) (k + 1) 0) e ∙ new-fraction) ∙ used-right L q IB f up (accepted .2)
       in
       formed changed (record {
         depth = r .depth;
         levels = r .levels;
         constants = r .constants;
-        nodes = holds-all (placeRight L (changed .nodes)) 0 90 (λ k a b.
+        nodes = holds-all (placeRight L (changed .nodes)) 0 allNodes (λ k a b.
             same-or (T (placeRight L (changed .nodes) k)) k q
             (λ h. subst (λ (x : ℕ). T (placeRight L (changed .nodes) x)) (sym h) (holding here))
-            (λ h. subst T (sym (ap₂ (pairRight L k) (other (2 * k) (λ x. h (omega arith)) (λ x. omega arith)) (other (2 * k + 1) (λ x. omega arith) (λ x. h (omega arith))))) (holds-at (placeRight L (t .nodes)) 0 90 (r .nodes) k a b)));
+            (λ h. subst T (sym (ap₂ (pairRight L k) (other (widthBytes * k) (λ x. h (omega arith)) (λ x. omega arith)) (other (widthBytes * k + 1) (λ x. omega arith) (λ x. h (omega arith))))) (holds-at (placeRight L (t .nodes)) 0 allNodes (r .nodes) k a b)));
       })
-
-  pub width-done : widthChanged t level pass node IB f ≡ record { outcome = Done; table = changed }
-  width-done = width-changes t level pass node IB f (accepted .0) (accepted .1) (accepted .2)
 
   pub width-twice : withWidth changed level pass node IB f ≡ changed
   width-twice =
@@ -192,12 +188,6 @@ module _ (t : WidthTable) (s : Sized t) (level pass node IB f : ℕ) (ok : chang
     where
       made : List ℕ → WidthTable
       made l = record { depth = t .depth; levels = t .levels; constants = t .constants; nodes = l }
-
-  pub width-again : widthChanged changed level pass node IB f ≡ widthChanged t level pass node IB f
-  width-again = width-changes changed level pass node IB f width-form (accepted .1) (accepted .2) ∙ ap answer width-twice ∙ sym width-done
-    where
-      answer : WidthTable → TableAnswer
-      answer u = record { outcome = Done; table = u }
 
 -- ---- a constant's bits
 
@@ -209,16 +199,16 @@ pub record ConstantIs (t u : WidthTable) (node F : ℕ) : Type 0 where
   pub bits : constantBitsAt u node ≡ F
   pub otherBits : (n : ℕ) → (n ≡ node → ⊥) → constantBitsAt u n ≡ constantBitsAt t n
 
-module _ (t : WidthTable) (s : Sized t) (node F : ℕ) (ok : constantChangeable t node F ≡ Done) where
+module _ (t : WidthTable) (s : Sized t) (node F : ℕ) (ok : constantChangeable t node F ≡ passed) where
   abbrev with : WidthTable
   with = withConstant t node F
 
-  allowed : (formRight t ≡ true) × (between 1 6 node ≡ true) × (constantRight F ≡ true)
+  allowed : (formRight t ≡ true) × (between 1 nodesPerPass node ≡ true) × (constantRight F ≡ true)
   unfolding constantChangeable
-  allowed = all-true (formRight t) (between 1 6 node) (constantRight F) (asks-done (formRight t && between 1 6 node && constantRight F) _ _ ok .0)
+  allowed = all-true (formRight t) (between 1 nodesPerPass node) (constantRight F) (asks-done (formRight t && between 1 nodesPerPass node && constantRight F) _ _ ok .0)
 
-  stage : (1 ≤ node) × (node ≤ 6)
-  stage = between-≤ 1 6 node (holding (allowed .1))
+  stage : IsNode node
+  stage = between-≤ 1 nodesPerPass node (holding (allowed .1))
 
   pub constant-is : ConstantIs t with node F
   unfolding constantBitsAt
@@ -227,7 +217,7 @@ module _ (t : WidthTable) (s : Sized t) (node F : ℕ) (ok : constantChangeable 
     levels = refl;
     nodes = refl;
     bits = ap (λ (x : Bool). orZero x (getD (with .constants) (node - 1) 0)) (allowed .1) ∙ getD-set-same (t .constants) (node - 1) F 0 (omega (arith, s .constants, stage .0, stage .1));
-    otherBits = λ n differs. or-zero (between 1 6 n) _ _ (λ h. getD-set-other (t .constants) (node - 1) (n - 1) F 0 (λ e. differs (omega (arith, between-≤ 1 6 n h .0, stage .0))));
+    otherBits = λ n differs. or-zero (between 1 nodesPerPass n) _ _ (λ h. getD-set-other (t .constants) (node - 1) (n - 1) F 0 (λ e. differs (omega (arith, between-≤ 1 nodesPerPass n h .0, stage .0))));
   }
 
   pub constant-form : formRight with ≡ true
@@ -242,17 +232,8 @@ module _ (t : WidthTable) (s : Sized t) (node F : ℕ) (ok : constantChangeable 
         nodes = r .nodes;
       })
 
-  pub constant-done : constantChanged t node F ≡ record { outcome = Done; table = with }
-  constant-done = constant-changes t node F (allowed .0) (allowed .1) (allowed .2)
-
   pub constant-twice : withConstant with node F ≡ with
   constant-twice = ap made (set-set (t .constants) (node - 1) F F)
     where
       made : List ℕ → WidthTable
       made l = record { depth = t .depth; levels = t .levels; constants = l; nodes = t .nodes }
-
-  pub constant-again : constantChanged with node F ≡ constantChanged t node F
-  constant-again = constant-changes with node F constant-form (allowed .1) (allowed .2) ∙ ap answer constant-twice ∙ sym constant-done
-    where
-      answer : WidthTable → TableAnswer
-      answer u = record { outcome = Done; table = u }

@@ -1,12 +1,13 @@
 -- The fields of a width table's bytes (document 01: books as bytes): one list, from which lengths, places and bytes follow.
-use Prim.Native.Nat.{ℕ, _+_, _*_, _/_, _%_}
+use Prim.Native.Nat.{ℕ, _+_, _*_, _/_, _%_, _≤_}
 use mathlib.Core.Bool.{Bool, true, false, _&&_}
 use mathlib.Core.List.{List, [], _∷_, _++_}
 use lib.Dec.{eqb}
-use lib.ListN.{take}
-use Rattle.numbers.specs.Tests.{every}
+use lib.ListN.{take, drop}
+use Rattle.numbers.specs.Tests.{between, every}
 use Rattle.width_table.specs.declared.WidthTable.{WidthTable}
-use Rattle.width_table.specs.Table.{depthRight, levelsRight, constantRight, widthRight}
+use Rattle.width_table.specs.Nodes.{nodesPerPass}
+use Rattle.width_table.specs.Table.{levelBytes, depthRight, levelsRight, constantRight, widthRight}
 
 -- A field: its tag, how long its value is, what is right for the value (4), and the value that a table has for it.
 pub record Field : Type 0 where
@@ -15,9 +16,32 @@ pub record Field : Type 0 where
   pub right : List ℕ → Bool
   pub held : WidthTable → List ℕ
 
--- bytes of the nodes of L levels: each of three passes has six nodes of two bytes
+-- the tags, in their order, from 1
+abbrev pub depthTag : ℕ
+depthTag = 1
+
+abbrev pub levelsTag : ℕ
+levelsTag = 2
+
+abbrev pub constantsTag : ℕ
+constantsTag = 3
+
+abbrev pub nodesTag : ℕ
+nodesTag = 4
+
+abbrev pub tagRight : ℕ → Bool
+tagRight tag = between depthTag nodesTag tag
+
+abbrev pub IsTag : ℕ → Type 0
+IsTag tag = (depthTag ≤ tag) × (tag ≤ nodesTag)
+
+-- bytes of a field before its value: a one-byte tag, a two-byte length
+abbrev pub headBytes : ℕ
+headBytes = 3
+
+-- bytes of the nodes of L levels
 abbrev pub nodeBytes : ℕ → ℕ
-nodeBytes L = 36 * L
+nodeBytes L = levelBytes * L
 
 -- of each node IB, then f
 unfoldable pub widthsRight : List ℕ → Bool
@@ -25,34 +49,34 @@ widthsRight [] = true
 widthsRight (IB ∷ []) = false
 widthsRight (IB ∷ f ∷ rest) = widthRight IB f && widthsRight rest
 
--- tags 1 to 3, whose lengths are the same in every table: depth, levels, F of P1, U1, P2, U2, G1, G2
+-- the tags whose lengths are the same in every table: depth, levels, F of P1, U1, P2, U2, G1, G2
 abbrev pub fixedFields : List Field
 fixedFields =
-    record { tag = 1; size = 1; right = every depthRight; held = λ t. t .depth ∷ [] }
-    ∷ record { tag = 2; size = 1; right = every levelsRight; held = λ t. t .levels ∷ [] }
-    ∷ record { tag = 3; size = 6; right = every constantRight; held = λ t. t .constants }
+    record { tag = depthTag; size = 1; right = every depthRight; held = λ t. t .depth ∷ [] }
+    ∷ record { tag = levelsTag; size = 1; right = every levelsRight; held = λ t. t .levels ∷ [] }
+    ∷ record { tag = constantsTag; size = nodesPerPass; right = every constantRight; held = λ t. t .constants }
     ∷ []
 
--- tags 1 to 4 in order, once each, of a table of L levels; 4 has the widths of the nodes in book order
+-- every tag in order, once each, of a table of L levels; the last has the widths of the nodes in book order
 abbrev pub fields : ℕ → List Field
-fields L = fixedFields ++ (record { tag = 4; size = nodeBytes L; right = widthsRight; held = λ t. take (nodeBytes L) (t .nodes) } ∷ [])
+fields L = fixedFields ++ (record { tag = nodesTag; size = nodeBytes L; right = widthsRight; held = λ t. take (nodeBytes L) (t .nodes) } ∷ [])
 
 -- ---- what follows from the list
 
--- bytes of fields: each has a one-byte tag, a two-byte length and its value
+-- bytes of fields: each has its head and its value
 abbrev pub sizeOf : List Field → ℕ
 sizeOf [] = 0
-sizeOf (f ∷ fs) = 3 + f .size + sizeOf fs
+sizeOf (f ∷ fs) = headBytes + f .size + sizeOf fs
 
 -- the field of a tag
 abbrev pub fieldOf : List Field → ℕ → Field
 fieldOf [] tag = record { tag = 0; size = 0; right = λ value. false; held = λ t. [] }
 fieldOf (f ∷ fs) tag = elim (eqb (f .tag) tag) [ true ↦ f | false ↦ fieldOf fs tag ]
 
--- where the value of a tag starts: after the fields before it, its own tag and length
+-- where the value of a tag starts: after the fields before it and its own head
 abbrev pub startOf : List Field → ℕ → ℕ
 startOf [] tag = 0
-startOf (f ∷ fs) tag = elim (eqb (f .tag) tag) [ true ↦ 3 | false ↦ 3 + f .size + startOf fs tag ]
+startOf (f ∷ fs) tag = elim (eqb (f .tag) tag) [ true ↦ headBytes | false ↦ headBytes + f .size + startOf fs tag ]
 
 -- the same in a table of L levels
 abbrev pub tableSize : ℕ → ℕ
@@ -63,6 +87,10 @@ valueStart L tag = startOf (fields L) tag
 
 abbrev pub valueLength : ℕ → ℕ → ℕ
 valueLength L tag = fieldOf (fields L) tag .size
+
+-- the fields after that of a tag
+abbrev pub fieldsAfter : ℕ → ℕ → List Field
+fieldsAfter L tag = drop tag (fields L)
 
 -- a field as bytes: tag, length with the high byte first, value
 abbrev pub fieldBytes : Field → List ℕ → List ℕ

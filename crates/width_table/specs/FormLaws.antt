@@ -6,14 +6,14 @@ use mathlib.Core.Path.{_≡_, refl, sym, _∙_, ap, ap₂, subst}
 use lib.Dec.{T, eqb, leb·zero, leb·suc-zero, eqb·zero-suc}
 use lib.ListN.{take, drop}
 use Rattle.width_table.specs.declared.WidthTable.{WidthTable}
-use Rattle.width_table.specs.declared.TableAnswer.{TableAnswer}
-use Rattle.refusals.specs.declared.Refusal.the-variants.{OutsideLimits}
-use Rattle.refusals.specs.declared.Outcome.the-variants.{Done}
-use Rattle.refusals.specs.Refusals.{asks, answered}
-use Rattle.numbers.specs.Tests.{three, four, left-false, right-false, between-≤, between, every}
-use Rattle.width_table.specs.Table.{depthRight, levelsRight, constantRight, formRight, widthRight}
+use Rattle.refusals.specs.Answers.{Answer, refused, passed, asks, answered}
+use Rattle.numbers.specs.Tests.{both, three, left-false, right-false, between-≤, between, every}
+use Rattle.width_table.specs.Nodes.{nodesPerPass, passesPerLevel}
+use Rattle.width_table.specs.Numbered.{IsNode, IsPass}
+use Rattle.width_table.specs.Table.{maxLevels, depthRight, levelsRight, constantRight, formRight, widthRight}
 use Rattle.width_table.specs.Fields.{widthsRight, nodeBytes}
-use Rattle.width_table.specs.Changes.{hasNode, changeable, withWidth, widthChanged, constantChangeable, withConstant, constantChanged}
+use Rattle.width_table.specs.Changes.{hasNode, changeable, withWidth, tableAfterWidth, constantChangeable, withConstant, tableAfterConstant}
+use Rattle.width_table.specs.Limits.{form-levels}
 use Rattle.width_table.specs.FormLists.{formLists}
 
 zero-test : (n : ℕ) → between 0 0 n ≡ eqb 0 n
@@ -42,15 +42,13 @@ module _ (t : WidthTable) where
   abbrev Z : Bool
   Z = every (eqb 0) (drop (nodeBytes (t .levels)) (t .nodes))
 
-  limits-wrong : B && L ≡ false → formLists t ≡ false
+  pub limits-wrong : B && L ≡ false → formLists t ≡ false
   unfolding formLists
   limits-wrong e = left-false (B && L && C && W) Z (left-false (B && L && C) W (left-false (B && L) C e))
 
-  pub depth-wrong : B ≡ false → formLists t ≡ false
-  depth-wrong e = limits-wrong (left-false B L e)
-
-  pub levels-wrong : L ≡ false → formLists t ≡ false
-  levels-wrong e = limits-wrong (right-false B L e)
+  -- within its limits
+  pub levels-few : B && L ≡ true → t .levels ≤ maxLevels
+  levels-few e = between-≤ 1 maxLevels (t .levels) (both B L (subst T (sym e) tt) .1) .1
 
   pub constants-wrong : C ≡ false → formLists t ≡ false
   unfolding formLists
@@ -60,21 +58,17 @@ module _ (t : WidthTable) where
   unfolding formLists
   widths-wrong e = left-false (B && L && C && W) Z (right-false (B && L && C) W e)
 
-  pub unused-decide : B ≡ true → L ≡ true → C ≡ true → W ≡ true → formLists t ≡ Z
+  pub unused-decide : B && L ≡ true → C ≡ true → W ≡ true → formLists t ≡ Z
   unfolding formLists
-  unused-decide d e f g = ap (λ (x : Bool). x && L && C && W && Z) d ∙ ap (λ (x : Bool). x && C && W && Z) e ∙ ap (λ (x : Bool). x && W && Z) f ∙ ap (λ (x : Bool). x && Z) g
+  unused-decide e f g = ap (λ (x : Bool). x && C && W && Z) e ∙ ap (λ (x : Bool). x && W && Z) f ∙ ap (λ (x : Bool). x && Z) g
 
 -- ---- a change
 
 module _ (L level pass node : ℕ) where
-  pub node-in : hasNode L level pass node ≡ true → ((1 ≤ level) × (level ≤ L)) × ((1 ≤ pass) × (pass ≤ 3)) × ((1 ≤ node) × (node ≤ 6))
+  pub node-in : hasNode L level pass node ≡ true → ((1 ≤ level) × (level ≤ L)) × IsPass pass × IsNode node
   node-in e =
-      let (l, p, n) = three (between 1 L level) (between 1 3 pass) (between 1 6 node) (subst T (sym e) tt) in
-      (between-≤ 1 L level l, between-≤ 1 3 pass p, between-≤ 1 6 node n)
-
--- the answer of a change, by whether its rules hold
-abbrev pub answer : Bool → WidthTable → WidthTable → TableAnswer
-answer x new old = record { outcome = asks x OutsideLimits Done; table = answered (asks x OutsideLimits Done) new old }
+      let (l, p, n) = three (between 1 L level) (between 1 passesPerLevel pass) (between 1 nodesPerPass node) (subst T (sym e) tt) in
+      (between-≤ 1 L level l, between-≤ 1 passesPerLevel pass p, between-≤ 1 nodesPerPass node n)
 
 -- three rules
 first-fails : (a b c : Bool) → a ≡ false → a && b && c ≡ false
@@ -89,44 +83,56 @@ third-fails a b c e = right-false (a && b) c e
 all-hold : (a b c : Bool) → a ≡ true → b ≡ true → c ≡ true → a && b && c ≡ true
 all-hold a b c e f g = ap (λ (x : Bool). x && b && c) e ∙ ap (λ (x : Bool). x && c) f ∙ g
 
+-- what a change answers and gives, by its rules
 module _ (t : WidthTable) (level pass node IB f : ℕ) where
   abbrev hasIt : Bool
   hasIt = hasNode (t .levels) level pass node
 
-  decided : (x : Bool) → formRight t && hasIt && widthRight IB f ≡ x → widthChanged t level pass node IB f ≡ answer x (withWidth t level pass node IB f) t
-  unfolding widthChanged changeable
-  decided x e = ap (λ (y : Bool). answer y (withWidth t level pass node IB f) t) e
+  abbrev new : WidthTable
+  new = withWidth t level pass node IB f
 
-  pub not-formed : formRight t ≡ false → widthChanged t level pass node IB f ≡ answer false (withWidth t level pass node IB f) t
+  abbrev pub WidthChange : Answer Unit → WidthTable → Type 0
+  WidthChange answer gives = (answer ≡ changeable t level pass node IB f) × (gives ≡ tableAfterWidth t level pass node IB f)
+
+  decided : (x : Bool) → formRight t && hasIt && widthRight IB f ≡ x → WidthChange (asks x 4 passed) (answered (asks x 4 passed) new t)
+  unfolding tableAfterWidth changeable
+  decided x e = (ap (λ (y : Bool). asks y 4 passed) (sym e), ap (λ (y : Bool). answered (asks y 4 passed) new t) (sym e))
+
+  pub not-formed : formRight t ≡ false → WidthChange (refused (4, [])) t
   not-formed e = decided false (first-fails (formRight t) hasIt (widthRight IB f) e)
 
-  pub no-node : hasIt ≡ false → widthChanged t level pass node IB f ≡ answer false (withWidth t level pass node IB f) t
+  pub no-node : hasIt ≡ false → WidthChange (refused (4, [])) t
   no-node e = decided false (second-fails (formRight t) hasIt (widthRight IB f) e)
 
-  pub no-width : widthRight IB f ≡ false → widthChanged t level pass node IB f ≡ answer false (withWidth t level pass node IB f) t
+  pub no-width : widthRight IB f ≡ false → WidthChange (refused (4, [])) t
   no-width e = decided false (third-fails (formRight t) hasIt (widthRight IB f) e)
 
-  pub width-changes : formRight t ≡ true → hasIt ≡ true → widthRight IB f ≡ true → widthChanged t level pass node IB f ≡ answer true (withWidth t level pass node IB f) t
+  pub width-changes : formRight t ≡ true → hasIt ≡ true → widthRight IB f ≡ true → WidthChange passed new
   width-changes a b e = decided true (all-hold (formRight t) hasIt (widthRight IB f) a b e)
 
 module _ (t : WidthTable) (node F : ℕ) where
-  constant-decided : (x : Bool) → formRight t && between 1 6 node && constantRight F ≡ x → constantChanged t node F ≡ answer x (withConstant t node F) t
-  unfolding constantChanged constantChangeable
-  constant-decided x e = ap (λ (y : Bool). answer y (withConstant t node F) t) e
+  abbrev with : WidthTable
+  with = withConstant t node F
 
-  pub table-not-formed : formRight t ≡ false → constantChanged t node F ≡ answer false (withConstant t node F) t
-  table-not-formed e = constant-decided false (first-fails (formRight t) (between 1 6 node) (constantRight F) e)
+  abbrev pub ConstantChange : Answer Unit → WidthTable → Type 0
+  ConstantChange answer gives = (answer ≡ constantChangeable t node F) × (gives ≡ tableAfterConstant t node F)
 
-  pub no-stage : between 1 6 node ≡ false → constantChanged t node F ≡ answer false (withConstant t node F) t
-  no-stage e = constant-decided false (second-fails (formRight t) (between 1 6 node) (constantRight F) e)
+  constant-decided : (x : Bool) → formRight t && between 1 nodesPerPass node && constantRight F ≡ x → ConstantChange (asks x 4 passed) (answered (asks x 4 passed) with t)
+  unfolding tableAfterConstant constantChangeable
+  constant-decided x e = (ap (λ (y : Bool). asks y 4 passed) (sym e), ap (λ (y : Bool). answered (asks y 4 passed) with t) (sym e))
 
-  pub no-bits : constantRight F ≡ false → constantChanged t node F ≡ answer false (withConstant t node F) t
-  no-bits e = constant-decided false (third-fails (formRight t) (between 1 6 node) (constantRight F) e)
+  pub table-not-formed : formRight t ≡ false → ConstantChange (refused (4, [])) t
+  table-not-formed e = constant-decided false (first-fails (formRight t) (between 1 nodesPerPass node) (constantRight F) e)
 
-  pub constant-changes : formRight t ≡ true → between 1 6 node ≡ true → constantRight F ≡ true → constantChanged t node F ≡ answer true (withConstant t node F) t
-  constant-changes a b e = constant-decided true (all-hold (formRight t) (between 1 6 node) (constantRight F) a b e)
+  pub no-stage : between 1 nodesPerPass node ≡ false → ConstantChange (refused (4, [])) t
+  no-stage e = constant-decided false (second-fails (formRight t) (between 1 nodesPerPass node) (constantRight F) e)
 
--- a right form has at most 5 levels
-pub few-levels : (t : WidthTable) → formRight t ≡ true → t .levels ≤ 5
-unfolding formRight
-few-levels t e = between-≤ 1 5 (t .levels) (four (depthRight (t .depth)) (levelsRight (t .levels)) _ _ (subst T (sym e) tt) .1) .1
+  pub no-bits : constantRight F ≡ false → ConstantChange (refused (4, [])) t
+  no-bits e = constant-decided false (third-fails (formRight t) (between 1 nodesPerPass node) (constantRight F) e)
+
+  pub constant-changes : formRight t ≡ true → between 1 nodesPerPass node ≡ true → constantRight F ≡ true → ConstantChange passed with
+  constant-changes a b e = constant-decided true (all-hold (formRight t) (between 1 nodesPerPass node) (constantRight F) a b e)
+
+-- a right form has no more levels than a table may have
+pub few-levels : (t : WidthTable) → formRight t ≡ true → t .levels ≤ maxLevels
+few-levels t e = form-levels t (subst T (sym e) tt) .1

@@ -10,14 +10,14 @@ use lib.ListN.{length, getD, take, drop, drop-of-length-le}
 use Rattle.numbers.specs.Tests.{every, both, and-intro, between-≤, by-leb}
 use Rattle.numbers.specs.Lists.{next-two}
 use Rattle.width_table.specs.declared.WidthTable.{WidthTable}
-use Rattle.width_table.specs.Nodes.{P1, U1, P2, U2, G1, G2, nodeNumber, bookOrder}
-use Rattle.width_table.specs.Table.{depthRight, levelsRight, constantRight, widthRight, nodeRight, formRight}
+use Rattle.width_table.specs.Nodes.{everyNode, nodesPerPass, nodesPerLevel, nodeNumber, bookOrder}
+use Rattle.width_table.specs.Table.{maxLevels, widthBytes, depthRight, levelsRight, constantRight, widthRight, nodeRight, formRight}
 use Rattle.width_table.specs.Fields.{nodeBytes, widthsRight}
 
 -- what its type says of every table in memory
 pub record Sized (t : WidthTable) : Type 0 where
-  pub constants : length (t .constants) ≡ 6
-  pub nodes : length (t .nodes) ≡ 180
+  pub constants : length (t .constants) ≡ nodesPerPass
+  pub nodes : length (t .nodes) ≡ nodeBytes maxLevels
 
 -- the same form by lists
 unfoldable pub formLists : WidthTable → Bool
@@ -73,71 +73,75 @@ holds-all test i (suc n) h = and-intro (test i) (holds test (i + 1) n) (h i (ome
 -- ---- two numbers to a place
 
 -- the numbers of the k-th node in book order
-abbrev pub widthAt : List ℕ → ℕ → Bool
-widthAt l k = widthRight (getD l (2 * k) 0) (getD l (2 * k + 1) 0)
+abbrev widthAt : List ℕ → ℕ → Bool
+widthAt l k = widthRight (getD l (widthBytes * k) 0) (getD l (widthBytes * k + 1) 0)
 
-abbrev pub zeroAt : List ℕ → ℕ → Bool
-zeroAt l k = eqb (getD l (2 * k) 0) 0 && eqb (getD l (2 * k + 1) 0) 0
+abbrev zeroAt : List ℕ → ℕ → Bool
+zeroAt l k = eqb (getD l (widthBytes * k) 0) 0 && eqb (getD l (widthBytes * k + 1) 0) 0
 
--- the k-th node's numbers are right for L levels: a level has 18 nodes
+-- the k-th node's numbers are right for L levels
 abbrev pub pairRight : ℕ → ℕ → ℕ → ℕ → Bool
-pairRight L k IB f = elim (leb (k / 18 + 1) L) [ true ↦ widthRight IB f | false ↦ eqb IB 0 && eqb f 0 ]
+pairRight L k IB f = elim (leb (k / nodesPerLevel + 1) L) [ true ↦ widthRight IB f | false ↦ eqb IB 0 && eqb f 0 ]
 
 abbrev pub placeRight : ℕ → List ℕ → ℕ → Bool
-placeRight L l k = pairRight L k (getD l (2 * k) 0) (getD l (2 * k + 1) 0)
+placeRight L l k = pairRight L k (getD l (widthBytes * k) 0) (getD l (widthBytes * k + 1) 0)
 
-widths-hold : (l : List ℕ) (i n : ℕ) → 2 * (i + n) ≤ length l → widthsRight (take (2 * n) (drop (2 * i) l)) ≡ holds (widthAt l) i n
+widths-hold : (l : List ℕ) (i n : ℕ) → widthBytes * (i + n) ≤ length l → widthsRight (take (widthBytes * n) (drop (widthBytes * i) l)) ≡ holds (widthAt l) i n
 unfolding widthsRight holds
 widths-hold l i zero h = refl
 widths-hold l i (suc n) h =
-    let e : 2 * suc n ≡ suc (suc (2 * n)) = omega arith in
-    let s : 2 * i + 2 ≡ 2 * (i + 1) = omega arith in
-    ap₂ (λ (m : ℕ) (r : List ℕ). widthsRight (take m r)) e (next-two l 0 (2 * i) (omega arith))
-    ∙ ap (λ (m : ℕ). widthAt l i && widthsRight (take (2 * n) (drop m l))) s
+    let e : widthBytes * suc n ≡ suc (suc (widthBytes * n)) = omega arith in
+    let s : widthBytes * i + widthBytes ≡ widthBytes * (i + 1) = omega arith in
+    ap₂ (λ (m : ℕ) (r : List ℕ). widthsRight (take m r)) e (next-two l 0 (widthBytes * i) (omega arith))
+    ∙ ap (λ (m : ℕ). widthAt l i && widthsRight (take (widthBytes * n) (drop m l))) s
     ∙ ap (λ (x : Bool). widthAt l i && x) (widths-hold l (i + 1) n (omega arith))
 
 eqb-zero : (a : ℕ) → eqb 0 a ≡ eqb a 0
 eqb-zero zero = refl
 eqb-zero (suc a) = eqb·zero-suc a ∙ sym (eqb·suc-zero a)
 
-zeros-hold : (l : List ℕ) (i n : ℕ) → 2 * (i + n) ≡ length l → every (eqb 0) (drop (2 * i) l) ≡ holds (zeroAt l) i n
+zeros-hold : (l : List ℕ) (i n : ℕ) → widthBytes * (i + n) ≡ length l → every (eqb 0) (drop (widthBytes * i) l) ≡ holds (zeroAt l) i n
 unfolding every holds
-zeros-hold l i zero h = ap (every (eqb 0)) (drop-of-length-le l {i = 2 * i} (omega arith))
+zeros-hold l i zero h = ap (every (eqb 0)) (drop-of-length-le l {i = widthBytes * i} (omega arith))
 zeros-hold l i (suc n) h =
-    let s : 2 * i + 2 ≡ 2 * (i + 1) = omega arith in
-    ap (every (eqb 0)) (next-two l 0 (2 * i) (omega arith))
-    ∙ ap₂ (λ (x y : Bool). x && (y && every (eqb 0) (drop (2 * i + 2) l))) (eqb-zero (getD l (2 * i) 0)) (eqb-zero (getD l (2 * i + 1) 0))
-    ∙ sym (and-assoc (eqb (getD l (2 * i) 0) 0) (eqb (getD l (2 * i + 1) 0) 0) _)
+    let s : widthBytes * i + widthBytes ≡ widthBytes * (i + 1) = omega arith in
+    ap (every (eqb 0)) (next-two l 0 (widthBytes * i) (omega arith))
+    ∙ ap₂ (λ (x y : Bool). x && (y && every (eqb 0) (drop (widthBytes * i + widthBytes) l))) (eqb-zero (getD l (widthBytes * i) 0)) (eqb-zero (getD l (widthBytes * i + 1) 0))
+    ∙ sym (and-assoc (eqb (getD l (widthBytes * i) 0) 0) (eqb (getD l (widthBytes * i + 1) 0) 0) _)
     ∙ ap (λ (m : ℕ). zeroAt l i && every (eqb 0) (drop m l)) s
     ∙ ap (λ (x : Bool). zeroAt l i && x) (zeros-hold l (i + 1) n (omega arith))
 
 -- ---- the two forms
 
+-- the nodes of a table of most levels
+abbrev pub allNodes : ℕ
+allNodes = nodesPerLevel * maxLevels
+
 -- book order is the order of places
-pub book-places : (t : WidthTable) → every (nodeRight t) (bookOrder 5) ≡ holds (placeRight (t .levels) (t .nodes)) 0 90
+pub book-places : (t : WidthTable) → every (nodeRight t) (bookOrder maxLevels) ≡ holds (placeRight (t .levels) (t .nodes)) 0 allNodes
 unfolding every holds
 book-places t = refl
 
-module _ (L : ℕ) (l : List ℕ) (few : L ≤ 5) (long : length l ≡ 180) where
-  nodes-lists : holds (placeRight L l) 0 90 ≡ widthsRight (take (nodeBytes L) l) && every (eqb 0) (drop (nodeBytes L) l)
+module _ (L : ℕ) (l : List ℕ) (few : L ≤ maxLevels) (long : length l ≡ nodeBytes maxLevels) where
+  nodes-lists : holds (placeRight L l) 0 allNodes ≡ widthsRight (take (nodeBytes L) l) && every (eqb 0) (drop (nodeBytes L) l)
   nodes-lists =
-      let all : 90 ≡ 18 * L + (90 - 18 * L) = omega arith in
-      let e : 2 * (18 * L) ≡ nodeBytes L = omega arith in
-      let z : 0 + 18 * L ≡ 18 * L = omega arith in
+      let all : allNodes ≡ nodesPerLevel * L + (allNodes - nodesPerLevel * L) = omega arith in
+      let e : widthBytes * (nodesPerLevel * L) ≡ nodeBytes L = omega arith in
+      let z : 0 + nodesPerLevel * L ≡ nodesPerLevel * L = omega arith in
       ap (holds (placeRight L l) 0) all
-      ∙ holds-add (placeRight L l) 0 (18 * L) (90 - 18 * L)
-      ∙ ap (λ (n : ℕ). holds (placeRight L l) 0 (18 * L) && holds (placeRight L l) n (90 - 18 * L)) z
-      ∙ ap₂ _&&_ (holds-same (placeRight L l) (widthAt l) 0 (18 * L) used) (holds-same (placeRight L l) (zeroAt l) (18 * L) (90 - 18 * L) unused)
-      ∙ sym (ap₂ _&&_ (widths-hold l 0 (18 * L) (omega arith)) (zeros-hold l (18 * L) (90 - 18 * L) (omega arith)))
+      ∙ holds-add (placeRight L l) 0 (nodesPerLevel * L) (allNodes - nodesPerLevel * L)
+      ∙ ap (λ (n : ℕ). holds (placeRight L l) 0 (nodesPerLevel * L) && holds (placeRight L l) n (allNodes - nodesPerLevel * L)) z
+      ∙ ap₂ _&&_ (holds-same (placeRight L l) (widthAt l) 0 (nodesPerLevel * L) used) (holds-same (placeRight L l) (zeroAt l) (nodesPerLevel * L) (allNodes - nodesPerLevel * L) unused)
+      ∙ sym (ap₂ _&&_ (widths-hold l 0 (nodesPerLevel * L) (omega arith)) (zeros-hold l (nodesPerLevel * L) (allNodes - nodesPerLevel * L) (omega arith)))
       ∙ ap (λ (n : ℕ). widthsRight (take n l) && every (eqb 0) (drop n l)) e
     where
-      used : (k : ℕ) → 0 ≤ k → k < 0 + 18 * L → placeRight L l k ≡ widthAt l k
-      used k a b = ap (λ (x : Bool). elim x [ true ↦ widthAt l k | false ↦ zeroAt l k ]) (le-leb (k / 18 + 1) L (omega arith))
+      used : (k : ℕ) → 0 ≤ k → k < 0 + nodesPerLevel * L → placeRight L l k ≡ widthAt l k
+      used k a b = ap (λ (x : Bool). elim x [ true ↦ widthAt l k | false ↦ zeroAt l k ]) (le-leb (k / nodesPerLevel + 1) L (omega arith))
 
-      unused : (k : ℕ) → 18 * L ≤ k → k < 18 * L + (90 - 18 * L) → placeRight L l k ≡ zeroAt l k
-      unused k a b = ap (λ (x : Bool). elim x [ true ↦ widthAt l k | false ↦ zeroAt l k ]) (lt-leb (k / 18 + 1) L (omega arith))
+      unused : (k : ℕ) → nodesPerLevel * L ≤ k → k < nodesPerLevel * L + (allNodes - nodesPerLevel * L) → placeRight L l k ≡ zeroAt l k
+      unused k a b = ap (λ (x : Bool). elim x [ true ↦ widthAt l k | false ↦ zeroAt l k ]) (lt-leb (k / nodesPerLevel + 1) L (omega arith))
 
-pub constants-list : (c : List ℕ) → length c ≡ 6 → every (λ n. constantRight (getD c (nodeNumber n - 1) 0)) (P1 ∷ U1 ∷ P2 ∷ U2 ∷ G1 ∷ G2 ∷ []) ≡ every constantRight c
+pub constants-list : (c : List ℕ) → length c ≡ nodesPerPass → every (λ n. constantRight (getD c (nodeNumber n - 1) 0)) everyNode ≡ every constantRight c
 unfolding every
 constants-list [] h = absurd (omega arith)
 constants-list (a ∷ []) h = absurd (omega arith)
@@ -151,7 +155,7 @@ constants-list (a ∷ b ∷ c ∷ d ∷ e ∷ f ∷ g ∷ l) h = absurd (omega a
 pub form-lists : (t : WidthTable) → Sized t → formRight t ≡ formLists t
 unfolding formRight formLists
 form-lists t s =
-    join (depthRight (t .depth)) (levelsRight (t .levels)) _ _ _ _ _ (constants-list (t .constants) (s .constants)) (λ b. book-places t ∙ nodes-lists (t .levels) (t .nodes) (between-≤ 1 5 (t .levels) b .1) (s .nodes))
+    join (depthRight (t .depth)) (levelsRight (t .levels)) _ _ _ _ _ (constants-list (t .constants) (s .constants)) (λ b. book-places t ∙ nodes-lists (t .levels) (t .nodes) (between-≤ 1 maxLevels (t .levels) b .1) (s .nodes))
   where
     join : (a b c c′ d x y : Bool) → c ≡ c′ → (T b → d ≡ x && y) → a && b && c && d ≡ a && b && c′ && x && y
     join false b c c′ d x y e h = refl

@@ -6,6 +6,7 @@
 --   Bytes      reading (refusals 1 to 5) and writing (4, 9)
 --   Changes    changes of a width or of a constant's bits (4)
 --   Names      naming a tag (2, then 1 to 5)
+--   Told       what the code's answers of writing and naming say
 --   Readers    widths by the numbers of level, pass and node
 --   Limits     the limits of a table of right form, by node and by number
 --   FormLists  the form by lists
@@ -21,6 +22,7 @@ pub mod Fields
 pub mod Bytes
 pub mod Changes
 pub mod Names
+pub mod Told
 pub mod Readers
 pub mod Limits
 pub mod FormLists

@@ -4,21 +4,25 @@ use mathlib.Core.Bool.{Bool, true, false}
 use mathlib.Core.List.{List, []}
 use mathlib.Core.Path.{_≡_, refl, sym, _∙_, ap, ap₂}
 use native.Mathlib.Omega.{arith}
-use lib.ListN.{length, take, drop}
-use Rattle.refusals.specs.declared.Refusal.{Refusal}
-use Rattle.refusals.specs.declared.Refusal.the-variants.{WrongTag}
-use Rattle.refusals.specs.declared.Outcome.{Outcome}
-use Rattle.refusals.specs.declared.Outcome.the-variants.{Done, Refused}
-use Rattle.refusals.specs.Refusals.{asks, answered}
-use Rattle.refusals.specs.RefusalLaws.{asks-done}
-use Rattle.numbers.specs.Tests.{between, between-≤}
-use Rattle.width_table.specs.declared.Named.{Named}
-use Rattle.width_table.specs.declared.Named.the-variants.{Value, NotNamed}
-use Rattle.width_table.specs.Fields.{valueStart, valueLength}
+use lib.ListN.{length, take, drop, length-drop}
+use lib.Seq.{length-take-le}
+use Rattle.refusals.specs.Answers.{Reason, Answer, done, refused, passed, asks, _then_}
+use Rattle.refusals.specs.AnswerLaws.{asks-done, then-done, answered-done, answered-refused}
+use Rattle.numbers.specs.Tests.{between-≤}
+use Rattle.width_table.specs.Table.{maxLevels}
+use Rattle.width_table.specs.Fields.{depthTag, nodesTag, tagRight, IsTag, tableSize, valueStart, valueLength}
 use Rattle.width_table.specs.Bytes.{levelsIn, form, valueIn}
-use Rattle.width_table.specs.Names.{nameable, named, naming, valueOf}
-use Rattle.width_table.specs.BytesLaws.{form-long, levels-most}
-use Rattle.width_table.specs.ReadLaws.{value-ends}
+use Rattle.width_table.specs.Names.{nameable, naming, valueOf}
+use Rattle.width_table.specs.BytesLaws.{form-long, levels-byte, levels-most}
+use Rattle.width_table.specs.ReadLaws.{value-ends, value-some}
+
+-- a place is one start and one length
+same-place : {a b c d : ℕ} → _≡_ {A = Answer (ℕ × ℕ)} (done (a, b)) (done (c, d)) → (a ≡ c) × (b ≡ d)
+same-place {a} {b} e = (ap (λ (o : Answer (ℕ × ℕ)). place o .0) e, ap (λ (o : Answer (ℕ × ℕ)). place o .1) e)
+  where
+    place : Answer (ℕ × ℕ) → ℕ × ℕ
+    place (done p) = p
+    place (refused r) = (a, b)
 
 module _ (bytes : List ℕ) (tag : ℕ) where
   abbrev start : ℕ
@@ -27,57 +31,53 @@ module _ (bytes : List ℕ) (tag : ℕ) where
   abbrev long : ℕ
   long = valueLength (levelsIn bytes) tag
 
-  abbrev answer : Outcome → Named
-  answer o = named o start long
-
-  decided : (t : Bool) → between 1 4 tag ≡ t → (o : Outcome) → form bytes ≡ o → naming bytes tag ≡ answer (asks t WrongTag o)
+  decided : (t : Bool) → tagRight tag ≡ t → (o : Answer Unit) → form bytes ≡ o → naming bytes tag ≡ asks t 2 o then done (start, long)
   unfolding naming nameable
-  decided t e o f = λ u. answer (asks (e u) WrongTag (f u))
+  decided t e o f = λ u. asks (e u) 2 (f u) then done (start, long)
 
-  pub name-wrong : between 1 4 tag ≡ false → naming bytes tag ≡ NotNamed WrongTag
+  pub name-wrong : tagRight tag ≡ false → naming bytes tag ≡ refused (2, [])
   name-wrong e = decided false e (form bytes) refl
 
-  pub name-refused : between 1 4 tag ≡ true → (r : Refusal) → form bytes ≡ Refused r → naming bytes tag ≡ NotNamed r
-  name-refused e r f = decided true e (Refused r) f
+  pub name-refused : tagRight tag ≡ true → (r : Reason) → form bytes ≡ refused r → naming bytes tag ≡ refused r
+  name-refused e r f = decided true e (refused r) f
 
-  pub name-right : between 1 4 tag ≡ true → form bytes ≡ Done → naming bytes tag ≡ Value start long
-  name-right e f = decided true e Done f
+  pub name-right : tagRight tag ≡ true → form bytes ≡ passed → naming bytes tag ≡ done (start, long)
+  name-right e f = decided true e passed f
 
-  -- what the place says of the part
+  -- what the place says of the part: it is there, it is not empty, and it is the value
   pub record Valued (from len : ℕ) : Type 0 where
     pub fits : from + len ≤ length bytes
-    pub small : from + len ≤ 200
+    pub small : from + len ≤ tableSize maxLevels
+    pub some : 1 ≤ len
     pub part : valueOf bytes tag ≡ take len (drop from bytes)
+    pub long : length (valueOf bytes tag) ≡ len
 
-  pub valued : (from len : ℕ) → naming bytes tag ≡ Value from len → Valued from len
+  pub valued : (from len : ℕ) → naming bytes tag ≡ done (from, len) → Valued from len
   unfolding naming valueOf nameable
-  valued from len e = go (nameable bytes tag) refl
-    where
-      go : (o : Outcome) → nameable bytes tag ≡ o → Valued from len
-      go Done q =
-          let a = asks-done (between 1 4 tag) _ _ q in
-          let z : Value start long ≡ Value from len = sym (ap answer q) ∙ e in
-          let x : start ≡ from = cc in
-          let y : long ≡ len = cc in
-          let (h, k) = between-≤ 1 4 tag (a .0) in
-          let ends = value-ends (levelsIn bytes) tag h k in
-          record {
-            fits = omega (arith, ends, form-long bytes (a .1));
-            small = omega (arith, ends, levels-most bytes (a .1));
-            part = ap (λ (o : Outcome). answered o (valueIn bytes tag) []) q ∙ ap₂ (λ (n s : ℕ). take n (drop s bytes)) y x;
-          }
-      go (Refused r) q =
-          let z : NotNamed r ≡ Value from len = sym (ap answer q) ∙ e in
-          let n : _≡_ {A = ℕ} 0 1 = cc in
-          absurd (omega arith)
+  valued from len e =
+      let d = then-done (nameable bytes tag) (done (start, long)) e in
+      let a = asks-done (tagRight tag) _ _ (d .0) in
+      let (x, y) = same-place (d .1) in
+      let h : IsTag tag = between-≤ depthTag nodesTag tag (a .0) in
+      let ends = value-ends (levelsIn bytes) tag h in
+      let fits : from + len ≤ length bytes = omega (arith, ends, form-long bytes (a .1)) in
+      let part : valueOf bytes tag ≡ take len (drop from bytes) = answered-done (valueIn bytes tag) [] (d .0) ∙ ap₂ (λ (n s : ℕ). take n (drop s bytes)) y x in
+      record {
+        fits = fits;
+        small = omega (arith, ends, levels-most bytes (a .1));
+        some = omega (arith, y, value-some (levelsIn bytes) (between-≤ 1 maxLevels (levelsIn bytes) (levels-byte bytes (a .1)) .0) tag h);
+        part = part;
+        long = ap length part ∙ length-take-le len (drop from bytes) (omega (arith, length-drop from bytes, fits));
+      }
 
-  pub no-value : (r : Refusal) → naming bytes tag ≡ NotNamed r → valueOf bytes tag ≡ []
-  unfolding naming valueOf nameable
+  -- no place, no value: the part is empty
+  pub no-value : (r : Reason) → naming bytes tag ≡ refused r → valueOf bytes tag ≡ []
+  unfolding naming valueOf
   no-value r e = go (nameable bytes tag) refl
     where
-      go : (o : Outcome) → nameable bytes tag ≡ o → valueOf bytes tag ≡ []
-      go Done q =
-          let z : Value start long ≡ NotNamed r = sym (ap answer q) ∙ e in
+      go : (o : Answer Unit) → nameable bytes tag ≡ o → valueOf bytes tag ≡ []
+      go (done a) q =
+          let z : _≡_ {A = Answer (ℕ × ℕ)} (done (start, long)) (refused r) = sym (ap (λ (o : Answer Unit). o then done (start, long)) q) ∙ e in
           let n : _≡_ {A = ℕ} 0 1 = cc in
           absurd (omega arith)
-      go (Refused s) q = ap (λ (o : Outcome). answered o (valueIn bytes tag) []) q
+      go (refused s) q = answered-refused (valueIn bytes tag) [] q

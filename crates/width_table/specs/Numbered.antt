@@ -2,9 +2,9 @@
 use Prim.Native.Nat.{ℕ, zero, suc, _≤_}
 use mathlib.Core.Path.{_≡_, refl}
 use native.Mathlib.Omega.{arith}
-use Rattle.width_table.specs.Nodes.{Node, P1, U1, P2, U2, G1, G2, nodeNumber, Pass, Rows, LowColumns, HighColumns, passNumber}
+use Rattle.width_table.specs.Nodes.{nodesPerPass, passesPerLevel, Node, P1, U1, P2, U2, G1, G2, nodeNumber, Pass, Rows, LowColumns, HighColumns, passNumber}
 
--- node 1 to 6, pass 1 to 3
+-- nodes and passes count from 1
 abbrev pub nodeOf : ℕ → Node
 nodeOf zero = P1
 nodeOf (suc zero) = P1
@@ -22,10 +22,10 @@ passOf (suc (suc (suc k))) = HighColumns
 
 -- a number of a node, and of a pass
 abbrev pub IsNode : ℕ → Type 0
-IsNode k = (1 ≤ k) × (k ≤ 6)
+IsNode k = (1 ≤ k) × (k ≤ nodesPerPass)
 
 abbrev pub IsPass : ℕ → Type 0
-IsPass k = (1 ≤ k) × (k ≤ 3)
+IsPass k = (1 ≤ k) × (k ≤ passesPerLevel)
 
 -- they are numbered so
 pub node-number : (k : ℕ) → IsNode k → nodeNumber (nodeOf k) ≡ k

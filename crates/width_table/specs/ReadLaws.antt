@@ -8,31 +8,27 @@ use borrow.Author.Tests.{lt-leb, eq-eqb, ne-eqb}
 use lib.Dec.{leb, eqb, leb→le, le→leb, eqb→eq}
 use lib.ListN.{length, getD, take, drop, drop-of-length-le}
 use lib.Seq.{drop-cons}
-use Rattle.refusals.specs.declared.Refusal.{Refusal}
-use Rattle.refusals.specs.declared.Refusal.the-variants.{CutShort, WrongTag, WrongLength, OutsideLimits, TrailingBytes}
-use Rattle.refusals.specs.declared.Outcome.{Outcome}
-use Rattle.refusals.specs.declared.Outcome.the-variants.{Done, Refused}
-use Rattle.refusals.specs.Refusals.{asks, answered}
-use Rattle.refusals.specs.RefusalLaws.{asks-done, asks-right, asks-wrong, then-right, then-refused}
+use Rattle.refusals.specs.Answers.{Reason, refused, passed, asks}
+use Rattle.refusals.specs.AnswerLaws.{asks-done, asks-right, asks-wrong, then-right, then-refused, answered-done, answered-refused}
 use Rattle.numbers.specs.Lists.{next-two}
-use Rattle.width_table.specs.declared.TableAnswer.{TableAnswer}
-use Rattle.width_table.specs.Table.{widthRight}
-use Rattle.width_table.specs.Fields.{Field, widthsRight, fields, fieldOf, tableSize, valueStart, valueLength}
-use Rattle.width_table.specs.Bytes.{announced, headed, field, formBy, form, tableIn, reading, emptyTable}
+use Rattle.width_table.specs.Nodes.{nodesPerPass}
+use Rattle.width_table.specs.Table.{widthRight, widthBytes}
+use Rattle.width_table.specs.Fields.{depthTag, levelsTag, constantsTag, nodesTag, IsTag, headBytes, Field, widthsRight, fields, fieldOf, tableSize, valueStart, valueLength}
+use Rattle.width_table.specs.Bytes.{announced, headed, field, formBy, form, tableIn, tableRead, emptyTable}
 use Rattle.width_table.specs.BytesLaws.{field-done}
 
 -- ---- widths
 
 module _ (l : List ℕ) (i : ℕ) (h : i + 1 < length l) where
-  pub widths-next : widthRight (getD l i 0) (getD l (i + 1) 0) ≡ true → widthsRight (drop i l) ≡ widthsRight (drop (i + 2) l)
+  pub widths-next : widthRight (getD l i 0) (getD l (i + 1) 0) ≡ true → widthsRight (drop i l) ≡ widthsRight (drop (i + widthBytes) l)
   unfolding widthsRight
-  widths-next e = ap widthsRight (next-two l 0 i h) ∙ ap (λ (t : Bool). t && widthsRight (drop (i + 2) l)) e
+  widths-next e = ap widthsRight (next-two l 0 i h) ∙ ap (λ (t : Bool). t && widthsRight (drop (i + widthBytes) l)) e
 
   pub widths-stop : widthRight (getD l i 0) (getD l (i + 1) 0) ≡ false → widthsRight (drop i l) ≡ false
   unfolding widthsRight
-  widths-stop e = ap widthsRight (next-two l 0 i h) ∙ ap (λ (t : Bool). t && widthsRight (drop (i + 2) l)) e
+  widths-stop e = ap widthsRight (next-two l 0 i h) ∙ ap (λ (t : Bool). t && widthsRight (drop (i + widthBytes) l)) e
 
-pub widths-odd : (l : List ℕ) (i : ℕ) → i < length l → length l - i < 2 → widthsRight (drop i l) ≡ false
+pub widths-odd : (l : List ℕ) (i : ℕ) → i < length l → length l - i < widthBytes → widthsRight (drop i l) ≡ false
 unfolding widthsRight
 widths-odd l i h k = ap widthsRight (drop-cons l i 0 h ∙ ap (λ (r : List ℕ). getD l i 0 ∷ r) (drop-of-length-le l {i = suc i} (omega arith)))
 
@@ -43,108 +39,112 @@ widths-end l i h = ap widthsRight (drop-of-length-le l h)
 -- ---- the head of a field
 
 module _ (tag len : ℕ) (bytes : List ℕ) where
-  pub no-head : length bytes < 3 → headed tag len bytes ≡ Refused CutShort
+  pub no-head : length bytes < headBytes → headed tag len bytes ≡ refused (1, [])
   unfolding headed
-  no-head h = asks-wrong (leb 3 (length bytes)) _ _ (lt-leb _ _ h)
+  no-head h = asks-wrong (leb headBytes (length bytes)) _ _ (lt-leb _ _ h)
 
   -- after a whole head
-  module _ (h : 3 ≤ length bytes) where
-    pub cut-value : length bytes - 3 < announced bytes → headed tag len bytes ≡ Refused CutShort
+  module _ (h : headBytes ≤ length bytes) where
+    pub cut-value : length bytes - headBytes < announced bytes → headed tag len bytes ≡ refused (1, [])
     unfolding headed
-    cut-value k = asks-right (leb 3 (length bytes)) _ _ (le→leb _ _ h) ∙ asks-wrong (leb (announced bytes) (length bytes - 3)) _ _ (lt-leb _ _ k)
+    cut-value k = asks-right (leb headBytes (length bytes)) _ _ (le→leb _ _ h) ∙ asks-wrong (leb (announced bytes) (length bytes - headBytes)) _ _ (lt-leb _ _ k)
 
     -- and a whole value
-    module _ (k : announced bytes ≤ length bytes - 3) where
-      tag-next : headed tag len bytes ≡ asks (eqb (getD bytes 0 0) tag) WrongTag (asks (eqb (announced bytes) len) WrongLength Done)
+    module _ (k : announced bytes ≤ length bytes - headBytes) where
+      tag-next : headed tag len bytes ≡ asks (eqb (getD bytes 0 0) tag) 2 (asks (eqb (announced bytes) len) 3 passed)
       unfolding headed
-      tag-next = asks-right (leb 3 (length bytes)) _ _ (le→leb _ _ h) ∙ asks-right (leb (announced bytes) (length bytes - 3)) _ _ (le→leb _ _ k)
+      tag-next = asks-right (leb headBytes (length bytes)) _ _ (le→leb _ _ h) ∙ asks-right (leb (announced bytes) (length bytes - headBytes)) _ _ (le→leb _ _ k)
 
-      pub other-tag : (getD bytes 0 0 ≡ tag → ⊥) → headed tag len bytes ≡ Refused WrongTag
+      pub other-tag : (getD bytes 0 0 ≡ tag → ⊥) → headed tag len bytes ≡ refused (2, [])
       other-tag e = tag-next ∙ asks-wrong (eqb (getD bytes 0 0) tag) _ _ (ne-eqb _ _ e)
 
-      pub other-length : getD bytes 0 0 ≡ tag → (announced bytes ≡ len → ⊥) → headed tag len bytes ≡ Refused WrongLength
-      other-length e f = tag-next ∙ ap (λ (t : Bool). asks t WrongTag (asks (eqb (announced bytes) len) WrongLength Done)) (eq-eqb _ _ e) ∙ asks-wrong (eqb (announced bytes) len) _ _ (ne-eqb _ _ f)
+      pub other-length : getD bytes 0 0 ≡ tag → (announced bytes ≡ len → ⊥) → headed tag len bytes ≡ refused (3, [])
+      other-length e f = tag-next ∙ ap (λ (t : Bool). asks t 2 (asks (eqb (announced bytes) len) 3 passed)) (eq-eqb _ _ e) ∙ asks-wrong (eqb (announced bytes) len) _ _ (ne-eqb _ _ f)
 
-      pub whole-head : getD bytes 0 0 ≡ tag → announced bytes ≡ len → headed tag len bytes ≡ Done
-      whole-head e f = tag-next ∙ (λ u. asks (eq-eqb _ _ e u) WrongTag (asks (eq-eqb _ _ f u) WrongLength Done))
+      pub whole-head : getD bytes 0 0 ≡ tag → announced bytes ≡ len → headed tag len bytes ≡ passed
+      whole-head e f = tag-next ∙ (λ u. asks (eq-eqb _ _ e u) 2 (asks (eq-eqb _ _ f u) 3 passed))
 
 -- ---- one field, and the next
 
 module _ (f : Field) (bytes : List ℕ) where
-  pub field-head : (r : Refusal) → headed (f .tag) (f .size) bytes ≡ Refused r → field f bytes ≡ Refused r
+  pub field-head : (r : Reason) → headed (f .tag) (f .size) bytes ≡ refused r → field f bytes ≡ refused r
   unfolding field
   field-head r e = then-refused (headed (f .tag) (f .size) bytes) _ r e
 
   -- after a right head
-  module _ (e : headed (f .tag) (f .size) bytes ≡ Done) where
-    pub head-holds : 3 + f .size ≤ length bytes
+  module _ (e : headed (f .tag) (f .size) bytes ≡ passed) where
+    pub head-holds : headBytes + f .size ≤ length bytes
     unfolding headed
     head-holds =
-        let a = asks-done (leb 3 (length bytes)) _ _ e in
-        let b = asks-done (leb (announced bytes) (length bytes - 3)) _ _ (a .1) in
+        let a = asks-done (leb headBytes (length bytes)) _ _ e in
+        let b = asks-done (leb (announced bytes) (length bytes - headBytes)) _ _ (a .1) in
         let c = asks-done (eqb (getD bytes 0 0) (f .tag)) _ _ (b .1) in
         let d = asks-done (eqb (announced bytes) (f .size)) _ _ (c .1) in
-        omega (arith, leb→le 3 (length bytes) (a .0), leb→le (announced bytes) (length bytes - 3) (b .0), eqb→eq (announced bytes) (f .size) (d .0))
+        omega (arith, leb→le headBytes (length bytes) (a .0), leb→le (announced bytes) (length bytes - headBytes) (b .0), eqb→eq (announced bytes) (f .size) (d .0))
 
-    pub field-judged : (t : Bool) → f .right (take (f .size) (drop 3 bytes)) ≡ t → field f bytes ≡ asks t OutsideLimits Done
+    pub field-judged : (t : Bool) → f .right (take (f .size) (drop headBytes bytes)) ≡ t → field f bytes ≡ asks t 4 passed
     unfolding field
-    field-judged t g = then-right (headed (f .tag) (f .size) bytes) _ e ∙ ap (λ (t : Bool). asks t OutsideLimits Done) g
+    field-judged t g = then-right (headed (f .tag) (f .size) bytes) _ e ∙ ap (λ (t : Bool). asks t 4 passed) g
 
-  pub field-holds : field f bytes ≡ Done → 3 + f .size ≤ length bytes
+  pub field-holds : field f bytes ≡ passed → headBytes + f .size ≤ length bytes
   field-holds e = omega (arith, field-done f 0 bytes e .whole)
 
   -- what follows it is read next
   module _ (fs : List Field) where
-    pub next-read : field f bytes ≡ Done → formBy (f ∷ fs) bytes ≡ formBy fs (drop (3 + f .size) bytes)
+    pub next-read : field f bytes ≡ passed → formBy (f ∷ fs) bytes ≡ formBy fs (drop (headBytes + f .size) bytes)
     unfolding formBy
     next-read e = then-right (field f bytes) _ e
 
-    pub next-refused : (r : Refusal) → field f bytes ≡ Refused r → formBy (f ∷ fs) bytes ≡ Refused r
+    pub next-refused : (r : Reason) → field f bytes ≡ refused r → formBy (f ∷ fs) bytes ≡ refused r
     unfolding formBy
     next-refused r e = then-refused (field f bytes) _ r e
 
-pub ends-there : (bytes : List ℕ) → length bytes ≡ 0 → formBy [] bytes ≡ Done
+pub ends-there : (bytes : List ℕ) → length bytes ≡ 0 → formBy [] bytes ≡ passed
 unfolding formBy
-ends-there bytes h = ap (λ (t : Bool). asks t TrailingBytes Done) (eq-eqb _ _ h)
+ends-there bytes h = ap (λ (t : Bool). asks t 5 passed) (eq-eqb _ _ h)
 
-pub more-follows : (bytes : List ℕ) → (length bytes ≡ 0 → ⊥) → formBy [] bytes ≡ Refused TrailingBytes
+pub more-follows : (bytes : List ℕ) → (length bytes ≡ 0 → ⊥) → formBy [] bytes ≡ refused (5, [])
 unfolding formBy
 more-follows bytes h = asks-wrong (eqb (length bytes) 0) _ _ (ne-eqb _ _ h)
 
 -- ---- fields by tag
 
 -- what holds of the four tags holds of each
-pub by-tag : (P : ℕ → Type 0) → P 1 → P 2 → P 3 → P 4 → (tag : ℕ) → 1 ≤ tag → tag ≤ 4 → P tag
-by-tag P a b c d zero h k = absurd (omega arith)
-by-tag P a b c d (suc zero) h k = a
-by-tag P a b c d (suc (suc zero)) h k = b
-by-tag P a b c d (suc (suc (suc zero))) h k = c
-by-tag P a b c d (suc (suc (suc (suc zero)))) h k = d
-by-tag P a b c d (suc (suc (suc (suc (suc n))))) h k = absurd (omega arith)
+by-tag : (P : ℕ → Type 0) → P depthTag → P levelsTag → P constantsTag → P nodesTag → (tag : ℕ) → IsTag tag → P tag
+by-tag P a b c d zero h = absurd (omega arith)
+by-tag P a b c d (suc zero) h = a
+by-tag P a b c d (suc (suc zero)) h = b
+by-tag P a b c d (suc (suc (suc zero))) h = c
+by-tag P a b c d (suc (suc (suc (suc zero)))) h = d
+by-tag P a b c d (suc (suc (suc (suc (suc n))))) h = absurd (omega arith)
 
 module _ (L : ℕ) where
-  pub tag-is : (tag : ℕ) → 1 ≤ tag → tag ≤ 4 → fieldOf (fields L) tag .tag ≡ tag
+  pub tag-is : (tag : ℕ) → IsTag tag → fieldOf (fields L) tag .tag ≡ tag
   tag-is = by-tag (λ (tag : ℕ). fieldOf (fields L) tag .tag ≡ tag) refl refl refl refl
 
   -- the rule of a value is the same for any number of levels
-  pub rule-is : (tag : ℕ) → 1 ≤ tag → tag ≤ 4 → fieldOf (fields L) tag .right ≡ fieldOf (fields 0) tag .right
+  pub rule-is : (tag : ℕ) → IsTag tag → fieldOf (fields L) tag .right ≡ fieldOf (fields 0) tag .right
   rule-is = by-tag (λ (tag : ℕ). fieldOf (fields L) tag .right ≡ fieldOf (fields 0) tag .right) refl refl refl refl
 
-  pub short-length : (tag : ℕ) → 1 ≤ tag → tag ≤ 2 → valueLength L tag ≡ 1
-  short-length tag h k = by-tag (λ (tag : ℕ). tag ≤ 2 → valueLength L tag ≡ 1) (λ i. refl) (λ i. refl) (λ i. absurd (omega arith)) (λ i. absurd (omega arith)) tag h (omega arith) k
+  pub short-length : (tag : ℕ) → IsTag tag → tag ≤ levelsTag → valueLength L tag ≡ 1
+  short-length = by-tag (λ (tag : ℕ). tag ≤ levelsTag → valueLength L tag ≡ 1) (λ i. refl) (λ i. refl) (λ i. absurd (omega arith)) (λ i. absurd (omega arith))
 
   -- a value starts after the one before it and its own head
-  pub start-next : (tag : ℕ) → 1 ≤ tag → tag ≤ 3 → valueStart L (tag + 1) ≡ valueStart L tag + valueLength L tag + 3
-  start-next tag h k = by-tag (λ (tag : ℕ). tag ≤ 3 → valueStart L (tag + 1) ≡ valueStart L tag + valueLength L tag + 3) (λ i. refl) (λ i. refl) (λ i. refl) (λ i. absurd (omega arith)) tag h (omega arith) k
+  pub start-next : (tag : ℕ) → IsTag tag → tag < nodesTag → valueStart L (tag + 1) ≡ valueStart L tag + valueLength L tag + headBytes
+  start-next = by-tag (λ (tag : ℕ). tag < nodesTag → valueStart L (tag + 1) ≡ valueStart L tag + valueLength L tag + headBytes) (λ i. refl) (λ i. refl) (λ i. refl) (λ i. absurd (omega arith))
 
-  pub start-after : (tag : ℕ) → 1 ≤ tag → tag ≤ 4 → valueStart L tag - 3 + 3 ≡ valueStart L tag
-  start-after = by-tag (λ (tag : ℕ). valueStart L tag - 3 + 3 ≡ valueStart L tag) refl refl refl refl
+  pub start-after : (tag : ℕ) → IsTag tag → valueStart L tag - headBytes + headBytes ≡ valueStart L tag
+  start-after = by-tag (λ (tag : ℕ). valueStart L tag - headBytes + headBytes ≡ valueStart L tag) refl refl refl refl
 
   -- and ends where the table ends, or before
-  pub value-ends : (tag : ℕ) → 1 ≤ tag → tag ≤ 4 → valueStart L tag + valueLength L tag ≤ tableSize L
+  pub value-ends : (tag : ℕ) → IsTag tag → valueStart L tag + valueLength L tag ≤ tableSize L
   value-ends = by-tag (λ (tag : ℕ). valueStart L tag + valueLength L tag ≤ tableSize L) (omega arith) (omega arith) (omega arith) (omega arith)
 
-pub six : (l : List ℕ) → 6 ≤ length l → take 6 l ≡ getD l 0 0 ∷ getD l 1 0 ∷ getD l 2 0 ∷ getD l 3 0 ∷ getD l 4 0 ∷ getD l 5 0 ∷ []
+  -- no value is empty
+  pub value-some : 1 ≤ L → (tag : ℕ) → IsTag tag → 1 ≤ valueLength L tag
+  value-some some = by-tag (λ (tag : ℕ). 1 ≤ valueLength L tag) (omega arith) (omega arith) (omega arith) (omega arith)
+
+pub six : (l : List ℕ) → nodesPerPass ≤ length l → take nodesPerPass l ≡ getD l 0 0 ∷ getD l 1 0 ∷ getD l 2 0 ∷ getD l 3 0 ∷ getD l 4 0 ∷ getD l 5 0 ∷ []
 six [] h = absurd (omega arith)
 six (a ∷ []) h = absurd (omega arith)
 six (a ∷ b ∷ []) h = absurd (omega arith)
@@ -153,16 +153,13 @@ six (a ∷ b ∷ c ∷ d ∷ []) h = absurd (omega arith)
 six (a ∷ b ∷ c ∷ d ∷ e ∷ []) h = absurd (omega arith)
 six (a ∷ b ∷ c ∷ d ∷ e ∷ f ∷ l) h = refl
 
--- ---- the answer of reading
+-- ---- the table that reading gives
 
 module _ (bytes : List ℕ) where
-  abbrev answer : Outcome → TableAnswer
-  answer o = record { outcome = o; table = answered o (tableIn bytes) emptyTable }
+  pub table-read : form bytes ≡ passed → tableRead bytes ≡ tableIn bytes
+  unfolding tableRead
+  table-read e = answered-done (tableIn bytes) emptyTable e
 
-  pub reading-done : form bytes ≡ Done → reading bytes ≡ record { outcome = Done; table = tableIn bytes }
-  unfolding reading
-  reading-done e = ap answer e
-
-  pub reading-refused : (r : Refusal) → form bytes ≡ Refused r → reading bytes ≡ record { outcome = Refused r; table = emptyTable }
-  unfolding reading
-  reading-refused r e = ap answer e
+  pub no-table : (r : Reason) → form bytes ≡ refused r → tableRead bytes ≡ emptyTable
+  unfolding tableRead
+  no-table r e = answered-refused (tableIn bytes) emptyTable e

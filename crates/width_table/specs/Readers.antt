@@ -1,4 +1,4 @@
--- The widths of a table by number: level 1 to 5, pass 1 to 3, node 1 to 6, and 0 elsewhere.
+-- The widths of a table by number: level, pass and node count from 1, and there is 0 elsewhere.
 use Prim.Native.Nat.{ℕ, zero, suc, _+_, _-_, _≤_}
 use mathlib.Core.Bool.{Bool, true, false, _&&_}
 use mathlib.Core.Path.{_≡_, refl, sym, _∙_, ap, ap₂}
@@ -7,7 +7,7 @@ use borrow.Author.Tests.{le-leb}
 use lib.ListN.{getD}
 use Rattle.numbers.specs.Tests.{between, is-between}
 use Rattle.width_table.specs.declared.WidthTable.{WidthTable}
-use Rattle.width_table.specs.Nodes.{Node, P1, U1, P2, U2, G1, G2, Pass, Rows, LowColumns, HighColumns, columnPass, lastNode, passNumber, nodeNumber}
+use Rattle.width_table.specs.Nodes.{nodesPerPass, passesPerLevel, Node, P1, U1, P2, U2, G1, G2, Pass, Rows, LowColumns, HighColumns, columnPass, lastNode, passNumber, nodeNumber}
 use Rattle.width_table.specs.Table.{maxLevels, nodePlace, constantBits, integerBits, fractionBits, inputBits}
 use Rattle.width_table.specs.Numbered.{passOf, IsPass}
 use Rattle.width_table.specs.Changes.{hasNode}
@@ -19,7 +19,7 @@ orZero false n = 0
 
 -- F of a stage's constant
 unfoldable pub constantBitsAt : WidthTable → ℕ → ℕ
-constantBitsAt t node = orZero (between 1 6 node) (getD (t .constants) (node - 1) 0)
+constantBitsAt t node = orZero (between 1 nodesPerPass node) (getD (t .constants) (node - 1) 0)
 
 -- IB of a node
 unfoldable pub integerBitsAt : WidthTable → ℕ → ℕ → ℕ → ℕ
@@ -31,7 +31,7 @@ fractionBitsAt t level pass node = orZero (hasNode maxLevels level pass node) (g
 
 -- f of what enters a pass
 unfoldable pub inputBitsAt : WidthTable → ℕ → ℕ → ℕ
-inputBitsAt t level pass = orZero (between 1 maxLevels level && between 1 3 pass) (inputBits t level (passOf pass))
+inputBitsAt t level pass = orZero (between 1 maxLevels level && between 1 passesPerLevel pass) (inputBits t level (passOf pass))
 
 -- ---- laws
 
@@ -44,7 +44,7 @@ constant-bits t U2 = refl
 constant-bits t G1 = refl
 constant-bits t G2 = refl
 
-node-number : (n : Node) → between 1 6 (nodeNumber n) ≡ true
+node-number : (n : Node) → between 1 nodesPerPass (nodeNumber n) ≡ true
 node-number P1 = refl
 node-number U1 = refl
 node-number P2 = refl
@@ -52,22 +52,22 @@ node-number U2 = refl
 node-number G1 = refl
 node-number G2 = refl
 
-pass-number : (p : Pass) → between 1 3 (passNumber p) ≡ true
+pass-number : (p : Pass) → between 1 passesPerLevel (passNumber p) ≡ true
 pass-number Rows = refl
 pass-number LowColumns = refl
 pass-number HighColumns = refl
 
 -- a table of L levels has every pass and node of levels 1 to L
-pub has-every : (L l : ℕ) (p : Pass) (n : Node) → 1 ≤ l → l ≤ L → hasNode L l (passNumber p) (nodeNumber n) ≡ true
+has-every : (L l : ℕ) (p : Pass) (n : Node) → 1 ≤ l → l ≤ L → hasNode L l (passNumber p) (nodeNumber n) ≡ true
 has-every L l p n a b = simp (le-leb 1 l a, le-leb l L b, pass-number p, node-number n)
 
 pub integer-bits : (t : WidthTable) (l : ℕ) (p : Pass) (n : Node) → 1 ≤ l → l ≤ maxLevels → integerBitsAt t l (passNumber p) (nodeNumber n) ≡ integerBits t l p n
 unfolding integerBitsAt
-integer-bits t l p n a b = ap (λ (x : Bool). orZero x (integerBits t l p n)) (has-every 5 l p n a b)
+integer-bits t l p n a b = ap (λ (x : Bool). orZero x (integerBits t l p n)) (has-every maxLevels l p n a b)
 
 pub fraction-bits : (t : WidthTable) (l : ℕ) (p : Pass) (n : Node) → 1 ≤ l → l ≤ maxLevels → fractionBitsAt t l (passNumber p) (nodeNumber n) ≡ fractionBits t l p n
 unfolding fractionBitsAt
-fraction-bits t l p n a b = ap (λ (x : Bool). orZero x (fractionBits t l p n)) (has-every 5 l p n a b)
+fraction-bits t l p n a b = ap (λ (x : Bool). orZero x (fractionBits t l p n)) (has-every maxLevels l p n a b)
 
 -- columns are fed by the rows of their level
 columns-fed : (t : WidthTable) (l : ℕ) (low : Bool) → inputBits t l (columnPass low) ≡ fractionBits t l Rows (lastNode low)
@@ -80,25 +80,25 @@ columns-fed t (suc (suc l)) false = refl
 
 -- what enters a pass: by its number, and as the fractional bits of the node that feeds it
 module _ (t : WidthTable) (l p : ℕ) where
-  pub input-none : between 1 maxLevels l && between 1 3 p ≡ false → inputBitsAt t l p ≡ 0
+  pub input-none : between 1 maxLevels l && between 1 passesPerLevel p ≡ false → inputBitsAt t l p ≡ 0
   unfolding inputBitsAt
   input-none e = ap (λ (x : Bool). orZero x (inputBits t l (passOf p))) e
 
   module _ (least : 1 ≤ l) (most : l ≤ maxLevels) where
     pub input-bits : IsPass p → inputBitsAt t l p ≡ inputBits t l (passOf p)
     unfolding inputBitsAt
-    input-bits h = ap₂ (λ (x y : Bool). orZero (x && y) (inputBits t l (passOf p))) (is-between 1 maxLevels l least most) (is-between 1 3 p (h .0) (h .1))
+    input-bits h = ap₂ (λ (x y : Bool). orZero (x && y) (inputBits t l (passOf p))) (is-between 1 maxLevels l least most) (is-between 1 passesPerLevel p (h .0) (h .1))
 
-    pub input-low : p ≡ 2 → inputBitsAt t l p ≡ fractionBitsAt t l 1 5
+    pub input-low : p ≡ passNumber LowColumns → inputBitsAt t l p ≡ fractionBitsAt t l (passNumber Rows) (nodeNumber G1)
     input-low e = input-bits (omega arith, omega arith) ∙ ap (λ (q : ℕ). inputBits t l (passOf q)) e ∙ columns-fed t l true ∙ sym (fraction-bits t l Rows G1 least most)
 
-    pub input-high : p ≡ 3 → inputBitsAt t l p ≡ fractionBitsAt t l 1 6
+    pub input-high : p ≡ passNumber HighColumns → inputBitsAt t l p ≡ fractionBitsAt t l (passNumber Rows) (nodeNumber G2)
     input-high e = input-bits (omega arith, omega arith) ∙ ap (λ (q : ℕ). inputBits t l (passOf q)) e ∙ columns-fed t l false ∙ sym (fraction-bits t l Rows G2 least most)
 
-    pub input-first : p ≡ 1 → l ≡ 1 → inputBitsAt t l p ≡ t .depth
+    pub input-first : p ≡ passNumber Rows → l ≡ 1 → inputBitsAt t l p ≡ t .depth
     input-first e d = input-bits (omega arith, omega arith) ∙ (λ u. inputBits t (d u) (passOf (e u)))
 
-    pub input-later : p ≡ 1 → (l ≡ 1 → ⊥) → inputBitsAt t l p ≡ fractionBitsAt t (l - 1) 2 5
+    pub input-later : p ≡ passNumber Rows → (l ≡ 1 → ⊥) → inputBitsAt t l p ≡ fractionBitsAt t (l - 1) (passNumber LowColumns) (nodeNumber G1)
     input-later e d =
         input-bits (omega arith, omega arith) ∙ ap (λ (q : ℕ). inputBits t l (passOf q)) e ∙ later l least d ∙ sym (fraction-bits t (l - 1) LowColumns G1 (omega arith) (omega arith))
       where

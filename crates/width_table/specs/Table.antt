@@ -1,12 +1,11 @@
 -- A width table (document 01: book) in memory: its limits, its widths, and when its form is right (refusal 4).
 use Prim.Native.Nat.{ℕ, zero, suc, _+_, _*_, _-_}
 use mathlib.Core.Bool.{Bool, true, false, _&&_}
-use mathlib.Core.List.{List, [], _∷_}
 use lib.Dec.{leb, eqb}
 use lib.ListN.{getD}
 use Rattle.numbers.specs.Tests.{between, every}
 use Rattle.width_table.specs.declared.WidthTable.{WidthTable}
-use Rattle.width_table.specs.Nodes.{Node, P1, U1, P2, U2, G1, G2, Pass, Rows, LowColumns, HighColumns, TableNode, passNumber, nodeNumber, bookOrder}
+use Rattle.width_table.specs.Nodes.{nodesPerPass, passesPerLevel, everyNode, Node, G1, G2, Pass, Rows, LowColumns, HighColumns, TableNode, passNumber, nodeNumber, bookOrder}
 
 -- ---- limits
 
@@ -41,6 +40,16 @@ widthRight IB f = between 1 maxIntegerBits IB && between 0 maxFractionBits f
 
 -- ---- widths
 
+-- bytes of a width, IB and f; of the widths of a pass, and of a level
+abbrev pub widthBytes : ℕ
+widthBytes = 2
+
+abbrev pub passBytes : ℕ
+passBytes = nodesPerPass * widthBytes
+
+abbrev pub levelBytes : ℕ
+levelBytes = passesPerLevel * passBytes
+
 -- F, the bits of the constant of a stage
 abbrev pub constantBits : WidthTable → Node → ℕ
 constantBits t n = getD (t .constants) (nodeNumber n - 1) 0
@@ -48,7 +57,7 @@ constantBits t n = getD (t .constants) (nodeNumber n - 1) 0
 -- Where the integer bits of a node lie among the nodes' numbers, which stand in book order; its fractional bits are next.
 -- Level, pass and node count from 1.
 abbrev pub nodePlace : ℕ → ℕ → ℕ → ℕ
-nodePlace level pass node = ((level - 1) * 3 + (pass - 1)) * 12 + (node - 1) * 2
+nodePlace level pass node = ((level - 1) * passesPerLevel + (pass - 1)) * passBytes + (node - 1) * widthBytes
 
 -- IB, the integer bits of a node
 abbrev pub integerBits : WidthTable → ℕ → Pass → Node → ℕ
@@ -82,5 +91,5 @@ unfoldable pub formRight : WidthTable → Bool
 formRight t =
     depthRight (t .depth)
     && levelsRight (t .levels)
-    && every (λ n. constantRight (constantBits t n)) (P1 ∷ U1 ∷ P2 ∷ U2 ∷ G1 ∷ G2 ∷ [])
+    && every (λ n. constantRight (constantBits t n)) everyNode
     && every (nodeRight t) (bookOrder maxLevels)

@@ -3,26 +3,33 @@ use refusals::Outcome;
 use refusals::Refusal;
 ghost use mathlib.Core.Path.{_≡_};
 ghost use Prim.Native.Nat.{_+_, _*_, _-_, _<_, _≤_};
+ghost use mathlib.Core.Bool.{_&&_};
 ghost use mathlib.Core.List.{_++_};
 ghost use lib.ListN.{length, getD, take, drop, replicate};
 ghost use lib.Seq.{paste};
+ghost use Rattle.refusals.specs.Answers.{passed};
+ghost use Rattle.refusals.specs.Told.{told};
 ghost use Rattle.numbers.specs.Tests.{between, every};
 ghost use Rattle.numbers.specs.Lists.{over};
-ghost use Rattle.width_table.specs.Table.{widthRight, formRight, nodePlace};
-ghost use Rattle.width_table.specs.Fields.{widthsRight, fields, fieldOf, tableSize, valueStart, valueLength};
-ghost use Rattle.width_table.specs.Bytes.{headed, field, formBy, levelsIn, form, reading, emptyTable, tableIn, tableBytes, writing, bytesAfter};
+ghost use Rattle.width_table.specs.Nodes.{nodesPerPass};
+ghost use Rattle.width_table.specs.Numbered.{IsNode, IsPass};
+ghost use Rattle.width_table.specs.Table.{maxLevels, depthRight, levelsRight, widthRight, formRight, widthBytes, nodePlace};
+ghost use Rattle.width_table.specs.Fields.{depthTag, levelsTag, constantsTag, nodesTag, IsTag, headBytes, nodeBytes, widthsRight, fields, fieldsAfter, fieldOf, tableSize, valueStart, valueLength};
+ghost use Rattle.width_table.specs.Bytes.{headed, field, formBy, levelsIn, form, tableRead, emptyTable, tableIn, tableBytes, writing, bytesAfter};
 ghost use Rattle.width_table.specs.Names.{valueOf, naming};
-ghost use Rattle.width_table.specs.Changes.{hasNode, widthChanged, constantChanged};
+ghost use Rattle.width_table.specs.Changes.{hasNode, changeable, tableAfterWidth, constantChangeable, tableAfterConstant};
+ghost use Rattle.width_table.specs.Told.{toldWritten, toldNamed};
 ghost use Rattle.width_table.specs.Readers.{constantBitsAt, integerBitsAt, fractionBitsAt, inputBitsAt};
 ghost use Rattle.width_table.specs.WriteLaws.{placed};
 
 // A width table. Level l, pass p and node k, counted from 1, have their integer bits at place
-// ((l - 1) * 3 + (p - 1)) * 12 + (k - 1) * 2 of `nodes` and their fractional bits after them; places of unused levels hold 0.
+// ((l - 1) * PASSES + (p - 1)) * PASS_BYTES + (k - 1) * WIDTH_BYTES of `nodes` and their fractional bits after them; places of unused
+// levels hold 0.
 pub struct WidthTable {
     pub depth: u8,
     pub levels: u8,
-    pub constants: [u8; 6],
-    pub nodes: [u8; 180],
+    pub constants: [u8; WidthTable::CONSTANTS],
+    pub nodes: [u8; WidthTable::NODE_BYTES],
 }
 
 impl WidthTable {
@@ -37,21 +44,59 @@ impl WidthTable {
 
     pub const MAX_FRACTION_BITS: u8 = 20;
 
-    // Passes of a level, and nodes of a pass.
+    // Passes of a level, nodes of a pass, and as many constants.
     pub const PASSES: u8 = 3;
 
     pub const NODES: u8 = 6;
 
-    // Bytes of the nodes of a level, and of a pass: a node has two.
-    pub const LEVEL_BYTES: usize = 36;
+    pub const CONSTANTS: usize = WidthTable::NODES as usize;
 
-    pub const PASS_BYTES: usize = 12;
+    // The passes, and the nodes.
+    pub const ROWS: u8 = 1;
+
+    pub const LOW_COLUMNS: u8 = 2;
+
+    pub const HIGH_COLUMNS: u8 = 3;
+
+    pub const P1: u8 = 1;
+
+    pub const U1: u8 = 2;
+
+    pub const P2: u8 = 3;
+
+    pub const U2: u8 = 4;
+
+    pub const G1: u8 = 5;
+
+    pub const G2: u8 = 6;
+
+    // Bytes of a node's width; of the widths of a pass, of a level, of all levels.
+    pub const WIDTH_BYTES: usize = 2;
+
+    pub const PASS_BYTES: usize = (WidthTable::NODES as usize) * WidthTable::WIDTH_BYTES;
+
+    pub const LEVEL_BYTES: usize = (WidthTable::PASSES as usize) * WidthTable::PASS_BYTES;
+
+    pub const NODE_BYTES: usize = WidthTable::LEVEL_BYTES * (WidthTable::MAX_LEVELS as usize);
 
     // Bytes of a field before its value: its tag, and its length.
     pub const HEAD_BYTES: usize = 3;
 
-    // The last tag.
-    pub const LAST_TAG: u8 = 4;
+    // The tags, from the first to the last.
+    pub const DEPTH_TAG: u8 = 1;
+
+    pub const LEVELS_TAG: u8 = 2;
+
+    pub const CONSTANTS_TAG: u8 = 3;
+
+    pub const NODES_TAG: u8 = 4;
+
+    // Bytes of a table of all levels: four fields.
+    pub const MAX_BYTES: usize = 4 * WidthTable::HEAD_BYTES
+        + 1
+        + 1
+        + WidthTable::CONSTANTS
+        + WidthTable::NODE_BYTES;
 }
 
 // The answer of writing: how many bytes were written.
@@ -81,7 +126,7 @@ fn two(high: u8, low: u8) -> usize
 
 // The head of a field: refusals 1, 2, 3.
 fn head(bytes: &[u8], tag: u8, len: usize) -> Outcome
-    ensures { λ r. ⌜ r ≡ headed tag len (now (bytes .entry)) ⌝ }
+    ensures { λ r. ⌜ told r ≡ headed tag len (now (bytes .entry)) ⌝ }
 {
     if bytes.len() < WidthTable::HEAD_BYTES {
         return Outcome::Refused(Refusal::CutShort);
@@ -107,6 +152,16 @@ fn in_between(n: u8, least: u8, most: u8) -> bool
         return false;
     }
     n <= most
+}
+
+// Depth and levels are within their limits.
+pub fn limits_right(depth: u8, levels: u8) -> bool
+    ensures { λ r. ⌜ r ≡ (depthRight depth && levelsRight levels) ⌝ }
+{
+    if in_between(depth, 1, WidthTable::MAX_DEPTH) {} else {
+        return false;
+    }
+    in_between(levels, 1, WidthTable::MAX_LEVELS)
 }
 
 // The width of a node is within its limits.
@@ -137,38 +192,38 @@ fn widths_right(numbers: &[u8]) -> bool
 {
     let mut i = 0;
     while i < numbers.len() {
-        if numbers.len() - i < 2 {
+        if numbers.len() - i < WidthTable::WIDTH_BYTES {
             return false;
         }
         if width_right(numbers[i], numbers[i + 1]) {} else {
             return false;
         }
-        i = i + 2;
+        i = i + WidthTable::WIDTH_BYTES;
     }
     true
 }
 
-// How long a tag's value is in a table of so many levels: those before tag 4 are as long in every table.
+// How long a tag's value is in a table of so many levels: those before the last are as long in every table.
 fn value_length(levels: u8, tag: u8) -> usize
-    requires { ⌜ (1 ≤ tag) × (tag ≤ 4) ⌝ }
+    requires { ⌜ IsTag tag ⌝ }
     ensures { λ r. ⌜ r ≡ valueLength levels tag ⌝ }
 {
-    if tag <= 2 {
+    if tag <= WidthTable::LEVELS_TAG {
         return 1;
     }
-    if tag == 3 {
-        return WidthTable::NODES as usize;
+    if tag == WidthTable::CONSTANTS_TAG {
+        return WidthTable::CONSTANTS;
     }
     WidthTable::LEVEL_BYTES * (levels as usize)
 }
 
 // Where a tag's value starts in the bytes of a table of so many levels: after the fields before it and its own head.
 fn value_start(levels: u8, tag: u8) -> usize
-    requires { ⌜ (1 ≤ tag) × (tag ≤ 4) ⌝ }
+    requires { ⌜ IsTag tag ⌝ }
     ensures { λ r. ⌜ r ≡ valueStart levels tag ⌝ }
 {
     let mut start = WidthTable::HEAD_BYTES;
-    for before in 1..tag {
+    for before in WidthTable::DEPTH_TAG..tag {
         start = start + value_length(levels, before) + WidthTable::HEAD_BYTES;
     }
     start
@@ -176,16 +231,16 @@ fn value_start(levels: u8, tag: u8) -> usize
 
 // Whether a tag's value is right.
 fn value_right(value: &[u8], tag: u8) -> bool
-    requires { ⌜ (1 ≤ tag) × (tag ≤ 4) ⌝ }
+    requires { ⌜ IsTag tag ⌝ }
     ensures { λ r. ⌜ r ≡ fieldOf (fields 0) tag .right (now (value .entry)) ⌝ }
 {
-    if tag == 1 {
+    if tag == WidthTable::DEPTH_TAG {
         return all_between(value, 1, WidthTable::MAX_DEPTH);
     }
-    if tag == 2 {
+    if tag == WidthTable::LEVELS_TAG {
         return all_between(value, 1, WidthTable::MAX_LEVELS);
     }
-    if tag == 3 {
+    if tag == WidthTable::CONSTANTS_TAG {
         return all_between(value, 1, WidthTable::MAX_CONSTANT_BITS);
     }
     widths_right(value)
@@ -193,8 +248,8 @@ fn value_right(value: &[u8], tag: u8) -> bool
 
 // The field of a tag at the front of the bytes: refusals 1 to 4.
 fn field(bytes: &[u8], levels: u8, tag: u8) -> Outcome
-    requires { ⌜ (1 ≤ tag) × (tag ≤ 4) ⌝ }
-    ensures { λ r. ⌜ r ≡ field (fieldOf (fields levels) tag) (now (bytes .entry)) ⌝ }
+    requires { ⌜ IsTag tag ⌝ }
+    ensures { λ r. ⌜ told r ≡ field (fieldOf (fields levels) tag) (now (bytes .entry)) ⌝ }
 {
     let len = value_length(levels, tag);
     match head(bytes, tag, len) {
@@ -212,8 +267,8 @@ fn field(bytes: &[u8], levels: u8, tag: u8) -> Outcome
 
 // What follows the field of a tag is read as input of its own.
 fn after_field(bytes: &[u8], levels: u8, tag: u8) -> &[u8]
-    requires { ⌜ (1 ≤ tag) × (tag ≤ 4) × (3 + valueLength levels tag ≤ length (now bytes)) ⌝ }
-    ensures { λ r. ⌜ now r ≡ drop (3 + valueLength levels tag) (now (bytes .entry)) ⌝ }
+    requires { ⌜ IsTag tag × (headBytes + valueLength levels tag ≤ length (now bytes)) ⌝ }
+    ensures { λ r. ⌜ now r ≡ drop (headBytes + valueLength levels tag) (now (bytes .entry)) ⌝ }
 {
     let start = WidthTable::HEAD_BYTES + value_length(levels, tag);
     &bytes[start..]
@@ -221,7 +276,7 @@ fn after_field(bytes: &[u8], levels: u8, tag: u8) -> &[u8]
 
 // Nothing follows the last field.
 fn ended(bytes: &[u8]) -> Outcome
-    ensures { λ r. ⌜ r ≡ formBy (drop 4 (fields 0)) (now (bytes .entry)) ⌝ }
+    ensures { λ r. ⌜ told r ≡ formBy (fieldsAfter 0 nodesTag) (now (bytes .entry)) ⌝ }
 {
     if bytes.len() == 0 {
         Outcome::Done
@@ -232,61 +287,64 @@ fn ended(bytes: &[u8]) -> Outcome
 
 // The form from the fourth field on, for a table of so many levels.
 fn from_fourth(bytes: &[u8], levels: u8) -> Outcome
-    ensures { λ r. ⌜ r ≡ formBy (drop 3 (fields levels)) (now (bytes .entry)) ⌝ }
+    ensures { λ r. ⌜ told r ≡ formBy (fieldsAfter levels constantsTag) (now (bytes .entry)) ⌝ }
 {
-    match field(bytes, levels, 4) {
+    match field(bytes, levels, WidthTable::NODES_TAG) {
         Outcome::Refused(why) => Outcome::Refused(why),
-        Outcome::Done => ended(after_field(bytes, levels, 4)),
+        Outcome::Done => ended(after_field(bytes, levels, WidthTable::NODES_TAG)),
     }
 }
 
 // From the third field on.
 fn from_third(bytes: &[u8], levels: u8) -> Outcome
-    ensures { λ r. ⌜ r ≡ formBy (drop 2 (fields levels)) (now (bytes .entry)) ⌝ }
+    ensures { λ r. ⌜ told r ≡ formBy (fieldsAfter levels levelsTag) (now (bytes .entry)) ⌝ }
 {
-    match field(bytes, levels, 3) {
+    match field(bytes, levels, WidthTable::CONSTANTS_TAG) {
         Outcome::Refused(why) => Outcome::Refused(why),
-        Outcome::Done => from_fourth(after_field(bytes, levels, 3), levels),
+        Outcome::Done => from_fourth(
+            after_field(bytes, levels, WidthTable::CONSTANTS_TAG),
+            levels,
+        ),
     }
 }
 
 // From the second field on, which has the levels.
 fn from_second(bytes: &[u8]) -> Outcome
-    ensures { λ r. ⌜ r ≡ formBy (drop 1 (fields (getD (now (bytes .entry)) 3 0))) (now (bytes .entry)) ⌝ }
+    ensures { λ r. ⌜ told r ≡ formBy (fieldsAfter (getD (now (bytes .entry)) headBytes 0) depthTag) (now (bytes .entry)) ⌝ }
 {
-    match field(bytes, 0, 2) {
+    match field(bytes, 0, WidthTable::LEVELS_TAG) {
         Outcome::Refused(why) => Outcome::Refused(why),
         Outcome::Done => {
             let levels = bytes[WidthTable::HEAD_BYTES];
-            from_third(after_field(bytes, levels, 2), levels)
+            from_third(after_field(bytes, levels, WidthTable::LEVELS_TAG), levels)
         }
     }
 }
 
 // Whether bytes are those of a table: refusals 1 to 5.
 pub fn form_of(bytes: &[u8]) -> Outcome
-    ensures { λ r. ⌜ r ≡ form (now (bytes .entry)) ⌝ }
+    ensures { λ r. ⌜ told r ≡ form (now (bytes .entry)) ⌝ }
 {
-    match field(bytes, 0, 1) {
+    match field(bytes, 0, WidthTable::DEPTH_TAG) {
         Outcome::Refused(why) => Outcome::Refused(why),
-        Outcome::Done => from_second(after_field(bytes, 0, 1)),
+        Outcome::Done => from_second(after_field(bytes, 0, WidthTable::DEPTH_TAG)),
     }
 }
 
-// The first six bytes.
-fn six_of(bytes: &[u8]) -> [u8; 6]
-    requires { ⌜ 6 ≤ length (now bytes) ⌝ }
-    ensures { λ r. ⌜ r ≡ take 6 (now (bytes .entry)) ⌝ }
+// The first six bytes, one for each constant.
+fn six_of(bytes: &[u8]) -> [u8; WidthTable::CONSTANTS]
+    requires { ⌜ nodesPerPass ≤ length (now bytes) ⌝ }
+    ensures { λ r. ⌜ r ≡ take nodesPerPass (now (bytes .entry)) ⌝ }
 {
     [bytes[0], bytes[1], bytes[2], bytes[3], bytes[4], bytes[5]]
 }
 
 // The first n bytes, and zeros.
-fn nodes_of(bytes: &[u8], n: usize) -> [u8; 180]
-    requires { ⌜ (n ≤ 180) × (n ≤ length (now bytes)) ⌝ }
-    ensures { λ r. ⌜ r ≡ take n (now (bytes .entry)) ++ replicate (180 - n) 0 ⌝ }
+fn nodes_of(bytes: &[u8], n: usize) -> [u8; WidthTable::NODE_BYTES]
+    requires { ⌜ (n ≤ nodeBytes maxLevels) × (n ≤ length (now bytes)) ⌝ }
+    ensures { λ r. ⌜ r ≡ take n (now (bytes .entry)) ++ replicate (nodeBytes maxLevels - n) 0 ⌝ }
 {
-    let mut nodes = [0u8; 180];
+    let mut nodes = [0u8; WidthTable::NODE_BYTES];
     for i in 0..n {
         nodes[i] = bytes[i];
     }
@@ -295,29 +353,37 @@ fn nodes_of(bytes: &[u8], n: usize) -> [u8; 180]
 
 // The levels that bytes of a right form hold.
 fn levels_in(bytes: &[u8]) -> u8
-    requires { ⌜ form (now bytes) ≡ Outcome.Done ⌝ }
+    requires { ⌜ form (now bytes) ≡ passed ⌝ }
     ensures { λ r. ⌜ r ≡ levelsIn (now (bytes .entry)) ⌝ }
 {
-    bytes[value_start(0, 2)]
+    bytes[value_start(0, WidthTable::LEVELS_TAG)]
 }
 
 // The table that bytes of a right form hold.
 fn table_of(bytes: &[u8]) -> WidthTable
-    requires { ⌜ form (now bytes) ≡ Outcome.Done ⌝ }
+    requires { ⌜ form (now bytes) ≡ passed ⌝ }
     ensures { λ r. ⌜ r ≡ tableIn (now (bytes .entry)) ⌝ }
 {
     let levels = levels_in(bytes);
-    let depth = bytes[value_start(levels, 1)];
-    let constants_at = value_start(levels, 3);
+    let depth = bytes[value_start(levels, WidthTable::DEPTH_TAG)];
+    let constants_at = value_start(levels, WidthTable::CONSTANTS_TAG);
     let constants = six_of(&bytes[constants_at..]);
-    let nodes_at = value_start(levels, 4);
-    let nodes = nodes_of(&bytes[nodes_at..], value_length(levels, 4));
+    let nodes_at = value_start(levels, WidthTable::NODES_TAG);
+    let nodes = nodes_of(
+        &bytes[nodes_at..],
+        value_length(levels, WidthTable::NODES_TAG),
+    );
     WidthTable::new(depth, levels, constants, nodes)
 }
 
 impl WidthTable {
     // The table of these numbers.
-    pub fn new(depth: u8, levels: u8, constants: [u8; 6], nodes: [u8; 180]) -> WidthTable
+    pub fn new(
+        depth: u8,
+        levels: u8,
+        constants: [u8; WidthTable::CONSTANTS],
+        nodes: [u8; WidthTable::NODE_BYTES],
+    ) -> WidthTable
         ensures { λ r. ⌜ r ≡ record { depth = depth; levels = levels; constants = constants; nodes = nodes } ⌝ }
     {
         WidthTable {
@@ -332,12 +398,18 @@ impl WidthTable {
     pub fn empty() -> WidthTable
         ensures { λ r. ⌜ r ≡ emptyTable ⌝ }
     {
-        WidthTable::new(0, 0, [0; 6], [0; 180])
+        WidthTable::new(
+            0,
+            0,
+            [0; WidthTable::CONSTANTS],
+            [0; WidthTable::NODE_BYTES],
+        )
     }
 
     // The table that bytes hold: refusals 1 to 5.
     pub fn read(bytes: &[u8]) -> TableAnswer
-        ensures { λ r. ⌜ r ≡ reading (now (bytes .entry)) ⌝ }
+        ensures outcome { λ r. ⌜ told (r .outcome) ≡ form (now (bytes .entry)) ⌝ }
+        ensures table { λ r. ⌜ r .table ≡ tableRead (now (bytes .entry)) ⌝ }
     {
         match form_of(bytes) {
             Outcome::Refused(why) => TableAnswer {
@@ -354,12 +426,12 @@ impl WidthTable {
 
 // Where a tag's value lies in the caller's bytes.
 pub fn value_place(bytes: &[u8], tag: u8) -> Named
-    ensures { λ r. ⌜ r ≡ naming (now (bytes .entry)) tag ⌝ }
+    ensures { λ r. ⌜ toldNamed r ≡ naming (now (bytes .entry)) tag ⌝ }
 {
-    if tag < 1 {
+    if tag < WidthTable::DEPTH_TAG {
         return Named::NotNamed(Refusal::WrongTag);
     }
-    if WidthTable::LAST_TAG < tag {
+    if WidthTable::NODES_TAG < tag {
         return Named::NotNamed(Refusal::WrongTag);
     }
     match form_of(bytes) {
@@ -389,10 +461,7 @@ impl WidthTable {
         ensures { λ r. ⌜ r ≡ formRight self ⌝ }
     {
         let levels = self.levels;
-        if in_between(self.depth, 1, WidthTable::MAX_DEPTH) {} else {
-            return false;
-        }
-        if in_between(levels, 1, WidthTable::MAX_LEVELS) {} else {
+        if limits_right(self.depth, levels) {} else {
             return false;
         }
         let constants = self.constants;
@@ -423,12 +492,12 @@ pub fn has_node(levels: u8, level: u8, pass: u8, node: u8) -> bool
 
 // Where a node's integer bits lie.
 fn node_place(level: u8, pass: u8, node: u8) -> usize
-    requires { ⌜ (1 ≤ level) × (level ≤ 5) × (1 ≤ pass) × (pass ≤ 3) × (1 ≤ node) × (node ≤ 6) ⌝ }
-    ensures { λ r. ⌜ (r ≡ nodePlace level pass node) × (r ≤ 178) ⌝ }
+    requires { ⌜ (1 ≤ level) × (level ≤ maxLevels) × IsPass pass × IsNode node ⌝ }
+    ensures { λ r. ⌜ (r ≡ nodePlace level pass node) × (r + widthBytes ≤ nodeBytes maxLevels) ⌝ }
 {
     (((level - 1) as usize) * (WidthTable::PASSES as usize) + ((pass - 1) as usize))
         * WidthTable::PASS_BYTES
-        + ((node - 1) as usize) * 2
+        + ((node - 1) as usize) * WidthTable::WIDTH_BYTES
 }
 
 impl WidthTable {
@@ -441,7 +510,8 @@ impl WidthTable {
         integer: u8,
         fraction: u8,
     ) -> TableAnswer
-        ensures { λ r. ⌜ r ≡ widthChanged self level pass node integer fraction ⌝ }
+        ensures outcome { λ r. ⌜ told (r .outcome) ≡ changeable self level pass node integer fraction ⌝ }
+        ensures table { λ r. ⌜ r .table ≡ tableAfterWidth self level pass node integer fraction ⌝ }
     {
         if self.form_right() {} else {
             return TableAnswer {
@@ -473,7 +543,8 @@ impl WidthTable {
 
     // The table with one constant's bits changed; the old one where the change is refused.
     pub fn with_constant(mut self, node: u8, bits: u8) -> TableAnswer
-        ensures { λ r. ⌜ r ≡ constantChanged self node bits ⌝ }
+        ensures outcome { λ r. ⌜ told (r .outcome) ≡ constantChangeable self node bits ⌝ }
+        ensures table { λ r. ⌜ r .table ≡ tableAfterConstant self node bits ⌝ }
     {
         if self.form_right() {} else {
             return TableAnswer {
@@ -500,7 +571,7 @@ impl WidthTable {
         }
     }
 
-    // The bits of a stage's constant, node 1 to 6; 0 for any other.
+    // The bits of a stage's constant, by its node; 0 for any other number.
     pub fn constant_bits(self, node: u8) -> u8
         ensures { λ r. ⌜ r ≡ constantBitsAt self node ⌝ }
     {
@@ -510,7 +581,7 @@ impl WidthTable {
         self.constants[(node - 1) as usize]
     }
 
-    // The integer bits of a node of levels 1 to 5; 0 for any other.
+    // The integer bits of a node of any level that a table may have; 0 for any other number.
     pub fn integer_bits(self, level: u8, pass: u8, node: u8) -> u8
         ensures { λ r. ⌜ r ≡ integerBitsAt self level pass node ⌝ }
     {
@@ -520,7 +591,7 @@ impl WidthTable {
         self.nodes[node_place(level, pass, node)]
     }
 
-    // The fractional bits of a node of levels 1 to 5; 0 for any other.
+    // The fractional bits of a node of any level that a table may have; 0 for any other number.
     pub fn fraction_bits(self, level: u8, pass: u8, node: u8) -> u8
         ensures { λ r. ⌜ r ≡ fractionBitsAt self level pass node ⌝ }
     {
@@ -530,8 +601,7 @@ impl WidthTable {
         self.nodes[node_place(level, pass, node) + 1]
     }
 
-    // The fractional bits of what enters a pass of levels 1 to 5, 0 for any other. Columns take those of G1 or G2 of the rows; the first
-    // rows have the pixels' depth, later rows those of G1 of the columns of row-low, one level before.
+    // The fractional bits of what enters a pass of such a level, 0 for any other number (specs/Table, `inputBits`).
     pub fn input_bits(self, level: u8, pass: u8) -> u8
         ensures { λ r. ⌜ r ≡ inputBitsAt self level pass ⌝ }
     {
@@ -541,16 +611,16 @@ impl WidthTable {
         if in_between(pass, 1, WidthTable::PASSES) {} else {
             return 0;
         }
-        if pass == 2 {
-            return self.fraction_bits(level, 1, 5);
+        if pass == WidthTable::LOW_COLUMNS {
+            return self.fraction_bits(level, WidthTable::ROWS, WidthTable::G1);
         }
-        if pass == 3 {
-            return self.fraction_bits(level, 1, 6);
+        if pass == WidthTable::HIGH_COLUMNS {
+            return self.fraction_bits(level, WidthTable::ROWS, WidthTable::G2);
         }
         if level == 1 {
             return self.depth;
         }
-        self.fraction_bits(level - 1, 2, 5)
+        self.fraction_bits(level - 1, WidthTable::LOW_COLUMNS, WidthTable::G1)
     }
 }
 
@@ -568,12 +638,12 @@ fn put(lent: &mut [u8], start: usize, from: &[u8])
 fn table_size(levels: u8) -> usize
     ensures { λ r. ⌜ r ≡ tableSize levels ⌝ }
 {
-    value_start(levels, WidthTable::LAST_TAG) + value_length(levels, WidthTable::LAST_TAG)
+    value_start(levels, WidthTable::NODES_TAG) + value_length(levels, WidthTable::NODES_TAG)
 }
 
 // Puts a field into its place: its head, then its value.
 fn put_field(lent: &mut [u8], levels: u8, tag: u8, value: &[u8])
-    requires { ⌜ (1 ≤ tag) × (tag ≤ 4) × (levels ≤ 5) × (length (now value) ≡ valueLength levels tag) × (tableSize levels ≤ length (now lent)) ⌝ }
+    requires { ⌜ IsTag tag × (levels ≤ maxLevels) × (length (now value) ≡ valueLength levels tag) × (tableSize levels ≤ length (now lent)) ⌝ }
     ensures { λ _. ⌜ now (lent .exit) ≡ placed levels tag (now (value .entry)) (now (lent .entry)) ⌝ }
 {
     let start = value_start(levels, tag);
@@ -585,25 +655,25 @@ fn put_field(lent: &mut [u8], levels: u8, tag: u8, value: &[u8])
 
 // Writes the bytes of a table of right form over the front of lent bytes.
 fn put_table(table: WidthTable, lent: &mut [u8])
-    requires { ⌜ (table .levels ≤ 5) × (tableSize (table .levels) ≤ length (now lent)) ⌝ }
+    requires { ⌜ (table .levels ≤ maxLevels) × (tableSize (table .levels) ≤ length (now lent)) ⌝ }
     ensures { λ _. ⌜ now (lent .exit) ≡ over (tableBytes table) (now (lent .entry)) ⌝ }
 {
     let levels = table.levels;
     let depth = [table.depth];
-    put_field(lent, levels, 1, &depth);
+    put_field(lent, levels, WidthTable::DEPTH_TAG, &depth);
     let count = [levels];
-    put_field(lent, levels, 2, &count);
+    put_field(lent, levels, WidthTable::LEVELS_TAG, &count);
     let constants = table.constants;
-    put_field(lent, levels, 3, &constants);
+    put_field(lent, levels, WidthTable::CONSTANTS_TAG, &constants);
     let nodes = table.nodes;
     let n = WidthTable::LEVEL_BYTES * (levels as usize);
-    put_field(lent, levels, 4, &nodes[..n]);
+    put_field(lent, levels, WidthTable::NODES_TAG, &nodes[..n]);
 }
 
 impl WidthTable {
     // Writes the table into lent bytes: refusals 4, 9.
     pub fn write(self, lent: &mut [u8]) -> Written
-        ensures answer { λ r. ⌜ r ≡ writing self (now (lent .entry)) ⌝ }
+        ensures answer { λ r. ⌜ toldWritten r ≡ writing self (now (lent .entry)) ⌝ }
         ensures bytes { λ _. ⌜ now (lent .exit) ≡ bytesAfter self (now (lent .entry)) ⌝ }
     {
         if self.form_right() {} else {

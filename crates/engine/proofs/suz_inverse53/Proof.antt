@@ -1,5 +1,5 @@
 use mathlib.Core.Path.{_∙_, ap}
-use Rattle.engine.specs.Answers.{code}
+use Rattle.refusals.specs.Answers.{code}
 use borrow.Author.Needs.{needs}
 use Rattle.engine.proofs.suz_inverse53.Statement.{statement}
 use Rattle.engine.proofs.suz_inverse53.Tie as tie
@@ -7,7 +7,7 @@ use Rattle.engine.proofs.suz_inverse53.Tie as tie
 returns : tie.Need-returns
 returns c =
     let e = c .before .before .before .before .back .ensures in
-    (c .code-of .ensures ∙ ap code (e .0), (e .1 .0, e .1 .1))
+    (c .code .ensures ∙ ap code (e .0), (e .1 .0, e .1 .1))
 
 pub suz-inverse53-spec : {M : Type 1} → statement M
 suz-inverse53-spec =

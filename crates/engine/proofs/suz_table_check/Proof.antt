@@ -1,7 +1,9 @@
 use mathlib.Core.Path.{sym, _∙_, ap}
+use Rattle.refusals.specs.Answers.{code}
+use Rattle.refusals.specs.Told.{told}
+use Rattle.width_table.specs.ReadLaws.{table-read}
 use Rattle.precision.specs.Verdict.{verdict}
-use Rattle.engine.specs.Answers.{code}
-use Rattle.engine.specs.AnswerLaws.{read-refused, read-right, read-table, check-refused, check-judged}
+use Rattle.engine.specs.AnswerLaws.{check-refused, check-judged}
 use borrow.Author.Needs.{needs}
 use Rattle.engine.proofs.suz_table_check.Statement.{statement}
 use Rattle.engine.proofs.suz_table_check.Tie as tie
@@ -10,16 +12,15 @@ returns : tie.Need-returns
 returns c =
     let v = c .before .before .before .before in
     let b = v .before .before .args .table .now in
-    c .refusal-code .ensures ∙ sym (ap code (check-refused b _ (read-refused b _ (v .read .ensures) _ (c .before .before .outcome .given .1))))
+    c .refusal-code .ensures ∙ sym (ap code (check-refused b _ (sym (v .read .ensures .0) ∙ ap told (c .before .before .outcome .given .1))))
 
 returns-2 : tie.Need-returns-2
 returns-2 c =
     let t = c .before .before .before in
     let v = t .before .before in
     let b = v .before .before .args .table .now in
-    let d = t .enum-told .given .1 in
-    c .code-of .ensures
-    ∙ ap code (c .before .judge .ensures ∙ ap verdict (read-table b _ (v .read .ensures) d) ∙ sym (check-judged b (read-right b _ (v .read .ensures) d)))
+    let right = sym (v .read .ensures .0) ∙ ap told (t .enum-told .given .1) in
+    c .code .ensures ∙ ap code (c .before .judge .ensures ∙ ap verdict (v .read .ensures .1 ∙ table-read b right) ∙ sym (check-judged b right))
 
 pub suz-table-check-spec : {M : Type 1} → statement M
 suz-table-check-spec =

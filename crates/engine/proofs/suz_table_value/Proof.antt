@@ -1,8 +1,9 @@
 use mathlib.Core.Path.{sym, _∙_, ap}
 use native.Mathlib.Omega.{arith}
+use Rattle.refusals.specs.Answers.{code}
+use Rattle.width_table.specs.Told.{toldNamed}
 use Rattle.width_table.specs.NameLaws.{valued}
-use Rattle.engine.specs.Answers.{code}
-use Rattle.engine.specs.AnswerLaws.{name-refused, name-found, start-kept, length-kept, start-written, length-written}
+use Rattle.engine.specs.AnswerLaws.{name-refused, name-found}
 use borrow.Author.Needs.{needs}
 use Rattle.engine.proofs.suz_table_value.Statement.{statement}
 use Rattle.engine.proofs.suz_table_value.Tie as tie
@@ -11,28 +12,27 @@ cast-start : tie.Need-cast-start
 cast-start c =
     let v = c .before .before .before in
     let a = v .before .before .args in
-    omega (arith, valued (a .table .now) (a .tag) _ _ (sym (v .value-place .ensures) ∙ c .before .s .given .1) .small)
+    omega (arith, valued (a .table .now) (a .tag) _ _ (sym (v .value-place .ensures) ∙ ap toldNamed (c .before .s .given .1)) .small)
 
 cast-length : tie.Need-cast-length
 cast-length c =
     let v = c .before .before .before in
     let a = v .before .before .args in
-    omega (arith, valued (a .table .now) (a .tag) _ _ (sym (v .value-place .ensures) ∙ c .before .s .given .1) .small)
+    omega (arith, valued (a .table .now) (a .tag) _ _ (sym (v .value-place .ensures) ∙ ap toldNamed (c .before .s .given .1)) .small)
 
 returns : tie.Need-returns
 returns c =
     let v = c .before .before .before .before in
     let a = v .before .before .args in
-    let r = c .before .before .why .given .0 .0 in
-    let e = name-refused (a .table .now) (a .tag) r (sym (v .value-place .ensures) ∙ c .before .before .why .given .1) in
-    (c .refusal-code .ensures ∙ sym (ap code e), (start-kept (a .table .now) (a .tag) r _ e, length-kept (a .table .now) (a .tag) r _ e))
+    let g = name-refused (a .table .now) (a .tag) (a .start .now) (a .length .now) _ (sym (v .value-place .ensures) ∙ ap toldNamed (c .before .before .why .given .1)) in
+    (c .refusal-code .ensures ∙ sym (ap code (g .answers)), (g .leaves-start, g .leaves-length))
 
 returns-2 : tie.Need-returns-2
 returns-2 c =
     let v = c .before .before .before in
     let a = v .before .before .args in
-    let f = name-found (a .table .now) (a .tag) _ _ (sym (v .value-place .ensures) ∙ c .before .s .given .1) in
-    (sym (ap code (f .done)), (f .starts ∙ start-written (a .table .now) (a .tag) _ (f .done), f .long ∙ length-written (a .table .now) (a .tag) _ (f .done)))
+    let g = name-found (a .table .now) (a .tag) (a .start .now) (a .length .now) _ _ (sym (v .value-place .ensures) ∙ ap toldNamed (c .before .s .given .1)) in
+    (sym (ap code (g .answers)), (g .leaves-start, g .leaves-length))
 
 pub suz-table-value-spec : {M : Type 1} → statement M
 suz-table-value-spec =

@@ -1,8 +1,10 @@
-use mathlib.Core.Path.{sym, _∙_}
+use mathlib.Core.Path.{sym, _∙_, ap}
+use Rattle.refusals.specs.Told.{told}
 use lib.ListN.{length}
-use Rattle.refusals.specs.RefusalLaws.{then-right, then-refused}
+use Rattle.refusals.specs.AnswerLaws.{then-right, then-refused}
 use Rattle.pictures.specs.PictureLaws.{sized, sized-then, sized-done}
 use Rattle.precision.specs.Verdict.{verdict}
+use Rattle.width_table.specs.Limits.{form-depth}
 use Rattle.precision.specs.Promise.{promise}
 use Rattle.irreversible.specs.CallSteps.{answerOf}
 use borrow.Author.Needs.{needs}
@@ -14,16 +16,16 @@ pixels-right-requires c κs =
     let m = c .before .before in
     let j = m .before .before .before in
     let a = j .before .before .args in
-    let ok = promise (a .table) (sym (j .judge .ensures) ∙ m .before .enum-told .given .1) in
-    let room = sized-done (a .table .levels) (a .w) (a .h) (length (a .pixels .now)) (a .second) (a .third) (sym (m .room-right .ensures) ∙ c .enum-told2 .given .1) in
-    (ok .depth .1, room .wide .1, room .tall .1, room .first)
+    let ok = promise (a .table) (sym (j .judge .ensures) ∙ ap told (m .before .enum-told .given .1)) in
+    let room = sized-done (a .table .levels) (a .w) (a .h) (length (a .pixels .now)) (a .second) (a .third) (sym (m .room-right .ensures) ∙ ap told (c .enum-told2 .given .1)) in
+    (form-depth (a .table) (ok .form) .1, room .wide .1, room .tall .1, room .first)
 
 returns : tie.Need-returns
 unfolding answerOf
 returns c =
     let j = c .before .before .before in
     let a = j .before .before .args in
-    sym (then-refused (verdict (a .table)) _ _ (sym (j .judge .ensures) ∙ c .before .why .given .1))
+    sym (then-refused (verdict (a .table)) _ _ (sym (j .judge .ensures) ∙ ap told (c .before .why .given .1)))
 
 returns-2 : tie.Need-returns-2
 unfolding answerOf
@@ -31,9 +33,9 @@ returns-2 c =
     let m = c .before .before .before in
     let j = m .before .before .before in
     let a = j .before .before .args in
-    sym (then-right (verdict (a .table)) _ (sym (j .judge .ensures) ∙ m .before .enum-told .given .1)
+    sym (then-right (verdict (a .table)) _ (sym (j .judge .ensures) ∙ ap told (m .before .enum-told .given .1))
     ∙ sized-then (a .table .levels) (a .w) (a .h) (length (a .pixels .now)) (a .second) (a .third) _
-    ∙ then-refused (sized (a .table .levels) (a .w) (a .h) (length (a .pixels .now)) (a .second) (a .third)) _ _ (sym (m .room-right .ensures) ∙ c .before .why2 .given .1))
+    ∙ then-refused (sized (a .table .levels) (a .w) (a .h) (length (a .pixels .now)) (a .second) (a .third)) _ _ (sym (m .room-right .ensures) ∙ ap told (c .before .why2 .given .1)))
 
 returns-3 : tie.Need-returns-3
 unfolding answerOf
@@ -42,9 +44,9 @@ returns-3 c =
     let j = m .before .before .before in
     let a = j .before .before .args in
     c .pixels-right .ensures
-    ∙ sym (then-right (verdict (a .table)) _ (sym (j .judge .ensures) ∙ m .before .enum-told .given .1)
+    ∙ sym (then-right (verdict (a .table)) _ (sym (j .judge .ensures) ∙ ap told (m .before .enum-told .given .1))
     ∙ sized-then (a .table .levels) (a .w) (a .h) (length (a .pixels .now)) (a .second) (a .third) _
-    ∙ then-right (sized (a .table .levels) (a .w) (a .h) (length (a .pixels .now)) (a .second) (a .third)) _ (sym (m .room-right .ensures) ∙ c .before .enum-told2 .given .1))
+    ∙ then-right (sized (a .table .levels) (a .w) (a .h) (length (a .pixels .now)) (a .second) (a .third)) _ (sym (m .room-right .ensures) ∙ ap told (c .before .enum-told2 .given .1)))
 
 pub answer-spec : {M : Type 1} → statement M
 answer-spec =

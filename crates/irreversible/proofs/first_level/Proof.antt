@@ -10,6 +10,7 @@ use Rattle.lifting.specs.Runs.{as-type}
 use Rattle.lifting.specs.Kernels.{worked, SafeKernel, rows-same}
 use Rattle.lifting.specs.Strips.{pixelLine}
 use Rattle.pictures.specs.MemoryLaws.{loaded, pixel-rows-worked}
+use Rattle.width_table.specs.Limits.{form-depth}
 use Rattle.precision.specs.Promise.{promise}
 use Rattle.irreversible.specs.KernelLaws.{kernelOf}
 use Rattle.irreversible.specs.LevelLaws.{rowed, columned}
@@ -38,7 +39,7 @@ once c =
     let k = c .before .before .before in
     let s = k .before .before .before in
     let a = s .args in
-    c .pixel-rows .ensures
+    c .pixel-rows .ensures .0
     ∙ (λ u. patchLines (lineAt 0 (a .w)) (a .w) (a .h) (λ r. worked (k .kernel-of .result) (a .w) (pixelLine (a .pixels .now) (k .before .middle .ensures u) (r * a .w))) (at (a .plane .now)))
     ∙ pixel-rows-worked (k .kernel-of .result) (a .pixels .now) (2 ^ (a .table .depth - 1)) (a .w) (a .h) (at (a .plane .now)) (first-ready (s .pre) .columns)
     ∙ rows-same (k .kernel-of .ensures) (a .w) (a .w) (a .h) (x s)
@@ -62,7 +63,7 @@ pub first-level-spec : {M : Type 1} → statement M
 first-level-spec =
     tie.close
     (tie.spec
-    (λ c κs. promise (c .before .args .table) (c .before .pre .accepted) .depth)
+    (λ c κs. form-depth (c .before .args .table) (promise (c .before .args .table) (c .before .pre .accepted) .form))
     (λ c κs. (first-ready (c .before .before .pre) .is-level, (omega arith, omega arith)))
     pixel-rows-requires
     work-columns-requires

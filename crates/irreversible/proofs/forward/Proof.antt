@@ -1,9 +1,10 @@
-use mathlib.Core.Path.{_≡_, sym, _∙_}
+use mathlib.Core.Path.{_≡_, sym, _∙_, ap}
+use Rattle.refusals.specs.Told.{told}
 use Prim.Native.Nat.{ℕ, _*_}
 use native.Mathlib.Omega.{arith}
 use lib.ListN.{length, take, drop, length-append, length-drop}
 use lib.Seq.{length-take-le}
-use Rattle.refusals.specs.declared.Outcome.the-variants.{Done}
+use Rattle.refusals.specs.Answers.{passed}
 use Rattle.irreversible.specs.Calls.{fixedAnswer}
 use Rattle.irreversible.specs.CallLaws.{room}
 use Rattle.irreversible.specs.CallSteps.{answer-is, plane-kept, work-kept, plane-done, work-done, ready}
@@ -13,10 +14,10 @@ use Rattle.irreversible.proofs.forward.Statement.{statement}
 use Rattle.irreversible.proofs.forward.Tie as tie
 
 -- the call is not refused
-done : (c : tie.After-enum-told) → let a = c .before .before .before .before .args in fixedAnswer (a .table) (a .w) (a .h) (a .pixels .now) (a .plane .now) (a .work .now) ≡ Done
+done : (c : tie.After-enum-told) → let a = c .before .before .before .before .args in fixedAnswer (a .table) (a .w) (a .h) (a .pixels .now) (a .plane .now) (a .work .now) ≡ passed
 done c =
     let a = c .before .before .before .before .args in
-    answer-is (a .table) (a .w) (a .h) (a .pixels .now) (a .plane .now) (a .work .now) ∙ sym (c .before .before .answer .ensures) ∙ c .enum-told .given .1
+    answer-is (a .table) (a .w) (a .h) (a .pixels .now) (a .plane .now) (a .work .now) ∙ sym (c .before .before .answer .ensures) ∙ ap told (c .enum-told .given .1)
 
 -- the work area is long enough
 long : (c : tie.After-enum-told) → let a = c .before .before .before .before .args in length (take (a .w * a .h) (a .work .now)) ≡ a .w * a .h
@@ -45,7 +46,7 @@ returns : tie.Need-returns
 returns c =
     let m = c .before .before in
     let a = m .before .before .before .args in
-    let e = answer-is (a .table) (a .w) (a .h) (a .pixels .now) (a .plane .now) (a .work .now) ∙ sym (m .before .answer .ensures) ∙ c .before .why .given .1 in
+    let e = answer-is (a .table) (a .w) (a .h) (a .pixels .now) (a .plane .now) (a .work .now) ∙ sym (m .before .answer .ensures) ∙ ap told (c .before .why .given .1) in
     (sym e, (plane-kept (a .table) (a .w) (a .h) (a .pixels .now) (a .plane .now) (a .work .now) e, work-kept (a .table) (a .w) (a .h) (a .pixels .now) (a .plane .now) (a .work .now) e))
 
 returns-2 : tie.Need-returns-2

@@ -7,7 +7,7 @@ use Rattle.lifting.specs.Kernels.{SameKernel}
 use Rattle.width_table.specs.Numbered.{passOf}
 use Rattle.exact.specs.Exact.{alpha, beta, gamma, delta, zeta, zetaInverse}
 use Rattle.width_table.specs.Nodes.{P1, U1, P2, U2, G1, G2}
-use Rattle.width_table.specs.Table.{constantBits, fractionBits, inputBits}
+use Rattle.width_table.specs.Table.{maxFractionBits, constantBits, fractionBits, inputBits}
 use Rattle.width_table.specs.Numbered.{passOf}
 use Rattle.precision.specs.Verdict.{Accepted}
 use Rattle.irreversible.specs.KernelLaws.{stageOf, scalingOf, kernelOf}
@@ -20,13 +20,13 @@ abbrev Bits : tie.After-fraction-bits6 → Type 0
 Bits q =
     let a = q .before .before .before .before .before .before .before .args in
     let f = fractionBits (a .table) (a .level) (passOf (a .pass)) in
-    ((q .before .before .before .before .before .before .input-bits .result ≡ inputBits (a .table) (a .level) (passOf (a .pass))) × (q .before .before .before .before .before .before .input-bits .result ≤ 20))
-    × ((q .before .before .before .before .before .fraction-bits .result ≡ f P1) × (q .before .before .before .before .before .fraction-bits .result ≤ 20))
-    × ((q .before .before .before .before .fraction-bits2 .result ≡ f U1) × (q .before .before .before .before .fraction-bits2 .result ≤ 20))
-    × ((q .before .before .before .fraction-bits3 .result ≡ f P2) × (q .before .before .before .fraction-bits3 .result ≤ 20))
-    × ((q .before .before .fraction-bits4 .result ≡ f U2) × (q .before .before .fraction-bits4 .result ≤ 20))
-    × ((q .before .fraction-bits5 .result ≡ f G1) × (q .before .fraction-bits5 .result ≤ 20))
-    × ((q .fraction-bits6 .result ≡ f G2) × (q .fraction-bits6 .result ≤ 20))
+    ((q .before .before .before .before .before .before .input-bits .result ≡ inputBits (a .table) (a .level) (passOf (a .pass))) × (q .before .before .before .before .before .before .input-bits .result ≤ maxFractionBits))
+    × ((q .before .before .before .before .before .fraction-bits .result ≡ f P1) × (q .before .before .before .before .before .fraction-bits .result ≤ maxFractionBits))
+    × ((q .before .before .before .before .fraction-bits2 .result ≡ f U1) × (q .before .before .before .before .fraction-bits2 .result ≤ maxFractionBits))
+    × ((q .before .before .before .fraction-bits3 .result ≡ f P2) × (q .before .before .before .fraction-bits3 .result ≤ maxFractionBits))
+    × ((q .before .before .fraction-bits4 .result ≡ f U2) × (q .before .before .fraction-bits4 .result ≤ maxFractionBits))
+    × ((q .before .fraction-bits5 .result ≡ f G1) × (q .before .fraction-bits5 .result ≤ maxFractionBits))
+    × ((q .fraction-bits6 .result ≡ f G2) × (q .fraction-bits6 .result ≤ maxFractionBits))
 
 bits : (q : tie.After-fraction-bits6) → Bits q
 bits q =

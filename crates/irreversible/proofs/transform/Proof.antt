@@ -10,6 +10,7 @@ use Rattle.lines.specs.PlaneLaws.{side-le}
 use Rattle.lifting.specs.Patch.{at}
 use Rattle.lifting.specs.Runs.{as-type}
 use Rattle.pictures.specs.MemoryLaws.{loaded}
+use Rattle.width_table.specs.Limits.{form-levels}
 use Rattle.precision.specs.Promise.{promise}
 use Rattle.irreversible.specs.LevelLaws.{levelWorked}
 use Rattle.irreversible.specs.LevelsLaws.{After, after-none, after-since, after-more, after-all}
@@ -36,14 +37,14 @@ firsts c =
     let x₀ = at (a .plane .now) in
     let x = loaded (a .pixels .now) (2 ^ (a .table .depth - 1)) (a .w) (a .h) x₀ in
     as-type (λ u. After (a .table) (a .pixels .now) (a .w) (a .h) 1 x₀ (sym (c .first-level .ensures) u))
-    (after-more (a .table) (a .pixels .now) (a .w) (a .h) (s .pre .accepted) (s .pre .picture) 0 (promise (a .table) (s .pre .accepted) .levels .0) x₀ x
+    (after-more (a .table) (a .pixels .now) (a .w) (a .h) (s .pre .accepted) (s .pre .picture) 0 (form-levels (a .table) (promise (a .table) (s .pre .accepted) .form) .0) x₀ x
     (after-none (a .table) (a .pixels .now) (a .w) (a .h) x₀ x (omega (arith, s .pre .picture .width .0)) refl))
 
 loop-holds : tie.Need-loop-holds Inv-loop μ-loop
 unfolding side
 loop-holds c =
     let f = c .before .before in
-    (omega (arith, promise (start f .args .table) (start f .pre .accepted) .levels .0), refl, refl, refl, refl, record { stands = firsts f .stands; beyond = λ q far. refl })
+    (omega (arith, form-levels (start f .args .table) (promise (start f .args .table) (start f .pre .accepted) .form) .0), refl, refl, refl, refl, record { stands = firsts f .stands; beyond = λ q far. refl })
 
 work-level-requires : tie.Need-work-level-requires Inv-loop μ-loop
 work-level-requires c κs =

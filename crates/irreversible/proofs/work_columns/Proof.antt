@@ -20,7 +20,7 @@ columns-requires c κs =
 once : (c : tie.After-columns) → let a = c .before .before .before .before .args in at (c .columns .last .0) ≡ columnsWorked (kernelOf (a .table) (a .level) LowColumns) (a .stride) 0 (lows (a .w)) (a .h) (at (a .plane .now))
 once c =
     let a = c .before .before .before .before .args in
-    c .columns .ensures ∙ columns-same (c .before .kernel-of .ensures) (a .stride) 0 (lows (a .w)) (a .h) (at (a .plane .now))
+    c .columns .ensures .0 ∙ columns-same (c .before .kernel-of .ensures) (a .stride) 0 (lows (a .w)) (a .h) (at (a .plane .now))
 
 columns-requires-2 : tie.Need-columns-requires-2
 columns-requires-2 c κs =
@@ -36,7 +36,7 @@ returns c =
     let l = c .before .before in
     let o = l .before .before .before .before .before .before in
     let a = o .before .before .before .before .args in
-    l .columns2 .ensures ∙ columns-same (l .before .kernel-of2 .ensures) (a .stride) (lows (a .w)) (highs (a .w)) (a .h) (at (o .columns .last .0))
+    l .columns2 .ensures .0 ∙ columns-same (l .before .kernel-of2 .ensures) (a .stride) (lows (a .w)) (highs (a .w)) (a .h) (at (o .columns .last .0))
     ∙ ap (columnsWorked (kernelOf (a .table) (a .level) HighColumns) (a .stride) (lows (a .w)) (highs (a .w)) (a .h)) (once o)
 
 pub work-columns-spec : {M : Type 1} → statement M

@@ -16,7 +16,7 @@ rows-requires c κs =
 once : (c : tie.After-rows) → let a = c .before .before .before .before .args in at (c .rows .last .0) ≡ rowed (a .table) (a .level) (a .stride) (a .w) (a .h) (at (a .plane .now))
 once c =
     let a = c .before .before .before .before .args in
-    c .rows .ensures ∙ rows-same (c .before .kernel-of .ensures) (a .stride) (a .w) (a .h) (at (a .plane .now))
+    c .rows .ensures .0 ∙ rows-same (c .before .kernel-of .ensures) (a .stride) (a .w) (a .h) (at (a .plane .now))
 
 work-columns-requires : tie.Need-work-columns-requires
 work-columns-requires c κs =

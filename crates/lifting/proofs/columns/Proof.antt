@@ -73,7 +73,7 @@ returns : tie.Need-returns Inv-loop μ-loop
 returns c =
     let a = c .before .before .before .args in
     let e : c .before .loop .done ≡ a .w = omega arith in
-    c .before .loop .inv .3 ∙ ap (λ (w : ℕ). columnsWorked (a .kernel) (a .stride) (a .from) w (a .h) (at (a .plane .now))) e
+    (c .before .loop .inv .3 ∙ ap (λ (w : ℕ). columnsWorked (a .kernel) (a .stride) (a .from) w (a .h) (at (a .plane .now))) e, c .before .loop .inv .2)
 
 pub columns-spec : {M : Type 1} → statement M
 columns-spec =

@@ -1,7 +1,7 @@
 -- `lifting::pixel_rows` meets its contract. The loop's invariant: the first r rows are done.
 -- Assumes nothing.
 use mathlib.Core.Path.{_≡_, refl}
-use Prim.Native.Nat.{ℕ, suc, _*_, _-_, _≤_}
+use Prim.Native.Nat.{suc, _*_, _-_, _≤_}
 use native.Mathlib.Nat.{mul-le-mul-right}
 use native.Mathlib.Omega.{arith}
 use lib.ListN.{length}
@@ -67,7 +67,7 @@ loop-again c =
     )
 
 returns : tie.Need-returns Inv-loop μ-loop
-returns c = lines-to _ _ _ _ _ _ _ (c .before .loop .inv .3) (omega arith)
+returns c = (lines-to _ _ _ _ _ _ _ (c .before .loop .inv .3) (omega arith), c .before .loop .inv .2)
 
 pub pixel-rows-spec : {M : Type 1} → statement M
 pixel-rows-spec =

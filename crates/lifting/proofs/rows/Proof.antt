@@ -57,7 +57,7 @@ loop-again c =
     )
 
 returns : tie.Need-returns Inv-loop μ-loop
-returns c = lines-to _ _ _ _ _ _ _ (c .before .loop .inv .3) (omega arith)
+returns c = (lines-to _ _ _ _ _ _ _ (c .before .loop .inv .3) (omega arith), c .before .loop .inv .2)
 
 pub rows-spec : {M : Type 1} → statement M
 rows-spec =

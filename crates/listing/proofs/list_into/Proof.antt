@@ -1,9 +1,10 @@
 -- `listing::list_into` meets its contract: the form decides, or the picture does.
 -- Assumes nothing.
-use mathlib.Core.Path.{_≡_, sym, _∙_}
+use mathlib.Core.Path.{_≡_, sym, _∙_, ap}
+use Rattle.refusals.specs.Told.{told}
 use native.Mathlib.Omega.{arith}
 use borrow.Author.Needs.{needs}
-use Rattle.refusals.specs.declared.Outcome.the-variants.{Done}
+use Rattle.refusals.specs.Answers.{passed}
 use Rattle.listing.specs.Listing.{copyForm}
 use Rattle.listing.specs.Writing.{put-same}
 use Rattle.listing.specs.InputLaws.{form-done}
@@ -12,8 +13,8 @@ use Rattle.listing.proofs.list_into.Statement.{statement}
 use Rattle.listing.proofs.list_into.Tie as tie
 
 -- the form is right
-right : (c : tie.After-enum-told) → copyForm (c .before .before .before .before .before .before .args .bytes .now) ≡ Done
-right c = sym (c .before .before .form-of .ensures) ∙ c .enum-told .given .1
+right : (c : tie.After-enum-told) → copyForm (c .before .before .before .before .before .before .args .bytes .now) ≡ passed
+right c = sym (c .before .before .form-of .ensures) ∙ ap told (c .enum-told .given .1)
 
 head-of-requires : tie.Need-head-of-requires
 head-of-requires c κs = omega (arith, form-done _ (right c) .exact)
@@ -27,7 +28,7 @@ returns : tie.Need-returns
 returns c =
     let p = c .before .before in
     let k = p .before .before in
-    put-same _ _ (p .put-refused .ensures) (sym (text-form _ _ (sym (k .before .before .before .form-of .ensures) ∙ k .before .why .given .1)))
+    put-same _ _ (p .put-refused .ensures) (sym (text-form _ _ (sym (k .before .before .before .form-of .ensures) ∙ ap told (k .before .why .given .1))))
 
 pub list-into-spec : {M : Type 1} → statement M
 list-into-spec =

@@ -1,6 +1,7 @@
 -- `listing::list_picture` meets its contract: the forward call on the pixels that were read judges as the program does, and leaves the plane whose rows are printed.
 -- Assumes nothing.
-use mathlib.Core.Path.{sym}
+use mathlib.Core.Path.{sym, ap}
+use Rattle.refusals.specs.Told.{told}
 use Prim.Native.Nat.{_*_, _≤_}
 use native.Mathlib.Omega.{arith}
 use borrow.Author.Needs.{needs}
@@ -38,7 +39,7 @@ returns c =
     let r = f .before .before .before .before .before .before in
     let s = r .before .before .before .before .before .before .before in
     put-same _ _ (p .put-refused .ensures)
-    (refused-text _ _ (s .pre .0) (s .pre .1) _ _ _ _ _ (r .read-pixels .ensures) (f .forward .ensures .0) (s .pre .2 .for-plane) (s .pre .2 .for-work) _ (w .before .why .given .1))
+    (refused-text _ _ (s .pre .0) (s .pre .1) _ _ _ _ _ (r .read-pixels .ensures) (f .forward .ensures .0) (s .pre .2 .for-plane) (s .pre .2 .for-work) _ (ap told (w .before .why .given .1)))
 
 returns-2 : tie.Need-returns-2
 returns-2 c =
@@ -48,7 +49,7 @@ returns-2 c =
     let r = f .before .before .before .before .before .before in
     let s = r .before .before .before .before .before .before .before in
     put-same _ _ (p .put-plane .ensures)
-    (plane-text _ _ (s .pre .0) (s .pre .1) _ _ _ _ _ (r .read-pixels .ensures) (f .forward .ensures .0) (s .pre .2 .for-plane) (s .pre .2 .for-work) _ (f .forward .ensures .1 .0) (t .enum-told .given .1))
+    (plane-text _ _ (s .pre .0) (s .pre .1) _ _ _ _ _ (r .read-pixels .ensures) (f .forward .ensures .0) (s .pre .2 .for-plane) (s .pre .2 .for-work) _ (f .forward .ensures .1 .0) (ap told (t .enum-told .given .1)))
 
 pub list-picture-spec : {M : Type 1} → statement M
 list-picture-spec =

@@ -8,7 +8,7 @@ use borrow.Author.Needs.{sfits-of}
 use lib.ListN.{length, drop}
 use mir.Syntax.{w32}
 use mir.Facts.{toZ-ofZ}
-use Rattle.listing.specs.Listing.{decimal, line, space, newline}
+use Rattle.listing.specs.Listing.{maxNumber, decimal, line, space, newline}
 use Rattle.listing.specs.Writing.{Leads, leads-start, leads-same, leads-put, leads-end, put-length, put-same}
 use Rattle.listing.specs.TextLaws.{line-more, line-last}
 use Rattle.listing.proofs.put_line.Statement.{statement}
@@ -16,7 +16,7 @@ use Rattle.listing.proofs.put_line.Tie as tie
 
 abbrev Inv-loop : tie.InvT-loop
 Inv-loop text₀ at numbers last next₀ i₀ text next i =
-    (i ≤ last) × (length text ≡ length text₀) × (next ≤ at + 12 * i) × Leads (line numbers) text₀ at (line (drop i numbers)) text next
+    (i ≤ last) × (length text ≡ length text₀) × (next ≤ at + maxNumber * i) × Leads (line numbers) text₀ at (line (drop i numbers)) text next
 
 abbrev μ-loop : tie.MeasureT-loop
 μ-loop text₀ at numbers last next₀ i₀ text next i = last - i

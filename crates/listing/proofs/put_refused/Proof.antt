@@ -1,11 +1,13 @@
 -- `listing::put_refused` meets its contract: the word, then a line of one number.
 -- Assumes nothing.
+use Prim.Native.Nat.{ℕ}
 use mathlib.Core.Path.{_∙_, ap}
 use mathlib.Core.List.{[], _∷_}
-use borrow.Author.Needs.{needs, sfits-of}
-use lib.IntN.{ℤ}
+use native.Mathlib.Omega.{arith}
+use borrow.Author.Needs.{needs}
+use lib.IntN.{ℤ, pos}
 use mir.Syntax.{w32}
-use mir.Facts.{toZ-ofZ}
+use mir.Facts.{toZ-pos}
 use Rattle.listing.specs.Listing.{line, refusedLine}
 use Rattle.listing.specs.Writing.{put-then, put-same}
 use Rattle.listing.proofs.put_refused.Statement.{statement}
@@ -17,7 +19,7 @@ returns c =
     let l = c .before .before in
     let n = l .before .before .before in
     put-then (n .before .before .before .put-all .ensures)
-    (put-same _ _ (l .put-line .ensures .0) (ap (λ (z : ℤ). line (z ∷ [])) (toZ-ofZ {w = w32} (sfits-of (n .number-of .ok)) ∙ n .number-of .ensures)))
+    (put-same _ _ (l .put-line .ensures .0) (ap (λ (z : ℤ). line (z ∷ [])) (toZ-pos w32 {n = n .number .result} (omega (arith, n .number .ok))) ∙ ap (λ (k : ℕ). line (pos k ∷ [])) (n .number .ensures)))
 
 pub put-refused-spec : {M : Type 1} → statement M
 put-refused-spec =
@@ -26,6 +28,7 @@ put-refused-spec =
     (λ c. search needs)
     (λ c κs. search needs)
     (λ c κs. search needs)
+    (λ c. search needs)
     (λ c. search needs)
     (λ c κs. search needs)
     (λ c. search needs)

@@ -5,7 +5,7 @@ use Prim.Native.Nat.{ℕ, _+_, _*_, _-_, _≤_}
 use native.Mathlib.Omega.{arith}
 use native.Mathlib.Nat.{mul-comm}
 use lib.ListN.{length, take, drop}
-use Rattle.listing.specs.Listing.{line, rowLines}
+use Rattle.listing.specs.Listing.{maxNumber, line, rowLines}
 use Rattle.pictures.specs.Pictures.{planeOf}
 use Rattle.listing.specs.Writing.{Leads, leads-start, leads-same, leads-put, leads-end, put-length, put-same}
 use Rattle.listing.specs.TextLaws.{row-line, rows-more, rows-none, part-length, row-end}
@@ -14,7 +14,7 @@ use Rattle.listing.proofs.put_rows.Tie as tie
 
 abbrev Inv-loop : tie.InvT-loop
 Inv-loop text₀ at plane w h next₀ r₀ text next r =
-    (r ≤ h) × (length text ≡ length text₀) × (next ≤ at + 12 * (r * w)) × Leads (rowLines w (planeOf w plane) 0 h) text₀ at (rowLines w (planeOf w plane) r (h - r)) text next
+    (r ≤ h) × (length text ≡ length text₀) × (next ≤ at + maxNumber * (r * w)) × Leads (rowLines w (planeOf w plane) 0 h) text₀ at (rowLines w (planeOf w plane) r (h - r)) text next
 
 abbrev μ-loop : tie.MeasureT-loop
 μ-loop text₀ at plane w h next₀ r₀ text next r = h - r

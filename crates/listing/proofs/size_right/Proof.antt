@@ -1,17 +1,18 @@
 -- `listing::size_right` meets its contract: 8, then 9; admitted sides make a size that fits.
 -- Assumes nothing.
-use mathlib.Core.Path.{_≡_, sym, _∙_}
+use mathlib.Core.Path.{_≡_, sym, _∙_, ap}
+use Rattle.refusals.specs.Told.{told}
 use native.Mathlib.Omega.{arith}
 use borrow.Author.Needs.{needs}
-use Rattle.refusals.specs.declared.Outcome.the-variants.{Done}
-use Rattle.refusals.specs.RefusalLaws.{then-right, then-refused}
+use Rattle.refusals.specs.Answers.{passed}
+use Rattle.refusals.specs.AnswerLaws.{then-right, then-refused}
 use Rattle.pictures.specs.Pictures.{sided}
 use Rattle.pictures.specs.PixelLaws.{size-fits}
 use Rattle.listing.proofs.size_right.Statement.{statement}
 use Rattle.listing.proofs.size_right.Tie as tie
 
-sides : (c : tie.After-enum-told) → let a = c .before .before .before .args in sided (a .levels) (a .w) (a .h) ≡ Done
-sides c = sym (c .before .before .sides-right .ensures) ∙ c .enum-told .given .1
+sides : (c : tie.After-enum-told) → let a = c .before .before .before .args in sided (a .levels) (a .w) (a .h) ≡ passed
+sides c = sym (c .before .before .sides-right .ensures) ∙ ap told (c .enum-told .given .1)
 
 mul-slice-holds : tie.Need-mul-slice-holds
 mul-slice-holds c = let a = c .before .before .before .args in omega (arith, size-fits (a .levels) (a .w) (a .h) (sides c))
@@ -25,5 +26,5 @@ size-right-spec =
     (λ c. search needs)
     mul-slice-holds
     (λ c κs. search needs)
-    (λ c. sym (then-refused _ _ _ (sym (c .before .before .before .sides-right .ensures) ∙ c .before .why .given .1)))
+    (λ c. sym (then-refused _ _ _ (sym (c .before .before .before .sides-right .ensures) ∙ ap told (c .before .why .given .1))))
     (λ c. c .slice-holds .ensures ∙ sym (then-right _ _ (sides (c .before)))))

@@ -1,25 +1,26 @@
 -- `pictures::room_right` meets its contract: the rules in their order; admitted sides make a size that fits.
 -- Assumes nothing.
-use mathlib.Core.Path.{_≡_, sym, _∙_}
+use mathlib.Core.Path.{_≡_, sym, _∙_, ap}
 use Prim.Native.Nat.{_*_}
 use native.Mathlib.Omega.{arith}
 use borrow.Author.Needs.{needs}
-use Rattle.refusals.specs.declared.Outcome.the-variants.{Done}
-use Rattle.refusals.specs.RefusalLaws.{then-right, then-refused}
+use Rattle.refusals.specs.Answers.{passed}
+use Rattle.refusals.specs.Told.{told}
+use Rattle.refusals.specs.AnswerLaws.{then-right, then-refused}
 use Rattle.pictures.specs.Pictures.{sided, holds}
 use Rattle.pictures.specs.PixelLaws.{size-fits}
 use Rattle.pictures.proofs.room_right.Statement.{statement}
 use Rattle.pictures.proofs.room_right.Tie as tie
 
 -- the sides are admitted, and then the first slice, and then the second is long enough
-sides : (c : tie.After-enum-told) → let a = c .before .before .before .args in sided (a .levels) (a .w) (a .h) ≡ Done
-sides c = sym (c .before .before .sides-right .ensures) ∙ c .enum-told .given .1
+sides : (c : tie.After-enum-told) → let a = c .before .before .before .args in sided (a .levels) (a .w) (a .h) ≡ passed
+sides c = sym (c .before .before .sides-right .ensures) ∙ ap told (c .enum-told .given .1)
 
-first : (c : tie.After-enum-told2) → let a = c .before .before .before .before .before .before .args in holds (a .w * a .h) (a .first) ≡ Done
-first c = sym (c .before .before .slice-holds .ensures) ∙ c .enum-told2 .given .1
+first : (c : tie.After-enum-told2) → let a = c .before .before .before .before .before .before .args in holds (a .w * a .h) (a .first) ≡ passed
+first c = sym (c .before .before .slice-holds .ensures) ∙ ap told (c .enum-told2 .given .1)
 
-second : (c : tie.After-enum-told3) → let a = c .before .before .before .before .before .before .before .before .before .args in holds (a .w * a .h) (a .second) ≡ Done
-second c = sym (c .before .before .slice-holds2 .ensures) ∙ c .enum-told3 .given .1
+second : (c : tie.After-enum-told3) → let a = c .before .before .before .before .before .before .before .before .before .args in holds (a .w * a .h) (a .second) ≡ passed
+second c = sym (c .before .before .slice-holds2 .ensures) ∙ ap told (c .enum-told3 .given .1)
 
 mul-n : tie.Need-mul-n
 mul-n c = let a = c .before .before .before .args in omega (arith, size-fits (a .levels) (a .w) (a .h) (sides c))
@@ -27,13 +28,13 @@ mul-n c = let a = c .before .before .before .args in omega (arith, size-fits (a 
 returns-2 : tie.Need-returns-2
 returns-2 c =
     let m = c .before .before .before in
-    sym (then-right _ _ (sides (m .before)) ∙ then-refused _ _ _ (sym (m .slice-holds .ensures) ∙ c .before .why2 .given .1))
+    sym (then-right _ _ (sides (m .before)) ∙ then-refused _ _ _ (sym (m .slice-holds .ensures) ∙ ap told (c .before .why2 .given .1)))
 
 returns-3 : tie.Need-returns-3
 returns-3 c =
     let m = c .before .before .before in
     let t = m .before in
-    sym (then-right _ _ (sides (t .before .before .before)) ∙ then-right _ _ (first t) ∙ then-refused _ _ _ (sym (m .slice-holds2 .ensures) ∙ c .before .why3 .given .1))
+    sym (then-right _ _ (sides (t .before .before .before)) ∙ then-right _ _ (first t) ∙ then-refused _ _ _ (sym (m .slice-holds2 .ensures) ∙ ap told (c .before .why3 .given .1)))
 
 returns-4 : tie.Need-returns-4
 returns-4 c =
@@ -56,7 +57,7 @@ room-right-spec =
     (λ c. search needs)
     (λ c. search needs)
     (λ c κs. search needs)
-    (λ c. sym (then-refused _ _ _ (sym (c .before .before .before .sides-right .ensures) ∙ c .before .why .given .1)))
+    (λ c. sym (then-refused _ _ _ (sym (c .before .before .before .sides-right .ensures) ∙ ap told (c .before .why .given .1))))
     returns-2
     returns-3
     returns-4)

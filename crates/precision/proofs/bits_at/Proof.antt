@@ -1,5 +1,6 @@
 use Prim.Native.Nat.{ℕ, _≤_}
 use mathlib.Core.Path.{_≡_, sym, subst}
+use Rattle.width_table.specs.Table.{maxFractionBits}
 use Rattle.precision.specs.Places.{bitsOf}
 use Rattle.width_table.specs.Numbered.{passOf}
 use Rattle.precision.specs.JudgeLaws.{place-input, place-node}
@@ -8,7 +9,7 @@ use Rattle.precision.proofs.bits_at.Tie as tie
 
 -- as the definition has it, and small
 abbrev Read : tie.Start → ℕ → Type 0
-Read s x = (x ≡ bitsOf (s .args .table) (s .args .level) (passOf (s .args .pass)) (s .args .place)) × (x ≤ 20)
+Read s x = (x ≡ bitsOf (s .args .table) (s .args .level) (passOf (s .args .pass)) (s .args .place)) × (x ≤ maxFractionBits)
 
 returns : tie.Need-returns
 returns c =

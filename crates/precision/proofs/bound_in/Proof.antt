@@ -1,12 +1,13 @@
-use mathlib.Core.Path.{sym, _∙_, ap}
+use mathlib.Core.Path.{refl, sym, _∙_, ap}
 use native.Mathlib.Omega.{arith}
 use borrow.Author.Needs.{needs}
 use lib.Dec.{lit≤}
-use Rattle.refusals.specs.declared.Outcome.the-variants.{Done}
+use Rattle.refusals.specs.Answers.{passed}
+use Rattle.refusals.specs.Told.{told}
 use Rattle.precision.specs.declared.Bound.{Bound}
-use Rattle.precision.specs.Places.{Enters}
+use Rattle.precision.specs.Places.{places, Enters}
 use Rattle.precision.specs.JudgeLaws.{at-pass, all-small, node-bound}
-use Rattle.precision.specs.OrderLaws.{enters, enters-level, level-tells, pass-tells, node-tells}
+use Rattle.precision.specs.OrderLaws.{enters, enters-level, tells, level-refuses, pass-refuses, node-answers}
 use Rattle.precision.proofs.bound_in.Statement.{statement}
 use Rattle.precision.proofs.bound_in.Tie as tie
 
@@ -17,13 +18,13 @@ returns : tie.Need-returns
 returns c =
     let e = c .before .before .before .before in
     let s = e .before in
-    c .no-bound .ensures ∙ level-tells (s .pre .0) (s .args .node) (s .pre .1 .1) _ (sym (e .enter-level .ensures .outcome) ∙ c .before .before .earlier .given .1)
+    tells _ (level-refuses (s .pre .0) (s .args .node) (s .pre .1) _ (sym (e .enter-level .ensures .0) ∙ ap told (c .before .before .earlier .given .1))) (c .no-bound .ensures)
 
 enter-pass-requires : tie.Need-enter-pass-requires
 enter-pass-requires c κs =
     let e = c .before .before in
     let s = e .before in
-    (enters-level (at-pass (s .pre .0) 1 (lit≤ tt) (lit≤ tt)) (e .enter-level .ensures) (c .enum-told .given .1), omega (arith, s .pre .0 .pass-to))
+    (enters-level (at-pass (s .pre .0) 1 (lit≤ tt, lit≤ tt)) (e .enter-level .ensures .1 (ap told (c .enum-told .given .1))), omega (arith, s .pre .0 .pass))
 
 returns-2 : tie.Need-returns-2
 returns-2 c =
@@ -31,14 +32,14 @@ returns-2 c =
     let d = q .before in
     let e = d .before .before in
     let s = e .before in
-    c .no-bound2 .ensures ∙ pass-tells (s .pre .0) (s .args .node) (s .pre .1 .1) (sym (e .enter-level .ensures .outcome) ∙ d .enum-told .given .1) _ (sym (q .enter-pass .ensures .outcome) ∙ c .before .before .passes .given .1)
+    tells _ (pass-refuses (s .pre .0) (s .args .node) (s .pre .1) (sym (e .enter-level .ensures .0) ∙ ap told (d .enum-told .given .1)) _ (sym (q .enter-pass .ensures .0) ∙ ap told (c .before .before .passes .given .1))) (c .no-bound2 .ensures)
 
 -- what enters the pass
 entered : (c : tie.After-enum-told2) → Enters (c .before .before .before .before .before .before .args .table) (c .before .before .before .before .before .before .args .level) (c .before .before .before .before .before .before .args .pass) (c .before .before .enter-pass .result .bound)
 entered c =
     let q = c .before .before in
     let s = q .before .before .before .before in
-    enters (s .pre .0) (q .enter-pass .ensures) (c .enum-told2 .given .1)
+    enters (s .pre .0) (q .enter-pass .ensures .1 (ap told (c .enum-told2 .given .1)))
 
 judge-nodes-requires : tie.Need-judge-nodes-requires
 judge-nodes-requires c κs = (entered (c .before .before), (c .own-errors .ensures, omega arith))
@@ -51,13 +52,13 @@ returns-3 c =
     let d = q .before in
     let e = d .before .before in
     let s = e .before in
-    c .no-bound3 .ensures ∙ node-tells (s .pre .0) (s .args .node) (s .pre .1 .1) (sym (e .enter-level .ensures .outcome) ∙ d .enum-told .given .1) _ (sym (q .enter-pass .ensures .outcome) ∙ k .enum-told2 .given .1) (sym (j .judge-nodes .ensures) ∙ c .before .before .why .given .1)
+    tells _ (node-answers (s .pre .0) (s .args .node) (s .pre .1) (sym (e .enter-level .ensures .0) ∙ ap told (d .enum-told .given .1)) _ (sym (q .enter-pass .ensures .0) ∙ ap told (k .enum-told2 .given .1)) (sym (j .judge-nodes .ensures) ∙ ap told (c .before .before .why .given .1))) (c .no-bound3 .ensures)
 
 bound-at-requires : tie.Need-bound-at-requires
 bound-at-requires c κs =
     let o = c .before .before .before in
     let h = entered (o .before .before) in
-    (omega (arith, h .small), omega arith, all-small h 7 (o .own-errors .ensures))
+    (omega (arith, h .small), omega arith, all-small h places (o .own-errors .ensures))
 
 returns-4 : tie.Need-returns-4
 returns-4 c =
@@ -68,9 +69,9 @@ returns-4 c =
     let d = q .before in
     let e = d .before .before in
     let s = e .before in
-    let is = c .bound-at .ensures .0 ∙ node-bound (entered k) (s .args .node) (s .pre .1 .0) (s .pre .1 .1) (o .own-errors .ensures) in
-    ap (λ (b : Bound). record { outcome = Done; range = b .range; error = b .error }) is
-    ∙ node-tells (s .pre .0) (s .args .node) (s .pre .1 .1) (sym (e .enter-level .ensures .outcome) ∙ d .enum-told .given .1) Done (sym (q .enter-pass .ensures .outcome) ∙ k .enum-told2 .given .1) (sym (j .judge-nodes .ensures) ∙ c .before .enum-told3 .given .1)
+    let is = c .bound-at .ensures .0 ∙ node-bound (entered k) (s .args .node) (s .pre .1) (o .own-errors .ensures) in
+    tells _ (node-answers (s .pre .0) (s .args .node) (s .pre .1) (sym (e .enter-level .ensures .0) ∙ ap told (d .enum-told .given .1)) passed (sym (q .enter-pass .ensures .0) ∙ ap told (k .enum-told2 .given .1)) (sym (j .judge-nodes .ensures) ∙ ap told (c .before .enum-told3 .given .1)))
+    (refl, (ap (λ (b : Bound). b .range) is, ap (λ (b : Bound). b .error) is))
 
 pub bound-in-spec : {M : Type 1} → statement M
 bound-in-spec =
@@ -82,7 +83,7 @@ bound-in-spec =
     (λ c κs. tt)
     returns
     (λ c. search needs)
-    (λ c. omega (arith, c .before .before .before .pre .0 .pass-from))
+    (λ c. omega (arith, c .before .before .before .pre .0 .pass))
     enter-pass-requires
     (λ c. search needs)
     (λ c κs. tt)

@@ -2,15 +2,15 @@ use Prim.Native.Nat.{_*_, _-_, _^_, _≤_}
 use mathlib.Core.Path.{_≡_, ap, _∙_}
 use native.Mathlib.Omega.{arith}
 use native.Mathlib.Numerals.{add-one}
-use Rattle.precision.specs.Places.{carriedTo}
+use Rattle.precision.specs.Places.{places, carriedTo}
 use Rattle.precision.proofs.error_at.Statement.{statement}
 use Rattle.precision.proofs.error_at.Tie as tie
 
 abbrev Inv-loop : tie.InvT-loop
-Inv-loop place own error₀ from₀ error from = (from ≤ 7) × (error ≡ carriedTo own place from) × (error ≤ from * 2 ^ 48)
+Inv-loop place own error₀ from₀ error from = (from ≤ places) × (error ≡ carriedTo own place from) × (error ≤ from * 2 ^ 48)
 
 abbrev μ-loop : tie.MeasureT-loop
-μ-loop place own error₀ from₀ error from = 7 - from
+μ-loop place own error₀ from₀ error from = places - from
 
 loop-holds : tie.Need-loop-holds Inv-loop μ-loop
 unfolding carriedTo
@@ -27,7 +27,7 @@ times-gain-requires c κs = omega (arith, c .before .before .pre .1 (c .before .
 
 loop-again : tie.Need-loop-again Inv-loop μ-loop
 unfolding carriedTo
-loop-again c = rw add-one (omega (arith, c .times-gain .ensures))
+loop-again c = rw (add-one (c .before .before .loop .from)) (omega (arith, c .times-gain .ensures))
 
 returns : tie.Need-returns Inv-loop μ-loop
 returns c =

@@ -9,13 +9,13 @@ returns-2 : tie.Need-returns-2
 returns-2 c =
     let s = c .before .before in
     let a = s .args in
-    sym (kept-early (a .levels) (a .level) (a .pass) (a .node) (s .pre .0) (s .pre .1) (s .pre .2) (c .if2 .taken))
+    sym (kept-early (a .levels) (a .level) (a .pass) (a .node) (s .pre .0) (s .pre .1) (c .if2 .taken))
 
 returns-3 : tie.Need-returns-3
 returns-3 c =
     let s = c .before .before .before in
     let a = s .args in
-    sym (kept-high (a .levels) (a .level) (a .pass) (a .node) (c .before .before .if1 .left) (s .pre .0) (s .pre .1) (c .if3 .taken))
+    sym (kept-high (a .levels) (a .level) (a .pass) (a .node) (c .before .before .if1 .left) (s .pre .0) (c .if3 .taken))
 
 returns-4 : tie.Need-returns-4
 returns-4 c =

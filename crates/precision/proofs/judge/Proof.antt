@@ -14,7 +14,7 @@ enter-level-requires c κs = (subst T (sym (sym (c .before .form-right .ensures)
 returns-2 : tie.Need-returns-2
 returns-2 c =
     let f = c .before .before in
-    c .enter-level .ensures .outcome ∙ sym (formed (f .before .args .table) (sym (f .form-right .ensures) ∙ c .before .if1 .taken))
+    c .enter-level .ensures .0 ∙ sym (formed (f .before .args .table) (sym (f .form-right .ensures) ∙ c .before .if1 .taken))
 
 pub judge-spec : {M : Type 1} → statement M
 judge-spec = tie.close (tie.spec (λ c κs. tt) returns enter-level-requires returns-2)

@@ -2,6 +2,7 @@ use Prim.Native.Nat.{_-_, _^_, _≤_}
 use mathlib.Core.Path.{sym}
 use native.Mathlib.Omega.{arith}
 use lib.Pow.{pow-mono}
+use Rattle.width_table.specs.Table.{maxIntegerBits}
 use Rattle.precision.specs.JudgeLaws.{too-wide, not-kept, in-error, kept-well}
 use Rattle.precision.proofs.judge_bound.Statement.{statement}
 use Rattle.precision.proofs.judge_bound.Tie as tie
@@ -14,19 +15,19 @@ add-if1-2 : tie.Need-add-if1-2
 add-if1-2 c = omega (arith, step (c .before))
 
 mul-if1 : tie.Need-mul-if1
-mul-if1 c = omega (arith, c .power2 .ensures, pow-mono {i = c .before .before .before .args .integer - 1} {j = 11} (omega arith))
+mul-if1 c = omega (arith, c .power2 .ensures, pow-mono {i = c .before .before .before .args .integer - 1} {j = maxIntegerBits - 1} (omega arith))
 
 returns : tie.Need-returns
 returns c =
     let s = c .before .before .before .before in
     let a = s .args in
-    sym (too-wide (a .bound) (a .integer) (a .fraction) (a .kept) (a .place) (omega arith))
+    sym (too-wide (a .bound) (a .integer) (a .fraction) (a .kept) _ (omega arith))
 
 returns-2 : tie.Need-returns-2
 returns-2 c =
     let s = c .before .before .before .before .before in
     let a = s .args in
-    sym (not-kept (a .bound) (a .integer) (a .fraction) (a .kept) (a .place) (omega arith) (c .if2 .left))
+    sym (not-kept (a .bound) (a .integer) (a .fraction) (a .kept) _ (omega arith) (c .if2 .left))
 
 mul-if3 : tie.Need-mul-if3
 mul-if3 c = omega (arith, step (c .before .before .before .before))
@@ -35,13 +36,13 @@ returns-3 : tie.Need-returns-3
 returns-3 c =
     let s = c .before .before .before .before .before .before .before in
     let a = s .args in
-    sym (kept-well (a .bound) (a .integer) (a .fraction) (a .kept) (a .place) (omega arith) (c .before .before .if2 .taken) (omega arith))
+    sym (kept-well (a .bound) (a .integer) (a .fraction) (a .kept) _ (omega arith) (c .before .before .if2 .taken) (omega arith))
 
 returns-4 : tie.Need-returns-4
 returns-4 c =
     let s = c .before .before .before .before .before .before .before in
     let a = s .args in
-    sym (in-error (a .bound) (a .integer) (a .fraction) (a .kept) (a .place) (omega arith) (c .before .before .if2 .taken) (omega arith))
+    sym (in-error (a .bound) (a .integer) (a .fraction) (a .kept) _ (omega arith) (c .before .before .if2 .taken) (omega arith))
 
 pub judge-bound-spec : {M : Type 1} → statement M
 judge-bound-spec =

@@ -4,12 +4,13 @@ use native.Mathlib.Omega.{arith}
 use native.Mathlib.Nat.{div-le-self, le-trans}
 use lib.Pow.{pow-mono, pow-pos}
 use Rattle.exact.specs.Fractions.{upDiv}
+use Rattle.width_table.specs.Table.{maxConstantBits}
 use Rattle.precision.proofs.up_div.Statement.{statement}
 use Rattle.precision.proofs.up_div.Tie as tie
 
--- the divisor is between 1 and 2^25
-divisor : (c : tie.After-power) → (1 ≤ c .power .result) × (c .power .result ≤ 2 ^ 25)
-divisor c = omega (arith, c .power .ensures, pow-pos (c .before .args .bits), pow-mono {i = c .before .args .bits} {j = 25} (omega arith))
+-- the divisor is at least 1, and small
+divisor : (c : tie.After-power) → (1 ≤ c .power .result) × (c .power .result ≤ 2 ^ (maxConstantBits + 1))
+divisor c = omega (arith, c .power .ensures, pow-pos (c .before .args .bits), pow-mono {i = c .before .args .bits} {j = maxConstantBits + 1} (omega arith))
 
 returns : tie.Need-returns
 unfolding upDiv

@@ -17,12 +17,12 @@ pixel-rows-requires c κs =
 columns-requires : tie.Need-columns-requires
 columns-requires c κs =
     let p = c .before .before .before .before .before .before .before .before .before .pre in
-    ((part-as _ _ (omega arith) (p .part), p .tall, omega (arith, p .column)), first-columns p _ (first-worked p _ (c .before .before .before .before .before .before .before .middle .ensures) _ (c .before .before .before .before .pixel-rows .ensures)))
+    ((part-as _ _ (omega arith) (p .part), p .tall, omega (arith, p .column)), first-columns p _ (first-worked p _ (c .before .before .before .before .before .before .before .middle .ensures) _ (c .before .before .before .before .pixel-rows .ensures .0)))
 
 returns : tie.Need-returns
 returns c =
     let p = c .before .before .before .before .before .before .before .before .before .before .before .before .pre in
-    c .before .before .columns .ensures ∙ ap (columnsWorked forwardKernel _ 0 _ _) (first-worked p _ (c .before .before .before .before .before .before .before .before .before .before .middle .ensures) _ (c .before .before .before .before .before .before .before .pixel-rows .ensures))
+    c .before .before .columns .ensures .0 ∙ ap (columnsWorked forwardKernel _ 0 _ _) (first-worked p _ (c .before .before .before .before .before .before .before .before .before .before .middle .ensures) _ (c .before .before .before .before .before .before .before .pixel-rows .ensures .0))
 
 pub first-level-spec : {M : Type 1} → statement M
 first-level-spec = tie.close (tie.spec (λ c κs. c .before .pre .depth) pixel-rows-requires columns-requires (λ c. search needs) (λ c. search needs) returns)

@@ -17,10 +17,10 @@ columns-requires c κs =
 rows-requires : tie.Need-rows-requires
 rows-requires c κs =
     let p = c .before .before .before .before .before .before .before .pre in
-    ((part-as _ _ (omega arith) (p .part), p .wide, omega (arith, p .row)), back-rows p _ (c .before .before .before .before .columns .ensures))
+    ((part-as _ _ (omega arith) (p .part), p .wide, omega (arith, p .row)), back-rows p _ (c .before .before .before .before .columns .ensures .0))
 
 returns : tie.Need-returns
-returns c = c .before .before .rows .ensures ∙ ap (rowsWorked backKernel _ _ _) (c .before .before .before .before .before .before .before .columns .ensures)
+returns c = c .before .before .rows .ensures .0 ∙ ap (rowsWorked backKernel _ _ _) (c .before .before .before .before .before .before .before .columns .ensures .0)
 
 pub level-back-spec : {M : Type 1} → statement M
 level-back-spec = tie.close (tie.spec columns-requires rows-requires (λ c. search needs) (λ c. search needs) returns)

@@ -17,10 +17,10 @@ rows-requires c κs =
 columns-requires : tie.Need-columns-requires
 columns-requires c κs =
     let p = c .before .before .before .before .before .before .before .pre in
-    ((part-as _ _ (omega arith) (p .part), p .tall, omega (arith, p .column)), forward-columns p _ (c .before .before .before .before .rows .ensures))
+    ((part-as _ _ (omega arith) (p .part), p .tall, omega (arith, p .column)), forward-columns p _ (c .before .before .before .before .rows .ensures .0))
 
 returns : tie.Need-returns
-returns c = c .before .before .columns .ensures ∙ ap (columnsWorked forwardKernel _ 0 _ _) (c .before .before .before .before .before .before .before .rows .ensures)
+returns c = c .before .before .columns .ensures .0 ∙ ap (columnsWorked forwardKernel _ 0 _ _) (c .before .before .before .before .before .before .before .rows .ensures .0)
 
 pub level-forward-spec : {M : Type 1} → statement M
 level-forward-spec = tie.close (tie.spec rows-requires columns-requires (λ c. search needs) (λ c. search needs) returns)

@@ -15,6 +15,7 @@ use Rattle.reversible.specs.Needs.{levels-room, level-room}
 use Rattle.reversible.specs.StepLaws.{first-room, loaded-small}
 use Rattle.reversible.proofs.levels_forward.Statement.{statement}
 use Rattle.reversible.proofs.levels_forward.Tie as tie
+use Rattle.pictures.specs.Pictures.{maxSide}
 
 abbrev Inv-loop : tie.InvT-loop
 Inv-loop pixels depth plane₀ tile₀ w h levels across₀ down₀ k₀ plane tile across down k =
@@ -45,7 +46,7 @@ level-forward-requires c κs =
     (forward-part _ _ _ (p .room .wide) (p .room .tall) (t .k) more (p .few) _ _ (t .inv .5 _ (first-done (c .before .before .before .before))) (loaded-small (s .pre) _))
 
 -- the sides of the level that was worked are at most those of a picture
-small-sides : (c : tie.After-tile2 Inv-loop μ-loop) → (c .before .before .before .before .before .before .loop .across ≤ 4096) × (c .before .before .before .before .before .before .loop .down ≤ 4096)
+small-sides : (c : tie.After-tile2 Inv-loop μ-loop) → (c .before .before .before .before .before .before .loop .across ≤ maxSide) × (c .before .before .before .before .before .before .loop .down ≤ maxSide)
 small-sides c =
     let p = c .before .before .before .before .before .before .before .before .before .before .before .before .before .pre .call .room in
     let t = c .before .before .before .before .before .before .loop in

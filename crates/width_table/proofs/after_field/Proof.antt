@@ -2,6 +2,7 @@ use Prim.Native.Nat.{ℕ, _+_}
 use mathlib.Core.Path.{_∙_, ap}
 use native.Mathlib.Omega.{arith}
 use lib.ListN.{drop}
+use Rattle.width_table.specs.Fields.{headBytes}
 use Rattle.numbers.specs.Lists.{rest-whole}
 use borrow.Author.Needs.{needs}
 use Rattle.width_table.proofs.after_field.Statement.{statement}
@@ -11,7 +12,7 @@ returns : tie.Need-returns
 returns c =
     let v = c .before in
     let b = v .before .before .args .bytes .now in
-    rest-whole (3 + v .value-length .result) b ∙ ap (λ (n : ℕ). drop (3 + n) b) (v .value-length .ensures)
+    rest-whole (headBytes + v .value-length .result) b ∙ ap (λ (n : ℕ). drop (headBytes + n) b) (v .value-length .ensures)
 
 pub after-field-spec : {M : Type 1} → statement M
 after-field-spec =

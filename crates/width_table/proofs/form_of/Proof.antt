@@ -2,10 +2,11 @@ use mathlib.Core.Path.{_≡_, sym, _∙_, ap}
 use native.Mathlib.Omega.{arith}
 use lib.ListN.{getD, drop}
 use lib.Seq.{getD-drop}
-use Prim.Native.Nat.{ℕ}
+use Prim.Native.Nat.{ℕ, _+_}
 use mathlib.Core.List.{List}
-use Rattle.refusals.specs.declared.Outcome.the-variants.{Done}
-use Rattle.width_table.specs.Fields.{fields, fieldOf}
+use Rattle.refusals.specs.Answers.{passed}
+use Rattle.refusals.specs.Told.{told}
+use Rattle.width_table.specs.Fields.{depthTag, headBytes, fields, fieldsAfter, fieldOf}
 use Rattle.width_table.specs.Bytes.{field, formBy, levelsIn, form}
 use Rattle.width_table.specs.ReadLaws.{field-holds, next-read, next-refused}
 use borrow.Author.Needs.{needs}
@@ -13,15 +14,15 @@ use Rattle.width_table.proofs.form_of.Statement.{statement}
 use Rattle.width_table.proofs.form_of.Tie as tie
 
 -- the field is right, and there
-done : (c : tie.After-enum-told) → field (fieldOf (fields 0) 1) (c .before .before .before .before .args .bytes .now) ≡ Done
-done c = sym (c .before .before .field .ensures) ∙ c .enum-told .given .1
+done : (c : tie.After-enum-told) → field (fieldOf (fields 0) depthTag) (c .before .before .before .before .args .bytes .now) ≡ passed
+done c = sym (c .before .before .field .ensures) ∙ ap told (c .enum-told .given .1)
 
 returns : tie.Need-returns
 unfolding form
 returns c =
     let h = c .before .before .before in
     let s = h .before .before .args in
-    sym (next-refused _ (s .bytes .now) (drop 1 (fields (levelsIn (s .bytes .now)))) _ (sym (h .field .ensures) ∙ c .before .why .given .1))
+    sym (next-refused _ (s .bytes .now) (fieldsAfter (levelsIn (s .bytes .now)) depthTag) _ (sym (h .field .ensures) ∙ ap told (c .before .why .given .1)))
 
 returns-2 : tie.Need-returns-2
 unfolding form
@@ -30,9 +31,9 @@ returns-2 c =
     let s = d .before .before .before .before .args in
     let b = s .bytes .now in
     sym (
-    next-read _ b (drop 1 (fields (levelsIn b))) (done d)
-    ∙ ap (λ (L : ℕ). formBy (drop 1 (fields L)) (drop 4 b)) (sym (getD-drop 4 b 3 0))
-    ∙ ap (λ (l : List ℕ). formBy (drop 1 (fields (getD l 3 0))) l) (sym (c .before .after-field .ensures))
+    next-read _ b (fieldsAfter (levelsIn b) depthTag) (done d)
+    ∙ ap (λ (L : ℕ). formBy (fieldsAfter L depthTag) (drop (headBytes + 1) b)) (sym (getD-drop (headBytes + 1) b headBytes 0))
+    ∙ ap (λ (l : List ℕ). formBy (fieldsAfter (getD l headBytes 0) depthTag) l) (sym (c .before .after-field .ensures))
     ∙ sym (c .from-second .ensures))
 
 pub form-of-spec : {M : Type 1} → statement M
@@ -42,7 +43,7 @@ form-of-spec =
     (λ c κs. search needs)
     (λ c. search needs)
     (λ c. search needs)
-    (λ c κs. (omega arith, omega arith, field-holds _ _ (done c)))
+    (λ c κs. ((omega arith, omega arith), field-holds _ _ (done c)))
     (λ c κs. search needs)
     returns
     returns-2)

@@ -1,8 +1,8 @@
 use mathlib.Core.Path.{_≡_, sym, _∙_, ap}
 use native.Mathlib.Omega.{arith}
-use lib.ListN.{drop}
-use Rattle.refusals.specs.declared.Outcome.the-variants.{Done}
-use Rattle.width_table.specs.Fields.{fields, fieldOf}
+use Rattle.refusals.specs.Answers.{passed}
+use Rattle.refusals.specs.Told.{told}
+use Rattle.width_table.specs.Fields.{nodesTag, fields, fieldsAfter, fieldOf}
 use Rattle.width_table.specs.Bytes.{field, formBy}
 use Rattle.width_table.specs.ReadLaws.{field-holds, next-read, next-refused}
 use borrow.Author.Needs.{needs}
@@ -10,20 +10,20 @@ use Rattle.width_table.proofs.from_fourth.Statement.{statement}
 use Rattle.width_table.proofs.from_fourth.Tie as tie
 
 -- the field is right, and there
-done : (c : tie.After-enum-told) → field (fieldOf (fields (c .before .before .before .before .args .levels)) 4) (c .before .before .before .before .args .bytes .now) ≡ Done
-done c = sym (c .before .before .field .ensures) ∙ c .enum-told .given .1
+done : (c : tie.After-enum-told) → field (fieldOf (fields (c .before .before .before .before .args .levels)) nodesTag) (c .before .before .before .before .args .bytes .now) ≡ passed
+done c = sym (c .before .before .field .ensures) ∙ ap told (c .enum-told .given .1)
 
 returns : tie.Need-returns
 returns c =
     let h = c .before .before .before in
     let s = h .before .before .args in
-    sym (next-refused _ (s .bytes .now) (drop 4 (fields (s .levels))) _ (sym (h .field .ensures) ∙ c .before .why .given .1))
+    sym (next-refused _ (s .bytes .now) (fieldsAfter (s .levels) nodesTag) _ (sym (h .field .ensures) ∙ ap told (c .before .why .given .1)))
 
 returns-2 : tie.Need-returns-2
 returns-2 c =
     let d = c .before .before in
     let s = d .before .before .before .before .args in
-    sym (next-read _ (s .bytes .now) (drop 4 (fields (s .levels))) (done d) ∙ ap (formBy (drop 4 (fields (s .levels)))) (sym (c .before .after-field .ensures)) ∙ sym (c .ended .ensures))
+    sym (next-read _ (s .bytes .now) (fieldsAfter (s .levels) nodesTag) (done d) ∙ ap (formBy (fieldsAfter (s .levels) nodesTag)) (sym (c .before .after-field .ensures)) ∙ sym (c .ended .ensures))
 
 pub from-fourth-spec : {M : Type 1} → statement M
 from-fourth-spec =
@@ -32,7 +32,7 @@ from-fourth-spec =
     (λ c κs. search needs)
     (λ c. search needs)
     (λ c. search needs)
-    (λ c κs. (omega arith, omega arith, field-holds _ _ (done c)))
+    (λ c κs. ((omega arith, omega arith), field-holds _ _ (done c)))
     (λ c κs. search needs)
     returns
     returns-2)

@@ -1,8 +1,9 @@
 use mathlib.Core.Path.{_≡_, sym, _∙_, ap}
 use native.Mathlib.Omega.{arith}
-use lib.ListN.{getD, drop}
-use Rattle.refusals.specs.declared.Outcome.the-variants.{Done}
-use Rattle.width_table.specs.Fields.{fields, fieldOf}
+use lib.ListN.{getD}
+use Rattle.refusals.specs.Answers.{passed}
+use Rattle.refusals.specs.Told.{told}
+use Rattle.width_table.specs.Fields.{levelsTag, headBytes, fields, fieldsAfter, fieldOf}
 use Rattle.width_table.specs.Bytes.{field, formBy}
 use Rattle.width_table.specs.ReadLaws.{field-holds, next-read, next-refused}
 use borrow.Author.Needs.{needs}
@@ -10,20 +11,20 @@ use Rattle.width_table.proofs.from_second.Statement.{statement}
 use Rattle.width_table.proofs.from_second.Tie as tie
 
 -- the field is right, and there
-done : (c : tie.After-enum-told) → field (fieldOf (fields 0) 2) (c .before .before .before .before .args .bytes .now) ≡ Done
-done c = sym (c .before .before .field .ensures) ∙ c .enum-told .given .1
+done : (c : tie.After-enum-told) → field (fieldOf (fields 0) levelsTag) (c .before .before .before .before .args .bytes .now) ≡ passed
+done c = sym (c .before .before .field .ensures) ∙ ap told (c .enum-told .given .1)
 
 returns : tie.Need-returns
 returns c =
     let h = c .before .before .before in
     let s = h .before .before .args in
-    sym (next-refused _ (s .bytes .now) (drop 2 (fields (getD (s .bytes .now) 3 0))) _ (sym (h .field .ensures) ∙ c .before .why .given .1))
+    sym (next-refused _ (s .bytes .now) (fieldsAfter (getD (s .bytes .now) headBytes 0) levelsTag) _ (sym (h .field .ensures) ∙ ap told (c .before .why .given .1)))
 
 returns-2 : tie.Need-returns-2
 returns-2 c =
     let d = c .before .before .before in
     let s = d .before .before .before .before .args in
-    sym (next-read _ (s .bytes .now) (drop 2 (fields (getD (s .bytes .now) 3 0))) (done d) ∙ ap (formBy (drop 2 (fields (getD (s .bytes .now) 3 0)))) (sym (c .before .after-field .ensures)) ∙ sym (c .from-third .ensures))
+    sym (next-read _ (s .bytes .now) (fieldsAfter (getD (s .bytes .now) headBytes 0) levelsTag) (done d) ∙ ap (formBy (fieldsAfter (getD (s .bytes .now) headBytes 0) levelsTag)) (sym (c .before .after-field .ensures)) ∙ sym (c .from-third .ensures))
 
 pub from-second-spec : {M : Type 1} → statement M
 from-second-spec =
@@ -33,7 +34,7 @@ from-second-spec =
     (λ c. search needs)
     (λ c. search needs)
     (λ c. omega (arith, field-holds _ _ (done (c .before))))
-    (λ c κs. (omega arith, omega arith, field-holds _ _ (done (c .before))))
+    (λ c κs. ((omega arith, omega arith), field-holds _ _ (done (c .before))))
     (λ c κs. search needs)
     returns
     returns-2)

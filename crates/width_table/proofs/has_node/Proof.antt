@@ -1,6 +1,7 @@
 use mathlib.Core.Path.{sym, _∙_, ap}
 use mathlib.Core.Bool.{Bool, _&&_}
 use Rattle.numbers.specs.Tests.{between}
+use Rattle.width_table.specs.Nodes.{nodesPerPass, passesPerLevel}
 use borrow.Author.Needs.{needs}
 use Rattle.width_table.proofs.has_node.Statement.{statement}
 use Rattle.width_table.proofs.has_node.Tie as tie
@@ -8,20 +9,20 @@ use Rattle.width_table.proofs.has_node.Tie as tie
 returns : tie.Need-returns
 returns c =
     let a = c .before .before .args in
-    sym (ap (λ (t : Bool). t && between 1 3 (a .pass) && between 1 6 (a .node)) (sym (c .before .in-between .ensures) ∙ c .if1 .left))
+    sym (ap (λ (t : Bool). t && between 1 passesPerLevel (a .pass) && between 1 nodesPerPass (a .node)) (sym (c .before .in-between .ensures) ∙ c .if1 .left))
 
 returns-2 : tie.Need-returns-2
 returns-2 c =
     let i = c .before .before in
     let a = i .before .before .args in
-    sym (ap (λ (t : Bool). t && between 1 3 (a .pass) && between 1 6 (a .node)) (sym (i .before .in-between .ensures) ∙ i .if1 .taken) ∙ ap (λ (t : Bool). t && between 1 6 (a .node)) (sym (c .before .in-between2 .ensures) ∙ c .if2 .left))
+    sym (ap (λ (t : Bool). t && between 1 passesPerLevel (a .pass) && between 1 nodesPerPass (a .node)) (sym (i .before .in-between .ensures) ∙ i .if1 .taken) ∙ ap (λ (t : Bool). t && between 1 nodesPerPass (a .node)) (sym (c .before .in-between2 .ensures) ∙ c .if2 .left))
 
 returns-3 : tie.Need-returns-3
 returns-3 c =
     let j = c .before in
     let i = j .before .before in
     let a = i .before .before .args in
-    c .in-between3 .ensures ∙ sym (ap (λ (t : Bool). t && between 1 3 (a .pass) && between 1 6 (a .node)) (sym (i .before .in-between .ensures) ∙ i .if1 .taken) ∙ ap (λ (t : Bool). t && between 1 6 (a .node)) (sym (j .before .in-between2 .ensures) ∙ j .if2 .taken))
+    c .in-between3 .ensures ∙ sym (ap (λ (t : Bool). t && between 1 passesPerLevel (a .pass) && between 1 nodesPerPass (a .node)) (sym (i .before .in-between .ensures) ∙ i .if1 .taken) ∙ ap (λ (t : Bool). t && between 1 nodesPerPass (a .node)) (sym (j .before .in-between2 .ensures) ∙ j .if2 .taken))
 
 pub has-node-spec : {M : Type 1} → statement M
 has-node-spec =

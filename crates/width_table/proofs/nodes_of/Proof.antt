@@ -3,12 +3,14 @@ use mathlib.Core.Path.{_≡_, refl, ap, _∙_}
 use mathlib.Core.List.{_++_}
 use native.Mathlib.Omega.{arith}
 use lib.ListN.{take, replicate, getD, set}
+use Rattle.width_table.specs.Table.{maxLevels}
+use Rattle.width_table.specs.Fields.{nodeBytes}
 use Rattle.numbers.specs.Lists.{fill-next}
 use Rattle.width_table.proofs.nodes_of.Statement.{statement}
 use Rattle.width_table.proofs.nodes_of.Tie as tie
 
 abbrev Inv-loop : tie.InvT-loop
-Inv-loop bytes n nodes₀ i₀ nodes i = (i ≤ n) × (nodes ≡ take i bytes ++ replicate (180 - i) 0)
+Inv-loop bytes n nodes₀ i₀ nodes i = (i ≤ n) × (nodes ≡ take i bytes ++ replicate (nodeBytes maxLevels - i) 0)
 
 abbrev μ-loop : tie.MeasureT-loop
 μ-loop bytes n nodes₀ i₀ nodes i = n - i
@@ -22,14 +24,14 @@ loop-again c =
     let s = l .before .args in
     let b = s .bytes .now in
     let i = l .loop .i in
-    (omega arith, ap (λ (t : _). set t i (getD b i 0)) (l .loop .inv .1) ∙ fill-next b 0 i 180 (omega arith) (omega arith))
+    (omega arith, ap (λ (t : _). set t i (getD b i 0)) (l .loop .inv .1) ∙ fill-next b 0 i (nodeBytes maxLevels) (omega arith) (omega arith))
 
 returns : tie.Need-returns Inv-loop μ-loop
 returns c =
     let l = c .before in
     let s = l .before .args in
     let e : l .loop .i ≡ s .n = omega arith in
-    l .loop .inv .1 ∙ ap (λ (k : ℕ). take k (s .bytes .now) ++ replicate (180 - k) 0) e
+    l .loop .inv .1 ∙ ap (λ (k : ℕ). take k (s .bytes .now) ++ replicate (nodeBytes maxLevels - k) 0) e
 
 pub nodes-of-spec : {M : Type 1} → statement M
 nodes-of-spec =

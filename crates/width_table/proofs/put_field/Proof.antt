@@ -2,7 +2,8 @@ use Prim.Native.Nat.{_+_, _-_, _≤_}
 use mathlib.Core.Path.{_≡_}
 use native.Mathlib.Omega.{arith}
 use lib.ListN.{length}
-use Rattle.width_table.specs.Fields.{tableSize, valueStart}
+use Rattle.width_table.specs.Table.{maxLevels}
+use Rattle.width_table.specs.Fields.{headBytes, tableSize, valueStart}
 use Rattle.width_table.specs.ReadLaws.{start-after, value-ends}
 use Rattle.width_table.specs.WriteLaws.{field-put}
 use borrow.Author.Needs.{needs}
@@ -10,10 +11,10 @@ use Rattle.width_table.proofs.put_field.Statement.{statement}
 use Rattle.width_table.proofs.put_field.Tie as tie
 
 -- the field lies within the table
-within : (s : tie.Start) → (valueStart (s .args .levels) (s .args .tag) - 3 + 3 ≡ valueStart (s .args .levels) (s .args .tag)) × (valueStart (s .args .levels) (s .args .tag) + length (s .args .value .now) ≤ tableSize (s .args .levels)) × (s .args .levels ≤ 5)
+within : (s : tie.Start) → (valueStart (s .args .levels) (s .args .tag) - headBytes + headBytes ≡ valueStart (s .args .levels) (s .args .tag)) × (valueStart (s .args .levels) (s .args .tag) + length (s .args .value .now) ≤ tableSize (s .args .levels)) × (s .args .levels ≤ maxLevels)
 within s =
     let a = s .args in
-    (start-after (a .levels) (a .tag) (s .pre .0) (s .pre .1), omega (arith, s .pre .3, value-ends (a .levels) (a .tag) (s .pre .0) (s .pre .1)), s .pre .2)
+    (start-after (a .levels) (a .tag) (s .pre .0), omega (arith, s .pre .2, value-ends (a .levels) (a .tag) (s .pre .0)), s .pre .1)
 
 returns : tie.Need-returns
 returns c =
@@ -22,7 +23,7 @@ returns c =
     let v = p .before .before .before in
     let s = v .before .before .before in
     let a = s .args in
-    field-put (a .levels) (a .tag) (s .pre .0) (s .pre .1) (v .value-start .result) (v .value-start .ensures) (a .value .now) (a .lent .now) _ _ (s .pre .3) (omega (arith, within s, v .value-start .ensures, s .pre .4)) (p .put .ensures) (q .put2 .ensures)
+    field-put (a .levels) (a .tag) (s .pre .0) (v .value-start .result) (v .value-start .ensures) (a .value .now) (a .lent .now) _ _ (s .pre .2) (omega (arith, within s, v .value-start .ensures, s .pre .3)) (p .put .ensures) (q .put2 .ensures)
 
 pub put-field-spec : {M : Type 1} → statement M
 put-field-spec =
@@ -33,7 +34,7 @@ put-field-spec =
     (λ c. omega (arith, within (c .before .before .before)))
     (λ c. let v = c .before in omega (arith, v .value-start .ensures, within (v .before .before .before)))
     (λ c. search needs)
-    (λ c κs. let v = c .before .before in let s = v .before .before .before in omega (arith, v .value-start .ensures, within s, s .pre .4))
-    (λ c κs. let v = c .before .before .before .before .before .before in let s = v .before .before .before in omega (arith, v .value-start .ensures, within s, s .pre .4))
+    (λ c κs. let v = c .before .before in let s = v .before .before .before in omega (arith, v .value-start .ensures, within s, s .pre .3))
+    (λ c κs. let v = c .before .before .before .before .before .before in let s = v .before .before .before in omega (arith, v .value-start .ensures, within s, s .pre .3))
     (λ c. search needs)
     returns)

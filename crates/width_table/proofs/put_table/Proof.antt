@@ -22,7 +22,7 @@ taken : (s : tie.Start) → nodeBytes (s .args .table .levels) ≤ length (s .ar
 taken s = omega (arith, s .pre .0, sized s .nodes)
 
 put-field-requires-4 : tie.Need-put-field-requires-4
-put-field-requires-4 c κs = let s = c .before .before .before .before .before .before .before .before .before .before .before .before .before .before .before .before .before .before .before .before in (omega arith, omega arith, s .pre .0, length-take-le _ _ (taken s), omega (arith, s .pre .1))
+put-field-requires-4 c κs = let s = c .before .before .before .before .before .before .before .before .before .before .before .before .before .before .before .before .before .before .before .before in ((omega arith, omega arith), s .pre .0, length-take-le _ _ (taken s), omega (arith, s .pre .1))
 
 returns : tie.Need-returns
 returns c =
@@ -38,11 +38,11 @@ put-table-spec =
     tie.close
     (tie.spec
     (λ c. search needs)
-    (λ c κs. let s = c .before .before .before in (omega arith, omega arith, s .pre .0, refl, s .pre .1))
+    (λ c κs. let s = c .before .before .before in ((omega arith, omega arith), s .pre .0, refl, s .pre .1))
     (λ c. search needs)
-    (λ c κs. let s = c .before .before .before .before .before .before .before .before in (omega arith, omega arith, s .pre .0, refl, omega (arith, s .pre .1)))
+    (λ c κs. let s = c .before .before .before .before .before .before .before .before in ((omega arith, omega arith), s .pre .0, refl, omega (arith, s .pre .1)))
     (λ c. search needs)
-    (λ c κs. let s = c .before .before .before .before .before .before .before .before .before .before .before .before .before .before in (omega arith, omega arith, s .pre .0, sized s .constants, omega (arith, s .pre .1)))
+    (λ c κs. let s = c .before .before .before .before .before .before .before .before .before .before .before .before .before .before in ((omega arith, omega arith), s .pre .0, sized s .constants, omega (arith, s .pre .1)))
     (λ c. search needs)
     (λ c. search needs)
     (λ c. taken (c .before .before .before .before .before .before .before .before .before .before .before .before .before .before .before .before .before .before .before))

@@ -1,11 +1,13 @@
-use Prim.Native.Nat.{ℕ, _+_, _*_, _-_, _≤_}
+use Prim.Native.Nat.{ℕ, _+_, _-_, _≤_}
 use mathlib.Core.Path.{_≡_, _∙_, ap}
 use mathlib.Core.List.{List, _++_}
 use native.Mathlib.Omega.{arith}
 use lib.ListN.{length, getD, take, drop, replicate}
 use Rattle.numbers.specs.Lists.{rest-whole, rest-length}
 use Rattle.width_table.specs.declared.WidthTable.{WidthTable}
-use Rattle.width_table.specs.Fields.{nodeBytes, tableSize}
+use Rattle.width_table.specs.Nodes.{nodesPerPass}
+use Rattle.width_table.specs.Table.{maxLevels}
+use Rattle.width_table.specs.Fields.{nodesTag, nodeBytes, tableSize, valueStart}
 use Rattle.width_table.specs.Bytes.{depthIn, levelsIn, tableIn}
 use Rattle.width_table.specs.BytesLaws.{form-long, levels-most}
 use borrow.Author.Needs.{needs}
@@ -13,7 +15,7 @@ use Rattle.width_table.proofs.table_of.Statement.{statement}
 use Rattle.width_table.proofs.table_of.Tie as tie
 
 -- how long the bytes are, and how many levels they hold
-long : (s : tie.Start) → (length (s .args .bytes .now) ≡ tableSize (levelsIn (s .args .bytes .now))) × (levelsIn (s .args .bytes .now) ≤ 5)
+long : (s : tie.Start) → (length (s .args .bytes .now) ≡ tableSize (levelsIn (s .args .bytes .now))) × (levelsIn (s .args .bytes .now) ≤ maxLevels)
 long s = (form-long (s .args .bytes .now) (s .pre), levels-most (s .args .bytes .now) (s .pre))
 
 six-of-requires : tie.Need-six-of-requires
@@ -23,7 +25,7 @@ six-of-requires c κs =
     omega (arith, long s, v .value-start2 .ensures, rest-length (v .value-start2 .result) (s .args .bytes .now))
 
 -- where the nodes start
-nodes-start : (v : tie.After-value-start3) → (v .value-start3 .result ≡ 20) × (length (v .before .before .before .before .before .before .before .before .args .bytes .now) ≡ 20 + 36 * v .before .before .before .before .before .before .levels-in .result) × (v .before .before .before .before .before .before .levels-in .result ≤ 5)
+nodes-start : (v : tie.After-value-start3) → let n = v .before .before .before .before .before .before .levels-in .result in (v .value-start3 .result ≡ valueStart n nodesTag) × (length (v .before .before .before .before .before .before .before .before .args .bytes .now) ≡ tableSize n) × (n ≤ maxLevels)
 nodes-start v =
     let l = v .before .before .before .before .before .before in
     let s = l .before .before in
@@ -49,11 +51,11 @@ returns c =
     let b = l .before .before .args .bytes .now in
     let depth : getD b (v1 .value-start .result) 0 ≡ depthIn b = ap (λ (k : ℕ). getD b k 0) (v1 .value-start .ensures) in
     let levels : l .levels-in .result ≡ levelsIn b = l .levels-in .ensures in
-    let constants = x .six-of .ensures ∙ ap (take 6) (rest-whole (v2 .value-start2 .result) b) ∙ ap (λ (k : ℕ). take 6 (drop k b)) (v2 .value-start2 .ensures) in
+    let constants = x .six-of .ensures ∙ ap (take nodesPerPass) (rest-whole (v2 .value-start2 .result) b) ∙ ap (λ (k : ℕ). take nodesPerPass (drop k b)) (v2 .value-start2 .ensures) in
     let many = m .value-length .ensures ∙ ap nodeBytes levels in
     let nodes = n .nodes-of .ensures
-    ∙ ap (λ (r : List ℕ). take (m .value-length .result) r ++ replicate (180 - m .value-length .result) 0) (rest-whole (v3 .value-start3 .result) b)
-    ∙ (λ u. take (many u) (drop (v3 .value-start3 .ensures u) b) ++ replicate (180 - many u) 0) in
+    ∙ ap (λ (r : List ℕ). take (m .value-length .result) r ++ replicate (nodeBytes maxLevels - m .value-length .result) 0) (rest-whole (v3 .value-start3 .result) b)
+    ∙ (λ u. take (many u) (drop (v3 .value-start3 .ensures u) b) ++ replicate (nodeBytes maxLevels - many u) 0) in
     c .new .ensures ∙ (λ u. made (depth u) (levels u) (constants u) (nodes u))
   where
     made : ℕ → ℕ → List ℕ → List ℕ → WidthTable

@@ -1,13 +1,13 @@
 use mathlib.Core.Path.{_≡_, sym, ap}
 use native.Mathlib.Omega.{arith}
-use Rattle.width_table.specs.Fields.{valueLength}
+use Rattle.width_table.specs.Fields.{nodesTag, valueLength}
 use Rattle.width_table.specs.ReadLaws.{short-length}
 use borrow.Author.Needs.{needs}
 use Rattle.width_table.proofs.value_length.Statement.{statement}
 use Rattle.width_table.proofs.value_length.Tie as tie
 
 returns : tie.Need-returns
-returns c = sym (short-length (c .before .args .levels) (c .before .args .tag) (omega arith) (omega arith))
+returns c = sym (short-length (c .before .args .levels) (c .before .args .tag) (c .before .pre) (omega arith))
 
 returns-2 : tie.Need-returns-2
 returns-2 c = sym (ap (valueLength (c .before .before .args .levels)) (c .if2 .taken))
@@ -15,8 +15,8 @@ returns-2 c = sym (ap (valueLength (c .before .before .args .levels)) (c .if2 .t
 returns-3 : tie.Need-returns-3
 returns-3 c =
     let a = c .before .before .args in
-    let e : a .tag ≡ 4 = omega arith in
+    let e : a .tag ≡ nodesTag = omega arith in
     sym (ap (valueLength (a .levels)) e)
 
 pub value-length-spec : {M : Type 1} → statement M
-value-length-spec = tie.close (tie.spec returns (λ c. search needs) returns-2 (λ c. search needs) returns-3)
+value-length-spec = tie.close (tie.spec returns returns-2 (λ c. search needs) returns-3)

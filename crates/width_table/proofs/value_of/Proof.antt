@@ -2,6 +2,7 @@ use Prim.Native.Nat.{ℕ, _+_, _-_}
 use mathlib.Core.Path.{_≡_, sym, _∙_, ap}
 use native.Mathlib.Omega.{arith}
 use lib.ListN.{take, drop}
+use Rattle.width_table.specs.Told.{toldNamed}
 use Rattle.width_table.specs.NameLaws.{Valued, valued, no-value}
 use borrow.Author.Needs.{needs}
 use Rattle.width_table.proofs.value_of.Statement.{statement}
@@ -12,14 +13,14 @@ part : (w : tie.After-start) → Valued (w .before .before .before .before .args
 part w =
     let f = w .before .before in
     let a = f .before .before .args in
-    valued (a .bytes .now) (a .tag) (w .start .given .0 .0) (w .start .given .0 .1 .0) (sym (f .value-place .ensures) ∙ w .start .given .1)
+    valued (a .bytes .now) (a .tag) (w .start .given .0 .0) (w .start .given .0 .1 .0) (sym (f .value-place .ensures) ∙ ap toldNamed (w .start .given .1))
 
 returns : tie.Need-returns
 returns c =
     let d = c .before in
     let f = d .before .before in
     let a = f .before .before .args in
-    sym (no-value (a .bytes .now) (a .tag) _ (sym (f .value-place .ensures) ∙ d .enum-told .given .1))
+    sym (no-value (a .bytes .now) (a .tag) _ (sym (f .value-place .ensures) ∙ ap toldNamed (d .enum-told .given .1)))
 
 returns-2 : tie.Need-returns-2
 returns-2 c =

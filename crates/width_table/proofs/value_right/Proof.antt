@@ -1,7 +1,7 @@
 use Prim.Native.Nat.{ℕ}
 use mathlib.Core.Path.{_≡_, sym, _∙_, ap}
 use native.Mathlib.Omega.{arith}
-use Rattle.width_table.specs.Fields.{fields, fieldOf}
+use Rattle.width_table.specs.Fields.{depthTag, levelsTag, constantsTag, nodesTag, fields, fieldOf}
 use borrow.Author.Needs.{needs}
 use Rattle.width_table.proofs.value_right.Statement.{statement}
 use Rattle.width_table.proofs.value_right.Tie as tie
@@ -13,17 +13,17 @@ rule s k e = ap (λ (n : ℕ). fieldOf (fields 0) n .right (s .args .value .now)
 returns-4 : tie.Need-returns-4
 returns-4 c =
     let s = c .before .before .before .before .before in
-    c .widths-right .ensures ∙ rule s 4 (omega arith)
+    c .widths-right .ensures ∙ rule s nodesTag (omega arith)
 
 pub value-right-spec : {M : Type 1} → statement M
 value-right-spec =
     tie.close
     (tie.spec
     (λ c κs. search needs)
-    (λ c. c .all-between .ensures ∙ rule (c .before .before .before) 1 (c .before .if1 .taken))
+    (λ c. c .all-between .ensures ∙ rule (c .before .before .before) depthTag (c .before .if1 .taken))
     (λ c κs. search needs)
-    (λ c. c .all-between2 .ensures ∙ rule (c .before .before .before .before) 2 (c .before .if2 .taken))
+    (λ c. c .all-between2 .ensures ∙ rule (c .before .before .before .before) levelsTag (c .before .if2 .taken))
     (λ c κs. search needs)
-    (λ c. c .all-between3 .ensures ∙ rule (c .before .before .before .before .before) 3 (c .before .if3 .taken))
+    (λ c. c .all-between3 .ensures ∙ rule (c .before .before .before .before .before) constantsTag (c .before .if3 .taken))
     (λ c κs. search needs)
     returns-4)

@@ -1,6 +1,7 @@
 use mathlib.Core.Path.{sym, _∙_, ap}
 use mathlib.Core.Bool.{Bool, _&&_}
 use Rattle.numbers.specs.Tests.{between}
+use Rattle.width_table.specs.Table.{maxFractionBits}
 use borrow.Author.Needs.{needs}
 use Rattle.width_table.proofs.width_right.Statement.{statement}
 use Rattle.width_table.proofs.width_right.Tie as tie
@@ -8,13 +9,13 @@ use Rattle.width_table.proofs.width_right.Tie as tie
 returns : tie.Need-returns
 returns c =
     let a = c .before .before .args in
-    sym (ap (λ (t : Bool). t && between 0 20 (a .fraction)) (sym (c .before .in-between .ensures) ∙ c .if1 .left))
+    sym (ap (λ (t : Bool). t && between 0 maxFractionBits (a .fraction)) (sym (c .before .in-between .ensures) ∙ c .if1 .left))
 
 returns-2 : tie.Need-returns-2
 returns-2 c =
     let i = c .before in
     let a = i .before .before .args in
-    c .in-between2 .ensures ∙ sym (ap (λ (t : Bool). t && between 0 20 (a .fraction)) (sym (i .before .in-between .ensures) ∙ i .if1 .taken))
+    c .in-between2 .ensures ∙ sym (ap (λ (t : Bool). t && between 0 maxFractionBits (a .fraction)) (sym (i .before .in-between .ensures) ∙ i .if1 .taken))
 
 pub width-right-spec : {M : Type 1} → statement M
 width-right-spec = tie.close (tie.spec (λ c κs. search needs) returns (λ c κs. search needs) returns-2)

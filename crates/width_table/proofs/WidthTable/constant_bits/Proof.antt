@@ -4,6 +4,7 @@ use mathlib.Core.Bool.{Bool}
 use native.Mathlib.Omega.{arith}
 use lib.ListN.{getD}
 use Rattle.numbers.specs.Tests.{in-limits}
+use Rattle.width_table.specs.Nodes.{nodesPerPass}
 use Rattle.width_table.specs.Readers.{orZero, constantBitsAt}
 use borrow.Author.Needs.{needs}
 use Rattle.width_table.proofs.WidthTable.constant_bits.Statement.{statement}
@@ -16,10 +17,10 @@ returns c =
     sym (ap (λ (x : Bool). orZero x (getD (a .t1 .constants) (a .node - 1) 0)) (sym (c .before .in-between .ensures) ∙ c .if1 .left))
 
 sub-result : tie.Need-sub-result
-sub-result c = omega (arith, in-limits 1 6 (c .before .before .args .node) (sym (c .before .in-between .ensures) ∙ c .if1 .taken))
+sub-result c = omega (arith, in-limits 1 nodesPerPass (c .before .before .args .node) (sym (c .before .in-between .ensures) ∙ c .if1 .taken))
 
 element-copy-out-result : tie.Need-element-copy-out-result
-element-copy-out-result c = omega (arith, in-limits 1 6 (c .before .before .args .node) (sym (c .before .in-between .ensures) ∙ c .if1 .taken))
+element-copy-out-result c = omega (arith, in-limits 1 nodesPerPass (c .before .before .args .node) (sym (c .before .in-between .ensures) ∙ c .if1 .taken))
 
 returns-2 : tie.Need-returns-2
 unfolding constantBitsAt

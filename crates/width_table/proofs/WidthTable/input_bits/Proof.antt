@@ -2,6 +2,9 @@ use Prim.Native.Nat.{ℕ, _≤_}
 use mathlib.Core.Path.{_≡_, sym, _∙_}
 use native.Mathlib.Omega.{arith}
 use Rattle.numbers.specs.Tests.{between, in-limits, left-false, right-false}
+use Rattle.width_table.specs.Nodes.{passesPerLevel}
+use Rattle.width_table.specs.Numbered.{IsPass}
+use Rattle.width_table.specs.Table.{maxLevels}
 use Rattle.width_table.specs.Readers.{input-none, input-low, input-high, input-first, input-later}
 use borrow.Author.Needs.{needs}
 use Rattle.width_table.proofs.WidthTable.input_bits.Statement.{statement}
@@ -10,24 +13,24 @@ use Rattle.width_table.proofs.WidthTable.input_bits.Tie as tie
 returns : tie.Need-returns
 returns c =
     let a = c .before .before .args in
-    sym (input-none (a .self) (a .level) (a .pass) (left-false (between 1 5 (a .level)) (between 1 3 (a .pass)) (sym (c .before .in-between .ensures) ∙ c .if1 .left)))
+    sym (input-none (a .self) (a .level) (a .pass) (left-false (between 1 maxLevels (a .level)) (between 1 passesPerLevel (a .pass)) (sym (c .before .in-between .ensures) ∙ c .if1 .left)))
 
 returns-2 : tie.Need-returns-2
 returns-2 c =
     let a = c .before .before .before .before .args in
-    sym (input-none (a .self) (a .level) (a .pass) (right-false (between 1 5 (a .level)) (between 1 3 (a .pass)) (sym (c .before .in-between2 .ensures) ∙ c .if2 .left)))
+    sym (input-none (a .self) (a .level) (a .pass) (right-false (between 1 maxLevels (a .level)) (between 1 passesPerLevel (a .pass)) (sym (c .before .in-between2 .ensures) ∙ c .if2 .left)))
 
 -- a level and a pass that there are
-level : (c : tie.Then1) → (1 ≤ c .before .before .args .level) × (c .before .before .args .level ≤ 5)
-level c = in-limits 1 5 (c .before .before .args .level) (sym (c .before .in-between .ensures) ∙ c .if1 .taken)
+level : (c : tie.Then1) → (1 ≤ c .before .before .args .level) × (c .before .before .args .level ≤ maxLevels)
+level c = in-limits 1 maxLevels (c .before .before .args .level) (sym (c .before .in-between .ensures) ∙ c .if1 .taken)
 
-rows : (k : ℕ) → (1 ≤ k) × (k ≤ 3) → (k ≡ 2 → ⊥) → (k ≡ 3 → ⊥) → k ≡ 1
+rows : (k : ℕ) → IsPass k → (k ≡ 2 → ⊥) → (k ≡ 3 → ⊥) → k ≡ 1
 rows k h x y = omega arith
 
 first : (c : tie.Else4) → c .before .before .before .before .before .before .args .pass ≡ 1
 first c =
     let i = c .before .before in
-    rows _ (in-limits 1 3 (i .before .before .before .before .args .pass) (sym (i .before .in-between2 .ensures) ∙ i .if2 .taken)) (c .before .if3 .left) (c .if4 .left)
+    rows _ (in-limits 1 passesPerLevel (i .before .before .before .before .args .pass) (sym (i .before .in-between2 .ensures) ∙ i .if2 .taken)) (c .before .if3 .left) (c .if4 .left)
 
 returns-3 : tie.Need-returns-3
 returns-3 c =

@@ -3,7 +3,7 @@ use mathlib.Core.Path.{sym, _∙_, ap}
 use mathlib.Core.Bool.{Bool}
 use native.Mathlib.Omega.{arith}
 use lib.ListN.{getD}
-use Rattle.width_table.specs.Table.{nodePlace}
+use Rattle.width_table.specs.Table.{maxLevels, nodePlace}
 use Rattle.width_table.specs.FormLaws.{node-in}
 use Rattle.width_table.specs.Readers.{orZero, integerBitsAt}
 use borrow.Author.Needs.{needs}
@@ -19,7 +19,7 @@ returns c =
 node-place-requires : tie.Need-node-place-requires
 node-place-requires c κs =
     let a = c .before .before .args in
-    let n = node-in 5 (a .level) (a .pass) (a .node) (sym (c .before .has-node .ensures) ∙ c .if1 .taken) in
+    let n = node-in maxLevels (a .level) (a .pass) (a .node) (sym (c .before .has-node .ensures) ∙ c .if1 .taken) in
     omega (arith, n .0 .0, n .0 .1, n .1 .0, n .1 .1, n .2 .0, n .2 .1)
 
 returns-2 : tie.Need-returns-2
@@ -27,7 +27,7 @@ unfolding integerBitsAt
 returns-2 c =
     let i = c .before .before in
     let a = i .before .before .args in
-    ap (λ (n : ℕ). getD (a .t1 .nodes) (n) 0) (c .before .node-place .ensures .0)
+    ap (λ (n : ℕ). getD (a .t1 .nodes) n 0) (c .before .node-place .ensures .0)
     ∙ sym (ap (λ (x : Bool). orZero x (getD (a .t1 .nodes) (nodePlace (a .level) (a .pass) (a .node)) 0)) (sym (i .before .has-node .ensures) ∙ i .if1 .taken))
 
 pub integer-bits-spec : {M : Type 1} → statement M

@@ -1,35 +1,28 @@
 use mathlib.Core.Path.{sym, ap, _∙_}
-use Rattle.width_table.specs.declared.WidthTable.{WidthTable}
-use Rattle.width_table.specs.declared.TableAnswer.{TableAnswer}
-use Rattle.refusals.specs.declared.Outcome.{Outcome}
-use Rattle.refusals.specs.declared.Outcome.the-variants.{Done, Refused}
-use Rattle.width_table.specs.ReadLaws.{reading-done, reading-refused}
+use Rattle.refusals.specs.Told.{told}
+use Rattle.width_table.specs.ReadLaws.{table-read, no-table}
 use borrow.Author.Needs.{needs}
 use Rattle.width_table.proofs.WidthTable.read.Statement.{statement}
 use Rattle.width_table.proofs.WidthTable.read.Tie as tie
 
 table-of-requires : tie.Need-table-of-requires
-table-of-requires c κs = sym (c .before .before .form-of .ensures) ∙ c .enum-told .given .1
+table-of-requires c κs = sym (c .before .before .form-of .ensures) ∙ ap told (c .enum-told .given .1)
 
 returns : tie.Need-returns
 returns c =
     let w = c .before .before in
     let h = w .before .before in
     let b = h .before .before .args .bytes .now in
-    ap (λ (t : WidthTable). made (Refused (w .why .given .0 .0)) t) (c .empty .ensures) ∙ sym (reading-refused b (w .why .given .0 .0) (sym (h .form-of .ensures) ∙ w .why .given .1))
-  where
-    made : Outcome → WidthTable → TableAnswer
-    made o t = record { outcome = o; table = t }
+    let e = sym (h .form-of .ensures) ∙ ap told (w .why .given .1) in
+    (sym e, c .empty .ensures ∙ sym (no-table b _ e))
 
 returns-2 : tie.Need-returns-2
 returns-2 c =
     let d = c .before in
     let h = d .before .before in
     let b = h .before .before .args .bytes .now in
-    ap (λ (t : WidthTable). made Done t) (c .table-of .ensures) ∙ sym (reading-done b (sym (h .form-of .ensures) ∙ d .enum-told .given .1))
-  where
-    made : Outcome → WidthTable → TableAnswer
-    made o t = record { outcome = o; table = t }
+    let e = sym (h .form-of .ensures) ∙ ap told (d .enum-told .given .1) in
+    (sym e, c .table-of .ensures ∙ sym (table-read b e))
 
 pub read-spec : {M : Type 1} → statement M
 read-spec =

@@ -4,8 +4,6 @@ use mathlib.Core.List.{List}
 use native.Mathlib.Omega.{arith}
 use lib.ListN.{set}
 use Rattle.width_table.specs.declared.WidthTable.{WidthTable}
-use Rattle.width_table.specs.declared.TableAnswer.{TableAnswer}
-use Rattle.refusals.specs.declared.Outcome.the-variants.{Done}
 use Rattle.width_table.specs.FormLaws.{not-formed, no-node, no-width, width-changes, node-in, few-levels}
 use borrow.Author.Needs.{needs}
 use Rattle.width_table.proofs.WidthTable.with_width.Statement.{statement}
@@ -14,17 +12,17 @@ use Rattle.width_table.proofs.WidthTable.with_width.Tie as tie
 returns : tie.Need-returns
 returns c =
     let a = c .before .before .args in
-    sym (not-formed (a .t1) (a .level) (a .pass) (a .node) (a .integer) (a .fraction) (sym (c .before .form-right .ensures) ∙ c .if1 .left))
+    not-formed (a .t1) (a .level) (a .pass) (a .node) (a .integer) (a .fraction) (sym (c .before .form-right .ensures) ∙ c .if1 .left)
 
 returns-2 : tie.Need-returns-2
 returns-2 c =
     let a = c .before .before .before .before .args in
-    sym (no-node (a .t1) (a .level) (a .pass) (a .node) (a .integer) (a .fraction) (sym (c .before .has-node .ensures) ∙ c .if2 .left))
+    no-node (a .t1) (a .level) (a .pass) (a .node) (a .integer) (a .fraction) (sym (c .before .has-node .ensures) ∙ c .if2 .left)
 
 returns-3 : tie.Need-returns-3
 returns-3 c =
     let a = c .before .before .before .before .before .before .args in
-    sym (no-width (a .t1) (a .level) (a .pass) (a .node) (a .integer) (a .fraction) (sym (c .before .width-right .ensures) ∙ c .if3 .left))
+    no-width (a .t1) (a .level) (a .pass) (a .node) (a .integer) (a .fraction) (sym (c .before .width-right .ensures) ∙ c .if3 .left)
 
 node-place-requires : tie.Need-node-place-requires
 node-place-requires c κs =
@@ -41,11 +39,11 @@ returns-4 c =
     let j = k .before .before in
     let i = j .before .before in
     let a = i .before .before .args in
-    ap (λ (n : ℕ). changed (a .t1) (set (set (a .t1 .nodes) n (a .integer)) (n + 1) (a .fraction))) (c .node-place .ensures .0)
-    ∙ sym (width-changes (a .t1) (a .level) (a .pass) (a .node) (a .integer) (a .fraction) (sym (i .before .form-right .ensures) ∙ i .if1 .taken) (sym (j .before .has-node .ensures) ∙ j .if2 .taken) (sym (k .before .width-right .ensures) ∙ k .if3 .taken))
+    let w = width-changes (a .t1) (a .level) (a .pass) (a .node) (a .integer) (a .fraction) (sym (i .before .form-right .ensures) ∙ i .if1 .taken) (sym (j .before .has-node .ensures) ∙ j .if2 .taken) (sym (k .before .width-right .ensures) ∙ k .if3 .taken) in
+    (w .0, ap (λ (n : ℕ). changed (a .t1) (set (set (a .t1 .nodes) n (a .integer)) (n + 1) (a .fraction))) (c .node-place .ensures .0) ∙ w .1)
   where
-    changed : WidthTable → List ℕ → TableAnswer
-    changed t l = record { outcome = Done; table = record { depth = t .depth; levels = t .levels; constants = t .constants; nodes = l } }
+    changed : WidthTable → List ℕ → WidthTable
+    changed t l = record { depth = t .depth; levels = t .levels; constants = t .constants; nodes = l }
 
 pub with-width-spec : {M : Type 1} → statement M
 with-width-spec =

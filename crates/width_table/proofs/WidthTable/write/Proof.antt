@@ -1,6 +1,6 @@
 use mathlib.Core.Path.{sym, _∙_, ap}
 use native.Mathlib.Omega.{arith}
-use Rattle.width_table.specs.declared.Written.the-variants.{Bytes}
+use Rattle.refusals.specs.Answers.{done}
 use Rattle.width_table.specs.FormLaws.{few-levels}
 use Rattle.width_table.specs.WriteLaws.{not-formed, too-short, table-written}
 use borrow.Author.Needs.{needs}
@@ -31,7 +31,7 @@ returns-3 c =
     let i = n .before in
     let a = i .before .before .before .args in
     let w = table-written (a .self) (a .lent .now) (sym (i .before .form-right .ensures) ∙ i .if1 .taken) (omega (arith, n .table-size .ensures)) in
-    (ap Bytes (n .table-size .ensures) ∙ w .0, p .put-table .ensures ∙ w .1)
+    (ap done (n .table-size .ensures) ∙ w .0, p .put-table .ensures ∙ w .1)
 
 pub write-spec : {M : Type 1} → statement M
 write-spec =

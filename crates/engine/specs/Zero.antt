@@ -1,0 +1,83 @@
+-- The answer 0 says that the call was done: every refusal has a number from 1 on.
+use Prim.Native.Nat.{ℕ, _+_, _*_, _-_, _^_, _≤_}
+use mathlib.Core.Bool.{Bool, _&&_, _||_, not}
+use mathlib.Core.List.{List, [], _∷_}
+use mathlib.Core.Path.{_≡_}
+use native.Mathlib.Omega.{arith}
+use lib.Dec.{leb, ltb, eqb}
+use lib.ListN.{length, getD, take, drop}
+use lib.IntN.{ℤ}
+use Rattle.numbers.specs.Tests.{every}
+use Rattle.refusals.specs.Answers.{passed, asks, code}
+use Rattle.refusals.specs.AnswerLaws.{FromOne, done-from-one, asks-from-one, then-from-one, code-zero}
+use Rattle.width_table.specs.declared.WidthTable.{WidthTable}
+use Rattle.width_table.specs.Nodes.{TableNode, bookOrder}
+use Rattle.width_table.specs.Table.{formRight, integerBits, fractionBits}
+use Rattle.width_table.specs.Fields.{Field, headBytes, fields}
+use Rattle.width_table.specs.Bytes.{announced, headed, field, formBy, levelsIn, form, tableIn}
+use Rattle.pictures.specs.Pictures.{sideRight, sided, holds, pixelsRight}
+use Rattle.stages.specs.Rule.{Bound}
+use Rattle.precision.specs.Bounds.{boundOf}
+use Rattle.precision.specs.Verdict.{fits, belowTwoSteps, keptAt, placeNumbers, judgedBy, judged, firstRefusal, verdict}
+use Rattle.irreversible.specs.Calls.{fixedAnswer}
+use Rattle.engine.specs.Answers.{checked, answer97}
+
+-- one rule and nothing after it
+last-from-one : (t : Bool) (n : ℕ) → 1 ≤ n → FromOne (asks {A = Unit} t n passed)
+last-from-one t n h = asks-from-one t (n, []) passed h (done-from-one tt)
+
+headed-from-one : (tag len : ℕ) (bytes : List ℕ) → FromOne (headed tag len bytes)
+unfolding headed
+headed-from-one tag len bytes =
+    asks-from-one (leb headBytes (length bytes)) (1, []) _ (omega arith)
+    (asks-from-one (leb (announced bytes) (length bytes - headBytes)) (1, []) _ (omega arith)
+    (asks-from-one (eqb (getD bytes 0 0) tag) (2, []) _ (omega arith)
+    (last-from-one (eqb (announced bytes) len) 3 (omega arith))))
+
+formed-from-one : (fs : List Field) (bytes : List ℕ) → FromOne (formBy fs bytes)
+unfolding formBy field
+formed-from-one [] bytes = last-from-one (eqb (length bytes) 0) 5 (omega arith)
+formed-from-one (f ∷ fs) bytes =
+    then-from-one (field f bytes) _
+    (then-from-one (headed (f .tag) (f .size) bytes) _ (headed-from-one (f .tag) (f .size) bytes) (last-from-one (f .right (take (f .size) (drop headBytes bytes))) 4 (omega arith)))
+    (formed-from-one fs (drop (headBytes + f .size) bytes))
+
+form-from-one : (bytes : List ℕ) → FromOne (form bytes)
+unfolding form
+form-from-one bytes = formed-from-one (fields (levelsIn bytes)) bytes
+
+judged-from-one : (b : Bound) (IB f : ℕ) (kept : Bool) (place : List ℕ) → FromOne (judgedBy b IB f kept place)
+judged-from-one b IB f kept place = asks-from-one (fits b IB f) (6, place) _ (omega arith) (asks-from-one (not kept || belowTwoSteps b f) (7, place) passed (omega arith) (done-from-one tt))
+
+first-from-one : (t : WidthTable) (ps : List TableNode) → FromOne (firstRefusal t ps)
+unfolding firstRefusal judged
+first-from-one t [] = done-from-one tt
+first-from-one t (p ∷ ps) = then-from-one (judged t p) (firstRefusal t ps) (judged-from-one (boundOf t p) (integerBits t (p .level) (p .pass) (p .node)) (fractionBits t (p .level) (p .pass) (p .node)) (keptAt (t .levels) (p .level) (p .pass) (p .node)) (placeNumbers p)) (first-from-one t ps)
+
+verdict-from-one : (t : WidthTable) → FromOne (verdict t)
+unfolding verdict
+verdict-from-one t = asks-from-one (formRight t) (4, []) _ (omega arith) (first-from-one t (bookOrder (t .levels)))
+
+pub checked-zero : (bytes : List ℕ) → code (checked bytes) ≡ 0 → checked bytes ≡ passed
+unfolding checked
+checked-zero bytes = code-zero (checked bytes) (then-from-one (form bytes) (verdict (tableIn bytes)) (form-from-one bytes) (verdict-from-one (tableIn bytes)))
+
+holds-from-one : (n k : ℕ) → FromOne (holds n k)
+unfolding holds
+holds-from-one n k = last-from-one (leb n k) 9 (omega arith)
+
+fixed-from-one : (t : WidthTable) (w h : ℕ) (pixels : List ℕ) (plane work : List ℤ) → FromOne (fixedAnswer t w h pixels plane work)
+unfolding fixedAnswer sided pixelsRight
+fixed-from-one t w h pixels plane work =
+    then-from-one (verdict t) _ (verdict-from-one t)
+    (then-from-one (sided (t .levels) w h) _ (last-from-one (sideRight (t .levels) w && sideRight (t .levels) h) 8 (omega arith))
+    (then-from-one (holds (w * h) (length pixels)) _ (holds-from-one _ _)
+    (then-from-one (holds (w * h) (length plane)) _ (holds-from-one _ _)
+    (then-from-one (holds (w * h) (length work)) _ (holds-from-one _ _)
+    (last-from-one (every (λ p. ltb p (2 ^ t .depth)) (take (w * h) pixels)) 10 (omega arith))))))
+
+pub zero97 : (bytes : List ℕ) (w h : ℕ) (pixels : List ℕ) (plane work : List ℤ) → code (answer97 bytes w h pixels plane work) ≡ 0 → answer97 bytes w h pixels plane work ≡ passed
+unfolding answer97
+zero97 bytes w h pixels plane work =
+    code-zero (answer97 bytes w h pixels plane work)
+    (then-from-one (form bytes) (fixedAnswer (tableIn bytes) w h pixels plane work) (form-from-one bytes) (fixed-from-one (tableIn bytes) w h pixels plane work))

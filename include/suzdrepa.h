@@ -2,8 +2,13 @@
  * suzdrepa.h - fixed-point wavelet engine for roll pictures
  *
  * Link with libengine.a. Every function is total: it takes any pointers to
- * memory of the stated lengths (a length may be 0) and any numbers, needs no
- * setup, keeps no state between calls, and ends.
+ * memory of the stated lengths and any numbers, needs no setup, keeps no state
+ * between calls, and ends.
+ *
+ * POINTERS. Where a length is 0 its pointer is not used and may be NULL; a
+ * pointer without a length must point to what its type says. Every pointer is
+ * aligned as its type asks: one to uint16_t, int32_t, uint32_t or uint64_t
+ * stands where the compiler would put such a number. (NULL is aligned.)
  *
  * Lengths count elements, not bytes: `pixels_len` of a uint16_t array of
  * 640 * 512 pixels is 640 * 512.
@@ -37,6 +42,16 @@
  *    9      a lent slice is too short
  *   10      a pixel is 2^B or more
  *   11      the 5/3 plane is the transform of no picture of that depth and size
+ *
+ * STACK. No call takes memory but on the stack, and no call calls itself. In
+ * the library for x86-64 each stays within so many KiB, beside what memcpy and
+ * memset of the C library take (the project's tests read this off its machine
+ * code):
+ *
+ *   260   suz_inverse53
+ *     4   suz_forward53, suz_forward97, suz_table_check, suz_table_bound
+ *     2   suz_table_change, suz_table_change_constant
+ *     1   suz_table_form, suz_table_value, suz_table_write
  *
  * PICTURES. Depth B is 1 to 12 bits, levels L 1 to 5. A side is at most 4,096
  * and greater than 2 to the power (L - 1). Pixels are 16-bit, row by row,
@@ -101,8 +116,16 @@ extern "C" {
 #define SUZ_MAX_FRACTION_BITS 20
 #define SUZ_MAX_CONSTANT_BITS 24
 
+/* The bytes of a width table before its widths, and the widths of a level. */
+#define SUZ_TABLE_HEAD 20
+#define SUZ_TABLE_LEVEL 36
+
 /* The length in bytes of a width table of so many levels. */
-#define SUZ_TABLE_LENGTH(levels) (20 + 36 * (size_t)(levels))
+#define SUZ_TABLE_LENGTH(levels) (SUZ_TABLE_HEAD + SUZ_TABLE_LEVEL * (size_t)(levels))
+
+/* How many numbers the constants and the widths of a table have, all levels. */
+#define SUZ_TABLE_CONSTANTS 6
+#define SUZ_TABLE_WIDTHS (SUZ_TABLE_LEVEL * SUZ_MAX_LEVELS)
 
 /* A short text for the number of an answer. */
 static inline const char *suz_refusal_text(uint32_t answer)
@@ -126,9 +149,9 @@ static inline const char *suz_refusal_text(uint32_t answer)
 
 /*
  * Reads a width table and judges it.
- * 0: under this table no picture of its depth drives any value out of its
- *    width, and every coefficient is less than two of its own steps from the
- *    exact one.
+ * 0: under this table no picture of its depth and of admitted size drives any
+ *    value out of its width, and every coefficient is less than two of its own
+ *    steps from the exact one.
  * Refused 1 to 5, field by field, then 6 and 7 in node order (at one node 6
  * first). Reads the table, writes nothing.
  */
@@ -176,6 +199,30 @@ uint32_t suz_table_change(const uint8_t *table, size_t table_len,
                           uint8_t level, uint8_t pass, uint8_t node,
                           uint8_t integer_bits, uint8_t fraction_bits,
                           uint8_t *out, size_t out_len);
+
+/*
+ * Writes a new table, equal to the old but for the fractional bits F of one
+ * node's constant, to the start of `out`, as suz_table_change does.
+ * Refused 1 to 5 of the old table, 4 where the node is outside 1 to 6 or the
+ * bits are outside their limits, 9 where `out` is shorter than the table;
+ * `out` is untouched.
+ */
+uint32_t suz_table_change_constant(const uint8_t *table, size_t table_len,
+                                   uint8_t node, uint8_t bits,
+                                   uint8_t *out, size_t out_len);
+
+/*
+ * Writes the table of these parts to the start of `out`: depth, levels, the
+ * constants' fractional bits F in the order of tag 3, and the widths in the
+ * order of tag 4, of five levels, with zeros at those that the table lacks.
+ * The table is SUZ_TABLE_LENGTH(levels) bytes long; `out` past it is
+ * untouched. It is not judged.
+ * Refused 4, 9 where `out` is shorter than the table; `out` is untouched.
+ */
+uint32_t suz_table_write(uint8_t depth, uint8_t levels,
+                         const uint8_t constants[SUZ_TABLE_CONSTANTS],
+                         const uint8_t widths[SUZ_TABLE_WIDTHS],
+                         uint8_t *out, size_t out_len);
 
 /*
  * 9/7 forward under a width table; depth and levels are the table's.

@@ -3,19 +3,28 @@
 use crate::container::Plane;
 use crate::pgm::Picture;
 use crate::progress::Progress;
-use crate::{png, sample, show, suggest, Failure};
+use crate::{png, sample, show, suggest, text, Failure};
 use std::ffi::{OsStr, OsString};
 use std::io::Write;
+use std::os::unix::fs::MetadataExt;
 use std::path::Path;
-use suzdrepa::{Node, Pass, Place, Refusal, WidthTable, MAX_SIDE};
+use suzdrepa::{Node, Pass, Place, Refusal, Width, WidthTable, MAX_SIDE};
 
 const HELP: &str = "\
 roll - works scanned pictures of punched rolls
 
-  roll check TABLE                      is this width table accepted?
+  roll check TABLE                      is this width table accepted? The exit
+                                        status tells: 0 yes, 1 no
   roll show TABLE                       its widths, bounds and head-room
   roll suggest DEPTH LEVELS [OUT]       a tight table that is accepted; written
                                         to OUT, or shown
+  roll text TABLE                       the table as lines of text, to edit
+  roll table TEXT OUT                   such a text made into a table
+  roll change TABLE LEVEL PASS NODE IB f OUT
+                                        one node with other integer bits IB and
+                                        fractional bits f
+  roll constant TABLE NODE F OUT        the constant of a node with other
+                                        fractional bits F
   roll forward97 TABLE IN.pgm OUT       9/7 coefficients under a width table
   roll copy [--levels N] IN.pgm OUT     exact copy as 5/3 coefficients; without
                                         --levels as many as the sides admit
@@ -27,6 +36,25 @@ roll - works scanned pictures of punched rolls
 TABLE is a width table as bytes: 20 + 36 * levels. Depth is 1 to 12 bits,
 levels 1 to 5; a side is at most 4096 and greater than 2^(levels - 1).
 
+TEXT has the same numbers, in lines of any order; # starts a comment:
+
+  depth 8
+  levels 1
+  constants P1 24 U1 24 P2 24 U2 24 G1 24 G2 24
+                                        F of each node's constant (1 to 24)
+  1 rows P1 12 20                       level, pass, node, IB (1 to 12) and f (0
+                                        to 20); each node of each level has such
+                                        a line
+
+PASS is rows, low-columns (of row-low) or high-columns (of row-high), or 1 to
+3; NODE is P1, U1, P2, U2, G1 or G2, or 1 to 6. Numbers are digits alone.
+
+`table`, `change` and `constant` write their table whether it is accepted or
+not, and tell which; `show` tells it too. All four exit 0 where the table is
+not accepted: what they were asked for is done. Ask `check` before it is used.
+
+No command writes over a file that it reads: OUT is another file.
+
 Pictures are PGM files (P5) with a largest value up to 4095; the depth is the
 bits of the largest value. `restore` writes 2^depth - 1 as largest value.
 
@@ -36,7 +64,8 @@ then the coefficients, 32-bit signed, low byte first, row by row. A 9/7
 coefficient v means v / 2^f with the fractional bits f of its node.
 
 Exit status: 0 done, 1 refused (number and reason are told), 2 a wrong command
-line or a file that cannot be read, written or understood.
+line (a number outside its limits is one) or a file that cannot be read,
+written or understood.
 ";
 
 /// Runs the tool and gives its exit status.
@@ -71,13 +100,33 @@ fn command(arguments: &[OsString], out: &mut dyn Write) -> Result<(), Failure> {
         ("show", [table]) => show_table(table, out),
         ("suggest", [depth, levels]) => suggest_table(depth, levels, None, out),
         ("suggest", [depth, levels, to]) => suggest_table(depth, levels, Some(to), out),
+        ("text", [table]) => show_text(table, out),
+        ("table", [from, to]) => make_table(from, to, out),
+        ("change", [table, level, pass, node, integer_bits, fraction_bits, to]) => {
+            let place = Place {
+                level: word("LEVEL", level, text::level)?,
+                pass: word("PASS", pass, text::pass)?,
+                node: word("NODE", node, text::node)?,
+            };
+            let width = Width {
+                integer_bits: word("IB", integer_bits, text::integer_bits)?,
+                fraction_bits: word("f", fraction_bits, text::fraction_bits)?,
+            };
+            change_width(table, place, width, to, out)
+        }
+        ("constant", [table, node, bits, to]) => {
+            let node = word("NODE", node, text::node)?;
+            let bits = word("F", bits, |word| text::constant_bits(node, word))?;
+            change_constant(table, node, bits, to, out)
+        }
         ("forward97", [table, from, to]) => forward97(table, from, to, out),
         ("copy", [from, to]) => copy(options.levels, from, to, out),
         ("restore", [from, to]) => restore(from, to, out),
         ("picture", [from, to]) => picture(from, to, out),
         ("sample", [folder]) => write_sample(folder, out),
         (
-            "check" | "show" | "suggest" | "forward97" | "copy" | "restore" | "picture" | "sample",
+            "check" | "show" | "suggest" | "text" | "table" | "change" | "constant" | "forward97"
+            | "copy" | "restore" | "picture" | "sample",
             _,
         ) => Err(Failure::Usage(format!(
             "`{name}` takes other arguments than these"
@@ -92,7 +141,8 @@ struct Options {
     levels: Option<u8>,
 }
 
-/// Takes the options out of the arguments; after `--` there are none.
+/// Takes the options out of the arguments; after `--` there are none. What
+/// starts as a number below 0 is no option: it is told where it stands.
 fn sort(arguments: &[OsString]) -> Result<(Options, Vec<&OsStr>), Failure> {
     let mut options = Options::default();
     let mut words = Vec::new();
@@ -107,10 +157,13 @@ fn sort(arguments: &[OsString]) -> Result<(Options, Vec<&OsStr>), Failure> {
             let number = rest
                 .next()
                 .ok_or_else(|| Failure::Usage("--levels needs a number".into()))?;
-            options.levels = Some(small_number("--levels", number)?);
+            options.levels = Some(word("--levels", number, text::levels)?);
         } else if let Some(number) = text.strip_prefix("--levels=") {
-            options.levels = Some(small_number("--levels", OsStr::new(number))?);
-        } else if text.starts_with('-') && text.len() > 1 {
+            options.levels = Some(word("--levels", OsStr::new(number), text::levels)?);
+        } else if text
+            .strip_prefix('-')
+            .is_some_and(|rest| rest.starts_with(|c: char| !c.is_ascii_digit()))
+        {
             return Err(Failure::Usage(format!("there is no option `{text}`")));
         } else {
             words.push(argument.as_os_str());
@@ -119,14 +172,13 @@ fn sort(arguments: &[OsString]) -> Result<(Options, Vec<&OsStr>), Failure> {
     Ok((options, words))
 }
 
-fn small_number(name: &str, text: &OsStr) -> Result<u8, Failure> {
-    let number = text.to_str().and_then(|t| t.parse().ok());
-    number.ok_or_else(|| {
-        Failure::Usage(format!(
-            "{name} is a number from 0 to 255, not `{}`",
-            text.to_string_lossy()
-        ))
-    })
+/// What a word of the command line means: the same as in a text.
+fn word<T>(
+    name: &str,
+    text: &OsStr,
+    meaning: impl Fn(&str) -> Result<T, String>,
+) -> Result<T, Failure> {
+    meaning(&text.to_string_lossy()).map_err(|what| Failure::Usage(format!("{name}: {what}")))
 }
 
 fn tell(out: &mut dyn Write, text: &str) -> Result<(), Failure> {
@@ -144,6 +196,26 @@ fn shown(path: &OsStr) -> String {
 
 fn read(path: &OsStr) -> Result<Vec<u8>, Failure> {
     std::fs::read(path).map_err(|error| Failure::File(format!("{}: {error}", shown(path))))
+}
+
+/// Whether both names lead to one file, by whatever path or link.
+fn same_file(one: &OsStr, other: &OsStr) -> bool {
+    let (Ok(one), Ok(other)) = (std::fs::metadata(one), std::fs::metadata(other)) else {
+        return false;
+    };
+    one.is_file() && other.is_file() && (one.dev(), one.ino()) == (other.dev(), other.ino())
+}
+
+/// Refuses to write over a file that is read.
+fn apart(inputs: &[&OsStr], to: &OsStr) -> Result<(), Failure> {
+    match inputs.iter().find(|from| same_file(from, to)) {
+        None => Ok(()),
+        Some(from) => Err(Failure::Usage(format!(
+            "OUT ({}) is the file that is read ({}): name another",
+            shown(to),
+            shown(from)
+        ))),
+    }
 }
 
 fn write(path: &OsStr, bytes: &[u8]) -> Result<(), Failure> {
@@ -166,9 +238,14 @@ fn check(path: &OsStr, out: &mut dyn Write) -> Result<(), Failure> {
 fn show_table(path: &OsStr, out: &mut dyn Write) -> Result<(), Failure> {
     let table = WidthTable::from_bytes(&read(path)?).map_err(refused(path))?;
     tell(out, &show::text(&table))?;
+    tell(out, &format!("{}\n", verdict(&table)))
+}
+
+/// Whether a table is accepted, where the command is done either way.
+fn verdict(table: &WidthTable) -> String {
     match table.check() {
-        Ok(()) => tell(out, "accepted\n"),
-        Err(refusal) => tell(out, &format!("{refusal}\n")),
+        Ok(()) => "accepted".into(),
+        Err(refusal) => format!("not accepted: {refusal}"),
     }
 }
 
@@ -178,16 +255,8 @@ fn suggest_table(
     to: Option<&OsStr>,
     out: &mut dyn Write,
 ) -> Result<(), Failure> {
-    let depth = small_number("DEPTH", depth)?;
-    let levels = small_number("LEVELS", levels)?;
-    for (name, number, most) in [
-        ("DEPTH", depth, WidthTable::MAX_DEPTH),
-        ("LEVELS", levels, WidthTable::MAX_LEVELS),
-    ] {
-        if !(1..=most).contains(&number) {
-            return Err(Failure::Usage(format!("{name} is 1 to {most}")));
-        }
-    }
+    let depth = word("DEPTH", depth, text::depth)?;
+    let levels = word("LEVELS", levels, text::levels)?;
     let table = suggest::suggest(depth, levels, &Progress::new())
         .map_err(|refusal| Failure::Refused(refusal.to_string()))?;
     match to {
@@ -212,12 +281,80 @@ fn suggest_table(
     }
 }
 
+fn show_text(path: &OsStr, out: &mut dyn Write) -> Result<(), Failure> {
+    let table = WidthTable::from_bytes(&read(path)?).map_err(refused(path))?;
+    tell(out, &text::write(&table))
+}
+
+fn make_table(from: &OsStr, to: &OsStr, out: &mut dyn Write) -> Result<(), Failure> {
+    apart(&[from], to)?;
+    let table = text::read(&read(from)?)
+        .map_err(|fault| Failure::File(format!("{}: {fault}", shown(from))))?;
+    write_table(&table, to, out)
+}
+
+fn change_width(
+    from: &OsStr,
+    place: Place,
+    width: Width,
+    to: &OsStr,
+    out: &mut dyn Write,
+) -> Result<(), Failure> {
+    apart(&[from], to)?;
+    let table = WidthTable::from_bytes(&read(from)?).map_err(refused(from))?;
+    let levels = table.levels();
+    let new = table
+        .with_width(place, width)
+        .map_err(|refusal| match refusal {
+            // The other numbers are within their limits.
+            Refusal::OutsideLimits if place.level > levels => Failure::Refused(format!(
+                "{}: refused {}: the table has {levels} level{}, there is no level {}",
+                shown(from),
+                refusal.number(),
+                if levels == 1 { "" } else { "s" },
+                place.level
+            )),
+            _ => refused(from)(refusal),
+        })?;
+    write_table(&new, to, out)
+}
+
+fn change_constant(
+    from: &OsStr,
+    node: Node,
+    bits: u8,
+    to: &OsStr,
+    out: &mut dyn Write,
+) -> Result<(), Failure> {
+    apart(&[from], to)?;
+    let table = WidthTable::from_bytes(&read(from)?).map_err(refused(from))?;
+    // The bits are within their limits, so nothing is refused.
+    let new = table.with_constant(node, bits).map_err(refused(from))?;
+    write_table(&new, to, out)
+}
+
+/// Writes a table that need not be accepted, and tells whether it is.
+fn write_table(table: &WidthTable, to: &OsStr, out: &mut dyn Write) -> Result<(), Failure> {
+    write(to, table.as_bytes())?;
+    tell(
+        out,
+        &format!(
+            "{}: written, {} bits, {} levels, {}\n",
+            shown(to),
+            table.depth(),
+            table.levels(),
+            verdict(table)
+        ),
+    )
+}
+
 fn forward97(
     table_path: &OsStr,
     from: &OsStr,
     to: &OsStr,
     out: &mut dyn Write,
 ) -> Result<(), Failure> {
+    apart(&[table_path, from], to)?;
     let table = WidthTable::from_bytes(&read(table_path)?).map_err(refused(table_path))?;
     table.check().map_err(refused(table_path))?;
     let picture = Picture::read(&read(from)?).map_err(not_understood(from))?;
@@ -249,9 +386,9 @@ fn forward97(
     )
 }
 
-/// The most levels for which both sides are greater than 2^(levels - 1); 1
-/// where none is.
-fn most_levels(width: usize, height: usize) -> u8 {
+/// The maximum of levels for which both sides are greater than 2^(levels - 1);
+/// 1 where none is.
+fn max_levels(width: usize, height: usize) -> u8 {
     let side = width.min(height);
     (2..=WidthTable::MAX_LEVELS)
         .rev()
@@ -260,9 +397,10 @@ fn most_levels(width: usize, height: usize) -> u8 {
 }
 
 fn copy(levels: Option<u8>, from: &OsStr, to: &OsStr, out: &mut dyn Write) -> Result<(), Failure> {
+    apart(&[from], to)?;
     let picture = Picture::read(&read(from)?).map_err(not_understood(from))?;
     let (width, height) = (picture.width, picture.height);
-    let levels = levels.unwrap_or_else(|| most_levels(width, height));
+    let levels = levels.unwrap_or_else(|| max_levels(width, height));
     let progress = Progress::new();
     progress.tell(&format!("copying {width} x {height}"));
     let values = suzdrepa::forward53_to_vec(picture.depth, levels, &picture.pixels, width, height)
@@ -289,6 +427,7 @@ fn copy(levels: Option<u8>, from: &OsStr, to: &OsStr, out: &mut dyn Write) -> Re
 }
 
 fn restore(from: &OsStr, to: &OsStr, out: &mut dyn Write) -> Result<(), Failure> {
+    apart(&[from], to)?;
     let plane = Plane::read(&read(from)?).map_err(not_understood(from))?;
     if plane.table.is_some() {
         return Err(Failure::File(format!(
@@ -365,6 +504,7 @@ fn greys(plane: &Plane) -> Vec<u8> {
 }
 
 fn picture(from: &OsStr, to: &OsStr, out: &mut dyn Write) -> Result<(), Failure> {
+    apart(&[from], to)?;
     let plane = Plane::read(&read(from)?).map_err(not_understood(from))?;
     let drawn = (1..=WidthTable::MAX_LEVELS).contains(&plane.levels)
         && [plane.width, plane.height]
@@ -407,15 +547,15 @@ mod tests {
     use super::*;
 
     #[test]
-    fn most_levels_of_a_picture() {
-        assert_eq!(most_levels(640, 512), 5);
-        assert_eq!(most_levels(17, 4096), 5);
-        assert_eq!(most_levels(16, 4096), 4);
-        assert_eq!(most_levels(9, 9), 4);
-        assert_eq!(most_levels(8, 9), 3);
-        assert_eq!(most_levels(3, 9), 2);
-        assert_eq!(most_levels(2, 9), 1);
-        assert_eq!(most_levels(0, 0), 1);
+    fn max_levels_of_a_picture() {
+        assert_eq!(max_levels(640, 512), 5);
+        assert_eq!(max_levels(17, 4096), 5);
+        assert_eq!(max_levels(16, 4096), 4);
+        assert_eq!(max_levels(9, 9), 4);
+        assert_eq!(max_levels(8, 9), 3);
+        assert_eq!(max_levels(3, 9), 2);
+        assert_eq!(max_levels(2, 9), 1);
+        assert_eq!(max_levels(0, 0), 1);
     }
 
     #[test]

@@ -11,6 +11,7 @@ pub mod progress;
 pub mod sample;
 pub mod show;
 pub mod suggest;
+pub mod text;
 
 mod command;
 

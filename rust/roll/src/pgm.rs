@@ -3,8 +3,8 @@
 
 use suzdrepa::WidthTable;
 
-/// The largest value of a pixel.
-const LARGEST: u32 = (1 << WidthTable::MAX_DEPTH) - 1;
+/// The maximum of a pixel.
+const MAX_PIXEL: u32 = (1 << WidthTable::MAX_DEPTH) - 1;
 
 /// A grey picture.
 #[derive(Clone, Debug, PartialEq, Eq)]
@@ -68,9 +68,9 @@ impl Picture {
         let width = head.number("width")? as usize;
         let height = head.number("height")? as usize;
         let largest = head.number("largest value")?;
-        if !(1..=LARGEST).contains(&largest) {
+        if !(1..=MAX_PIXEL).contains(&largest) {
             return Err(format!(
-                "the PGM's largest value is {largest}; 1 to {LARGEST} ({} bits) are read",
+                "the PGM's largest value is {largest}; 1 to {MAX_PIXEL} ({} bits) are read",
                 WidthTable::MAX_DEPTH
             ));
         }

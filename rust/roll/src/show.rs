@@ -4,8 +4,8 @@ use suzdrepa::{Bound, Node, Place, Refusal, Width, WidthTable};
 
 /// What a node holds beyond range and error; below zero where it does not fit.
 fn head_room(width: Width, bound: Bound) -> f64 {
-    let most = 2f64.powi(i32::from(width.integer_bits) - 1) - step(width);
-    most - bound.range_as_f64() - bound.error_as_f64()
+    let max = 2f64.powi(i32::from(width.integer_bits) - 1) - step(width);
+    max - bound.range_as_f64() - bound.error_as_f64()
 }
 
 fn step(width: Width) -> f64 {
@@ -45,14 +45,14 @@ pub fn text(table: &WidthTable) -> String {
         text += &format!(" {node} {}", table.constant_bits(node));
     }
     text += "\n\n";
-    text += "level  pass                 node   IB   f       range       error   head-room  error of kept ones in steps\n";
+    text += "level  pass          node   IB   f       range       error   head-room  error of kept ones in steps\n";
     let verdict = table.check();
     for place in table.places() {
         let Some(width) = table.width(place) else {
             continue;
         };
         let line = format!(
-            "{:>5}  {:<19}  {:<4}  {:>3} {:>3}  {}",
+            "{:>5}  {:<12}  {:<4}  {:>3} {:>3}  {}",
             place.level,
             place.pass,
             place.node,

@@ -61,6 +61,10 @@ fn help() {
         "check",
         "show",
         "suggest",
+        "text",
+        "table",
+        "change",
+        "constant",
         "forward97",
         "copy",
         "restore",
@@ -69,6 +73,10 @@ fn help() {
     ] {
         assert!(help.contains(&format!("  roll {command} ")), "{command}");
     }
+    // Node and constant have letters of their own, as in document 01.
+    assert!(help.contains("roll change TABLE LEVEL PASS NODE IB f OUT"));
+    assert!(help.contains("roll constant TABLE NODE F OUT"));
+    assert!(help.lines().all(|line| line.len() <= 80), "{help}");
     assert_eq!(succeeds(&["-h"]), help);
     assert_eq!(succeeds(&["help"]), help);
     assert_eq!(succeeds(&["copy", "--help"]), help);
@@ -92,11 +100,55 @@ fn wrong_command_lines() {
     fails(&["check", "--levels", "2", "a"], 2, "`copy` alone");
     fails(&["check", "--fast", "a"], 2, "no option `--fast`");
     fails(&["suggest", "8"], 2, "other arguments");
-    fails(&["suggest", "13", "1"], 2, "DEPTH is 1 to 12");
-    fails(&["suggest", "8", "6"], 2, "LEVELS is 1 to 5");
-    fails(&["suggest", "-8", "1"], 2, "no option");
+    fails(&["suggest", "13", "1"], 2, "the depth is 1 to 12, not `13`");
+    fails(&["suggest", "8", "6"], 2, "the levels are 1 to 5, not `6`");
+    fails(&["suggest", "-8", "1"], 2, "the depth is 1 to 12, not `-8`");
+    fails(&["suggest", "+8", "1"], 2, "the depth is 1 to 12, not `+8`");
+    fails(&["suggest", "-x", "1"], 2, "no option `-x`");
     fails(&["suggest", "eight", "1"], 2, "not `eight`");
+    fails(&["copy", "--levels", "-1", "a", "b"], 2, "1 to 5, not `-1`");
+    fails(&["copy", "--levels=-1", "a", "b"], 2, "1 to 5, not `-1`");
+    fails(&["copy", "--levels=+1", "a", "b"], 2, "1 to 5, not `+1`");
+    fails(&["copy", "--levels=0", "a", "b"], 2, "1 to 5, not `0`");
+    fails(&["copy", "--levels=6", "a", "b"], 2, "1 to 5, not `6`");
     fails(&["check", "--", "--help"], 2, "--help: ");
+    fails(&["text"], 2, "`text` takes other arguments");
+    fails(&["table", "a"], 2, "`table` takes other arguments");
+    fails(&["constant", "a", "P1", "24"], 2, "other arguments");
+    fails(
+        &["constant", "a", "P3", "24", "b"],
+        2,
+        "NODE: there is no node `P3`",
+    );
+    for bits in ["many", "0", "25", "256", "-1", "+3", ""] {
+        let text = format!("F: the bits of the constant of P1 are 1 to 24, not `{bits}`");
+        fails(&["constant", "a", "P1", bits, "b"], 2, &text);
+    }
+    let change = |words: [&str; 5], text: &str| {
+        let mut arguments = vec!["change", "a"];
+        arguments.extend(words);
+        arguments.push("b");
+        fails(&arguments, 2, text);
+        arguments.pop();
+        fails(&arguments, 2, "`change` takes other arguments");
+    };
+    for level in ["one", "0", "6", "255", "256", "-1", "+1"] {
+        let text = format!("LEVEL: a level is 1 to 5, not `{level}`");
+        change([level, "rows", "P1", "12", "20"], &text);
+    }
+    change(["1", "columns", "P1", "12", "20"], "PASS: there is no pass");
+    change(["1", "-1", "P1", "12", "20"], "PASS: there is no pass `-1`");
+    change(["1", "+1", "P1", "12", "20"], "PASS: there is no pass `+1`");
+    change(["1", "4", "P1", "12", "20"], "PASS: there is no pass `4`");
+    change(["1", "rows", "0", "12", "20"], "NODE: there is no node `0`");
+    for bits in ["x", "0", "13", "256", "-1", "+3"] {
+        let text = format!("IB: integer bits are 1 to 12, not `{bits}`");
+        change(["1", "rows", "P1", bits, "20"], &text);
+    }
+    for bits in ["x", "21", "256", "-1", "-0", "+3"] {
+        let text = format!("f: fractional bits are 0 to 20, not `{bits}`");
+        change(["1", "rows", "P1", "12", bits], &text);
+    }
 }
 
 #[test]
@@ -105,6 +157,14 @@ fn files_that_are_not_there() {
     let missing = folder.path("missing");
     fails(&["check", &missing], 2, "missing: ");
     fails(&["show", &missing], 2, "missing: ");
+    fails(&["text", &missing], 2, "missing: ");
+    fails(&["table", &missing, "x"], 2, "missing: ");
+    fails(&["constant", &missing, "P1", "24", "x"], 2, "missing: ");
+    fails(
+        &["change", &missing, "1", "rows", "P1", "12", "20", "x"],
+        2,
+        "missing: ",
+    );
     fails(&["copy", &missing, "x"], 2, "missing: ");
     fails(&["restore", &missing, "x"], 2, "missing: ");
     fails(&["picture", &missing, "x"], 2, "missing: ");
@@ -136,7 +196,7 @@ fn tables() {
         "refused 6: a node does not fit (level 1, rows, P1)",
     );
     assert!(succeeds(&["show", &narrow])
-        .ends_with("refused 6: a node does not fit (level 1, rows, P1)\n"));
+        .ends_with("\nnot accepted: refused 6: a node does not fit (level 1, rows, P1)\n"));
     let long = folder.file("long.table", &[&table[..], &[0]].concat());
     fails(
         &["check", &long],
@@ -148,6 +208,226 @@ fn tables() {
         let cut = folder.file("cut.table", &table[..length]);
         fails(&["check", &cut], 1, "refused 1: the bytes end");
         fails(&["show", &cut], 1, "refused 1: the bytes end");
+    }
+}
+
+#[test]
+fn a_table_is_edited_as_text() {
+    let folder = Folder::new("edited");
+    let (table, again) = (folder.path("t.table"), folder.path("again.table"));
+    for levels in ["1", "2", "5"] {
+        succeeds(&["suggest", "8", levels, &table]);
+        let text = succeeds(&["text", &table]);
+        let written = folder.file("t.txt", text.as_bytes());
+        let told = succeeds(&["table", &written, &again]);
+        assert_eq!(
+            told,
+            format!("{again}: written, 8 bits, {levels} levels, accepted\n")
+        );
+        assert_eq!(folder.bytes("again.table"), folder.bytes("t.table"));
+        assert_eq!(succeeds(&["text", &again]), text);
+
+        // The first node with two integer bits, by hand and by the command.
+        let first = text.lines().find(|line| line.contains("rows")).unwrap();
+        let words: Vec<&str> = first.split_whitespace().collect();
+        let narrow = format!("1 rows P1 2 {}", words[4]);
+        let edited = folder.file("t.txt", text.replacen(first, &narrow, 1).as_bytes());
+        let told = succeeds(&["table", &edited, &again]);
+        assert!(
+            told.ends_with(
+                "levels, not accepted: refused 6: a node does not fit (level 1, rows, P1)\n"
+            ),
+            "{told}"
+        );
+        let changed = folder.path("changed.table");
+        for (pass, node) in [("rows", "P1"), ("1", "1")] {
+            let told = succeeds(&["change", &table, "1", pass, node, "2", words[4], &changed]);
+            assert!(told.contains("refused 6"), "{told}");
+            assert_eq!(folder.bytes("changed.table"), folder.bytes("again.table"));
+        }
+
+        // A constant with other bits, in both ways.
+        let constants = text.lines().find(|l| l.starts_with("constants")).unwrap();
+        let (before, _) = constants.split_once("G2").unwrap();
+        let finer = text.replacen(constants, &format!("{before}G2 24"), 1);
+        let edited = folder.file("t.txt", finer.as_bytes());
+        succeeds(&["table", &edited, &again]);
+        for node in ["G2", "6"] {
+            let told = succeeds(&["constant", &table, node, "24", &changed]);
+            assert_eq!(
+                told,
+                format!("{changed}: written, 8 bits, {levels} levels, accepted\n")
+            );
+            assert_eq!(folder.bytes("changed.table"), folder.bytes("again.table"));
+        }
+    }
+}
+
+/// The file and its line are named; nothing is written.
+#[test]
+fn wrong_texts() {
+    let folder = Folder::new("wrong_texts");
+    let table = folder.path("t.table");
+    succeeds(&["suggest", "8", "2", &table]);
+    let out = folder.path("out");
+    let text = succeeds(&["text", &table]);
+    let lines: Vec<&str> = text.lines().collect();
+    let wrong = |at: usize, line: &str, what: &str| {
+        let mut lines = lines.clone();
+        lines[at - 1] = line;
+        let path = folder.file("wrong.txt", lines.join("\n").as_bytes());
+        fails(&["table", &path, &out], 2, &format!("wrong.txt: {what}"));
+        assert!(!std::path::Path::new(&out).exists());
+    };
+    let line_of = |start: &str| {
+        let at = lines.iter().position(|l| l.trim_start().starts_with(start));
+        at.unwrap() + 1
+    };
+    let (depth, nodes) = (line_of("depth"), line_of("1 "));
+    wrong(depth, "depth 13", "line 4: the depth is 1 to 12");
+    wrong(depth, "deep 8", "line 4: there is no word `deep`");
+    wrong(
+        nodes + 1,
+        lines[nodes - 1],
+        &format!(
+            "line {}: level 1, rows, P1 stands already on line {nodes}",
+            nodes + 1
+        ),
+    );
+    wrong(
+        nodes,
+        "",
+        &format!(
+            "line {}: the text ends here and level 1, rows, P1 is missing",
+            lines.len()
+        ),
+    );
+    // A table's bytes are no text.
+    fails(&["table", &table, &out], 2, "t.table: line 1: ");
+    // And a text is no table.
+    let text = folder.file("t.txt", text.as_bytes());
+    fails(&["text", &text], 1, "refused ");
+}
+
+#[test]
+fn refused_changes() {
+    let folder = Folder::new("refused_changes");
+    let (table, out) = (folder.path("t.table"), folder.path("out"));
+    succeeds(&["suggest", "8", "2", &table]);
+    for level in ["3", "4", "5"] {
+        fails(
+            &["change", &table, level, "rows", "P1", "12", "20", &out],
+            1,
+            &format!("t.table: refused 4: the table has 2 levels, there is no level {level}"),
+        );
+    }
+    let single = folder.path("single.table");
+    succeeds(&["suggest", "8", "1", &single]);
+    fails(
+        &["change", &single, "2", "rows", "P1", "12", "20", &out],
+        1,
+        "refused 4: the table has 1 level, there is no level 2",
+    );
+    let bytes = folder.bytes("t.table");
+    let cut = folder.file("cut.table", &bytes[..bytes.len() - 1]);
+    fails(&["text", &cut], 1, "cut.table: refused 1");
+    fails(&["constant", &cut, "P1", "24", &out], 1, "refused 1");
+    fails(
+        &["change", &cut, "1", "rows", "P1", "12", "20", &out],
+        1,
+        "cut.table: refused 1",
+    );
+    assert!(!std::path::Path::new(&out).exists());
+}
+
+/// The words by which a refusal names a node are those that `change` takes.
+#[test]
+fn a_refused_node_is_named_as_commands_want_it() {
+    let folder = Folder::new("refused_node");
+    let (table, narrow, wide) = (
+        folder.path("t.table"),
+        folder.path("narrow.table"),
+        folder.path("wide.table"),
+    );
+    succeeds(&["suggest", "8", "2", &table]);
+    for pass in ["rows", "low-columns", "high-columns"] {
+        let told = succeeds(&["change", &table, "2", pass, "P1", "1", "20", &narrow]);
+        let (_, named) = told.split_once("not accepted: refused 6: ").unwrap();
+        let (_, named) = named.split_once('(').unwrap();
+        let named = named.trim_end().strip_suffix(')').unwrap();
+        assert_eq!(named, format!("level 2, {pass}, P1"));
+        let words: Vec<&str> = named.split(", ").collect();
+        let level = words[0].strip_prefix("level ").unwrap();
+        let told = succeeds(&[
+            "change", &narrow, level, words[1], words[2], "12", "20", &wide,
+        ]);
+        assert!(told.ends_with(" levels, accepted\n"), "{told}");
+    }
+}
+
+/// No command writes over what it reads, by whatever name; the file stays.
+#[test]
+fn a_file_that_is_read_is_not_written() {
+    let folder = Folder::new("read_and_written");
+    let table = folder.path("t.table");
+    succeeds(&["suggest", "8", "1", &table]);
+    let text = folder.file("t.txt", succeeds(&["text", &table]).as_bytes());
+    let picture = folder.file("p.pgm", &pgm(5, 4, 255));
+    let copy = folder.path("copy");
+    succeeds(&["copy", &picture, &copy]);
+    let (sub, link, hard) = (folder.path("sub"), folder.path("link"), folder.path("hard"));
+    std::fs::create_dir_all(&sub).unwrap();
+    for name in ["t.table", "t.txt", "p.pgm", "copy"] {
+        let before = folder.bytes(name);
+        let path = folder.path(name);
+        for old in [&link, &hard] {
+            let _ = std::fs::remove_file(old);
+        }
+        std::os::unix::fs::symlink(&path, &link).unwrap();
+        std::fs::hard_link(&path, &hard).unwrap();
+        for to in [&path, &link, &hard, &format!("{sub}/../{name}")] {
+            let commands: &[&[&str]] = match name {
+                "t.table" => &[
+                    &["change", &table, "1", "rows", "P1", "12", "20", to],
+                    &["constant", &table, "P1", "24", to],
+                    &["forward97", &table, &picture, to],
+                ],
+                "t.txt" => &[&["table", &text, to]],
+                "p.pgm" => &[
+                    &["forward97", &table, &picture, to],
+                    &["copy", &picture, to],
+                ],
+                _ => &[&["restore", &copy, to], &["picture", &copy, to]],
+            };
+            for command in commands {
+                fails(
+                    command,
+                    2,
+                    &format!("({to}) is the file that is read ({path})"),
+                );
+            }
+        }
+        assert_eq!(folder.bytes(name), before);
+    }
+    // What merely looks alike is another file.
+    let twin = folder.file("twin.table", &folder.bytes("t.table"));
+    succeeds(&["constant", &table, "P1", "24", &twin]);
+}
+
+/// A text is read whatever its line ends are.
+#[test]
+fn line_ends_of_other_systems() {
+    let folder = Folder::new("line_ends");
+    let (table, out) = (folder.path("t.table"), folder.path("out.table"));
+    succeeds(&["suggest", "8", "2", &table]);
+    let text = succeeds(&["text", &table]);
+    for end in ["\n", "\r\n", "\r"] {
+        let given = folder.file("t.txt", text.replace('\n', end).as_bytes());
+        succeeds(&["table", &given, &out]);
+        assert_eq!(folder.bytes("out.table"), folder.bytes("t.table"));
+        let wrong = text.replace("depth 8", "depth 13").replace('\n', end);
+        let wrong = folder.file("wrong.txt", wrong.as_bytes());
+        fails(&["table", &wrong, &out], 2, "line 4: the depth is 1 to 12");
     }
 }
 
@@ -201,8 +481,6 @@ fn refused_pictures() {
     );
     let picture = folder.file("p.pgm", &pgm(9, 9, 4095));
     fails(&["copy", "--levels", "5", &picture, "x"], 1, "refused 8");
-    fails(&["copy", "--levels=0", &picture, "x"], 1, "refused 4");
-    fails(&["copy", "--levels=6", &picture, "x"], 1, "refused 4");
     let table = folder.path("t.table");
     succeeds(&["suggest", "8", "2", &table]);
     fails(
@@ -273,6 +551,7 @@ fn random_damage_never_panics() {
     let table_path = folder.path("t.table");
     succeeds(&["suggest", "8", "2", &table_path]);
     let table = folder.bytes("t.table");
+    let text = succeeds(&["text", &table_path]).into_bytes();
     let picture = pgm(6, 5, 255);
     let p = folder.file("p.pgm", &picture);
     let (copy, fixed) = (folder.path("copy"), folder.path("fixed"));
@@ -283,7 +562,8 @@ fn random_damage_never_panics() {
     let mut seen = [0usize; 3];
     for _ in 0..200 {
         for (whole, commands) in [
-            (&table, &["check", "show"][..]),
+            (&table, &["check", "show", "text"][..]),
+            (&text, &["table"][..]),
             (&picture, &["copy"][..]),
             (&copy, &["restore", "picture"][..]),
             (&fixed, &["restore", "picture"][..]),
@@ -305,7 +585,7 @@ fn random_damage_never_panics() {
             let damaged = folder.file("damaged", &bytes);
             for command in commands {
                 let (status, _, err) = match *command {
-                    "check" | "show" => roll(&[command, &damaged]),
+                    "check" | "show" | "text" => roll(&[command, &damaged]),
                     _ => roll(&[command, &damaged, &out]),
                 };
                 assert_eq!(status != 0, !err.is_empty());

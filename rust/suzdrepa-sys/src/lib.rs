@@ -8,13 +8,15 @@
 //! # Safety
 //!
 //! Every call is total in its numbers: no depth, level, side or tag does any
-//! harm. Of the memory a call asks three things:
+//! harm. Of the memory a call asks four things:
 //!
 //! * a pointer and the length after it name memory that is the caller's, in
-//!   whole elements; the pointer is not null and is aligned even where the
-//!   length is 0, as a slice's pointer is,
-//! * what the call writes (`*mut`) overlaps nothing else that it is given,
-//! * `start`, `length`, `range` and `error` each point to one number.
+//!   whole elements; where the length is 0 the pointer is not used and may be
+//!   null,
+//! * `start`, `length`, `range` and `error` each point to one number,
+//!   `constants` and `widths` to an array,
+//! * every pointer is aligned as its type asks (null is aligned),
+//! * what the call writes (`*mut`) overlaps nothing else that it is given.
 //!
 //! No call keeps a pointer, unwinds, or has any state between calls.
 //!
@@ -43,6 +45,14 @@ pub const SUZ_MAX_SIDE: usize = 4096;
 pub const SUZ_MAX_INTEGER_BITS: u8 = 12;
 pub const SUZ_MAX_FRACTION_BITS: u8 = 20;
 pub const SUZ_MAX_CONSTANT_BITS: u8 = 24;
+
+// The bytes of a width table before its widths, and the widths of a level.
+pub const SUZ_TABLE_HEAD: usize = 20;
+pub const SUZ_TABLE_LEVEL: usize = 36;
+
+// How many numbers the constants and the widths of a table have, all levels.
+pub const SUZ_TABLE_CONSTANTS: usize = 6;
+pub const SUZ_TABLE_WIDTHS: usize = SUZ_TABLE_LEVEL * SUZ_MAX_LEVELS as usize;
 
 extern "C" {
     /// Reads a width table and judges it: 1 to 5, then 6 and 7.
@@ -82,6 +92,26 @@ extern "C" {
         node: u8,
         integer_bits: u8,
         fraction_bits: u8,
+        out: *mut u8,
+        out_len: usize,
+    ) -> u32;
+
+    /// A new table with other bits of one node's constant: 1 to 5, 4, 9.
+    pub fn suz_table_change_constant(
+        table: *const u8,
+        table_len: usize,
+        node: u8,
+        bits: u8,
+        out: *mut u8,
+        out_len: usize,
+    ) -> u32;
+
+    /// The table of these parts: 4, 9.
+    pub fn suz_table_write(
+        depth: u8,
+        levels: u8,
+        constants: *const [u8; SUZ_TABLE_CONSTANTS],
+        widths: *const [u8; SUZ_TABLE_WIDTHS],
         out: *mut u8,
         out_len: usize,
     ) -> u32;

@@ -9,12 +9,12 @@
 //!   ([`forward53`], [`inverse53`]),
 //! * **width tables**: built, read, judged, changed, written ([`WidthTable`]),
 //!   or as plain bytes ([`check_table`], [`table_bound`], [`table_form`],
-//!   [`table_value`], [`change_width`]).
+//!   [`table_value`], [`write_table`], [`change_width`], [`change_constant`]).
 //!
-//! Under a table that [`check_table`] accepts, no picture whatever drives a
-//! value out of its width, and every coefficient stands less than two of its
-//! own steps from the exact one. Calls need no setup and no call panics on
-//! any input; what is not right comes back as a [`Refusal`].
+//! Under a table that [`check_table`] accepts, no picture of its depth and of
+//! admitted size drives a value out of its width, and every coefficient stands
+//! less than two of its own steps from the exact one. Calls need no setup and
+//! no call panics on any input; what is not right comes back as a [`Refusal`].
 //!
 //! # Pictures and planes
 //!
@@ -65,12 +65,13 @@ mod table;
 pub use place::{Bound, Node, Pass, Place, Width};
 pub use refusal::Refusal;
 pub use table::{
-    change_width, change_width_into, check_table, table_bound, table_form, table_value, WidthTable,
+    change_constant, change_constant_into, change_width, change_width_into, check_table,
+    table_bound, table_form, table_value, write_table, WidthTable,
 };
 
 use suzdrepa_sys as sys;
 
-/// The greatest side of a picture.
+/// The maximum side of a picture.
 pub const MAX_SIDE: usize = sys::SUZ_MAX_SIDE;
 
 /// Works a picture into 9/7 coefficients under a width table.
@@ -246,6 +247,12 @@ mod tests {
         assert_eq!(table_value(&[], 0).unwrap_err().number(), 2);
         let refusal = change_width(&[], place, Width::new(1, 1)).unwrap_err();
         assert_eq!(refusal.number(), 1);
+        let refusal = change_constant(&[], Node::P1, 1).unwrap_err();
+        assert_eq!(refusal.number(), 1);
+        let widths = &mut [Width::new(0, 0); WidthTable::MAX_NODES];
+        widths[..18].fill(Width::new(1, 1));
+        let refusal = write_table(8, 1, [1; 6], widths, &mut []).unwrap_err();
+        assert_eq!(refusal.number(), 9);
         let refusal = forward53(8, 1, &[], 2, 2, &mut [], &mut []).unwrap_err();
         assert_eq!(refusal.number(), 9);
     }

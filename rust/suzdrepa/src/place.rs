@@ -28,12 +28,12 @@ impl Pass {
         Pass::ALL.into_iter().find(|pass| pass.number() == number)
     }
 
-    /// `rows`, `columns of row-low` or `columns of row-high`.
+    /// `rows`, `low-columns` or `high-columns`.
     pub const fn name(self) -> &'static str {
         match self {
             Pass::Rows => "rows",
-            Pass::LowColumns => "columns of row-low",
-            Pass::HighColumns => "columns of row-high",
+            Pass::LowColumns => "low-columns",
+            Pass::HighColumns => "high-columns",
         }
     }
 }
@@ -105,7 +105,7 @@ impl fmt::Display for Node {
 /// let place = Place::new(2, Pass::LowColumns, Node::G1);
 /// assert_eq!(place.numbers(), [2, 2, 5]);
 /// assert_eq!(Place::from_numbers(2, 2, 5), Some(place));
-/// assert_eq!(place.to_string(), "level 2, columns of row-low, G1");
+/// assert_eq!(place.to_string(), "level 2, low-columns, G1");
 /// ```
 #[derive(Clone, Copy, Debug, PartialEq, Eq, PartialOrd, Ord, Hash)]
 pub struct Place {
@@ -126,6 +126,25 @@ impl Place {
             level,
             pass: Pass::from_number(pass)?,
             node: Node::from_number(node)?,
+        })
+    }
+
+    /// Every node of so many levels, in table order.
+    ///
+    /// ```
+    /// use suzdrepa::{Node, Pass, Place};
+    ///
+    /// let mut places = Place::all(2);
+    /// assert_eq!(places.next(), Some(Place::new(1, Pass::Rows, Node::P1)));
+    /// assert_eq!(places.last(), Some(Place::new(2, Pass::HighColumns, Node::G2)));
+    /// assert_eq!(Place::all(2).count(), 36);
+    /// ```
+    pub fn all(levels: u8) -> impl Iterator<Item = Place> {
+        (1..=levels).flat_map(|level| {
+            Pass::ALL.into_iter().flat_map(move |pass| {
+                let place = move |node| Place::new(level, pass, node);
+                Node::ALL.into_iter().map(place)
+            })
         })
     }
 

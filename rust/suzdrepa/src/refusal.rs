@@ -163,7 +163,7 @@ mod tests {
         );
         assert_eq!(
             refusal(0x0602_0507).to_string(),
-            "refused 7: a kept node's error is not below two steps (level 5, columns of row-low, G2)"
+            "refused 7: a kept node's error is not below two steps (level 5, low-columns, G2)"
         );
         assert_eq!(refusal(8).to_string(), "refused 8: a side is not admitted");
     }

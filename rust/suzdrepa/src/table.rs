@@ -6,9 +6,10 @@ use suzdrepa_sys as sys;
 
 /// Reads a width table and judges it.
 ///
-/// `Ok` means that under this table every picture of its depth can be worked
-/// by [`forward97`](crate::forward97) without any value leaving its width and
-/// with every coefficient less than two steps from the exact one.
+/// `Ok` means that under this table every picture of its depth and of admitted
+/// size can be worked by [`forward97`](crate::forward97) without any value
+/// leaving its width and with every coefficient less than two steps from the
+/// exact one.
 ///
 /// Refused 1 to 5 where the bytes are malformed, 6 where a node does not fit,
 /// 7 where a kept coefficient would be too far off; 6 and 7 name the first
@@ -101,15 +102,118 @@ pub fn change_width_into(
     })
 }
 
+/// A new width table with other bits for the constant of a node.
+///
+/// Refused 1 to 5 where the bytes are malformed, then 4 where the bits are
+/// outside their limits. The new table is not judged.
+///
+/// ```
+/// use suzdrepa::{change_constant, Node, Refusal, Width, WidthTable};
+///
+/// let table = WidthTable::uniform(8, 2, 16, Width::new(12, 12))?;
+/// let finer = change_constant(table.as_bytes(), Node::G1, 20)?;
+/// assert_eq!(suzdrepa::table_value(&finer, 3)?, [16, 16, 16, 16, 20, 16]);
+/// # Ok::<(), Refusal>(())
+/// ```
+pub fn change_constant(table: &[u8], node: Node, bits: u8) -> Result<Vec<u8>, Refusal> {
+    // A table is written as long as it was read.
+    let mut out = vec![0; table.len()];
+    change_constant_into(table, node, bits, &mut out)?;
+    Ok(out)
+}
+
+/// As [`change_constant`], but writes the new table to the start of `out`;
+/// refused 9 where `out` is shorter than the table.
+///
+/// ```
+/// use suzdrepa::{change_constant_into, Node, Refusal, Width, WidthTable};
+///
+/// let table = WidthTable::uniform(8, 2, 16, Width::new(12, 12))?;
+/// let mut out = [0; WidthTable::length(2)];
+/// change_constant_into(table.as_bytes(), Node::P1, 20, &mut out)?;
+/// assert_eq!(out, table.with_constant(Node::P1, 20)?.as_bytes());
+///
+/// let short = &mut out[..50];
+/// let refused = change_constant_into(table.as_bytes(), Node::P1, 20, short);
+/// assert_eq!(refused, Err(Refusal::SliceTooShort));
+/// # Ok::<(), Refusal>(())
+/// ```
+pub fn change_constant_into(
+    table: &[u8],
+    node: Node,
+    bits: u8,
+    out: &mut [u8],
+) -> Result<(), Refusal> {
+    // SAFETY: pointers and lengths are those of slices; `out` is exclusive.
+    Refusal::from_answer(unsafe {
+        sys::suz_table_change_constant(
+            table.as_ptr(),
+            table.len(),
+            node.number(),
+            bits,
+            out.as_mut_ptr(),
+            out.len(),
+        )
+    })
+}
+
+/// Writes a width table from its parts to the start of `out`.
+///
+/// `widths` has every node of the maximum of levels in table order, as
+/// [`Place::all`] gives them; at levels that are not used both numbers are 0.
+/// Refused 4 where a number is outside its limits or an unused level is not
+/// zero, 9 where `out` is shorter than the table. The table is not judged.
+///
+/// ```
+/// use suzdrepa::{write_table, Refusal, Width, WidthTable};
+///
+/// let mut widths = [Width::new(0, 0); WidthTable::MAX_NODES];
+/// // Two levels, 18 nodes each.
+/// widths[..36].fill(Width::new(12, 12));
+/// let mut out = [0; WidthTable::length(2)];
+/// write_table(8, 2, [16; 6], &widths, &mut out)?;
+/// let due = WidthTable::uniform(8, 2, 16, Width::new(12, 12))?;
+/// assert_eq!(out, due.as_bytes());
+///
+/// let refused = write_table(8, 1, [16; 6], &widths, &mut out);
+/// assert_eq!(refused, Err(Refusal::OutsideLimits));
+/// # Ok::<(), Refusal>(())
+/// ```
+pub fn write_table(
+    depth: u8,
+    levels: u8,
+    constant_bits: [u8; sys::SUZ_TABLE_CONSTANTS],
+    widths: &[Width; WidthTable::MAX_NODES],
+    out: &mut [u8],
+) -> Result<(), Refusal> {
+    let mut pairs = [0; sys::SUZ_TABLE_WIDTHS];
+    for (pair, width) in pairs.chunks_exact_mut(2).zip(widths) {
+        pair.copy_from_slice(&[width.integer_bits, width.fraction_bits]);
+    }
+    // SAFETY: the arrays have the counts that the call reads; `out` is an
+    // exclusive slice.
+    Refusal::from_answer(unsafe {
+        sys::suz_table_write(
+            depth,
+            levels,
+            &constant_bits,
+            &pairs,
+            out.as_mut_ptr(),
+            out.len(),
+        )
+    })
+}
+
 // Where the values of the four fields start in the bytes of a table.
-const DEPTH: usize = 3;
-const LEVELS: usize = 7;
-const CONSTANTS: usize = 11;
-const NODES: usize = 20;
+const DEPTH_START: usize = 3;
+const LEVELS_START: usize = 7;
+const CONSTANTS_START: usize = 11;
+const NODES_START: usize = sys::SUZ_TABLE_HEAD;
 
 // Bytes of the nodes of a pass, and of a level: a node has two.
 const PASS_BYTES: usize = 2 * Node::ALL.len();
-const LEVEL_BYTES: usize = PASS_BYTES * Pass::ALL.len();
+const LEVEL_BYTES: usize = sys::SUZ_TABLE_LEVEL;
+const _: () = assert!(LEVEL_BYTES == PASS_BYTES * Pass::ALL.len());
 
 /// A width table of right form: every number is within its limits. Whether it
 /// is accepted is [`check`](WidthTable::check)'s to say.
@@ -137,29 +241,29 @@ pub struct WidthTable {
 }
 
 impl WidthTable {
-    /// The greatest depth of a picture; the least is 1.
+    /// The maximum depth of a picture; the minimum is 1.
     pub const MAX_DEPTH: u8 = sys::SUZ_MAX_DEPTH;
-    /// The most levels; the least is 1.
+    /// The maximum of levels; the minimum is 1.
     pub const MAX_LEVELS: u8 = sys::SUZ_MAX_LEVELS;
-    /// The most bits of a constant; the least is 1.
+    /// The maximum of a constant's fractional bits; the minimum is 1.
     pub const MAX_CONSTANT_BITS: u8 = sys::SUZ_MAX_CONSTANT_BITS;
-    /// The most integer bits of a node; the least is 1.
+    /// The maximum of a node's integer bits; the minimum is 1.
     pub const MAX_INTEGER_BITS: u8 = sys::SUZ_MAX_INTEGER_BITS;
-    /// The most fractional bits of a node; the least is 0.
+    /// The maximum of a node's fractional bits; the minimum is 0.
     pub const MAX_FRACTION_BITS: u8 = sys::SUZ_MAX_FRACTION_BITS;
+
+    /// The nodes of a table with the maximum of levels.
+    pub const MAX_NODES: usize = sys::SUZ_TABLE_WIDTHS / 2;
 
     /// The length in bytes of a table of so many levels.
     pub const fn length(levels: u8) -> usize {
-        NODES + LEVEL_BYTES * levels as usize
+        sys::SUZ_TABLE_HEAD + sys::SUZ_TABLE_LEVEL * levels as usize
     }
 
     /// Reads a table; refused 1 to 5.
     pub fn from_bytes(bytes: &[u8]) -> Result<WidthTable, Refusal> {
-        WidthTable::from_vec(bytes.to_vec())
-    }
-
-    fn from_vec(bytes: Vec<u8>) -> Result<WidthTable, Refusal> {
-        table_form(&bytes)?;
+        table_form(bytes)?;
+        let bytes = bytes.to_vec();
         Ok(WidthTable { bytes })
     }
 
@@ -183,18 +287,45 @@ impl WidthTable {
         kept: Width,
         others: Width,
     ) -> Result<WidthTable, Refusal> {
-        let mut bytes = vec![1, 0, 1, depth, 2, 0, 1, levels, 3, 0, 6];
-        bytes.extend([constant_bits; Node::ALL.len()]);
-        let [high, low] = (LEVEL_BYTES as u16 * u16::from(levels)).to_be_bytes();
-        bytes.extend([4, high, low]);
-        for place in places(levels) {
-            let width = match place.is_kept(levels) {
-                true => kept,
-                false => others,
-            };
-            bytes.extend([width.integer_bits, width.fraction_bits]);
+        let width = |place: Place| match place.is_kept(levels) {
+            true => kept,
+            false => others,
+        };
+        WidthTable::from_parts(depth, levels, [constant_bits; Node::ALL.len()], width)
+    }
+
+    /// A table from its parts: depth, levels, the bits of the constants of
+    /// P1, U1, P2, U2, G1 and G2, and the width of each node; refused 4 where
+    /// a number is outside its limits.
+    ///
+    /// ```
+    /// use suzdrepa::{Node, Pass, Place, Refusal, Width, WidthTable};
+    ///
+    /// // Every level has one integer bit more than the one before.
+    /// let width = |place: Place| Width::new(4 + place.level, 12);
+    /// let table = WidthTable::from_parts(8, 3, [20, 20, 20, 20, 24, 24], width)?;
+    /// assert_eq!(table.constant_bits(Node::G1), 24);
+    /// let third = Place::new(3, Pass::Rows, Node::P1);
+    /// assert_eq!(table.width(third), Some(Width::new(7, 12)));
+    ///
+    /// let wide = |_| Width::new(13, 12);
+    /// let refused = WidthTable::from_parts(8, 3, [20; 6], wide);
+    /// assert_eq!(refused, Err(Refusal::OutsideLimits));
+    /// # Ok::<(), Refusal>(())
+    /// ```
+    pub fn from_parts(
+        depth: u8,
+        levels: u8,
+        constant_bits: [u8; sys::SUZ_TABLE_CONSTANTS],
+        width: impl FnMut(Place) -> Width,
+    ) -> Result<WidthTable, Refusal> {
+        let mut widths = [Width::new(0, 0); WidthTable::MAX_NODES];
+        for (at, given) in widths.iter_mut().zip(Place::all(levels).map(width)) {
+            *at = given;
         }
-        WidthTable::from_vec(bytes)
+        let mut bytes = vec![0; WidthTable::length(levels)];
+        write_table(depth, levels, constant_bits, &widths, &mut bytes)?;
+        Ok(WidthTable { bytes })
     }
 
     /// The bytes of the table.
@@ -209,16 +340,16 @@ impl WidthTable {
 
     /// Bits of a pixel.
     pub fn depth(&self) -> u8 {
-        self.bytes[DEPTH]
+        self.bytes[DEPTH_START]
     }
 
     pub fn levels(&self) -> u8 {
-        self.bytes[LEVELS]
+        self.bytes[LEVELS_START]
     }
 
     /// The fractional bits of the constant that a node multiplies by.
     pub fn constant_bits(&self, node: Node) -> u8 {
-        self.bytes[CONSTANTS + usize::from(node.number() - 1)]
+        self.bytes[CONSTANTS_START + usize::from(node.number() - 1)]
     }
 
     /// The width of a node; `None` where the table lacks its level.
@@ -227,7 +358,7 @@ impl WidthTable {
             return None;
         }
         let [level, pass, node] = place.numbers().map(|number| usize::from(number - 1));
-        let at = NODES + LEVEL_BYTES * level + PASS_BYTES * pass + 2 * node;
+        let at = NODES_START + LEVEL_BYTES * level + PASS_BYTES * pass + 2 * node;
         Some(Width::new(self.bytes[at], self.bytes[at + 1]))
     }
 
@@ -241,7 +372,7 @@ impl WidthTable {
     /// # Ok::<(), suzdrepa::Refusal>(())
     /// ```
     pub fn places(&self) -> impl Iterator<Item = Place> {
-        places(self.levels())
+        Place::all(self.levels())
     }
 
     /// Whether the node's values are coefficients of the plane.
@@ -268,9 +399,8 @@ impl WidthTable {
     /// # Ok::<(), Refusal>(())
     /// ```
     pub fn with_constant(&self, node: Node, bits: u8) -> Result<WidthTable, Refusal> {
-        let mut bytes = self.bytes.clone();
-        bytes[CONSTANTS + usize::from(node.number() - 1)] = bits;
-        WidthTable::from_vec(bytes)
+        let bytes = change_constant(&self.bytes, node, bits)?;
+        Ok(WidthTable { bytes })
     }
 
     /// Judges the table, as [`check_table`] does: refused 6 or 7.
@@ -299,16 +429,6 @@ impl WidthTable {
     pub fn bound(&self, place: Place) -> Result<Bound, Refusal> {
         table_bound(&self.bytes, place)
     }
-}
-
-/// Every node of so many levels, in table order.
-fn places(levels: u8) -> impl Iterator<Item = Place> {
-    (1..=levels).flat_map(|level| {
-        Pass::ALL.into_iter().flat_map(move |pass| {
-            let place = move |node| Place::new(level, pass, node);
-            Node::ALL.into_iter().map(place)
-        })
-    })
 }
 
 impl AsRef<[u8]> for WidthTable {
@@ -404,16 +524,53 @@ mod tests {
     }
 
     #[test]
+    fn one_constant_is_changed() {
+        let old = table(3);
+        for at in Node::ALL {
+            let new = old.with_constant(at, 7).unwrap();
+            for node in Node::ALL {
+                assert_eq!(new.constant_bits(node), if node == at { 7 } else { 24 });
+            }
+            assert_eq!(new.with_constant(at, 24), Ok(old.clone()));
+            let outside = [0, 25, 255].map(|bits| old.with_constant(at, bits));
+            assert_eq!(outside, [(); 3].map(|()| Err(Refusal::OutsideLimits)));
+        }
+    }
+
+    /// The parts of a table make the same table, and each stands where it was.
+    #[test]
+    fn from_parts() {
+        for levels in 1..=5 {
+            assert_eq!(Place::all(levels).count(), 18 * usize::from(levels));
+            let given = |place: Place| {
+                let [level, pass, node] = place.numbers();
+                Width::new(pass + 3 * (node / 3), level + 4 * (node % 3))
+            };
+            let table = WidthTable::from_parts(9, levels, [1, 2, 3, 4, 5, 6], given).unwrap();
+            assert_eq!((table.depth(), table.levels()), (9, levels));
+            for place in table.places() {
+                assert_eq!(table.width(place), Some(given(place)));
+            }
+            let constants = Node::ALL.map(|node| table.constant_bits(node));
+            assert_eq!(constants, [1, 2, 3, 4, 5, 6]);
+            let width = |place| table.width(place).unwrap();
+            let again = WidthTable::from_parts(9, levels, constants, width);
+            assert_eq!(again.as_ref(), Ok(&table));
+        }
+        assert_eq!(Place::all(5).count(), WidthTable::MAX_NODES);
+    }
+
+    #[test]
     fn numbers_outside_their_limits_are_refused() {
         let refused = Err(Refusal::OutsideLimits);
         let max = Width::new(WidthTable::MAX_INTEGER_BITS, WidthTable::MAX_FRACTION_BITS);
-        let most = WidthTable::uniform(
+        let widest = WidthTable::uniform(
             WidthTable::MAX_DEPTH,
             WidthTable::MAX_LEVELS,
             WidthTable::MAX_CONSTANT_BITS,
             max,
         );
-        assert!(most.is_ok());
+        assert!(widest.is_ok());
         for (depth, levels, constant_bits, integer_bits, fraction_bits) in [
             (0, 1, 24, 12, 20),
             (13, 1, 24, 12, 20),
@@ -446,8 +603,8 @@ mod tests {
             "depth 8 bits, 1 levels\n\
              bits of the constants: P1 24 U1 24 P2 24 U2 24 G1 24 G2 24\n\
              level 1, rows: P1 (11, 20) U1 (11, 20) P2 (11, 20) U2 (11, 20) G1 (11, 20) G2 (11, 20)\n\
-             level 1, columns of row-low: P1 (11, 20) U1 (11, 20) P2 (11, 20) U2 (11, 20) G1 (12, 2) G2 (12, 2)\n\
-             level 1, columns of row-high: P1 (11, 20) U1 (11, 20) P2 (11, 20) U2 (11, 20) G1 (12, 2) G2 (12, 2)"
+             level 1, low-columns: P1 (11, 20) U1 (11, 20) P2 (11, 20) U2 (11, 20) G1 (12, 2) G2 (12, 2)\n\
+             level 1, high-columns: P1 (11, 20) U1 (11, 20) P2 (11, 20) U2 (11, 20) G1 (12, 2) G2 (12, 2)"
         );
     }
 }

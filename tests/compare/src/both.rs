@@ -2,6 +2,7 @@
 //! answers and memory are compared in whole.
 
 use reference::refusal::answer;
+use reference::table::WIDTHS;
 use reference::{calls, Place, Width};
 use suzdrepa_sys as sys;
 
@@ -83,33 +84,121 @@ pub fn table_change(table: &[u8], place: [u8; 3], width: Width, out: &[u8]) -> A
         integer_bits,
         fraction_bits,
     } = width;
-    let mut due_out = out.to_vec();
-    let due = calls::table_change(table, level, pass, node, width, &mut due_out);
-    let mut ours_out = out.to_vec();
-    // SAFETY: pointers and lengths are those of a slice and of a vector.
-    let bare = unsafe {
-        sys::suz_table_change(
-            table.as_ptr(),
-            table.len(),
-            level,
-            pass,
-            node,
-            integer_bits,
-            fraction_bits,
-            ours_out.as_mut_ptr(),
-            ours_out.len(),
-        )
-    };
+    let (due, due_out) = lend(out, |out| {
+        calls::table_change(table, level, pass, node, width, out)
+    });
+    let (bare, ours_out) = lend(out, |out| {
+        // SAFETY: pointers and lengths are those of slices.
+        unsafe {
+            sys::suz_table_change(
+                table.as_ptr(),
+                table.len(),
+                level,
+                pass,
+                node,
+                integer_bits,
+                fraction_bits,
+                out.as_mut_ptr(),
+                out.len(),
+            )
+        }
+    });
     assert_eq!(bare, answer(due), "engine left, reference right");
     assert_eq!(ours_out, due_out, "out after a change");
     if let Some(place) = suzdrepa::Place::from_numbers(level, pass, node) {
-        let mut ours_out = out.to_vec();
         let width = suzdrepa::Width::new(integer_bits, fraction_bits);
-        let ours = suzdrepa::change_width_into(table, place, width, &mut ours_out);
+        let (ours, ours_out) = lend(out, |out| {
+            suzdrepa::change_width_into(table, place, width, out)
+        });
         assert_eq!(same(ours, due), due);
         assert_eq!(ours_out, due_out, "out after a change");
     }
     due
+}
+
+/// `node` and `bits` are any numbers. `out` is lent memory before the call.
+pub fn table_change_constant(table: &[u8], node: u8, bits: u8, out: &[u8]) -> Answer {
+    let before = table.to_vec();
+    let (due, due_out) = lend(out, |out| {
+        calls::table_change_constant(table, node, bits, out)
+    });
+    let (bare, ours_out) = lend(out, |out| {
+        // SAFETY: pointers and lengths are those of slices.
+        unsafe {
+            sys::suz_table_change_constant(
+                table.as_ptr(),
+                table.len(),
+                node,
+                bits,
+                out.as_mut_ptr(),
+                out.len(),
+            )
+        }
+    });
+    assert_eq!(bare, answer(due), "engine left, reference right");
+    assert_eq!(ours_out, due_out, "out after a change");
+    assert_eq!(table, before, "the old table");
+    if let Some(node) = suzdrepa::Node::from_number(node) {
+        let (ours, ours_out) = lend(out, |out| {
+            suzdrepa::change_constant_into(table, node, bits, out)
+        });
+        assert_eq!(same(ours, due), due);
+        assert_eq!(ours_out, due_out, "out after a change");
+    }
+    due
+}
+
+/// The parts are any numbers. `out` is lent memory before the call.
+pub fn table_write(
+    depth: u8,
+    levels: u8,
+    constants: &[u8; 6],
+    widths: &[u8; WIDTHS],
+    out: &[u8],
+) -> Answer {
+    let before = (*constants, *widths);
+    let (due, due_out) = lend(out, |out| {
+        calls::table_write(depth, levels, constants, widths, out)
+    });
+    let (bare, ours_out) = lend(out, |out| {
+        // SAFETY: the arrays have the counts that the call reads; pointer and
+        // length are those of a slice.
+        unsafe {
+            sys::suz_table_write(
+                depth,
+                levels,
+                constants,
+                widths,
+                out.as_mut_ptr(),
+                out.len(),
+            )
+        }
+    });
+    assert_eq!(bare, answer(due), "engine left, reference right");
+    assert_eq!(ours_out, due_out, "out after a table was written");
+    assert_eq!((*constants, *widths), before, "the parts");
+    let mut nodes = [suzdrepa::Width::new(0, 0); WIDTHS / 2];
+    for (node, pair) in nodes.iter_mut().zip(widths.chunks(2)) {
+        *node = suzdrepa::Width::new(pair[0], pair[1]);
+    }
+    let (ours, ours_out) = lend(out, |out| {
+        suzdrepa::write_table(depth, levels, *constants, &nodes, out)
+    });
+    assert_eq!(same(ours, due), due);
+    assert_eq!(ours_out, due_out, "out after a table was written");
+    due
+}
+
+/// Lends a copy of `out` to a call; gives the answer and what the call left.
+/// Asserts that the memory on both sides of it is as it was.
+fn lend<T>(out: &[u8], call: impl FnOnce(&mut [u8]) -> T) -> (T, Vec<u8>) {
+    const BESIDE: [u8; 16] = [0x5A; 16];
+    let mut memory = [&BESIDE, out, &BESIDE].concat();
+    let lent = BESIDE.len()..BESIDE.len() + out.len();
+    let answer = call(&mut memory[lent.clone()]);
+    assert_eq!(memory[..lent.start], BESIDE, "memory before what was lent");
+    assert_eq!(memory[lent.end..], BESIDE, "memory after what was lent");
+    (answer, memory[lent].to_vec())
 }
 
 /// What is lent to a transform: input, output and work area, as they stand

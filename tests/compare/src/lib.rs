@@ -7,7 +7,9 @@
 
 pub mod both;
 pub mod chance;
+pub mod farthest;
 pub mod hostile;
+pub mod program;
 pub mod tables;
 
 /// The number of rounds: as given, or twenty times as many in a long run.

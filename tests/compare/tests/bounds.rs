@@ -154,7 +154,7 @@ fn damaged_bytes_and_any_places() {
         };
         let place = match chance.below(8) {
             0 => [chance.byte(), chance.byte(), chance.byte()],
-            _ => [6, 4, 7].map(|most| chance.within(0, most) as u8),
+            _ => [6, 4, 7].map(|max| chance.within(0, max) as u8),
         };
         let before = lent(&mut chance);
         let (answer, after) = both::table_bound(&bytes, place, before);

@@ -61,8 +61,9 @@ fn the_macros_take_an_answer_apart() {
          int main(void)\n\
          {\n\
          uint32_t a = 0x06030507u;\n\
-         printf(\"%u %u %u %u %lu\\n\", SUZ_NUMBER(a), SUZ_LEVEL(a), SUZ_PASS(a), SUZ_NODE(a),\n\
-         (unsigned long)SUZ_TABLE_LENGTH(5));\n\
+         uint8_t widths[SUZ_TABLE_WIDTHS];\n\
+         printf(\"%u %u %u %u %lu %lu\\n\", SUZ_NUMBER(a), SUZ_LEVEL(a), SUZ_PASS(a), SUZ_NODE(a),\n\
+         (unsigned long)SUZ_TABLE_LENGTH(2 + 3), (unsigned long)sizeof widths);\n\
          for (uint32_t n = 0; n <= 255; n++) printf(\"%s\\n\", suz_refusal_text(n));\n\
          return 0;\n\
          }\n",
@@ -71,7 +72,7 @@ fn the_macros_take_an_answer_apart() {
     let output = Command::new(compile("macros", &source)).output().unwrap();
     let text = String::from_utf8(output.stdout).unwrap();
     let lines: Vec<&str> = text.lines().collect();
-    assert_eq!(lines[0], "7 5 3 6 200");
+    assert_eq!(lines[0], "7 5 3 6 200 180");
     assert_eq!(lines[1], "done");
     assert_eq!(lines[8], "a kept node's error is not below two steps");
     assert_eq!(lines[256], "unknown");

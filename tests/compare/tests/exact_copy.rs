@@ -1,46 +1,12 @@
 //! The exact-copy program run on many inputs.
 
 use compare::chance::Chance;
-use compare::rounds;
+use compare::{program, rounds};
 use reference::exact_copy::exact_copy;
-use std::io::Write;
-use std::path::PathBuf;
-use std::process::{Command, Stdio};
-
-fn program() -> PathBuf {
-    let path = match std::env::var_os("SUZDREPA_BIN") {
-        Some(path) => PathBuf::from(path),
-        None => PathBuf::from(env!("CARGO_MANIFEST_DIR")).join("../../target/bin/exact_copy"),
-    };
-    assert!(
-        path.is_file(),
-        "{} is not there: build the program exact_copy first, or name it in SUZDREPA_BIN",
-        path.display()
-    );
-    path
-}
-
-fn run(input: &[u8]) -> String {
-    let mut child = Command::new(program())
-        .stdin(Stdio::piped())
-        .stdout(Stdio::piped())
-        .spawn()
-        .expect("the program starts");
-    let mut stdin = child.stdin.take().expect("piped");
-    // The program may stop reading once the answer is settled.
-    let written = stdin.write_all(input);
-    if let Err(error) = written {
-        assert_eq!(error.kind(), std::io::ErrorKind::BrokenPipe);
-    }
-    drop(stdin);
-    let output = child.wait_with_output().expect("the program ends");
-    assert!(output.status.code().is_some(), "{}", output.status);
-    String::from_utf8(output.stdout).expect("text")
-}
 
 /// Runs the program and compares; gives the text.
 fn same(input: &[u8]) -> String {
-    let text = run(input);
+    let text = String::from_utf8(program::run("exact_copy", input)).expect("text");
     assert_eq!(text, exact_copy(input));
     text
 }

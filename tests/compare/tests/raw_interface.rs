@@ -5,9 +5,11 @@ use compare::chance::Chance;
 use compare::tables::{any, damaged, generous};
 use reference::refusal::answer;
 use reference::{calls, Width};
+use std::ptr::{null, null_mut};
 use suzdrepa_sys::{
-    suz_forward53, suz_forward97, suz_inverse53, suz_table_change, suz_table_check, suz_table_form,
-    suz_table_value,
+    suz_forward53, suz_forward97, suz_inverse53, suz_table_bound, suz_table_change,
+    suz_table_change_constant, suz_table_check, suz_table_form, suz_table_value, suz_table_write,
+    SUZ_TABLE_CONSTANTS, SUZ_TABLE_WIDTHS,
 };
 
 fn some_table(chance: &mut Chance) -> Vec<u8> {
@@ -76,8 +78,8 @@ fn change_answers_in_whole() {
         let table = some_table(&mut chance);
         let mut out = vec![0u8; chance.within(0, 210)];
         let mut due_out = out.clone();
-        let [level, pass, node] = [6, 4, 7].map(|most| chance.within(0, most) as u8);
-        let [integer_bits, fraction_bits] = [13, 21].map(|most| chance.within(0, most) as u8);
+        let [level, pass, node] = [6, 4, 7].map(|max| chance.within(0, max) as u8);
+        let [integer_bits, fraction_bits] = [13, 21].map(|max| chance.within(0, max) as u8);
         // SAFETY: pointers and lengths are those of two vectors.
         let ours = unsafe {
             suz_table_change(
@@ -214,4 +216,35 @@ fn transform_answers_in_whole() {
         .flat_map(|(call, numbers)| numbers.iter().map(|&n| (*call, n)))
         .collect();
     assert_eq!(seen.into_iter().collect::<Vec<_>>(), due);
+}
+
+/// Header and declarations allow a null pointer where a length is 0.
+#[test]
+fn null_pointers_of_length_0() {
+    let table = generous(8, 1).bytes().unwrap();
+    let (at, len) = (table.as_ptr(), table.len());
+    let (mut start, mut length, mut range, mut error) = (5, 6, 7, 8);
+    let (constants, widths) = ([24; SUZ_TABLE_CONSTANTS], [0; SUZ_TABLE_WIDTHS]);
+    // SAFETY: what is null has length 0; the rest are a vector's and its own.
+    unsafe {
+        assert_eq!(suz_table_check(null(), 0), 1);
+        assert_eq!(suz_table_form(null(), 0), 1);
+        assert_eq!(suz_table_value(null(), 0, 4, &mut start, &mut length), 1);
+        assert_eq!(suz_table_value(null(), 0, 9, &mut start, &mut length), 2);
+        let bound = suz_table_bound(null(), 0, 1, 1, 1, &mut range, &mut error);
+        assert_eq!(bound, 1);
+        assert_eq!(suz_table_change(null(), 0, 1, 1, 1, 9, 9, null_mut(), 0), 1);
+        assert_eq!(suz_table_change(at, len, 1, 1, 1, 9, 9, null_mut(), 0), 9);
+        assert_eq!(suz_table_change(at, len, 9, 1, 1, 9, 9, null_mut(), 0), 4);
+        assert_eq!(suz_table_change_constant(null(), 0, 1, 9, null_mut(), 0), 1);
+        assert_eq!(suz_table_change_constant(at, len, 1, 9, null_mut(), 0), 9);
+        assert_eq!(suz_table_write(8, 1, &constants, &widths, null_mut(), 0), 4);
+        for (w, h, due) in [(0, 0, 8), (4, 4, 9), (usize::MAX, usize::MAX, 8)] {
+            let (i, o) = (null_mut::<i32>(), null_mut::<u16>());
+            assert_eq!(suz_forward97(at, len, null(), 0, w, h, i, 0, i, 0), due);
+            assert_eq!(suz_forward53(8, 1, null(), 0, w, h, i, 0, i, 0), due);
+            assert_eq!(suz_inverse53(8, 1, null(), 0, w, h, o, 0, i, 0), due);
+        }
+    }
+    assert_eq!((start, length, range, error), (5, 6, 7, 8));
 }

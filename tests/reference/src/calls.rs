@@ -5,7 +5,7 @@
 use crate::places::side_admitted;
 use crate::precision::{bound_of, verdict};
 use crate::refusal::{Place, Refusal};
-use crate::table::{value_of_tag, Width, WidthTable};
+use crate::table::{value_of_tag, Width, WidthTable, WIDTHS};
 use crate::{fixed97, reversible53};
 use std::ops::Range;
 
@@ -52,6 +52,30 @@ pub fn table_change(
     let (new, done) = WidthTable::read(table)?.changed(level, pass, node, width);
     done?;
     new.write(out)
+}
+
+/// Changes the bits of one constant and writes the new table: 1 to 5 of the
+/// bytes, 4 of the change, 9.
+pub fn table_change_constant(
+    table: &[u8],
+    node: u8,
+    bits: u8,
+    out: &mut [u8],
+) -> Result<(), Refusal> {
+    let (new, done) = WidthTable::read(table)?.constant_changed(node, bits);
+    done?;
+    new.write(out)
+}
+
+/// Writes the table of these parts: 4, 9.
+pub fn table_write(
+    depth: u8,
+    levels: u8,
+    constants: &[u8; 6],
+    widths: &[u8; WIDTHS],
+    out: &mut [u8],
+) -> Result<(), Refusal> {
+    WidthTable::of_parts(depth, levels, *constants, widths).write(out)
 }
 
 /// 9/7 forward: 1 to 5 of the bytes, then 6 and 7, 8, 9, 10.

@@ -14,6 +14,7 @@
 //! * [`calls`]: every call with its order of refusals and what it leaves in
 //!   lent memory
 //! * [`exact_copy`]: the exact-copy program, bytes to text
+//! * [`tag_value`]: the tag program, bytes to bytes
 //! * [`big`], [`fraction`]: the arithmetic underneath
 
 pub mod big;
@@ -29,6 +30,7 @@ pub mod precision;
 pub mod refusal;
 pub mod reversible53;
 pub mod table;
+pub mod tag_value;
 
 pub use refusal::{Place, Refusal};
 pub use table::{Width, WidthTable};

@@ -10,6 +10,9 @@ pub const MAX_INTEGER_BITS: u8 = 12;
 pub const MAX_FRACTION_BITS: u8 = 20;
 pub const MAX_CONSTANT_BITS: u8 = 24;
 
+/// Numbers of all nodes of a table with the most levels.
+pub const WIDTHS: usize = 36 * MAX_LEVELS as usize;
+
 /// Integer and fractional bits of a node.
 #[derive(Clone, Copy, Debug, Default, PartialEq, Eq)]
 pub struct Width {
@@ -210,6 +213,51 @@ impl WidthTable {
         *new.width_mut(place) = width;
         (new, Ok(()))
     }
+
+    /// A new table with other bits for the constant of a node; refused 4, with
+    /// the old table, where there is no such node or the bits are outside
+    /// their limits.
+    pub fn constant_changed(self, node: u8, bits: u8) -> (WidthTable, Result<(), Refusal>) {
+        let there = (1..=6).contains(&node);
+        if self.sound().is_err() || !there || !constant_allowed(bits) {
+            return (self, Err(Refusal::plain(4)));
+        }
+        let mut new = self;
+        new.constant_bits[node as usize - 1] = bits;
+        (new, Ok(()))
+    }
+
+    /// The table of these parts, whatever they are; widths in table order,
+    /// integer bits then fractional bits, for every level that a table can
+    /// have.
+    pub fn of_parts(
+        depth: u8,
+        levels: u8,
+        constant_bits: [u8; 6],
+        widths: &[u8; WIDTHS],
+    ) -> WidthTable {
+        let mut table = WidthTable {
+            depth,
+            levels,
+            constant_bits,
+            widths: [[[Width::default(); 6]; 3]; MAX_LEVELS as usize],
+        };
+        let nodes = table.widths.iter_mut().flatten().flatten();
+        for (node, pair) in nodes.zip(widths.chunks(2)) {
+            *node = Width::new(pair[0], pair[1]);
+        }
+        table
+    }
+
+    /// The widths as [`WidthTable::of_parts`] takes them.
+    pub fn parts(&self) -> [u8; WIDTHS] {
+        let mut parts = [0; WIDTHS];
+        let nodes = self.widths.iter().flatten().flatten();
+        for (pair, node) in parts.chunks_mut(2).zip(nodes) {
+            pair.copy_from_slice(&[node.integer_bits, node.fraction_bits]);
+        }
+        parts
+    }
 }
 
 fn depth_allowed(depth: u8) -> bool {
@@ -403,6 +451,43 @@ mod tests {
         let (same, refused) = broken.clone().changed(1, 1, 1, Width::new(5, 5));
         assert_eq!(refused, Err(Refusal::plain(4)));
         assert_eq!(same, broken);
+    }
+
+    #[test]
+    fn changing_a_constant() {
+        let (new, done) = sample(2).constant_changed(5, 7);
+        assert_eq!(done, Ok(()));
+        assert_eq!(new.constant_bits, [24, 24, 24, 24, 7, 24]);
+        assert_eq!(new.widths, sample(2).widths);
+        for (node, bits) in [(0, 7), (7, 7), (1, 0), (1, 25)] {
+            let (same, refused) = sample(2).constant_changed(node, bits);
+            assert_eq!(refused, Err(Refusal::plain(4)));
+            assert_eq!(same, sample(2));
+        }
+        // A malformed table is not mended by a change.
+        let mut broken = sample(2);
+        broken.constant_bits[0] = 0;
+        let (same, refused) = broken.clone().constant_changed(1, 5);
+        assert_eq!(refused, Err(Refusal::plain(4)));
+        assert_eq!(same, broken);
+    }
+
+    #[test]
+    fn parts_of_a_table() {
+        for levels in 1..=5 {
+            let table = sample(levels);
+            let parts = table.parts();
+            assert_eq!(parts[..36 * levels as usize], table.bytes().unwrap()[20..]);
+            assert!(parts[36 * levels as usize..].iter().all(|&b| b == 0));
+            let again = WidthTable::of_parts(8, levels, [24; 6], &parts);
+            assert_eq!(again, table);
+        }
+        // With a level less, what was its last is not zero.
+        let parts = sample(3).parts();
+        assert_eq!(
+            number(WidthTable::of_parts(8, 2, [24; 6], &parts).bytes()),
+            4
+        );
     }
 
     #[test]

@@ -6,6 +6,7 @@
 //! of its own steps off, 1 where one is not or the engine refuses, 2 for a
 //! wrong command line or file.
 
+use compare::farthest::band;
 use reference::exact97;
 use reference::places::kept_node;
 use reference::WidthTable;
@@ -36,16 +37,11 @@ fn measure(arguments: &[String]) -> Result<bool, (u8, String)> {
     let exact = exact97::transform(table.depth, table.levels, &picture.pixels, width, height);
     let distance = exact.distance(&table, &plane);
     let node = kept_node(width, height, table.levels, distance.x, distance.y);
-    let band = match (node.pass, node.node) {
-        (2, 5) => "LL",
-        (2, _) => "LH",
-        (_, 5) => "HL",
-        _ => "HH",
-    };
     println!(
         "{table_path}: largest distance from the exact transform {:.4} steps \
-         ({width} x {height} pixels, at {band} of level {}, {} fractional bits)",
+         ({width} x {height} pixels, at {} of level {}, {} fractional bits)",
         distance.steps,
+        band(node),
         node.level,
         table.width(node).fraction_bits
     );

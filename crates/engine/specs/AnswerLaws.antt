@@ -108,10 +108,10 @@ module _ (bytes : List ℕ) (change : Answer Unit) (new : WidthTable) (out : Lis
 
   -- what the call gives
   pub record Gives (o : Answer Unit) (l : List ℕ) : Type 0 where
-    pub answers : newTableAnswer bytes change new out ≡ o
-    pub leaves : l ≡ newTableOut bytes change new out
+    pub answers : newTableAnswer bytes change out ≡ o
+    pub leaves : l ≡ newTableOut bytes change out new
 
-  gives : (o : Answer Unit) → newTableAnswer bytes change new out ≡ o → Gives o (after o)
+  gives : (o : Answer Unit) → newTableAnswer bytes change out ≡ o → Gives o (after o)
   unfolding newTableOut
   gives o e = record { answers = e; leaves = sym (ap after e) }
 

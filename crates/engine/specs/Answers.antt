@@ -45,31 +45,31 @@ module _ (bytes : List ℕ) (level pass node : ℕ) where
   errorAfter error = answered boundAnswered (boundIn .error) error
 
 -- A new table from the old one, written to lent bytes: 1 to 5 of the old one's bytes, 4 for the change, 9 where the lent bytes are too short.
-module _ (bytes : List ℕ) (change : Answer Unit) (new : WidthTable) (out : List ℕ) where
+module _ (bytes : List ℕ) (change : Answer Unit) (out : List ℕ) where
   unfoldable pub newTableAnswer : Answer Unit
   newTableAnswer =
       form bytes
       then change
       then asks (leb (tableSize (levelsIn bytes)) (length out)) 9 passed
 
-  unfoldable pub newTableOut : List ℕ
-  newTableOut = answered newTableAnswer (over (tableBytes new) out) out
+  unfoldable pub newTableOut : WidthTable → List ℕ
+  newTableOut new = answered newTableAnswer (over (tableBytes new) out) out
 
 -- with another width of a node
 module _ (bytes : List ℕ) (level pass node IB f : ℕ) (out : List ℕ) where
   abbrev pub changeAnswer : Answer Unit
-  changeAnswer = newTableAnswer bytes (changeable (tableIn bytes) level pass node IB f) (withWidth (tableIn bytes) level pass node IB f) out
+  changeAnswer = newTableAnswer bytes (changeable (tableIn bytes) level pass node IB f) out
 
   abbrev pub changeOut : List ℕ
-  changeOut = newTableOut bytes (changeable (tableIn bytes) level pass node IB f) (withWidth (tableIn bytes) level pass node IB f) out
+  changeOut = newTableOut bytes (changeable (tableIn bytes) level pass node IB f) out (withWidth (tableIn bytes) level pass node IB f)
 
 -- with other bits of a stage's constant
 module _ (bytes : List ℕ) (node F : ℕ) (out : List ℕ) where
   abbrev pub constantChangeAnswer : Answer Unit
-  constantChangeAnswer = newTableAnswer bytes (constantChangeable (tableIn bytes) node F) (withConstant (tableIn bytes) node F) out
+  constantChangeAnswer = newTableAnswer bytes (constantChangeable (tableIn bytes) node F) out
 
   abbrev pub constantChangeOut : List ℕ
-  constantChangeOut = newTableOut bytes (constantChangeable (tableIn bytes) node F) (withConstant (tableIn bytes) node F) out
+  constantChangeOut = newTableOut bytes (constantChangeable (tableIn bytes) node F) out (withConstant (tableIn bytes) node F)
 
 -- a table from its parts
 abbrev pub tableFrom : ℕ → ℕ → List ℕ → List ℕ → WidthTable

@@ -1,14 +1,22 @@
 -- What an answer of 0 promises, at the bytes (document 01, demand 3).
 use Prim.Native.Nat.{ℕ, suc, _+_, _*_, _<_, _≤_}
 use mathlib.Core.List.{List}
-use mathlib.Core.Path.{_≡_, sym, _∙_, ap, subst}
+use mathlib.Core.Path.{_≡_, refl, sym, _∙_, ap, subst}
+use mathlib.Core.Bool.{Bool, true, false}
+use lib.Dec.{T}
 use lib.ListN.{length, getD}
 use lib.IntN.{ℤ, pos}
 use Rattle.refusals.specs.Answers.{Answer, passed, code}
 use Rattle.refusals.specs.AnswerLaws.{then-done, then-right, answered-done}
 use Rattle.lines.specs.Planes.{side}
 use Rattle.exact.specs.Picture.{exactPlane}
-use Rattle.width_table.specs.Bytes.{form, tableIn}
+use Rattle.width_table.specs.declared.WidthTable.{WidthTable}
+use Rattle.width_table.specs.Table.{formRight}
+use Rattle.width_table.specs.Bytes.{form, tableIn, tableBytes}
+use Rattle.width_table.specs.FormLists.{Sized}
+use Rattle.width_table.specs.ReadLaws.{table-read}
+use Rattle.width_table.specs.RoundTrip.{written-reads}
+use Rattle.precision.specs.Promise.{promise}
 use Rattle.pictures.specs.PictureLaws.{Room, sized, sized-then, sized-right, pixels-right}
 use Rattle.precision.specs.Verdict.{verdict, Accepted}
 use Rattle.irreversible.specs.Transforms.{fixedAfter, fixedPlane}
@@ -66,3 +74,16 @@ module _ (bytes : List ℕ) (zero : code (checked bytes) ≡ 0) (pixels : List �
       ∙ sized-then (t .levels) w h (length pixels) (length plane) (length work) _
       ∙ then-right (sized (t .levels) w h (length pixels) (length plane) (length work)) _ (sized-right (t .levels) w h (length pixels) (length plane) (length work) room)
       ∙ pixels-right (t .depth) w h pixels a (picture .depth))
+
+-- ---- and no premise is empty: an accepted table, written as bytes, is answered 0 by suz_table_check
+
+module _ (t : WidthTable) (sized : Sized t) (ok : Accepted t) where
+  is-true : (b : Bool) → T b → b ≡ true
+  is-true true h = refl
+  is-true false h = absurd h
+
+  pub accepted-checks : code (checked (tableBytes t)) ≡ 0
+  unfolding checked
+  accepted-checks =
+      let (formed, back) = written-reads t sized (is-true (formRight t) (promise t ok .form)) in
+      ap (λ (o : Answer Unit). code o) (then-right (form (tableBytes t)) _ formed ∙ ap verdict (sym (table-read (tableBytes t) formed) ∙ back) ∙ ok)

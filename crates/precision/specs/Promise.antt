@@ -8,8 +8,8 @@ use lib.Dec.{T, leb→le, le→leb, ltb→lt, lt→ltb}
 use Rattle.numbers.specs.Lists.{In, here, there}
 use Rattle.width_table.specs.Nodes.{Node, P1, U1, P2, U2, G1, G2, Pass, Rows, LowColumns, HighColumns, TableNode, nodeAt, passNodes, levelNodes, bookOrder}
 use Rattle.width_table.specs.declared.WidthTable.{WidthTable}
-use Rattle.refusals.specs.Answers.{Answer, done, refused, passed, _then_}
-use Rattle.refusals.specs.AnswerLaws.{asks-done, asks-right, then-done, then-right}
+use Rattle.refusals.specs.Answers.{Answer, passed, _then_}
+use Rattle.refusals.specs.AnswerLaws.{asks-done, asks-right, then-done, then-assoc, then-right}
 use Rattle.width_table.specs.Table.{integerBits, fractionBits, formRight}
 use Rattle.width_table.specs.Limits.{in-order}
 use Rattle.precision.specs.Bounds.{boundOf}
@@ -97,7 +97,3 @@ pub refusal-++ : (t : WidthTable) (ps qs : List TableNode) → firstRefusal t (p
 unfolding firstRefusal
 refusal-++ t [] qs = refl
 refusal-++ t (p ∷ ps) qs = ap (λ (o : Answer Unit). judged t p then o) (refusal-++ t ps qs) ∙ then-assoc (judged t p) (firstRefusal t ps) (firstRefusal t qs)
-  where
-    then-assoc : (u v w : Answer Unit) → u then (v then w) ≡ (u then v) then w
-    then-assoc (done tt) v w = refl
-    then-assoc (refused r) v w = refl

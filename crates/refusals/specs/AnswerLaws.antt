@@ -26,6 +26,10 @@ pub then-done : {B : Type 0} (a : Answer Unit) (b : Answer B) {y : B} → a then
 then-done (done tt) b e = (refl, e)
 then-done (refused r) b {y} e = never r y e
 
+pub then-assoc : {B : Type 0} (u v : Answer Unit) (w : Answer B) → u then v then w ≡ (u then v) then w
+then-assoc (done tt) v w = refl
+then-assoc (refused r) v w = refl
+
 -- a judgement, and then what is given where it holds
 module _ {B : Type 0} where
   pub gives-done : (a : Answer Unit) (x : B) {y : B} → a then done x ≡ done y → (a ≡ done tt) × (x ≡ y)

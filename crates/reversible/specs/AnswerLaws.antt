@@ -7,10 +7,10 @@ use mathlib.Core.Bool.{Bool, true, false, not, _&&_}
 use mathlib.Core.Path.{_≡_, refl, sym, _∙_, ap, subst}
 use lib.Dec.{T}
 use Rattle.numbers.specs.Tests.{both, between-≤}
-use Rattle.refusals.specs.Answers.{Reason, Answer, done, refused, passed, asks, _then_}
+use Rattle.refusals.specs.Answers.{Reason, Answer, refused, passed, asks, _then_}
 use Rattle.width_table.specs.Table.{depthRight, levelsRight, maxDepth, maxLevels}
 use Rattle.numbers.specs.Lists.{over}
-use Rattle.refusals.specs.AnswerLaws.{asks-done, asks-right, asks-wrong, then-done, then-right, then-refused, answered-done, answered-refused}
+use Rattle.refusals.specs.AnswerLaws.{asks-done, asks-right, asks-wrong, then-done, then-assoc, then-right, then-refused, answered-done, answered-refused}
 use Rattle.lines.specs.Planes.{rowByRow}
 use Rattle.pictures.specs.Pictures.{pixelsRight, sample, zeroed}
 use Rattle.pictures.specs.PictureLaws.{sized, sized-then, sized-done, pixels-done}
@@ -26,10 +26,6 @@ module _ (B L : ℕ) (o : Answer Unit) where
 
   pub limits-broken : (depthRight B && levelsRight L) ≡ false → limited B L then o ≡ refused (4, [])
   limits-broken e = then-refused (limited B L) o (4, []) (asks-wrong (depthRight B && levelsRight L) (4, []) passed e)
-
-then-assoc : (a b c : Answer Unit) → a then b then c ≡ (a then b) then c
-then-assoc (done x) b c = refl
-then-assoc (refused r) b c = refl
 
 -- ---- a call that is allowed
 

@@ -7,7 +7,7 @@ use native.Mathlib.Omega.{arith}
 use lib.ListN.{length, take, drop, length-drop}
 use lib.Seq.{length-take-le}
 use Rattle.refusals.specs.Answers.{Reason, Answer, done, refused, passed, asks, _then_}
-use Rattle.refusals.specs.AnswerLaws.{asks-done, then-done, answered-done, answered-refused}
+use Rattle.refusals.specs.AnswerLaws.{asks-done, gives-done, gives-refused, answered-done, answered-refused}
 use Rattle.numbers.specs.Tests.{between-≤}
 use Rattle.width_table.specs.Table.{maxLevels}
 use Rattle.width_table.specs.Fields.{depthTag, nodesTag, tagRight, IsTag, tableSize, valueStart, valueLength}
@@ -15,14 +15,6 @@ use Rattle.width_table.specs.Bytes.{levelsIn, form, valueIn}
 use Rattle.width_table.specs.Names.{nameable, naming, valueOf}
 use Rattle.width_table.specs.BytesLaws.{form-long, levels-byte, levels-most}
 use Rattle.width_table.specs.ReadLaws.{value-ends, value-some}
-
--- a place is one start and one length
-same-place : {a b c d : ℕ} → _≡_ {A = Answer (ℕ × ℕ)} (done (a, b)) (done (c, d)) → (a ≡ c) × (b ≡ d)
-same-place {a} {b} e = (ap (λ (o : Answer (ℕ × ℕ)). place o .0) e, ap (λ (o : Answer (ℕ × ℕ)). place o .1) e)
-  where
-    place : Answer (ℕ × ℕ) → ℕ × ℕ
-    place (done p) = p
-    place (refused r) = (a, b)
 
 module _ (bytes : List ℕ) (tag : ℕ) where
   abbrev start : ℕ
@@ -55,9 +47,10 @@ module _ (bytes : List ℕ) (tag : ℕ) where
   pub valued : (from len : ℕ) → naming bytes tag ≡ done (from, len) → Valued from len
   unfolding naming valueOf nameable
   valued from len e =
-      let d = then-done (nameable bytes tag) (done (start, long)) e in
+      let d = gives-done (nameable bytes tag) (start, long) e in
       let a = asks-done (tagRight tag) _ _ (d .0) in
-      let (x, y) = same-place (d .1) in
+      let x : start ≡ from = ap (λ (p : ℕ × ℕ). p .0) (d .1) in
+      let y : long ≡ len = ap (λ (p : ℕ × ℕ). p .1) (d .1) in
       let h : IsTag tag = between-≤ depthTag nodesTag tag (a .0) in
       let ends = value-ends (levelsIn bytes) tag h in
       let fits : from + len ≤ length bytes = omega (arith, ends, form-long bytes (a .1)) in
@@ -73,11 +66,4 @@ module _ (bytes : List ℕ) (tag : ℕ) where
   -- no place, no value: the part is empty
   pub no-value : (r : Reason) → naming bytes tag ≡ refused r → valueOf bytes tag ≡ []
   unfolding naming valueOf
-  no-value r e = go (nameable bytes tag) refl
-    where
-      go : (o : Answer Unit) → nameable bytes tag ≡ o → valueOf bytes tag ≡ []
-      go (done a) q =
-          let z : _≡_ {A = Answer (ℕ × ℕ)} (done (start, long)) (refused r) = sym (ap (λ (o : Answer Unit). o then done (start, long)) q) ∙ e in
-          let n : _≡_ {A = ℕ} 0 1 = cc in
-          absurd (omega arith)
-      go (refused s) q = answered-refused (valueIn bytes tag) [] q
+  no-value r e = answered-refused (valueIn bytes tag) [] (gives-refused (nameable bytes tag) (start, long) r e)

@@ -20,7 +20,9 @@ use Rattle.width_table.specs.ChangeLaws.{width-form, constant-form}
 use Rattle.precision.specs.Verdict.{verdict}
 use Rattle.precision.specs.BoundCalls.{boundable}
 use Rattle.irreversible.specs.Calls.{fixedAnswer, fixedPlaneAfter, fixedWork}
-use Rattle.engine.specs.Answers.{checked, startAfter, lengthAfter, boundAnswered, boundIn, rangeAfter, errorAfter, newTableAnswer, newTableOut, answer97, plane97, work97}
+use Rattle.view_precision.specs.Bounds.{viewVerdict, viewDistance}
+use Rattle.viewing.specs.Calls.{viewAnswer, viewPixels, viewWork}
+use Rattle.engine.specs.Answers.{checked, startAfter, lengthAfter, boundAnswered, boundIn, rangeAfter, errorAfter, newTableAnswer, newTableOut, answer97, plane97, work97, viewChecked, distanceAfter, viewAnswer97, viewPixels97, viewWork97}
 
 -- ---- a tag that is named
 
@@ -169,4 +171,43 @@ module _ (bytes : List ℕ) (w h : ℕ) (pixels : List ℕ) (plane work : List �
     answers = then-right (form bytes) (fixedAnswer (tableIn bytes) w h pixels plane work) e;
     leaves-plane = sym (answered-done (fixedPlaneAfter (tableIn bytes) w h pixels plane work) plane e);
     leaves-work = sym (answered-done (fixedWork (tableIn bytes) w h pixels plane work) work e);
+  }
+
+-- ---- viewing
+
+module _ (bytes : List ℕ) where
+  pub view-refused : (r : Reason) → form bytes ≡ refused r → viewChecked bytes ≡ refused r
+  unfolding viewChecked
+  view-refused r e = then-refused (form bytes) (viewVerdict (tableIn bytes)) r e
+
+  pub view-judged : form bytes ≡ passed → viewChecked bytes ≡ viewVerdict (tableIn bytes)
+  unfolding viewChecked
+  view-judged e = then-right (form bytes) (viewVerdict (tableIn bytes)) e
+
+  -- what the distance's number holds afterwards
+  pub leaves-distance : (distance : ℕ) (o : Answer Unit) → viewChecked bytes ≡ o → answered o (viewDistance (tableIn bytes)) distance ≡ distanceAfter bytes distance
+  unfolding distanceAfter
+  leaves-distance distance o e = sym (ap (λ (o : Answer Unit). answered o (viewDistance (tableIn bytes)) distance) e)
+
+module _ (bytes : List ℕ) (w h : ℕ) (plane : List ℤ) (pixels : List ℕ) (work : List ℤ) where
+  -- what the call gives
+  pub record GivesView (o : Answer Unit) (p : List ℕ) (q : List ℤ) : Type 0 where
+    pub answers : viewAnswer97 bytes w h plane pixels work ≡ o
+    pub leaves-pixels : p ≡ viewPixels97 bytes w h plane pixels work
+    pub leaves-work : q ≡ viewWork97 bytes w h plane pixels work
+
+  pub unread-view : (r : Reason) → form bytes ≡ refused r → GivesView (refused r) pixels work
+  unfolding viewAnswer97 viewPixels97 viewWork97
+  unread-view r e = record {
+    answers = then-refused (form bytes) (viewAnswer (tableIn bytes) w h plane pixels work) r e;
+    leaves-pixels = sym (answered-refused (viewPixels (tableIn bytes) w h plane pixels work) pixels e);
+    leaves-work = sym (answered-refused (viewWork (tableIn bytes) w h plane pixels work) work e);
+  }
+
+  pub read-view : form bytes ≡ passed → GivesView (viewAnswer (tableIn bytes) w h plane pixels work) (viewPixels (tableIn bytes) w h plane pixels work) (viewWork (tableIn bytes) w h plane pixels work)
+  unfolding viewAnswer97 viewPixels97 viewWork97
+  read-view e = record {
+    answers = then-right (form bytes) (viewAnswer (tableIn bytes) w h plane pixels work) e;
+    leaves-pixels = sym (answered-done (viewPixels (tableIn bytes) w h plane pixels work) pixels e);
+    leaves-work = sym (answered-done (viewWork (tableIn bytes) w h plane pixels work) work e);
   }

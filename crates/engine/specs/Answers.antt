@@ -15,6 +15,8 @@ use Rattle.stages.specs.Rule.{Bound}
 use Rattle.precision.specs.Verdict.{verdict}
 use Rattle.precision.specs.BoundCalls.{boundable, boundNumbered}
 use Rattle.irreversible.specs.Calls.{fixedAnswer, fixedPlaneAfter, fixedWork}
+use Rattle.view_precision.specs.Bounds.{viewVerdict, viewDistance}
+use Rattle.viewing.specs.Calls.{viewAnswer, viewPixels, viewWork}
 
 -- ---- tables
 
@@ -86,3 +88,23 @@ module _ (bytes : List ℕ) (w h : ℕ) (pixels : List ℕ) (plane work : List �
 
   unfoldable pub work97 : List ℤ
   work97 = answered (form bytes) (fixedWork (tableIn bytes) w h pixels plane work) work
+
+-- ---- viewing (document 02, job 1): 1 to 5 of the bytes, then the call's own
+
+-- 1 to 5 by fields, 6 and 7 in node order, 13
+unfoldable pub viewChecked : List ℕ → Answer Unit
+viewChecked bytes = form bytes then viewVerdict (tableIn bytes)
+
+-- the distance from scan to view, written where the answer is 0
+unfoldable pub distanceAfter : List ℕ → ℕ → ℕ
+distanceAfter bytes distance = answered (viewChecked bytes) (viewDistance (tableIn bytes)) distance
+
+module _ (bytes : List ℕ) (w h : ℕ) (plane : List ℤ) (pixels : List ℕ) (work : List ℤ) where
+  unfoldable pub viewAnswer97 : Answer Unit
+  viewAnswer97 = form bytes then viewAnswer (tableIn bytes) w h plane pixels work
+
+  unfoldable pub viewPixels97 : List ℕ
+  viewPixels97 = answered (form bytes) (viewPixels (tableIn bytes) w h plane pixels work) pixels
+
+  unfoldable pub viewWork97 : List ℤ
+  viewWork97 = answered (form bytes) (viewWork (tableIn bytes) w h plane pixels work) work

@@ -20,7 +20,11 @@ use Rattle.stages.specs.Rule.{Bound}
 use Rattle.precision.specs.Bounds.{boundOf}
 use Rattle.precision.specs.Verdict.{fits, belowTwoSteps, keptAt, placeNumbers, judgedBy, judged, firstRefusal, verdict}
 use Rattle.irreversible.specs.Calls.{fixedAnswer}
-use Rattle.engine.specs.Answers.{checked, answer97}
+use Rattle.lines.specs.Planes.{rowByRow}
+use Rattle.pictures.specs.Pictures.{planeOf}
+use Rattle.view_precision.specs.Bounds.{viewable, viewVerdict}
+use Rattle.viewing.specs.Calls.{inWidth, coefficientsRight, viewAnswer}
+use Rattle.engine.specs.Answers.{checked, answer97, viewChecked, viewAnswer97}
 
 -- one rule and nothing after it
 last-from-one : (t : Bool) (n : ℕ) → 1 ≤ n → FromOne (asks {A = Unit} t n passed)
@@ -81,3 +85,29 @@ unfolding answer97
 zero97 bytes w h pixels plane work =
     code-zero (answer97 bytes w h pixels plane work)
     (then-from-one (form bytes) (fixedAnswer (tableIn bytes) w h pixels plane work) (form-from-one bytes) (fixed-from-one (tableIn bytes) w h pixels plane work))
+
+-- ---- viewing
+
+view-verdict-from-one : (t : WidthTable) → FromOne (viewVerdict t)
+unfolding viewVerdict
+view-verdict-from-one t = then-from-one (verdict t) _ (verdict-from-one t) (last-from-one (viewable t) 13 (omega arith))
+
+pub view-checked-zero : (bytes : List ℕ) → code (viewChecked bytes) ≡ 0 → viewChecked bytes ≡ passed
+unfolding viewChecked
+view-checked-zero bytes = code-zero (viewChecked bytes) (then-from-one (form bytes) (viewVerdict (tableIn bytes)) (form-from-one bytes) (view-verdict-from-one (tableIn bytes)))
+
+view-from-one : (t : WidthTable) (w h : ℕ) (plane : List ℤ) (pixels : List ℕ) (work : List ℤ) → FromOne (viewAnswer t w h plane pixels work)
+unfolding viewAnswer sided coefficientsRight
+view-from-one t w h plane pixels work =
+    then-from-one (viewVerdict t) _ (view-verdict-from-one t)
+    (then-from-one (sided (t .levels) w h) _ (last-from-one (sideRight (t .levels) w && sideRight (t .levels) h) 8 (omega arith))
+    (then-from-one (holds (w * h) (length pixels)) _ (holds-from-one _ _)
+    (then-from-one (holds (w * h) (length plane)) _ (holds-from-one _ _)
+    (then-from-one (holds (w * h) (length work)) _ (holds-from-one _ _)
+    (last-from-one (every (λ q. q) (rowByRow w h (inWidth t w h (planeOf w plane)))) 12 (omega arith))))))
+
+pub view-zero97 : (bytes : List ℕ) (w h : ℕ) (plane : List ℤ) (pixels : List ℕ) (work : List ℤ) → code (viewAnswer97 bytes w h plane pixels work) ≡ 0 → viewAnswer97 bytes w h plane pixels work ≡ passed
+unfolding viewAnswer97
+view-zero97 bytes w h plane pixels work =
+    code-zero (viewAnswer97 bytes w h plane pixels work)
+    (then-from-one (form bytes) (viewAnswer (tableIn bytes) w h plane pixels work) (form-from-one bytes) (view-from-one (tableIn bytes) w h plane pixels work))

@@ -5,7 +5,7 @@ ghost use Rattle.refusals.specs.Told.{told};
 ghost use Rattle.width_table.specs.Bytes.{form, writable, bytesAfter};
 ghost use Rattle.width_table.specs.Names.{nameable};
 ghost use Rattle.reversible.specs.Calls.{forwardAnswer, forwardPlane, forwardWork, backAnswer, backPixels, backWork};
-ghost use Rattle.engine.specs.Answers.{checked, boundAnswered, rangeAfter, errorAfter, startAfter, lengthAfter, changeAnswer, changeOut, constantChangeAnswer, constantChangeOut, tableFrom, answer97, plane97, work97};
+ghost use Rattle.engine.specs.Answers.{checked, boundAnswered, rangeAfter, errorAfter, startAfter, lengthAfter, changeAnswer, changeOut, constantChangeAnswer, constantChangeOut, tableFrom, answer97, plane97, work97, viewChecked, distanceAfter, viewAnswer97, viewPixels97, viewWork97};
 use refusals::Outcome;
 use refusals::refusal_code;
 use width_table::Named;
@@ -228,6 +228,72 @@ pub extern "C" fn suz_forward97(
         Outcome::Done => {
             let held = read.table;
             refusals::code(irreversible::forward(held, pixels, width, height, plane, work))
+        }
+    }
+}
+
+// Would viewing refuse this table? 1 to 5, 6 and 7, 13.
+#[no_mangle]
+pub extern "C" fn suz_table_view(table: &[u8]) -> u32
+    ensures { λ r. ⌜ r ≡ code (viewChecked (now (table .entry))) ⌝ }
+{
+    let read = WidthTable::read(table);
+    let outcome = read.outcome;
+    match outcome {
+        Outcome::Refused(why) => refusal_code(why),
+        Outcome::Done => {
+            let held = read.table;
+            refusals::code(view_precision::judge(held))
+        }
+    }
+}
+
+// How far a viewed strip can be from what was scanned, in units of 2^-32, written where the answer is 0: 1 to 5, 6 and 7, 13.
+#[no_mangle]
+pub extern "C" fn suz_view_distance(table: &[u8], distance: &mut u64) -> u32
+    ensures answer { λ r. ⌜ r ≡ code (viewChecked (now (table .entry))) ⌝ }
+    ensures distance { λ _. ⌜ now (distance .exit) ≡ distanceAfter (now (table .entry)) (now (distance .entry)) ⌝ }
+{
+    let read = WidthTable::read(table);
+    let outcome = read.outcome;
+    match outcome {
+        Outcome::Refused(why) => refusal_code(why),
+        Outcome::Done => {
+            let held = read.table;
+            let found = view_precision::distance(held);
+            let answer = found.outcome;
+            match answer {
+                Outcome::Refused(why) => refusal_code(why),
+                Outcome::Done => {
+                    *distance = found.distance;
+                    0
+                }
+            }
+        }
+    }
+}
+
+// The picture of a stored 9/7 plane: 1 to 5 of the bytes, then 6 and 7, 13, 8, 9, 12.
+#[no_mangle]
+pub extern "C" fn suz_view97(
+    table: &[u8],
+    plane: &[i32],
+    width: usize,
+    height: usize,
+    pixels: &mut [u16],
+    work: &mut [i64],
+) -> u32
+    ensures answer { λ r. ⌜ r ≡ code (viewAnswer97 (now (table .entry)) width height (now (plane .entry)) (now (pixels .entry)) (now (work .entry))) ⌝ }
+    ensures pixels { λ _. ⌜ now (pixels .exit) ≡ viewPixels97 (now (table .entry)) width height (now (plane .entry)) (now (pixels .entry)) (now (work .entry)) ⌝ }
+    ensures work { λ _. ⌜ now (work .exit) ≡ viewWork97 (now (table .entry)) width height (now (plane .entry)) (now (pixels .entry)) (now (work .entry)) ⌝ }
+{
+    let read = WidthTable::read(table);
+    let outcome = read.outcome;
+    match outcome {
+        Outcome::Refused(why) => refusal_code(why),
+        Outcome::Done => {
+            let held = read.table;
+            refusals::code(viewing::view(held, plane, width, height, pixels, work))
         }
     }
 }

@@ -2,7 +2,7 @@
 use Prim.Native.Nat.{ℕ, _+_, _*_, _<_, _≤_}
 use mathlib.Core.Path.{_≡_, refl, sym, _∙_, ap}
 use native.Mathlib.Omega.{arith}
-use native.Mathlib.Nat.{mul-le-mul-right, mul-le-mul, le-of-mul-le-mul-right}
+use native.Mathlib.Nat.{mul-le-mul-right, mul-le-mul, le-of-mul-le-mul-right, le-trans}
 use lib.IntN.{ℤ, pos, negℤ, natAbs, _+ℤ_, _*ℤ_, *ℤ-comm, +ℤ-comm, +ℤ-assoc, zero-*ℤ, *ℤ-zero, +ℤ-idl}
 use Rattle.numbers.specs.Dif.{by-dif, difs}
 use Rattle.numbers.specs.Laws.{*ℤ-assoc, *ℤ-distl, *ℤ-distr, *ℤ-left-comm, *ℤ-cancel, *ℤ-neg-l, *ℤ-neg-r, +ℤ-left-comm, *ℤ-one-l, *ℤ-one-r}
@@ -124,11 +124,15 @@ neg-⊕ x y = record { eq = ap (λ (t : ℤ). t *ℤ pos (x .den * y .den)) (law
     law : (a b p q : ℤ) → negℤ (a *ℤ q +ℤ b *ℤ p) ≡ negℤ a *ℤ q +ℤ negℤ b *ℤ p
     law = by-dif _ λ a a'. by-dif _ λ b b'. by-dif _ λ p p'. by-dif _ λ q q'. simp difs (omega arith)
 
+pub neg-cong : {x y : Frac} → x ≈ y → neg x ≈ neg y
+unfolding neg
+neg-cong {x} {y} h = record { eq = *ℤ-neg-l (x .num) (pos (y .den)) ∙ ap negℤ (h .eq) ∙ sym (*ℤ-neg-l (y .num) (pos (x .den))) }
+
 neg-⊗ : (c x : Frac) → c ⊗ neg x ≈ neg (c ⊗ x)
 unfolding _⊗_ neg
 neg-⊗ c x = record { eq = ap (λ (t : ℤ). t *ℤ pos (c .den * x .den)) (*ℤ-neg-r (c .num) (x .num)) }
 
-neg-⊗-l : (c x : Frac) → neg c ⊗ x ≈ neg (c ⊗ x)
+pub neg-⊗-l : (c x : Frac) → neg c ⊗ x ≈ neg (c ⊗ x)
 unfolding _⊗_ neg
 neg-⊗-l c x = record { eq = ap (λ (t : ℤ). t *ℤ pos (c .den * x .den)) (*ℤ-neg-l (c .num) (x .num)) }
 
@@ -169,6 +173,10 @@ within-⊗ c {x} {p} {q} h = record { most = law (natAbs (c .num)) (natAbs (x .n
     law : (c a k m t : ℕ) → t ≡ c * a → a * q ≤ p * m → t * (k * q) ≤ c * p * (k * m)
     law c a k m t e j = omega (arith, ap (λ (s : ℕ). s * (k * q)) e, mul-le-mul-right (c * k) j)
 
+-- a greater bound
+pub within-most : {x : Frac} {p p' q : ℕ} → p ≤ p' → Within x p q → Within x p' q
+within-most {x} h w = record { most = le-trans (w .most) (mul-le-mul-right (x .den) h) }
+
 pub within-zero : (p q : ℕ) → Within zeroF p q
 unfolding whole
 within-zero p q = record { most = omega arith }
@@ -195,7 +203,7 @@ through a b v =
     (≈-trans (⊕-zero-l (neg b ⊕ v)) (⊕-comm (neg b) v))))
 
 -- (a - b) + b is a
-plus-back : (a b : Frac) → (a ⊕ neg b) ⊕ b ≈ a
+pub plus-back : (a b : Frac) → (a ⊕ neg b) ⊕ b ≈ a
 unfolding neg whole
 plus-back a b =
     ≈-trans (⊕-comm (a ⊕ neg b) b)

@@ -30,8 +30,7 @@ use Rattle.irreversible.specs.Transforms.{fixedLine, fixedAfter, fixedPl
 use Rattle.irreversible.specs.Claims.{Picture, keptNode, bitsPlane, Near, TwoSteps, Holds, LevelInWidth, Widths}
 use Rattle.precision.specs.Promise.{promise}
 use Rattle.exact.specs.FracLaws.{⊕-neg, ≈-sym, within-≈, within-zero}
-use Rattle.stages.specs.Sound.{Q}
-use Rattle.stages.specs.Sound.{Good}
+use Rattle.stages.specs.Sound.{Q, Good}
 use Rattle.irreversible.specs.Pass.{near, holds}
 use Rattle.irreversible.specs.Level.{rowV, rowX, newV, newX, level-good, level-in-width}
 use Rattle.irreversible.specs.Subbands.{InPart, part-before, kept-in, kept-out, kept-LL, kept-everywhere}
@@ -146,14 +145,19 @@ module _ (t : WidthTable) (ok : AcceptPromise t) (pixels : List ℕ) (w h : ℕ)
   good-everywhere zero z i r c p q = absurd (omega arith)
   good-everywhere (suc k) z i r c p q = good-next k i (after k (omega arith)) r c p q
 
-  result : (r c : ℕ) → r < h → c < w → Near (fixedPlane t pixels w h r c) (bitsPlane t w h r c) (exactPlane pixels (t .depth) (t .levels) w h r c)
+  -- Each coefficient of the plane is good for its kept node.
+  pub plane-good : (r c : ℕ) → r < h → c < w → Good (boundOf t (keptNode (t .levels) w h r c)) (bitsPlane t w h r c) (fixedPlane t pixels w h r c) (exactPlane pixels (t .depth) (t .levels) w h r c)
   unfolding fixedPlane bitsPlane exactPlane exactAfter GoodFor
+  plane-good = good-everywhere (t .levels) (form-levels t (ok .form) .0) (omega arith)
+
+  result : (r c : ℕ) → r < h → c < w → Near (fixedPlane t pixels w h r c) (bitsPlane t w h r c) (exactPlane pixels (t .depth) (t .levels) w h r c)
+  unfolding bitsPlane
   result r c p q =
       let K = kept-everywhere (t .levels) w h r c (form-levels t (ok .form) .0) p q in
       let k = keptNode (t .levels) w h r c in
       near (boundOf t k) (fractionBits t (k .level) (k .pass) (k .node)) _ _ (omega (arith, form-widths t (ok .form) (k .level) (K .least) (K .most) (k .pass) (k .node) .2))
       (ok .steps (k .level) (K .least) (K .most) (k .pass) (k .node) (K .kept))
-      (good-everywhere (t .levels) (form-levels t (ok .form) .0) (omega arith) r c p q)
+      (plane-good r c p q)
 
   in-width : (k : ℕ) → k < t .levels → LevelInWidth t (suc k) (side k w) (side k h) (fixedAfter t k pixels w h)
   unfolding boundOf
@@ -162,13 +166,13 @@ module _ (t : WidthTable) (ok : AcceptPromise t) (pixels : List ℕ) (w h : ℕ)
       (λ p n. form-widths t (ok .form) (suc k) (omega arith) i p n .0) (λ p n. ok .fit (suc k) (omega arith) i p n)
 
   kept-held : (r c : ℕ) → r < h → c < w → (let k = keptNode (t .levels) w h r c in Holds (integerBits t (k .level) (k .pass) (k .node)) (fractionBits t (k .level) (k .pass) (k .node)) (fixedPlane t pixels w h r c))
-  unfolding fixedPlane exactAfter GoodFor
+  unfolding bitsPlane
   kept-held r c p q =
       let K = kept-everywhere (t .levels) w h r c (form-levels t (ok .form) .0) p q in
       let k = keptNode (t .levels) w h r c in
       holds (boundOf t k) (fractionBits t (k .level) (k .pass) (k .node)) (integerBits t (k .level) (k .pass) (k .node)) _ _ (omega (arith, form-widths t (ok .form) (k .level) (K .least) (K .most) (k .pass) (k .node) .2))
       (form-widths t (ok .form) (k .level) (K .least) (K .most) (k .pass) (k .node) .0) (ok .fit (k .level) (K .least) (K .most) (k .pass) (k .node))
-      (good-everywhere (t .levels) (form-levels t (ok .form) .0) (omega arith) r c p q)
+      (plane-good r c p q)
 
 pub two-steps : TwoSteps
 two-steps t pixels w h ok picture r c p q = result t (promise t ok) pixels w h picture r c p q

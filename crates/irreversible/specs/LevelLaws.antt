@@ -114,7 +114,7 @@ module _ (t : WidthTable) (l W H w h : ℕ) (wide : Liftable w) (tall : Liftable
 
   row-stands : Stands W H (rowed t l W w h x) rowPlane
   unfolding rowPlane
-  row-stands = rows-stand (kernelOf t l Rows) W H w h x p wide inW inH stands
+  row-stands = rows-stand (worked (kernelOf t l Rows)) (worked-same (kernelOf t l Rows)) W H w h x p wide inW inH stands
 
   row-is : (r c : ℕ) → r < h → c < w → rowPlane r c ≡ rows (fixedLine t l Rows) w p r c
   unfolding rowPlane rows
@@ -131,39 +131,39 @@ module _ (t : WidthTable) (l W H w h : ℕ) (wide : Liftable w) (tall : Liftable
   -- after the columns of row-low
   lowPlane : Plane ℤ
   unfolding rowPlane
-  lowPlane = columnsPlane (kernelOf t l LowColumns) 0 (lows w) h rowPlane
+  lowPlane = columnsPlane (worked (kernelOf t l LowColumns)) 0 (lows w) h rowPlane
 
   low-stands : Stands W H (lowed t l W w h x) lowPlane
   unfolding lowPlane
-  low-stands = columns-stand (kernelOf t l LowColumns) W H 0 (lows w) h (rowed t l W w h x) rowPlane tall (omega arith) inH row-stands
+  low-stands = columns-stand (worked (kernelOf t l LowColumns)) (worked-same (kernelOf t l LowColumns)) W H 0 (lows w) h (rowed t l W w h x) rowPlane tall (omega arith) inH row-stands
 
   -- a column of row-high is not yet worked
   low-is : (r c : ℕ) → r < h → c < w → lows w ≤ c → lowPlane r c ≡ rows (fixedLine t l Rows) w p r c
   unfolding lowPlane
-  low-is r c i j a = columns-right (kernelOf t l LowColumns) 0 (lows w) h rowPlane r c (omega arith) ∙ row-is r c i j
+  low-is r c i j a = columns-right (worked (kernelOf t l LowColumns)) 0 (lows w) h rowPlane r c (omega arith) ∙ row-is r c i j
 
   -- a column that holds what the rows left, worked
   column-is : (q : Pass) (v : ℕ → ℤ) (r c : ℕ) → r < h → ((m : ℕ) → m < h → v m ≡ rows (fixedLine t l Rows) w p m c) → worked (kernelOf t l q) h v r ≡ fixedLine t l q h (λ m. rows (fixedLine t l Rows) w p m c) r
   column-is q v r c i same = worked-same (kernelOf t l q) h tall v _ same r i ∙ (λ u. worked-fixed t l q u h (λ m. rows (fixedLine t l Rows) w p m c) r)
 
   -- after all columns: the level
-  planes : (r c : ℕ) → columnsPlane (kernelOf t l HighColumns) (lows w) (highs w) h lowPlane r c ≡ fixedLevel t l w h p r c
+  planes : (r c : ℕ) → columnsPlane (worked (kernelOf t l HighColumns)) (lows w) (highs w) h lowPlane r c ≡ fixedLevel t l w h p r c
   unfolding rowsFirst lowPlane columns
-  planes = by-part (λ r c. columnsPlane (kernelOf t l HighColumns) (lows w) (highs w) h lowPlane r c ≡ fixedLevel t l w h p r c) w h
-      (λ r c i j. by-ltb (λ q. columnsPlane (kernelOf t l HighColumns) (lows w) (highs w) h lowPlane r c ≡ fixedLine t l (columnPass q) h (λ m. rows (fixedLine t l Rows) w p m c) r) c (lows w)
-      (λ a. columns-left (kernelOf t l HighColumns) (lows w) (highs w) h lowPlane r c a ∙ columns-in (kernelOf t l LowColumns) 0 (lows w) h rowPlane r c i (omega arith) (omega arith) ∙ column-is LowColumns _ r c i (λ m b. row-is m c b j))
-      (λ a. columns-in (kernelOf t l HighColumns) (lows w) (highs w) h lowPlane r c i a (omega arith) ∙ column-is HighColumns _ r c i (λ m b. low-is m c b j a))
+  planes = by-part (λ r c. columnsPlane (worked (kernelOf t l HighColumns)) (lows w) (highs w) h lowPlane r c ≡ fixedLevel t l w h p r c) w h
+      (λ r c i j. by-ltb (λ q. columnsPlane (worked (kernelOf t l HighColumns)) (lows w) (highs w) h lowPlane r c ≡ fixedLine t l (columnPass q) h (λ m. rows (fixedLine t l Rows) w p m c) r) c (lows w)
+      (λ a. columns-left (worked (kernelOf t l HighColumns)) (lows w) (highs w) h lowPlane r c a ∙ columns-in (worked (kernelOf t l LowColumns)) 0 (lows w) h rowPlane r c i (omega arith) (omega arith) ∙ column-is LowColumns _ r c i (λ m b. row-is m c b j))
+      (λ a. columns-in (worked (kernelOf t l HighColumns)) (lows w) (highs w) h lowPlane r c i a (omega arith) ∙ column-is HighColumns _ r c i (λ m b. low-is m c b j a))
       ∙ sym (within-in w h _ p r c i j))
-      (λ r c i. columns-below (kernelOf t l HighColumns) (lows w) (highs w) h lowPlane r c i ∙ columns-below (kernelOf t l LowColumns) 0 (lows w) h rowPlane r c i ∙ row-below r c i ∙ sym (within-below w h _ p r c i))
-      (λ r c j. columns-right (kernelOf t l HighColumns) (lows w) (highs w) h lowPlane r c (omega arith) ∙ columns-right (kernelOf t l LowColumns) 0 (lows w) h rowPlane r c (omega arith) ∙ row-beyond r c j ∙ sym (within-beyond w h _ p r c j))
+      (λ r c i. columns-below (worked (kernelOf t l HighColumns)) (lows w) (highs w) h lowPlane r c i ∙ columns-below (worked (kernelOf t l LowColumns)) 0 (lows w) h rowPlane r c i ∙ row-below r c i ∙ sym (within-below w h _ p r c i))
+      (λ r c j. columns-right (worked (kernelOf t l HighColumns)) (lows w) (highs w) h lowPlane r c (omega arith) ∙ columns-right (worked (kernelOf t l LowColumns)) 0 (lows w) h rowPlane r c (omega arith) ∙ row-beyond r c j ∙ sym (within-beyond w h _ p r c j))
 
   -- What stands after the level.
   pub level-stands : Stands W H (levelWorked t l W w h x) (fixedLevel t l w h p)
-  level-stands r c a b = columns-stand (kernelOf t l HighColumns) W H (lows w) (highs w) h (lowed t l W w h x) lowPlane tall (omega arith) inH low-stands r c a b ∙ planes r c
+  level-stands r c a b = columns-stand (worked (kernelOf t l HighColumns)) (worked-same (kernelOf t l HighColumns)) W H (lows w) (highs w) h (lowed t l W w h x) lowPlane tall (omega arith) inH low-stands r c a b ∙ planes r c
 
   -- What lies past the plane is as it was.
   pub level-beyond : (q : ℕ) → W * H ≤ q → levelWorked t l W w h x q ≡ x q
-  level-beyond q far = columns-beyond (kernelOf t l HighColumns) W H (lows w) (highs w) h (lowed t l W w h x) tall (omega arith) inH q far ∙ columns-beyond (kernelOf t l LowColumns) W H 0 (lows w) h (rowed t l W w h x) tall (omega arith) inH q far ∙ rows-beyond (kernelOf t l Rows) W H w h x wide inW inH q far
+  level-beyond q far = columns-beyond (worked (kernelOf t l HighColumns)) W H (lows w) (highs w) h (lowed t l W w h x) tall (omega arith) inH q far ∙ columns-beyond (worked (kernelOf t l LowColumns)) W H 0 (lows w) h (rowed t l W w h x) tall (omega arith) inH q far ∙ rows-beyond (worked (kernelOf t l Rows)) W H w h x wide inW inH q far
 
   module _ (bits : BitsRight t l) (inside : LevelSized t l w h p) where
     -- the bits that enter a column

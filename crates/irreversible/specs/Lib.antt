@@ -13,6 +13,7 @@
 --   Subbands     kept-LL, kept-HL, kept-LH, kept-HH: the kept node of each subband of each level
 --   Sizes        sum-size, product-size: 64 bits hold the sum of a stage
 --   Narrow       eleven-bits: range and error of every node of an accepted table leave room in eleven integer bits
+--                least-bits: what the columns of its level l leave has at least 2 l integer bits
 --   SizedLaws    sized: so each value on the way is below 2^10 in magnitude
 -- Proofs: Pass (by the rule of the crate stages, which is sound), Level lead to Demand3, in this order.
 -- For the code, which works lines by the kernels of the lifting crate:

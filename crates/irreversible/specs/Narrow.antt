@@ -1,15 +1,17 @@
 -- Under every accepted table eleven integer bits do: range plus error of each node is at most 2^10 - 2^-f (`eleven-bits`), and so of what
 -- enters a level (`enters-eleven`). Ranges do not depend on the table, and none is above 865. In a pass no error is larger than three
 -- times that of G1 or G2, and what enters has no larger error than either; each G1 or G2 is kept or enters a pass, so that no error is
--- larger than three times that of a kept node, which is below two steps.
+-- larger than three times that of a kept node, which is below two steps. What the columns of level l leave has at least 2 l integer bits
+-- (`least-bits`).
 use Prim.Native.Nat.{ℕ, zero, suc, _+_, _*_, _-_, _^_, _<_, _≤_}
 use mathlib.Core.Path.{_≡_, refl, _∙_, ap, subst}
 use mathlib.Core.Bool.{Bool, true, false, _&&_}
 use mathlib.Core.List.{[]}
 use native.Mathlib.Omega.{arith}
 use native.Mathlib.Decide.{decLt}
-use native.Mathlib.Nat.{mul-le-mul, mul-le-mul-left, pow-le-pow-right, le-trans}
+use native.Mathlib.Nat.{mul-le-mul-left, pow-le-pow-right, le-trans}
 use lib.Dec.{T, leb, leb→le, eqb, eqb-refl, lit≤}
+use lib.Pow.{pow-pos}
 use lib.ListN.{getD}
 use Rattle.numbers.specs.Tests.{both, four}
 use Rattle.exact.specs.Fractions.{upDiv}
@@ -18,13 +20,13 @@ use Rattle.stages.specs.Gains.{Source, samples, node, gain}
 use Rattle.stages.specs.Rule as Rule
 use Rattle.stages.specs.Rule.{Bound, timesGain, together, brought, rangeAt}
 use Rattle.stages.specs.Held.{weighed, nodesBring}
-use Rattle.stages.specs.RuleLaws.{timesGain-one, ownAt, error-sum}
+use Rattle.stages.specs.RuleLaws.{timesGain-one, times-grows, ownAt, error-sum}
 use Rattle.stages.specs.GainTable.{forwardGains, forwardSource, forward-gain}
-use Rattle.width_table.specs.Nodes.{Node, P1, U1, P2, U2, G1, G2, Pass, Rows, LowColumns, HighColumns, nodeAt, lastNode}
+use Rattle.width_table.specs.Nodes.{Node, P1, U1, P2, U2, G1, G2, Pass, Rows, LowColumns, HighColumns, columnPass, nodeAt, lastNode}
 use Rattle.width_table.specs.Limits.{form-levels}
 use Rattle.width_table.specs.Numbered.{nodeOf}
 use Rattle.width_table.specs.declared.WidthTable.{WidthTable}
-use Rattle.width_table.specs.Table.{maxLevels, constantBits, fractionBits, inputBits}
+use Rattle.width_table.specs.Table.{maxLevels, constantBits, integerBits, fractionBits, inputBits}
 use Rattle.precision.specs.Bounds.{boundAfter, boundAt, rowBound, passBound, entering, boundOf}
 use Rattle.precision.specs.Verdict.{keptAt, AcceptPromise}
 
@@ -42,13 +44,9 @@ times-under : (x g h k : ℕ) → g ≤ k * h → timesGain x g ≤ k * timesGai
 unfolding timesGain
 times-under x g h k i = up-most (x * g) _ (omega (arith, mul-le-mul-left x i, mul-le-mul-left k (up-least (x * h))))
 
-times-most : (x y g h : ℕ) → x ≤ y → g ≤ h → timesGain x g ≤ timesGain y h
-unfolding timesGain
-times-most x y g h i j = up-most (x * g) _ (le-trans (mul-le-mul i j) (up-least (y * h)))
-
 -- a gain of 1 or more
 times-least : (x g : ℕ) → 65536 ≤ g → x ≤ timesGain x g
-times-least x g h = omega (arith, timesGain-one x, times-most x x 65536 g (omega arith) h)
+times-least x g h = omega (arith, timesGain-one x, times-grows x x 65536 g (omega arith) h)
 
 -- ---- sums of them
 
@@ -248,14 +246,14 @@ given-most : (t : WidthTable) (l : ℕ) (b : Bound) (p : Pass) → given t l b p
 unfolding passBound
 given-most t l b Rows = times-least (b .range) (gainTo G1 0) (lit≤ tt)
 given-most t l b LowColumns = omega (arith, pass-range t l b Rows G1)
-given-most t l b HighColumns = omega (arith, pass-range t l b Rows G2, times-most (b .range) (b .range) (gainTo G2 0) (gainTo G1 0) (omega arith) (lit≤ tt))
+given-most t l b HighColumns = omega (arith, pass-range t l b Rows G2, times-grows (b .range) (b .range) (gainTo G2 0) (gainTo G1 0) (omega arith) (lit≤ tt))
 
 range-most : (t : WidthTable) (l : ℕ) → l ≤ maxLevels → (p : Pass) (n : Node) → passBound t l (entering t l) p n .range ≤ largest
 unfolding largest
 range-most t l h p n =
     let i : grown l ≤ grown maxLevels = leb→le (grown l) (grown maxLevels) (below-each (λ l. leb (grown l) (grown maxLevels)) (maxLevels + 1) l (omega arith) grown-tested) in
-    let j : given t l (entering t l) p .range ≤ timesGain (grown maxLevels) (gainTo G1 0) = le-trans (given-most t l (entering t l) p) (times-most (entering t l .range) (grown maxLevels) (gainTo G1 0) (gainTo G1 0) (omega (arith, grown-is t l)) (omega arith)) in
-    rw (pass-range t l (entering t l) p n) (times-most _ _ (gainTo n 0) (gainTo P1 0) j (gain-most n))
+    let j : given t l (entering t l) p .range ≤ timesGain (grown maxLevels) (gainTo G1 0) = le-trans (given-most t l (entering t l) p) (times-grows (entering t l .range) (grown maxLevels) (gainTo G1 0) (gainTo G1 0) (omega (arith, grown-is t l)) (omega arith)) in
+    rw (pass-range t l (entering t l) p n) (times-grows _ _ (gainTo n 0) (gainTo P1 0) j (gain-most n))
 
 -- ---- errors
 
@@ -313,3 +311,49 @@ unfolding entering boundOf
 enters-eleven t ok zero a b = absurd (omega arith)
 enters-eleven t ok (suc zero) a b = omega (arith, step-most (t .depth))
 enters-eleven t ok (suc (suc l)) a b = eleven-bits t ok (suc l) (omega arith) (omega arith) LowColumns G1
+
+-- ---- the least integer bits
+
+-- the range of high-high, which is the least that columns leave
+least : ℕ → ℕ
+least l = timesGain (timesGain (grown l) (gainTo G2 0)) (gainTo G2 0)
+
+gain-least : (q : Bool) → gainTo G2 0 ≤ gainTo (lastNode q) 0
+gain-least true = lit≤ tt
+gain-least false = lit≤ tt
+
+given-least : (t : WidthTable) (l : ℕ) (q : Bool) → timesGain (grown l) (gainTo G2 0) ≤ given t l (entering t l) (columnPass q) .range
+unfolding passBound
+given-least t l true = omega (arith, pass-range t l (entering t l) Rows G1, times-grows (grown l) (entering t l .range) (gainTo G2 0) (gainTo G1 0) (omega (arith, grown-is t l)) (gain-least true))
+given-least t l false = omega (arith, pass-range t l (entering t l) Rows G2, times-grows (grown l) (entering t l .range) (gainTo G2 0) (gainTo G2 0) (omega (arith, grown-is t l)) (gain-least false))
+
+range-least : (t : WidthTable) (l : ℕ) (q last : Bool) → least l ≤ passBound t l (entering t l) (columnPass q) (lastNode last) .range
+unfolding least
+range-least t l q last = rw (pass-range t l (entering t l) (columnPass q) (lastNode last)) (times-grows _ _ (gainTo G2 0) (gainTo (lastNode last) 0) (given-least t l q) (gain-least last))
+
+least-tested : T (below (λ l. leb (2 ^ (2 * l) * 2 ^ 32) (least (suc l))) maxLevels)
+unfolding below least grown timesGain upDiv
+least-tested = tt
+
+pub least-bits : (t : WidthTable) → AcceptPromise t → (l : ℕ) → 1 ≤ l → l ≤ t .levels → (q last : Bool) → 2 * l ≤ integerBits t l (columnPass q) (lastNode last)
+unfolding boundOf
+least-bits t ok zero a b q last = absurd (omega arith)
+least-bits t ok (suc l) a b q last = go (decLt (integerBits t (suc l) (columnPass q) (lastNode last)) (2 * suc l))
+  where
+    p : Pass
+    p = columnPass q
+
+    n : Node
+    n = lastNode last
+
+    go : Dec (integerBits t (suc l) p n < 2 * suc l) → 2 * suc l ≤ integerBits t (suc l) p n
+    go (yes i) =
+        absurd (omega (
+          arith,
+          leb→le (2 ^ (2 * l) * 2 ^ 32) (least (suc l)) (below-each (λ l. leb (2 ^ (2 * l) * 2 ^ 32) (least (suc l))) maxLevels l (omega (arith, form-levels t (ok .form) .1)) least-tested),
+          range-least t (suc l) q last,
+          ok .fit (suc l) a b p n,
+          pow-pos (32 - fractionBits t (suc l) p n),
+          pow-le-pow-right {n = 2} (lit≤ tt) {i = integerBits t (suc l) p n - 1} {j = 2 * l} (omega arith),
+        ))
+    go (no i) = omega arith

@@ -190,7 +190,7 @@ fn nearest_at(node: u8, bits: u8) -> i64
 }
 
 // 2 to a power.
-fn power(bits: u8) -> i64
+pub fn power(bits: u8) -> i64
     requires { ⌜ bits < 63 ⌝ }
     ensures { λ r. ⌜ r ≡ pos (2 ^ bits) ⌝ }
 {

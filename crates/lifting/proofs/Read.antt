@@ -5,17 +5,14 @@ use mathlib.Core.Path.{_≡_, sym, subst, _∙_}
 use lib.IntN.{ℤ}
 use lib.Signed.{mag}
 use mir.Syntax.{Width, w64}
-use mir.Val.{SFits, toZ, ofZ, hbits}
+use mir.Val.{SFits, hbits}
 use mir.Facts.{toZ-ofZ}
-use borrow.Author.Needs.{sfits-of}
 use Rattle.lifting.specs.declared.Step.{Step}
 use Rattle.lifting.specs.declared.Step.the-variants.{Scaled}
 use Rattle.lifting.specs.declared.Factor.{Factor}
 use Rattle.lifting.specs.declared.Factor.the-variants.{Plain}
 use Rattle.lifting.specs.Steps.{applied, Safe}
-
-abbrev pub back : Width → ℤ → ℤ
-back w z = toZ w (ofZ w z)
+use Rattle.lifting.specs.Turns.{back, got}
 
 module _ (w : Width) {s s′ : Step} {own x y : ℤ} (fo : SFits w own) (fx : SFits w x) (fy : SFits w y) (same : s ≡ s′) where
   path : applied s own x y ≡ applied s′ (back w own) (back w x) (back w y)
@@ -25,7 +22,7 @@ module _ (w : Width) {s s′ : Step} {own x y : ℤ} (fo : SFits w own) (fx : SF
   safe-back h = subst (λ (t : Type 0). t) (λ k. Safe (same k) (sym (toZ-ofZ fo) k) (sym (toZ-ofZ fx) k) (sym (toZ-ofZ fy) k)) h
 
   pub applied-back : {r : ℤ} → mag r < 2 ^ hbits w → r ≡ applied s′ (back w own) (back w x) (back w y) → back w r ≡ applied s own x y
-  applied-back fr e = toZ-ofZ (sfits-of fr) ∙ e ∙ sym path
+  applied-back fr e = got w fr (e ∙ sym path)
 
 -- a step or a scaling whose constant was read back
 pub scaled-back : {s : Step} {k : ℕ} {c : ℤ} {cut : ℕ} → SFits w64 c → s ≡ Scaled k c cut → s ≡ Scaled k (back w64 c) cut
@@ -33,10 +30,3 @@ scaled-back {k} {cut} fc e = e ∙ (λ u. Scaled k (sym (toZ-ofZ fc) u) cut)
 
 pub plain-back : {g : Factor} {c : ℤ} {cut : ℕ} → SFits w64 c → g ≡ Plain c cut → g ≡ Plain (back w64 c) cut
 plain-back {cut} fc e = e ∙ (λ u. Plain (sym (toZ-ofZ fc) u) cut)
-
--- what was read back of a call's result
-pub got : (w : Width) {r z : ℤ} → mag r < 2 ^ hbits w → r ≡ z → back w r ≡ z
-got w f e = toZ-ofZ (sfits-of {w = w} f) ∙ e
-
-pub fits-at : {w : Width} {z z′ : ℤ} → z′ ≡ z → SFits w z → SFits w z′
-fits-at {w} e h = subst (SFits w) (sym e) h

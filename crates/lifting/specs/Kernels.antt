@@ -7,6 +7,7 @@ use mathlib.Core.List.{List}
 use lib.IntN.{ℤ}
 use lib.ListN.{length}
 use Rattle.lines.specs.Lines.{lows, highs, onHighs, onLows, lowsFirst, interleaved}
+use Rattle.lines.specs.Planes.{OnLine}
 use Rattle.lifting.specs.declared.Step.{Step}
 use Rattle.lifting.specs.declared.Factor.{Factor}
 use Rattle.lifting.specs.declared.Pair.{Pair}
@@ -142,13 +143,20 @@ rowOf stride from x r c = x (lineAt from stride r + c)
 abbrev pub columnOf : ℕ → ℕ → (ℕ → ℤ) → ℕ → ℕ → ℤ
 columnOf stride from x j r = x (lineAt from stride r + j)
 
--- the first w values of h rows worked
-abbrev pub rowsWorked : Kernel → ℕ → ℕ → ℕ → (ℕ → ℤ) → ℕ → ℤ
-rowsWorked k stride w h x = patchLines (lineAt 0 stride) w h (λ r. worked k w (rowOf stride 0 x r)) x
+-- the first w values of h rows, each row by a pass
+abbrev pub rowsBy : OnLine ℤ → ℕ → ℕ → ℕ → (ℕ → ℤ) → ℕ → ℤ
+rowsBy pass stride w h x = patchLines (lineAt 0 stride) w h (λ r. pass w (rowOf stride 0 x r)) x
 
--- w columns of h rows worked, from column `from` on
+-- w columns of h rows, from column `from` on, each column by a pass
+abbrev pub columnsBy : OnLine ℤ → ℕ → ℕ → ℕ → ℕ → (ℕ → ℤ) → ℕ → ℤ
+columnsBy pass stride from w h x = patchLines (lineAt from stride) w h (λ r j. pass h (columnOf stride from x j) r) x
+
+-- the same by a kernel
+abbrev pub rowsWorked : Kernel → ℕ → ℕ → ℕ → (ℕ → ℤ) → ℕ → ℤ
+rowsWorked k = rowsBy (worked k)
+
 abbrev pub columnsWorked : Kernel → ℕ → ℕ → ℕ → ℕ → (ℕ → ℤ) → ℕ → ℤ
-columnsWorked k stride from w h x = patchLines (lineAt from stride) w h (λ r j. worked k h (columnOf stride from x j) r) x
+columnsWorked k = columnsBy (worked k)
 
 pub rows-same : {k r : Kernel} → SameKernel k r → (stride w h : ℕ) (x : ℕ → ℤ) → rowsWorked r stride w h x ≡ rowsWorked k stride w h x
 rows-same e stride w h x = λ u. patchLines (lineAt 0 stride) w h (λ r. e .same u w (rowOf stride 0 x r)) x

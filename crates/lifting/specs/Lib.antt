@@ -5,6 +5,7 @@
 --   Runs       a step at each place of a run
 --   Tiles      a step at each high or low of the columns of a tile; a tile filled with lines
 -- Proved of them:
+--   Turns, TileRuns   a turn of a run on signed numbers; a step at a tile's highs or lows by runs
 --   Raise      steps and scalings by unsigned numbers
 --   Strips     a strip's lines, worked on their way out of the tile; a plane worked row by row and strip by strip; rows of pixels
 pub mod Steps
@@ -16,3 +17,5 @@ pub mod Tiles
 pub mod Kernels
 pub mod Raise
 pub mod Strips
+pub mod Turns
+pub mod TileRuns

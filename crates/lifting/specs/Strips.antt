@@ -8,14 +8,16 @@ use native.Mathlib.Omega.{arith}
 use native.Mathlib.Decide.{decLt, ℕ-discrete}
 use lib.IntN.{ℤ, pos, _-ℤ_}
 use lib.ListN.{length, getD}
-use Rattle.lines.specs.Lines.{lows, highs}
+use Rattle.lines.specs.Lines.{lows, highs, interleaved}
+use Rattle.lines.specs.LineLaws.{even-place, odd-place}
+use Rattle.lines.specs.Planes.{OnLine}
 use Rattle.lifting.specs.declared.Kernel.{Kernel}
 use Rattle.lifting.specs.Patch.{patch}
-use Rattle.lifting.specs.PatchLines.{lineAt, Lying, patchLines, packed-is, lines-apart, lines-out, lines-more, lines-in, lines-is, lines-ext, lines-then}
+use Rattle.lifting.specs.PatchLines.{lineAt, Lying, patchLines, packed-is, lines-apart, lines-out, lines-more, lines-in, lines-is, lines-ext, lines-then, lines-to}
 use Rattle.lifting.specs.Runs.{as-type}
 use Rattle.lifting.specs.Passes.{Liftable, evens, odds}
-use Rattle.lifting.specs.Kernels.{worked, SafeKernel, rowOf, columnOf, columnsWorked}
-use Rattle.lifting.specs.Tiles.{Tile, sizes, Held}
+use Rattle.lifting.specs.Kernels.{worked, SafeKernel, Part, rowOf, columnOf, rowsBy, columnsBy}
+use Rattle.lifting.specs.Tiles.{Tile, column, highColumn, sizes, Held}
 
 -- n lines of s values in the plane, line i from place from + i * stride on, and a tile with room for them
 pub record Strip (plane tile : List ℤ) (stride from s n : ℕ) : Type 0 where
@@ -130,6 +132,37 @@ both-halves from stride s n new low high x y z e f ls hs =
     ∙ (λ u. patchLines (λ i. lines-after from stride (lows n) (from + lows n * stride) i refl u) s (highs n) (λ i. new (lows n + i)) ((e ∙ lines-ext _ s low new x (lows n) ls) u))
     ∙ lines-then (lineAt from stride) s new x (lows n) (highs n) ∙ ap (λ (k : ℕ). patchLines (lineAt from stride) s k new x) (let e : lows n + highs n ≡ n = omega arith in e)
 
+-- ---- the tile's lines, each to its place: line i as it should be
+
+abbrev pub woven : {A : Type 0} → ℕ → ℕ → (ℕ → A) → ℕ → ℕ → A
+woven s n y i j = interleaved (column s y j) (highColumn s n y j) i
+
+module _ {A : Type 0} (from stride s n : ℕ) (y x : ℕ → A) where
+  -- two lines more
+  pub woven-pair : (i : ℕ) (p z : ℕ → A) → p ≡ patchLines (lineAt from stride) s (2 * i) (woven s n y) x
+      → z ≡ patch (from + 2 * i * stride + stride) s (λ j. y (lows n * s + i * s + j)) (patch (from + 2 * i * stride) s (λ j. y (i * s + j)) p)
+      → z ≡ patchLines (lineAt from stride) s (2 * (i + 1)) (woven s n y) x
+  woven-pair i p z is e =
+      let o : from + 2 * i * stride + stride ≡ lineAt from stride (2 * i + 1) = omega arith in
+      lines-to _ _ _ _ _ _ _
+      (lines-more (lineAt from stride) s (woven s n y) x (2 * i + 1) _ z _
+      (lines-more (lineAt from stride) s (woven s n y) x (2 * i) p _ _ is refl (λ j g. sym (even-place (column s y j) (highColumn s n y j) i)))
+      (e ∙ ap (λ (u : ℕ). patch u s (λ j. y (lows n * s + i * s + j)) (patch (from + 2 * i * stride) s (λ j. y (i * s + j)) p)) o)
+      (λ j g. ap y (omega arith) ∙ sym (odd-place (column s y j) (highColumn s n y j) i)))
+      (omega arith)
+
+  -- the last line, which has no other beside it
+  pub woven-last : highs n < lows n → (p z : ℕ → A) → p ≡ patchLines (lineAt from stride) s (2 * highs n) (woven s n y) x
+      → z ≡ patch (from + 2 * highs n * stride) s (λ j. y (highs n * s + j)) p → z ≡ patchLines (lineAt from stride) s n (woven s n y) x
+  woven-last h p z is e =
+      lines-to _ _ _ _ _ _ _
+      (lines-more (lineAt from stride) s (woven s n y) x (2 * highs n) p z _ is e (λ j g. sym (even-place (column s y j) (highColumn s n y j) (highs n))))
+      (omega arith)
+
+  -- the lines of one column
+  pub woven-row : stride ≡ 1 → s ≡ 1 → (z : ℕ → A) → z ≡ patchLines (lineAt from 1) 1 n (woven 1 n y) x → z ≡ patchLines (lineAt from stride) s n (woven s n y) x
+  woven-row e f z is = is ∙ (λ u. patchLines (lineAt from (sym e u)) (sym f u) n (woven (sym f u) n y) x)
+
 pub same-line : (from stride i k p q : ℕ) → p < stride → q < stride → lineAt from stride i + p ≡ lineAt from stride k + q → (i ≡ k) × (p ≡ q)
 same-line from stride i k p q hp hq e = go (ℕ-discrete i k)
   where
@@ -137,30 +170,47 @@ same-line from stride i k p q hp hq e = go (ℕ-discrete i k)
     go (yes g) = (g, omega (arith, ap (λ (u : ℕ). u * stride) g))
     go (no f) = absurd (lines-apart from stride stride i k (omega arith) f p q hp hq e)
 
+-- ---- a row by itself: one column whose stride is 1
+
+pub row-column : (b j : ℕ) (y : ℕ → ℤ) → j < 1 → columnOf 1 b y j ≡ (λ i. y (b + i))
+row-column b j y h = fun-ext λ i. ap y (let e : b + i * 1 + j ≡ b + i = omega arith in e)
+
+-- one value after the other
+row-lines : (b w : ℕ) (row y : ℕ → ℤ) → patchLines (lineAt b 1) 1 w (λ i j. row i) y ≡ patch b w row y
+row-lines b w row y = sym (packed-is b 1 w 1 row _ y refl (λ i j p g. ap row (let u : i * 1 + j ≡ i = omega arith in u))) ∙ (λ u. patch b (mul-one w u) row y)
+
+pub row-patch : (pass : OnLine ℤ) (b w : ℕ) (y : ℕ → ℤ) → columnsBy pass 1 b 1 w y ≡ patch b w (pass w (λ i. y (b + i))) y
+row-patch pass b w y = lines-ext (lineAt b 1) 1 _ _ y w (λ i j p g. ap (λ (c : ℕ → ℤ). pass w c i) (row-column b j y g)) ∙ row-lines b w _ y
+
 -- ---- row by row: the first r rows are done, and row r is as it was
 
-module _ (k : Kernel) (stride w r b : ℕ) (narrow : w ≤ stride) (new : ℕ → ℕ → ℤ) (x y : ℕ → ℤ) (is : y ≡ patchLines (lineAt 0 stride) w r new x) (start : b ≡ lineAt 0 stride r) where
-  pub row-as-was : columnOf 1 b y 0 ≡ rowOf stride 0 x r
-  row-as-was = fun-ext λ i. ap y (let e : b + i * 1 + 0 ≡ lineAt 0 stride r + i = omega arith in e) ∙ ap (λ (g : ℕ → ℤ). g (lineAt 0 stride r + i)) is
+module _ (stride w r b : ℕ) (narrow : w ≤ stride) (new : ℕ → ℕ → ℤ) (x y : ℕ → ℤ) (is : y ≡ patchLines (lineAt 0 stride) w r new x) (start : b ≡ lineAt 0 stride r) where
+  pub row-kept : (λ i. y (b + i)) ≡ rowOf stride 0 x r
+  row-kept = fun-ext λ i. ap (λ (k : ℕ). y (k + i)) start ∙ ap (λ (g : ℕ → ℤ). g (lineAt 0 stride r + i)) is
       ∙ lines-out (lineAt 0 stride) w new x r _ (λ u v a g e. omega (arith, mul-le-mul-right {m = suc u} {n = r} stride (omega arith)))
+
+  pub row-as-was : columnOf 1 b y 0 ≡ rowOf stride 0 x r
+  row-as-was = row-column b 0 y (omega arith) ∙ row-kept
 
 -- a row put into the plane, value by value
 pub row-put : (stride w r b : ℕ) (new : ℕ → ℕ → ℤ) (row x y z : ℕ → ℤ) → y ≡ patchLines (lineAt 0 stride) w r new x → b ≡ lineAt 0 stride r
     → z ≡ patchLines (lineAt b 1) 1 w (λ i j. row i) y → row ≡ new r → z ≡ patchLines (lineAt 0 stride) w (r + 1) new x
 row-put stride w r b new row x y z is start e same = lines-more (lineAt 0 stride) w new x r y z row is
-    (e ∙ sym (packed-is b 1 w 1 row _ y refl (λ i j p g. ap row (let u : i * 1 + j ≡ i = omega arith in u))) ∙ (λ u. patch (start u) (mul-one w u) row y))
+    (e ∙ row-lines b w row y ∙ ap (λ (k : ℕ). patch k w row y) start)
     (λ j h. ap (λ (f : ℕ → ℤ). f j) same)
 
-pub row-done : (k : Kernel) (stride w r b : ℕ) → w ≤ stride → (x y z : ℕ → ℤ) → y ≡ patchLines (lineAt 0 stride) w r (λ r. worked k w (rowOf stride 0 x r)) x → b ≡ lineAt 0 stride r
-    → z ≡ columnsWorked k 1 b 1 w y → z ≡ patchLines (lineAt 0 stride) w (r + 1) (λ r. worked k w (rowOf stride 0 x r)) x
-row-done k stride w r b narrow x y z is start e =
-    row-put stride w r b _ (worked k w (columnOf 1 b y 0)) x y z is start
-    (e ∙ lines-ext (lineAt b 1) 1 _ _ y w (λ i j p g. let q : j ≡ 0 = omega arith in ap (λ (j : ℕ). worked k w (columnOf 1 b y j) i) q))
-    (ap (worked k w) (row-as-was k stride w r b narrow _ x y is start))
+-- a row more, by a pass
+pub row-next : (pass : OnLine ℤ) (stride w r b : ℕ) → w ≤ stride → (x y z : ℕ → ℤ) → y ≡ rowsBy pass stride w r x → b ≡ lineAt 0 stride r → z ≡ patch b w (pass w (λ i. y (b + i))) y → z ≡ rowsBy pass stride w (r + 1) x
+row-next pass stride w r b narrow x y z is start e = lines-more (lineAt 0 stride) w _ x r y z (pass w (λ i. y (b + i))) is
+    (e ∙ ap (λ (k : ℕ). patch k w (pass w (λ i. y (b + i))) y) start)
+    (λ j h. ap (λ (c : ℕ → ℤ). pass w c j) (row-kept stride w r b narrow _ x y is start))
+
+pub row-done : (pass : OnLine ℤ) (stride w r b : ℕ) → w ≤ stride → (x y z : ℕ → ℤ) → y ≡ rowsBy pass stride w r x → b ≡ lineAt 0 stride r → z ≡ columnsBy pass 1 b 1 w y → z ≡ rowsBy pass stride w (r + 1) x
+row-done pass stride w r b narrow x y z is start e = row-next pass stride w r b narrow x y z is start (e ∙ row-patch pass b w y)
 
 -- ---- strip by strip: the first d columns are done, and the next s are as they were
 
-module _ (k : Kernel) (stride from d s h : ℕ) (narrow : from + (d + s) ≤ stride) (x y : ℕ → ℤ) (is : y ≡ columnsWorked k stride from d h x) where
+module _ (pass : OnLine ℤ) (stride from d s h : ℕ) (narrow : from + (d + s) ≤ stride) (x y : ℕ → ℤ) (is : y ≡ columnsBy pass stride from d h x) where
   moved : (i j : ℕ) → lineAt (from + d) stride i + j ≡ lineAt from stride i + (d + j)
   moved i j = omega arith
 
@@ -168,26 +218,26 @@ module _ (k : Kernel) (stride from d s h : ℕ) (narrow : from + (d + s) ≤ str
   column-as-was j g = fun-ext λ r. ap y (moved r j) ∙ ap (λ (q : ℕ → ℤ). q (lineAt from stride r + (d + j))) is
       ∙ lines-out (lineAt from stride) d _ x h _ (λ u v a b e. omega (arith, same-line from stride u r v (d + j) (omega arith) (omega arith) e .1))
 
-  pub columns-more : (z : ℕ → ℤ) → z ≡ columnsWorked k stride (from + d) s h y → z ≡ columnsWorked k stride from (d + s) h x
+  pub columns-more : (z : ℕ → ℤ) → z ≡ columnsBy pass stride (from + d) s h y → z ≡ columnsBy pass stride from (d + s) h x
   columns-more z e = e ∙ lines-is (lineAt from stride) (d + s) _ x (λ u v a. lines-apart from stride (d + s) u v (omega arith) (omega arith)) h _
       (λ i j p g. go i j p g (decLt j d))
       (λ p off. lines-out (lineAt (from + d) stride) s _ y h p (λ u v a b q. off u (d + v) a (omega arith) (sym (moved u v) ∙ q))
       ∙ ap (λ (g : ℕ → ℤ). g p) is ∙ lines-out (lineAt from stride) d _ x h p (λ u v a b q. off u v a (omega arith) q))
     where
-      go : (i j : ℕ) → i < h → j < d + s → Dec (j < d) → columnsWorked k stride (from + d) s h y (lineAt from stride i + j) ≡ worked k h (columnOf stride from x j) i
+      go : (i j : ℕ) → i < h → j < d + s → Dec (j < d) → columnsBy pass stride (from + d) s h y (lineAt from stride i + j) ≡ pass h (columnOf stride from x j) i
       go i j p g (yes l) = lines-out (lineAt (from + d) stride) s _ y h _ (λ u v a b q. omega (arith, same-line from stride u i (d + v) j (omega arith) (omega arith) (sym (moved u v) ∙ q) .1))
           ∙ ap (λ (f : ℕ → ℤ). f (lineAt from stride i + j)) is
           ∙ lines-in (lineAt from stride) d _ x (λ u v a. lines-apart from stride d u v (omega arith) (omega arith)) h i j p l
       go i j p g (no f) =
           let o : j ≡ d + (j - d) = omega arith in
           let m : lineAt from stride i + j ≡ lineAt (from + d) stride i + (j - d) = omega arith in
-          ap (columnsWorked k stride (from + d) s h y) m
+          ap (columnsBy pass stride (from + d) s h y) m
           ∙ lines-in (lineAt (from + d) stride) s _ y (λ u v a. lines-apart (from + d) stride s u v (omega arith) (omega arith)) h i (j - d) p (omega arith)
-          ∙ ap (λ (c : ℕ → ℤ). worked k h c i) (column-as-was (j - d) (omega arith) ∙ ap (columnOf stride from x) (sym o))
+          ∙ ap (λ (c : ℕ → ℤ). pass h c i) (column-as-was (j - d) (omega arith) ∙ ap (columnOf stride from x) (sym o))
 
 -- no column is done
-pub columns-none : (k : Kernel) (stride from h : ℕ) (x : ℕ → ℤ) → x ≡ columnsWorked k stride from 0 h x
-columns-none k stride from h x = fun-ext λ p. sym (lines-out (lineAt from stride) 0 _ x h p (λ i j a b e. omega arith))
+pub columns-none : (pass : OnLine ℤ) (stride from h : ℕ) (x : ℕ → ℤ) → x ≡ columnsBy pass stride from 0 h x
+columns-none pass stride from h x = fun-ext λ p. sym (lines-out (lineAt from stride) 0 _ x h p (λ i j a b e. omega arith))
 
 -- ---- how wide a strip may be, of h rows, in a tile of t values
 
@@ -199,3 +249,12 @@ enough-room t h s l =
     let m : h * s ≤ h * (t / h) = mul-le-mul-left h l in
     let e : h * (t / h) ≡ t / h * h = mul-comm h (t / h) in
     omega (arith, div-mul-le-self t h)
+
+-- the s columns after the first d, as a strip
+pub part-strip : {plane : List ℤ} {stride from w h : ℕ} → Part plane stride from w h → Liftable h → (p t : List ℤ) → length p ≡ length plane → (d s : ℕ) → 1 ≤ s → d + s ≤ w → h * s ≤ length t → Strip p t stride (from + d) s h
+part-strip part two p t e d s some among room = record {
+  lines = record { some = omega (arith, two); few = omega (arith, part .few); narrow = omega (arith, part .narrow); fits = λ r l. omega (arith, part .fits r l) };
+  some = some;
+  two = two;
+  room = room;
+}

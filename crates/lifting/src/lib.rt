@@ -1054,10 +1054,10 @@ pub fn rows(plane: &mut [i32], tile: &mut [i32], stride: usize, w: usize, h: usi
 }
 
 // As many columns as a strip has at most.
-const STRIP: usize = 64;
+pub const STRIP: usize = 64;
 
 // The smaller of two numbers.
-fn smaller(a: usize, b: usize) -> usize
+pub fn smaller(a: usize, b: usize) -> usize
     ensures { λ r. ⌜ r ≡ min a b ⌝ }
 {
     if a < b { a } else { b }

@@ -2,6 +2,7 @@
 use Prim.Native.Nat.{ℕ, zero, suc, _+_, _-_, _^_, _<_, _≤_}
 use mathlib.Core.Bool.{Bool, true, false, not}
 use mathlib.Core.Path.{_≡_, refl, sym, ap, subst}
+use native.Mathlib.Numerals.{add-one}
 use native.Mathlib.Omega.{arith}
 use lib.Pow.{pow-pos}
 use lib.Dec.{T, ltb, ltb→lt, nltb→le}
@@ -56,6 +57,18 @@ by-part P w h inside below beyond r c = go (ltb r h) (ltb c w) refl refl
     go true true e f = inside r c (ltb→lt r h (subst T (sym e) tt)) (ltb→lt c w (subst T (sym f) tt))
     go true false e f = beyond r c (nltb→le c w (subst (λ (t : Bool). T (not t)) (sym f) tt))
     go false b e f = below r c (nltb→le r h (subst (λ (t : Bool). T (not t)) (sym e) tt))
+
+pub side-none : (n : ℕ) → side 0 n ≡ n
+unfolding side
+side-none n = refl
+
+pub side-one : (n : ℕ) → lows n ≡ side 1 n
+unfolding side
+side-one n = refl
+
+pub side-more : (k n : ℕ) → lows (side k n) ≡ side (k + 1) n
+unfolding side
+side-more k n = ap (λ (j : ℕ). side j n) (sym (add-one k))
 
 -- each level can work its side
 abbrev pub Roomy : ℕ → ℕ → Type 0

@@ -4,6 +4,7 @@
 --   Abs        magnitudes
 --   Floor      division rounded down; `>>` of a signed number
 --   Auto       overflow needs of signed code
+--   Compared   tests of signed locals
 --   Ring, Quote   identities of polynomials (`ring`)
 --   Tests      computed tests (`between`, `every`) and their laws
 --   Lists      writing over the front of a list (`over`), parts of lists
@@ -13,6 +14,7 @@ pub mod Laws
 pub mod Abs
 pub mod Floor
 pub mod Auto
+pub mod Compared
 pub mod Ring
 pub mod Quote
 pub mod Tests

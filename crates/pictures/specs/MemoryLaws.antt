@@ -1,4 +1,4 @@
--- A plane in memory under the kernels: rows and columns of a part worked in place, and what is written at last.
+-- A plane in memory under passes: rows and columns of a part worked in place, and what is written at last.
 -- Assumes nothing.
 use Prim.Native.Nat.{ℕ, _+_, _*_, _-_, _/_, _%_, _<_, _≤_}
 use mathlib.Core.Bool.{Bool, true, false, _&&_}
@@ -17,7 +17,7 @@ use Rattle.numbers.specs.Lists.{over}
 use Rattle.lines.specs.Lines.{lows, highs, Liftable}
 use Rattle.lines.specs.LineLaws.{some-highs, Equal, first-equal, interleaved-equal, evens-equal, odds-equal, lows-equal, highs-equal}
 use Rattle.lines.specs.Neighbours.{on-highs-equal, on-lows-equal}
-use Rattle.lines.specs.Planes.{Plane, rows, within, rowByRow}
+use Rattle.lines.specs.Planes.{Plane, OnLine, rows, within, rowByRow}
 use Rattle.lines.specs.PlaneLaws.{by-part, within-in, within-below, within-beyond}
 use Rattle.lines.specs.RowLaws.{place-in, rows-length, rows-at}
 use Rattle.lifting.specs.declared.Pair.{Pair}
@@ -29,22 +29,25 @@ use Rattle.lifting.specs.Patch.{at, patch, patch-in, patch-above, patch-ext, pa
 use Rattle.lifting.specs.PatchLines.{lineAt, patchLines, lines-apart, lines-out, lines-in, lines-is}
 use Rattle.lifting.specs.Strips.{pixelLine}
 use Rattle.pictures.specs.Pictures.{zeroed}
-use Rattle.lifting.specs.Kernels.{worked, rowOf, rowsWorked, columnsWorked}
+use Rattle.lifting.specs.Kernels.{worked, rowOf, rowsBy, columnsBy, rowsWorked}
 
 -- the first w columns and h rows of a plane stand row by row
 abbrev pub Stands : ℕ → ℕ → (ℕ → ℤ) → Plane ℤ → Type 0
 Stands w h x p = (r c : ℕ) → r < h → c < w → x (r * w + c) ≡ p r c
 
--- ---- a kernel reads a line's own values only
+-- ---- a pass reads a line's own values only, as kernels do
 
--- so does a pair
+abbrev pub Reads : OnLine ℤ → Type 0
+Reads pass = (n : ℕ) → Liftable n → (x y : ℕ → ℤ) → Equal n x y → Equal n (pass n x) (pass n y)
+
+-- a pair of steps
 lifted-same : (pair : Pair) (n : ℕ) → Liftable n → {l l′ h h′ : ℕ → ℤ} → Equal (lows n) l l′ → Equal (highs n) h h′
     → Equal (lows n) (liftedLows pair n l h) (liftedLows pair n l′ h′) × Equal (highs n) (liftedHighs pair n l h) (liftedHighs pair n l′ h′)
 lifted-same pair n works el eh =
     let h = on-highs-equal n el eh (applied (pair .highs)) in
     (on-lows-equal n el h (applied (pair .lows)) (some-highs n works), h)
 
-pub worked-same : (k : Kernel) (n : ℕ) → Liftable n → (x y : ℕ → ℤ) → Equal n x y → Equal n (worked k n x) (worked k n y)
+pub worked-same : (k : Kernel) → Reads (worked k)
 unfolding worked
 worked-same (One pair) n works x y e =
     let new = lifted-same pair n works (evens-equal n e) (odds-equal n e) in
@@ -99,26 +102,26 @@ same-place W i j r c p q e = go (ℕ-discrete i r)
     go (yes s) = (s, omega (arith, ap (λ (t : ℕ). t * W) s))
     go (no f) = absurd (lines-apart 0 W W i r (omega arith) f j c p q (omega arith))
 
-module _ (k : Kernel) (W H w h : ℕ) (x : ℕ → ℤ) (p : Plane ℤ) (works : Liftable w) (wide : w ≤ W) (tall : h ≤ H) where
+module _ (pass : OnLine ℤ) (reads : Reads pass) (W H w h : ℕ) (x : ℕ → ℤ) (p : Plane ℤ) (works : Liftable w) (wide : w ≤ W) (tall : h ≤ H) where
   off : (i j r c : ℕ) → j < w → c < W → lineAt 0 W i + j ≡ r * W + c → (i ≡ r) × (j ≡ c)
   off i j r c g q e = same-place W i j r c (omega arith) q (omega arith)
 
-  pub rows-stand : Stands W H x p → Stands W H (rowsWorked k W w h x) (within w h (rows (worked k) w p) p)
+  pub rows-stand : Stands W H x p → Stands W H (rowsBy pass W w h x) (within w h (rows pass w p) p)
   unfolding rows
-  rows-stand s = by-part (λ r c. r < H → c < W → rowsWorked k W w h x (r * W + c) ≡ within w h (rows (worked k) w p) p r c) w h
-      (λ r c i j a b. ap (rowsWorked k W w h x) (omega arith)
+  rows-stand s = by-part (λ r c. r < H → c < W → rowsBy pass W w h x (r * W + c) ≡ within w h (rows pass w p) p r c) w h
+      (λ r c i j a b. ap (rowsBy pass W w h x) (omega arith)
       ∙ lines-in (lineAt 0 W) w _ x (λ u v l. lines-apart 0 W w u v wide (omega arith)) h r c i j
-      ∙ worked-same k w works _ _ (λ m q. ap x (omega arith) ∙ s r m a (omega arith)) c j
+      ∙ reads w works _ _ (λ m q. ap x (omega arith) ∙ s r m a (omega arith)) c j
       ∙ sym (within-in w h _ p r c i j))
       (λ r c i a b. lines-out (lineAt 0 W) w _ x h _ (λ u v l q e. let z = off u v r c q b e in omega arith) ∙ s r c a b ∙ sym (within-below w h _ p r c i))
       (λ r c j a b. lines-out (lineAt 0 W) w _ x h _ (λ u v l q e. let z = off u v r c q b e in omega arith) ∙ s r c a b ∙ sym (within-beyond w h _ p r c j))
 
-pub rows-beyond : (k : Kernel) (W H w h : ℕ) (x : ℕ → ℤ) → Liftable w → w ≤ W → h ≤ H → (q : ℕ) → W * H ≤ q → rowsWorked k W w h x q ≡ x q
-rows-beyond k W H w h x works wide tall q far = lines-out (lineAt 0 W) w _ x h q (λ u v l b e. omega (arith, place-in W H (omega arith) u v (omega arith) (omega arith)))
+pub rows-beyond : (pass : OnLine ℤ) (W H w h : ℕ) (x : ℕ → ℤ) → Liftable w → w ≤ W → h ≤ H → (q : ℕ) → W * H ≤ q → rowsBy pass W w h x q ≡ x q
+rows-beyond pass W H w h x works wide tall q far = lines-out (lineAt 0 W) w _ x h q (λ u v l b e. omega (arith, place-in W H (omega arith) u v (omega arith) (omega arith)))
 
 -- columns `from` to `from + w - 1` of the first h rows worked, all else as it was
-unfoldable pub columnsPlane : Kernel → ℕ → ℕ → ℕ → Plane ℤ → Plane ℤ
-columnsPlane k from w h p r c = elim (ltb r h && (leb from c && ltb c (from + w))) [ true ↦ worked k h (λ m. p m c) r | false ↦ p r c ]
+unfoldable pub columnsPlane : OnLine ℤ → ℕ → ℕ → ℕ → Plane ℤ → Plane ℤ
+columnsPlane pass from w h p r c = elim (ltb r h && (leb from c && ltb c (from + w))) [ true ↦ pass h (λ m. p m c) r | false ↦ p r c ]
 
 abbrev pick : {A : Type 0} → A → A → Bool → A
 pick a b t = elim t [ true ↦ a | false ↦ b ]
@@ -128,45 +131,45 @@ and-false true = refl
 and-false false = refl
 
 -- a place inside the columns, below them, left and right of them
-module _ (k : Kernel) (from w h : ℕ) (p : Plane ℤ) (r c : ℕ) where
-  pub columns-in : r < h → from ≤ c → c < from + w → columnsPlane k from w h p r c ≡ worked k h (λ m. p m c) r
+module _ (pass : OnLine ℤ) (from w h : ℕ) (p : Plane ℤ) (r c : ℕ) where
+  pub columns-in : r < h → from ≤ c → c < from + w → columnsPlane pass from w h p r c ≡ pass h (λ m. p m c) r
   unfolding columnsPlane
-  columns-in i a b = ap (pick (worked k h (λ m. p m c) r) (p r c)) ((λ u. lt-ltb r h i u && (le-leb from c a u && ltb c (from + w))) ∙ lt-ltb c (from + w) b)
+  columns-in i a b = ap (pick (pass h (λ m. p m c) r) (p r c)) ((λ u. lt-ltb r h i u && (le-leb from c a u && ltb c (from + w))) ∙ lt-ltb c (from + w) b)
 
-  pub columns-below : h ≤ r → columnsPlane k from w h p r c ≡ p r c
+  pub columns-below : h ≤ r → columnsPlane pass from w h p r c ≡ p r c
   unfolding columnsPlane
-  columns-below i = ap (pick (worked k h (λ m. p m c) r) (p r c)) (λ u. le-ltb r h i u && (leb from c && ltb c (from + w)))
+  columns-below i = ap (pick (pass h (λ m. p m c) r) (p r c)) (λ u. le-ltb r h i u && (leb from c && ltb c (from + w)))
 
-  pub columns-left : c < from → columnsPlane k from w h p r c ≡ p r c
+  pub columns-left : c < from → columnsPlane pass from w h p r c ≡ p r c
   unfolding columnsPlane
-  columns-left a = ap (pick (worked k h (λ m. p m c) r) (p r c)) ((λ u. ltb r h && (lt-leb from c a u && ltb c (from + w))) ∙ and-false (ltb r h))
+  columns-left a = ap (pick (pass h (λ m. p m c) r) (p r c)) ((λ u. ltb r h && (lt-leb from c a u && ltb c (from + w))) ∙ and-false (ltb r h))
 
-  pub columns-right : from + w ≤ c → columnsPlane k from w h p r c ≡ p r c
+  pub columns-right : from + w ≤ c → columnsPlane pass from w h p r c ≡ p r c
   unfolding columnsPlane
-  columns-right b = ap (pick (worked k h (λ m. p m c) r) (p r c)) ((λ u. ltb r h && (leb from c && le-ltb c (from + w) b u)) ∙ (λ u. ltb r h && and-false (leb from c) u) ∙ and-false (ltb r h))
+  columns-right b = ap (pick (pass h (λ m. p m c) r) (p r c)) ((λ u. ltb r h && (leb from c && le-ltb c (from + w) b u)) ∙ (λ u. ltb r h && and-false (leb from c) u) ∙ and-false (ltb r h))
 
-module _ (k : Kernel) (W H from w h : ℕ) (x : ℕ → ℤ) (p : Plane ℤ) (works : Liftable h) (wide : from + w ≤ W) (tall : h ≤ H) where
+module _ (pass : OnLine ℤ) (reads : Reads pass) (W H from w h : ℕ) (x : ℕ → ℤ) (p : Plane ℤ) (works : Liftable h) (wide : from + w ≤ W) (tall : h ≤ H) where
   apart : (i j r c : ℕ) → j < w → c < W → lineAt from W i + j ≡ r * W + c → (i ≡ r) × (from + j ≡ c)
   apart i j r c g q e = same-place W i (from + j) r c (omega arith) q (omega arith)
 
-  pub columns-stand : Stands W H x p → Stands W H (columnsWorked k W from w h x) (columnsPlane k from w h p)
+  pub columns-stand : Stands W H x p → Stands W H (columnsBy pass W from w h x) (columnsPlane pass from w h p)
   unfolding columnsPlane
   columns-stand s r c a b =
-      by-ltb (λ t. columnsWorked k W from w h x (r * W + c) ≡ pick (worked k h (λ m. p m c) r) (p r c) (t && (leb from c && ltb c (from + w)))) r h
-      (λ i. by-leb (λ t. columnsWorked k W from w h x (r * W + c) ≡ pick (worked k h (λ m. p m c) r) (p r c) (t && ltb c (from + w))) from c
-      (λ l. by-ltb (λ t. columnsWorked k W from w h x (r * W + c) ≡ pick (worked k h (λ m. p m c) r) (p r c) t) c (from + w)
-      (λ u. ap (columnsWorked k W from w h x) (omega arith)
+      by-ltb (λ t. columnsBy pass W from w h x (r * W + c) ≡ pick (pass h (λ m. p m c) r) (p r c) (t && (leb from c && ltb c (from + w)))) r h
+      (λ i. by-leb (λ t. columnsBy pass W from w h x (r * W + c) ≡ pick (pass h (λ m. p m c) r) (p r c) (t && ltb c (from + w))) from c
+      (λ l. by-ltb (λ t. columnsBy pass W from w h x (r * W + c) ≡ pick (pass h (λ m. p m c) r) (p r c) t) c (from + w)
+      (λ u. ap (columnsBy pass W from w h x) (omega arith)
       ∙ lines-in (lineAt from W) w _ x (λ u v l. lines-apart from W w u v (omega arith) (omega arith)) h r (c - from) i (omega arith)
-      ∙ worked-same k h works _ _ (λ m q. ap x (omega arith) ∙ s m c (omega arith) b) r i)
+      ∙ reads h works _ _ (λ m q. ap x (omega arith) ∙ s m c (omega arith) b) r i)
       (λ u. old (λ m j g q e. let z = apart m j r c q b e in omega arith)))
       (λ l. old (λ m j g q e. let z = apart m j r c q b e in omega arith)))
       (λ i. old (λ m j l q e. let z = apart m j r c q b e in omega arith))
     where
-      old : ((i j : ℕ) → i < h → j < w → lineAt from W i + j ≡ r * W + c → ⊥) → columnsWorked k W from w h x (r * W + c) ≡ p r c
+      old : ((i j : ℕ) → i < h → j < w → lineAt from W i + j ≡ r * W + c → ⊥) → columnsBy pass W from w h x (r * W + c) ≡ p r c
       old none = lines-out (lineAt from W) w _ x h _ none ∙ s r c a b
 
-pub columns-beyond : (k : Kernel) (W H from w h : ℕ) (x : ℕ → ℤ) → Liftable h → from + w ≤ W → h ≤ H → (q : ℕ) → W * H ≤ q → columnsWorked k W from w h x q ≡ x q
-columns-beyond k W H from w h x works wide tall q far = lines-out (lineAt from W) w _ x h q (λ u v l b e. omega (arith, place-in W H (omega arith) u (from + v) (omega arith) (omega arith)))
+pub columns-beyond : (pass : OnLine ℤ) (W H from w h : ℕ) (x : ℕ → ℤ) → Liftable h → from + w ≤ W → h ≤ H → (q : ℕ) → W * H ≤ q → columnsBy pass W from w h x q ≡ x q
+columns-beyond pass W H from w h x works wide tall q far = lines-out (lineAt from W) w _ x h q (λ u v l b e. omega (arith, place-in W H (omega arith) u (from + v) (omega arith) (omega arith)))
 
 -- ---- what is written over the front of a list
 
@@ -182,15 +185,19 @@ over-is d new old l same fits front back = ext-getD d l (over new old) (omega (a
         back k (omega arith) ∙ ap (λ (n : ℕ). getD old n d) e ∙ sym (getD-drop (length new) old (k - length new) d)
         ∙ sym (getD-append-add new (drop (length new) old) (k - length new) d) ∙ ap (λ (n : ℕ). getD (over new old) n d) (sym e)
 
--- a plane that stands at the front of a list, the rest as it was
-pub stands-over : (w h : ℕ) (p : Plane ℤ) (l l′ : List ℤ) → 1 ≤ w → w * h ≤ length l → length l′ ≡ length l → Stands w h (at l′) p → ((q : ℕ) → w * h ≤ q → at l′ q ≡ at l q) → l′ ≡ over (rowByRow w h p) l
-stands-over w h p l l′ some room same s back =
-    over-is (pos 0) (rowByRow w h p) l l′ same (omega (arith, rows-length w h some p)) (λ k i. go k (subst (λ (n : ℕ). k < n) (rows-length w h some p) i)) (λ q i. back q (omega (arith, rows-length w h some p)))
+-- a plane that stands at the front of a list, row by row, the rest as it was
+pub plane-over : {A : Type 0} (d : A) (w h : ℕ) (p : Plane A) (l l′ : List A) → 1 ≤ w → w * h ≤ length l → length l′ ≡ length l
+    → ((r c : ℕ) → r < h → c < w → getD l′ (r * w + c) d ≡ p r c) → ((q : ℕ) → w * h ≤ q → getD l′ q d ≡ getD l q d) → l′ ≡ over (rowByRow w h p) l
+plane-over d w h p l l′ some room same s back =
+    over-is d (rowByRow w h p) l l′ same (omega (arith, rows-length w h some p)) (λ k i. go k (subst (λ (n : ℕ). k < n) (rows-length w h some p) i)) (λ q i. back q (omega (arith, rows-length w h some p)))
   where
-    go : (k : ℕ) → k < w * h → at l′ k ≡ at (rowByRow w h p) k
+    go : (k : ℕ) → k < w * h → getD l′ k d ≡ getD (rowByRow w h p) k d
     go k i =
         let r : k / w < h = div-lt-iff-lt-mul some .1 (subst (λ (n : ℕ). k < n) (mul-comm w h) i) in
-        ap (at l′) (sym (div-add-mod' k w)) ∙ s (k / w) (k % w) r (mod-lt k some) ∙ sym (rows-at w h some p (pos 0) (k / w) (k % w) r (mod-lt k some)) ∙ ap (at (rowByRow w h p)) (div-add-mod' k w)
+        ap (λ (m : ℕ). getD l′ m d) (sym (div-add-mod' k w)) ∙ s (k / w) (k % w) r (mod-lt k some) ∙ sym (rows-at w h some p d (k / w) (k % w) r (mod-lt k some)) ∙ ap (λ (m : ℕ). getD (rowByRow w h p) m d) (div-add-mod' k w)
+
+pub stands-over : (w h : ℕ) (p : Plane ℤ) (l l′ : List ℤ) → 1 ≤ w → w * h ≤ length l → length l′ ≡ length l → Stands w h (at l′) p → ((q : ℕ) → w * h ≤ q → at l′ q ≡ at l q) → l′ ≡ over (rowByRow w h p) l
+stands-over = plane-over (pos 0)
 
 -- a store after the first n places
 pub patch-next : {A : Type 0} (n : ℕ) (new x : ℕ → A) (l : List A) (d : A) → (λ k. getD l k d) ≡ patch 0 n new x → n < length l → (v : A) → v ≡ new n → (λ k. getD (set l n v) k d) ≡ patch 0 (n + 1) new x

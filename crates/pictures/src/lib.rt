@@ -1,12 +1,17 @@
-// Pictures and planes in memory: refusals 8, 9 and 10, the middle of the pixels, the work area cleared.
+// Pictures and planes in memory: refusals 8, 9 and 10, looks over values, the middle of the pixels, the work area cleared.
 ghost use mathlib.Core.Path.{_≡_};
-ghost use Prim.Native.Nat.{_*_, _-_, _<_, _≤_, _^_};
+ghost use Prim.Native.Nat.{ℕ, _+_, _*_, _-_, _<_, _≤_, _^_};
 ghost use lib.ListN.{length};
 ghost use Rattle.width_table.specs.Table.{maxDepth};
+ghost use Rattle.lines.specs.Planes.{side};
+ghost use Rattle.lifting.specs.Patch.{at};
+ghost use Rattle.lifting.specs.PatchLines.{lineAt};
+ghost use Rattle.lifting.specs.Kernels.{rowOf};
 ghost use Rattle.refusals.specs.Answers.{_then_};
 ghost use Rattle.refusals.specs.Told.{told};
 ghost use Rattle.pictures.specs.Pictures.{maxSide, sideRight, sided, holds, pixelsRight, zeroed};
 ghost use Rattle.pictures.specs.PixelLaws.{Largest};
+ghost use Rattle.pictures.specs.Looks.{Tells, Between};
 use refusals::Outcome;
 use refusals::Refusal;
 
@@ -117,6 +122,63 @@ pub fn middle(depth: u8) -> u16
     ensures { λ r. ⌜ r ≡ 2 ^ (depth - 1) ⌝ }
 {
     1u16 << (depth - 1)
+}
+
+// The side that k levels leave of a side of n.
+pub fn side_after(n: usize, k: u8) -> usize
+    requires { ⌜ (1 ≤ n) × (n ≤ maxSide) ⌝ }
+    ensures { λ r. ⌜ r ≡ side k n ⌝ }
+{
+    let mut m = n;
+    for i in 0..k {
+        m = (m + 1) / 2;
+    }
+    m
+}
+
+// Whether a value lies between two others.
+fn in_range(v: i32, least: i32, most: i32) -> bool
+    ensures { λ r. ⌜ Tells (Between least most v) r ⌝ }
+{
+    if v < least {
+        return false;
+    }
+    if most < v {
+        return false;
+    }
+    true
+}
+
+// Whether n values from a place on lie between two numbers.
+pub fn all_between(values: &[i32], from: usize, n: usize, least: i32, most: i32) -> bool
+    requires { ⌜ from + n ≤ length (now values) ⌝ }
+    ensures { λ r. ⌜ Tells ((j : ℕ) → j < n → Between least most (at (now (values .entry)) (from + j))) r ⌝ }
+{
+    let mut fits = true;
+    for j in 0..n {
+        fits = fits & in_range(values[from + j], least, most);
+    }
+    fits
+}
+
+// Whether the values of a part of w columns and h rows, which starts at a place, lie between two numbers.
+pub fn part_between(
+    values: &[i32],
+    from: usize,
+    stride: usize,
+    w: usize,
+    h: usize,
+    least: i32,
+    most: i32,
+) -> bool
+    requires { ⌜ ((i : ℕ) → i < h → lineAt from stride i + w ≤ length (now values)) ⌝ }
+    ensures { λ r. ⌜ Tells ((i : ℕ) → i < h → (j : ℕ) → j < w → Between least most (rowOf stride from (at (now (values .entry))) i j)) r ⌝ }
+{
+    let mut fits = true;
+    for i in 0..h {
+        fits = fits & all_between(values, from + i * stride, w, least, most);
+    }
+    fits
 }
 
 // The first n elements become 0.

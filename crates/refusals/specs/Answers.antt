@@ -1,4 +1,4 @@
--- What a call answers, in document 01's own numbers ("Why a strip or book comes back"), and the order of its rules.
+-- What a call answers, in the documents' own numbers (document 01, "Why a strip or book comes back"; document 02), and the order of its rules.
 use Prim.Native.Nat.{ℕ, _+_, _*_}
 use mathlib.Core.Bool.{Bool, true, false}
 use mathlib.Core.List.{List, [], _∷_}

@@ -1,4 +1,4 @@
-// What calls answer. specs/Told sets out document 01's numbers and values for each case.
+// What calls answer. specs/Told sets out the documents' numbers and values for each case.
 ghost use mathlib.Core.Path.{_≡_};
 ghost use mathlib.Core.List.{[], _∷_};
 ghost use Prim.Native.Nat.{_*_};
@@ -24,6 +24,8 @@ pub enum Refusal {
     SliceTooShort,
     PixelTooLarge,
     NoPicture,
+    OutsideWidth,
+    NotViewable,
 }
 
 // The answer of a call that hands nothing else back.
@@ -55,6 +57,8 @@ pub fn refusal_code(refusal: Refusal) -> u32
         Refusal::SliceTooShort => 9,
         Refusal::PixelTooLarge => 10,
         Refusal::NoPicture => 11,
+        Refusal::OutsideWidth => 12,
+        Refusal::NotViewable => 13,
     }
 }
 
@@ -74,6 +78,8 @@ pub fn number(refusal: Refusal) -> u8
         Refusal::SliceTooShort => 9,
         Refusal::PixelTooLarge => 10,
         Refusal::NoPicture => 11,
+        Refusal::OutsideWidth => 12,
+        Refusal::NotViewable => 13,
     }
 }
 

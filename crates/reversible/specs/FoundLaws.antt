@@ -17,6 +17,7 @@ use Rattle.lines.specs.PlaneLaws.{roomy, Agree}
 use Rattle.lines.specs.RowLaws.{place-in, rows-length, rows-at, every-row, every-row-at}
 use Rattle.lifting.specs.Patch.{at, patch, patch-in, patch-above}
 use Rattle.pictures.specs.Pictures.{planeOf}
+use Rattle.pictures.specs.Looks.{Tells, Between, tells-same}
 use Rattle.pictures.specs.MemoryLaws.{over-is}
 use Rattle.reversible.specs.Reversible.{back}
 use Rattle.reversible.specs.ReversibleLaws.{back-agrees}
@@ -24,7 +25,7 @@ use Rattle.reversible.specs.Calls.{pixelsBack, isPixel, hasPicture}
 use Rattle.reversible.specs.LevelLaws.{planeAt}
 use Rattle.reversible.specs.StepLaws.{middle}
 use Rattle.reversible.specs.Needs.{CallRoom}
-use Rattle.reversible.specs.BackLaws.{Tells, Between, tells-same, BackDone}
+use Rattle.reversible.specs.BackLaws.{BackDone}
 use Rattle.width_table.specs.Table.{maxDepth}
 
 -- the values of samples of depth B

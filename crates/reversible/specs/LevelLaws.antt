@@ -46,34 +46,34 @@ levelBack W w h x = rowsWorked backKernel W w h (columnsWorked backKernel W 0 w 
 
 module _ (W H w h : ℕ) (wide : Liftable w) (tall : Liftable h) (in-w : w ≤ W) (in-h : h ≤ H) (x : ℕ → ℤ) where
   pub forward-beyond : (q : ℕ) → W * H ≤ q → levelForward W w h x q ≡ x q
-  forward-beyond q i = columns-beyond forwardKernel W H 0 w h (rowsWorked forwardKernel W w h x) tall (omega arith) in-h q i ∙ rows-beyond forwardKernel W H w h x wide in-w in-h q i
+  forward-beyond q i = columns-beyond (worked forwardKernel) W H 0 w h (rowsWorked forwardKernel W w h x) tall (omega arith) in-h q i ∙ rows-beyond (worked forwardKernel) W H w h x wide in-w in-h q i
 
   module _ (p : Plane ℤ) (stands : Stands W H x p) where
     pub forward-stands : Stands W H (levelForward W w h x) (forwardLevel w h p)
     unfolding rows
     forward-stands r c i j =
         let q : Plane ℤ = within w h (rows (worked forwardKernel) w p) p in
-        columns-stand forwardKernel W H 0 w h (rowsWorked forwardKernel W w h x) q tall (omega arith) in-h (rows-stand forwardKernel W H w h x p wide in-w in-h stands) r c i j
-        ∙ by-part (λ r c. columnsPlane forwardKernel 0 w h q r c ≡ forwardLevel w h p r c) w h
-        (λ r c i j. columns-in forwardKernel 0 w h q r c i (omega arith) (omega arith)
+        columns-stand (worked forwardKernel) (worked-same forwardKernel) W H 0 w h (rowsWorked forwardKernel W w h x) q tall (omega arith) in-h (rows-stand (worked forwardKernel) (worked-same forwardKernel) W H w h x p wide in-w in-h stands) r c i j
+        ∙ by-part (λ r c. columnsPlane (worked forwardKernel) 0 w h q r c ≡ forwardLevel w h p r c) w h
+        (λ r c i j. columns-in (worked forwardKernel) 0 w h q r c i (omega arith) (omega arith)
         ∙ worked-same forwardKernel h tall (λ m. q m c) (λ m. reversiblePass w (p m) c) (λ m a. within-in w h _ p m c a j ∙ ap (λ (f : ℕ → ℤ). f c) (forward-kernel w (p m))) r i
         ∙ ap (λ (f : ℕ → ℤ). f r) (forward-kernel h _)
         ∙ sym (level-in w h p r c i j))
-        (λ r c i. columns-below forwardKernel 0 w h q r c i ∙ within-below w h _ p r c i ∙ sym (forward-keeps .below w h p r c i))
-        (λ r c j. columns-right forwardKernel 0 w h q r c (omega arith) ∙ within-beyond w h _ p r c j ∙ sym (forward-keeps .beyond w h p r c j)) r c
+        (λ r c i. columns-below (worked forwardKernel) 0 w h q r c i ∙ within-below w h _ p r c i ∙ sym (forward-keeps .below w h p r c i))
+        (λ r c j. columns-right (worked forwardKernel) 0 w h q r c (omega arith) ∙ within-beyond w h _ p r c j ∙ sym (forward-keeps .beyond w h p r c j)) r c
 
     pub back-stands : Stands W H (levelBack W w h x) (backLevel w h p)
     unfolding rows
     back-stands r c i j =
-        let q : Plane ℤ = columnsPlane backKernel 0 w h p in
-        rows-stand backKernel W H w h (columnsWorked backKernel W 0 w h x) q wide in-w in-h (columns-stand backKernel W H 0 w h x p tall (omega arith) in-h stands) r c i j
+        let q : Plane ℤ = columnsPlane (worked backKernel) 0 w h p in
+        rows-stand (worked backKernel) (worked-same backKernel) W H w h (columnsWorked backKernel W 0 w h x) q wide in-w in-h (columns-stand (worked backKernel) (worked-same backKernel) W H 0 w h x p tall (omega arith) in-h stands) r c i j
         ∙ by-part (λ r c. within w h (rows (worked backKernel) w q) q r c ≡ backLevel w h p r c) w h
         (λ r c i j. within-in w h _ q r c i j
-        ∙ worked-same backKernel w wide (q r) (λ m. backPass h (λ n. p n m) r) (λ m a. columns-in backKernel 0 w h p r m i (omega arith) (omega arith) ∙ ap (λ (f : ℕ → ℤ). f r) (back-kernel h (λ n. p n m))) c j
+        ∙ worked-same backKernel w wide (q r) (λ m. backPass h (λ n. p n m) r) (λ m a. columns-in (worked backKernel) 0 w h p r m i (omega arith) (omega arith) ∙ ap (λ (f : ℕ → ℤ). f r) (back-kernel h (λ n. p n m))) c j
         ∙ ap (λ (f : ℕ → ℤ). f c) (back-kernel w _)
         ∙ sym (back-in w h p r c i j))
-        (λ r c i. within-below w h _ q r c i ∙ columns-below backKernel 0 w h p r c i ∙ sym (back-keeps .below w h p r c i))
-        (λ r c j. within-beyond w h _ q r c j ∙ columns-right backKernel 0 w h p r c (omega arith) ∙ sym (back-keeps .beyond w h p r c j)) r c
+        (λ r c i. within-below w h _ q r c i ∙ columns-below (worked backKernel) 0 w h p r c i ∙ sym (back-keeps .below w h p r c i))
+        (λ r c j. within-beyond w h _ q r c j ∙ columns-right (worked backKernel) 0 w h p r c (omega arith) ∙ sym (back-keeps .beyond w h p r c j)) r c
 
 -- ---- the steps fit
 
@@ -100,12 +100,12 @@ module _ (W w h b : ℕ) (wide : Liftable w) (tall : Liftable h) (in-w : w ≤ W
   pub rows-sized : Sized (2 * b) w h (planeAt W (rowsWorked forwardKernel W w h x))
   unfolding rows
   rows-sized r c i j = sized-as (2 * b) _ _
-      (rows-stand forwardKernel W h w h x (planeAt W x) wide in-w (omega arith) (λ r c i j. refl) r c i (omega arith) ∙ within-in w h _ _ r c i j)
+      (rows-stand (worked forwardKernel) (worked-same forwardKernel) W h w h x (planeAt W x) wide in-w (omega arith) (λ r c i j. refl) r c i (omega arith) ∙ within-in w h _ _ r c i j)
       (forward-size w b (planeAt W x r) wide (λ k a. small r k i a) c j)
 
   pub columns-sized : Sized (3 * b) w h (planeAt W (columnsWorked backKernel W 0 w h x))
   columns-sized r c i j = sized-as (3 * b) _ _
-      (columns-stand backKernel W h 0 w h x (planeAt W x) tall (omega arith) (omega arith) (λ r c i j. refl) r c i (omega arith) ∙ columns-in backKernel 0 w h (planeAt W x) r c i (omega arith) (omega arith))
+      (columns-stand (worked backKernel) (worked-same backKernel) W h 0 w h x (planeAt W x) tall (omega arith) (omega arith) (λ r c i j. refl) r c i (omega arith) ∙ columns-in (worked backKernel) 0 w h (planeAt W x) r c i (omega arith) (omega arith))
       (back-size h b (λ m. planeAt W x m c) tall (λ k a. small k c a j) r i)
 
 -- ---- how large a transform's values become

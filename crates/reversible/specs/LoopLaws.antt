@@ -1,10 +1,10 @@
 -- The levels one after another in memory: what the loops of the code carry from level to level.
 use Prim.Native.Nat.{ℕ, zero, suc, _+_, _*_, _-_, _<_, _≤_, _^_}
-use mathlib.Core.Path.{_≡_, refl, sym, _∙_, ap, subst}
+use mathlib.Core.Path.{_≡_, refl, sym, _∙_, subst}
 use native.Mathlib.Numerals.{add-one}
 use native.Mathlib.Omega.{arith}
 use lib.IntN.{ℤ, natAbs}
-use Rattle.lines.specs.Lines.{lows, Liftable}
+use Rattle.lines.specs.Lines.{Liftable}
 use Rattle.lines.specs.Planes.{Plane, levels, levelsBack, side}
 use Rattle.lines.specs.PlaneLaws.{Roomy, roomy, side-le, Agree}
 use Rattle.pictures.specs.Pictures.{Admitted}
@@ -23,18 +23,6 @@ four-pow (suc (suc (suc zero))) h = omega arith
 four-pow (suc (suc (suc (suc zero)))) h = omega arith
 four-pow (suc (suc (suc (suc (suc zero))))) h = omega arith
 four-pow (suc (suc (suc (suc (suc (suc k)))))) h = absurd (omega arith)
-
-pub side-none : (n : ℕ) → side 0 n ≡ n
-unfolding side
-side-none n = refl
-
-pub side-one : (n : ℕ) → lows n ≡ side 1 n
-unfolding side
-side-one n = refl
-
-pub side-more : (k n : ℕ) → lows (side k n) ≡ side (k + 1) n
-unfolding side
-side-more k n = ap (λ (j : ℕ). side j n) (sym (add-one k))
 
 -- what is known of the sides at level k + 1 of L
 pub record Sides (L w h k : ℕ) : Type 0 where

@@ -10,7 +10,7 @@ use Rattle.numbers.specs.Dif.{difs}
 use Rattle.numbers.specs.Lists.{over}
 use Rattle.lines.specs.Lines.{Liftable}
 use Rattle.lines.specs.Planes.{rowByRow}
-use Rattle.lines.specs.PlaneLaws.{roomy, Agree}
+use Rattle.lines.specs.PlaneLaws.{roomy, side-none, Agree}
 use Rattle.lifting.specs.Patch.{at, patch-above}
 use Rattle.pictures.specs.Pictures.{sample}
 use Rattle.pictures.specs.PictureLaws.{pixel-below}
@@ -18,7 +18,7 @@ use Rattle.pictures.specs.MemoryLaws.{loaded, stands-over}
 use Rattle.reversible.specs.Reversible.{forward}
 use Rattle.reversible.specs.ReversibleLaws.{forward-agrees}
 use Rattle.reversible.specs.LevelLaws.{Sized, planeAt}
-use Rattle.reversible.specs.LoopLaws.{ForwardDone, sides, side-none}
+use Rattle.reversible.specs.LoopLaws.{ForwardDone, sides}
 use Rattle.reversible.specs.Needs.{FirstRoom, ForwardRoom, lines-fit, levels-room, part-here, loaded-at, loaded-sized}
 use Rattle.width_table.specs.Table.{maxDepth}
 

@@ -6,17 +6,17 @@ ghost use lib.IntN.{pos, natAbs, negℤ, _+ℤ_, _-ℤ_};
 ghost use Rattle.numbers.specs.Lists.{over};
 ghost use Rattle.refusals.specs.Answers.{_then_};
 ghost use Rattle.refusals.specs.Told.{told};
-ghost use Rattle.lines.specs.Planes.{rowByRow, side};
+ghost use Rattle.lines.specs.Planes.{rowByRow};
 ghost use Rattle.lifting.specs.Patch.{at, patch};
-ghost use Rattle.lifting.specs.Kernels.{Part};
-ghost use Rattle.pictures.specs.Pictures.{maxSide, sided, holds, sample, zeroed};
+ghost use Rattle.pictures.specs.Pictures.{sided, holds, sample, zeroed};
+ghost use Rattle.pictures.specs.Looks.{Tells, Between};
 ghost use Rattle.pictures.specs.MemoryLaws.{loaded};
 ghost use Rattle.reversible.specs.Reversible.{forward};
 ghost use Rattle.reversible.specs.Calls.{limited, forwardAnswer, forwardPlane, forwardWork, backAnswer, backPixels, backWork};
-ghost use Rattle.reversible.specs.LevelLaws.{planeAt, levelForward, levelBack};
+ghost use Rattle.reversible.specs.LevelLaws.{levelForward, levelBack};
 ghost use Rattle.reversible.specs.LoopLaws.{ForwardDone};
 ghost use Rattle.reversible.specs.Needs.{LevelRoom, FirstRoom, ForwardRoom, LevelsRoom, CallRoom};
-ghost use Rattle.reversible.specs.BackLaws.{Tells, Between, BackDone};
+ghost use Rattle.reversible.specs.BackLaws.{BackDone};
 ghost use Rattle.reversible.specs.FoundLaws.{IsSample, Found, TakenBack};
 ghost use Rattle.width_table.specs.Table.{maxDepth};
 use lifting::Kernel;
@@ -181,55 +181,6 @@ pub fn forward(
     }
 }
 
-// The side that k levels leave of a side of n.
-fn side_after(n: usize, k: u8) -> usize
-    requires { ⌜ (1 ≤ n) × (n ≤ maxSide) ⌝ }
-    ensures { λ r. ⌜ r ≡ side k n ⌝ }
-{
-    let mut m = n;
-    for i in 0..k {
-        m = (m + 1) / 2;
-    }
-    m
-}
-
-// Whether a value lies between two others.
-fn in_range(v: i32, least: i32, most: i32) -> bool
-    ensures { λ r. ⌜ Tells (Between least most v) r ⌝ }
-{
-    if v < least {
-        return false;
-    }
-    if most < v {
-        return false;
-    }
-    true
-}
-
-// Whether n values from a place on lie between two numbers.
-fn all_between(values: &[i32], from: usize, n: usize, least: i32, most: i32) -> bool
-    requires { ⌜ from + n ≤ length (now values) ⌝ }
-    ensures { λ r. ⌜ Tells ((j : ℕ) → j < n → Between least most (at (now (values .entry)) (from + j))) r ⌝ }
-{
-    let mut fits = true;
-    for j in 0..n {
-        fits = fits & in_range(values[from + j], least, most);
-    }
-    fits
-}
-
-// Whether the values of a part of w columns and h rows lie between two numbers.
-fn part_between(values: &[i32], stride: usize, w: usize, h: usize, least: i32, most: i32) -> bool
-    requires { ⌜ Part (now values) stride 0 w h ⌝ }
-    ensures { λ r. ⌜ Tells ((i : ℕ) → i < h → (j : ℕ) → j < w → Between least most (planeAt stride (at (now (values .entry))) i j)) r ⌝ }
-{
-    let mut fits = true;
-    for i in 0..h {
-        fits = fits & all_between(values, i * stride, w, least, most);
-    }
-    fits
-}
-
 // One level back, of a part of w columns and h rows: the columns, then the rows.
 fn level_back(values: &mut [i32], tile: &mut [i32], stride: usize, w: usize, h: usize)
     requires { ⌜ LevelRoom (2 ^ 22) (now values) (length (now tile)) stride w h ⌝ }
@@ -268,9 +219,9 @@ fn levels_back(values: &mut [i32], tile: &mut [i32], w: usize, h: usize, levels:
     let mut k = levels;
     while 0 < k {
         k -= 1;
-        let across = side_after(w, k);
-        let down = side_after(h, k);
-        if part_between(values, w, across, down, MIN_VALUE, MAX_VALUE) {
+        let across = pictures::side_after(w, k);
+        let down = pictures::side_after(h, k);
+        if pictures::part_between(values, 0, w, across, down, MIN_VALUE, MAX_VALUE) {
             level_back(values, tile, w, across, down);
         } else {
             return false;
@@ -303,7 +254,7 @@ fn samples_right(values: &[i32], n: usize, depth: u8) -> bool
     ensures { λ r. ⌜ Tells ((j : ℕ) → j < n → IsSample depth (at (now (values .entry)) j)) r ⌝ }
 {
     let half = middle(depth);
-    all_between(values, 0, n, -half, half - 1)
+    pictures::all_between(values, 0, n, -half, half - 1)
 }
 
 // Takes a plane back in lent values: whether it is the transform of a picture.

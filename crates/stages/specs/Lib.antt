@@ -8,7 +8,7 @@
 -- Proved of them, for any list of stages:
 --   Sound      good: on a line with mirrored edges each exact value lies within the range, each fixed-point value within the error of it
 --   Endless    the finite sum in a gain is the endless one
---   RuleLaws   the error as a sum; a side that a stage does not work keeps its bound
+--   RuleLaws   the error as a sum; a side that a stage does not work keeps its bound; bound-grows: the bounds grow with what enters
 -- Of the two passes:
 --   GainTable  the gains as numbers
 --   Examples   worked bounds

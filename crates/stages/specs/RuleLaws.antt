@@ -1,15 +1,19 @@
--- Laws of the rule: the error as a sum over the stages; what enters has its own bound; a side that a stage does not work keeps its bound.
+-- Laws of the rule: the error as a sum over the stages; what enters has its own bound; a side that a stage does not work keeps its bound;
+-- the bounds grow with what enters.
 use mathlib.Core.List.{List}
-use Prim.Native.Nat.{ℕ, zero, suc, _+_, _<_, _≤_}
+use Prim.Native.Nat.{ℕ, zero, suc, _+_, _*_, _-_, _^_, _<_, _≤_}
 use mathlib.Core.Path.{_≡_, refl, _∙_, ap, fun-ext}
 use native.Mathlib.Omega.{arith}
+use native.Mathlib.Nat.{mul-le-mul, le-trans, le-div-iff-mul-le, div-mul-le-self}
+use lib.Dec.{lit<}
+use lib.Pow.{pow-pos}
 use lib.IntN.{ℤ, pos, negsuc}
 use Rattle.exact.specs.Fractions.{Frac, _≈_, _⊕_, whole, magnitude, upDiv, wholesOf}
 use Rattle.exact.specs.FracLaws.{≈-trans, ⊕-cong, ⊕-zero-r, zeroF}
-use Rattle.stages.specs.Stages.{Side, low, high, Stage, stage, made, worked}
+use Rattle.stages.specs.Stages.{Side, low, high, Kind, lifts, scales, Stage, stage, made, worked}
 use Rattle.stages.specs.OnLine.{other}
 use Rattle.stages.specs.Gains.{Line, before, after, held, nothing, unit, feed, only, sumTo, Source, samples, lows, highs, node, inputAnswer, nodeAnswer, sumFrom, exactGain, gain}
-use Rattle.stages.specs.Rule.{Bound, timesGain, Entering, together, apart, carried, brought, rangeAt, ownFrom, ownsBring, owns, errorAt, boundAt}
+use Rattle.stages.specs.Rule.{Bound, timesGain, ownLift, ownScale, Entering, together, apart, carried, brought, rangeAt, ownFrom, ownsBring, owns, errorAt, boundAt}
 use Rattle.stages.specs.Held.{enters, weighed, nodesBring, node-later}
 use Rattle.stages.specs.Endless.{magnitude-zero, endless-gain, wholes-≈}
 
@@ -137,3 +141,59 @@ module _ (st : List Stage) (e : Entering) (F : ℕ → ℕ) (fi : Side → ℕ) 
       let bound : ℕ → ℕ → Bound = λ r t. record { range = r; error = t } in
       ap (λ (t : ℕ). bound t (errorAt st e F fi f s (suc m))) (brought-kept (λ b. b .range) e)
       ∙ ap (bound (brought st (λ b. b .range) e s m)) (omega (arith, error-sum st e F fi f s (suc m), error-sum st e F fi f s m, brought-kept (λ b. b .error) e, last-kept (ownAt st e F fi f)))
+
+-- ---- the bounds grow with what enters
+
+pub up-grows : (a b m : ℕ) → 0 < m → a ≤ b → upDiv a m ≤ upDiv b m
+unfolding upDiv
+up-grows a b m h i = le-div-iff-mul-le {k = m} h .1 (le-trans (div-mul-le-self (a + (m - 1)) m) (omega arith))
+
+pub times-grows : (x y g h : ℕ) → x ≤ y → g ≤ h → timesGain x g ≤ timesGain y h
+unfolding timesGain
+times-grows x y g h i j = up-grows (x * g) (y * h) 65536 (lit< tt) (mul-le-mul i j)
+
+-- range and error each by itself
+pub record AtMost (a b : Bound) : Type 0 where
+  pub range : a .range ≤ b .range
+  pub error : a .error ≤ b .error
+
+-- what enters: it brings no more to any node
+pub record EnterAtMost (e e' : Entering) : Type 0 where
+  pub carries : (st : List Stage) (s : Side) (m : ℕ) → (brought st (λ b. b .range) e s m ≤ brought st (λ b. b .range) e' s m) × (brought st (λ b. b .error) e s m ≤ brought st (λ b. b .error) e' s m)
+
+pub apart-at-most : {a a' b b' : Bound} → AtMost a a' → AtMost b b' → EnterAtMost (apart a b) (apart a' b')
+unfolding brought
+apart-at-most {a} {a'} {b} {b'} h k = record {
+  carries = λ st s m. (
+    omega (arith, times-grows (a .range) (a' .range) (gain st s m lows) (gain st s m lows) (h .range) (omega arith), times-grows (b .range) (b' .range) (gain st s m highs) (gain st s m highs) (k .range) (omega arith)),
+    omega (arith, times-grows (a .error) (a' .error) (gain st s m lows) (gain st s m lows) (h .error) (omega arith), times-grows (b .error) (b' .error) (gain st s m highs) (gain st s m highs) (k .error) (omega arith)),
+  );
+}
+
+module _ (st : List Stage) (e e' : Entering) (F : ℕ → ℕ) (fi : Side → ℕ) (f : ℕ → ℕ) (h : EnterAtMost e e') where
+  own-grows : (k : Kind) (s : Side) (i : ℕ) (r r' : Side → ℕ) → ((s : Side) → r s ≤ r' s) → ownFrom st e F fi f k s i r ≤ ownFrom st e' F fi f k s i r'
+  unfolding ownFrom ownLift ownScale
+  own-grows lifts low i r r' k = omega (arith, up-grows (r high) (r' high) (2 ^ F i) (pow-pos (F i)) (k high))
+  own-grows lifts high i r r' k = omega (arith, up-grows (r low) (r' low) (2 ^ F i) (pow-pos (F i)) (k low))
+  own-grows scales low i r r' k = omega (arith, up-grows (r low) (r' low) (2 ^ (F i + 1)) (pow-pos (F i + 1)) (k low))
+  own-grows scales high i r r' k = omega (arith, up-grows (r high) (r' high) (2 ^ (F i + 1)) (pow-pos (F i + 1)) (k high))
+
+  owns-grow : (i : ℕ) (s : Side) (m : ℕ) → ownsBring st e F fi f i (owns st e F fi f i) s m ≤ ownsBring st e' F fi f i (owns st e' F fi f i) s m
+  unfolding ownsBring owns rangeAt
+  owns-grow zero s m = omega arith
+  owns-grow (suc i) s m =
+      omega (
+        arith,
+        owns-grow i s m,
+        times-grows _ _ (gain st s m (node i)) (gain st s m (node i))
+            (own-grows (stage st i .kind) (stage st i .side) i
+            (λ s. rangeAt st e F fi f s i + (brought st (λ b. b .error) e s i + ownsBring st e F fi f i (owns st e F fi f i) s i))
+            (λ s. rangeAt st e' F fi f s i + (brought st (λ b. b .error) e' s i + ownsBring st e' F fi f i (owns st e' F fi f i) s i))
+            (λ s. omega (arith, h .carries st s i .0, h .carries st s i .1, owns-grow i s i)))
+            (omega arith),
+      )
+
+  -- A larger range and error in, no smaller ones out.
+  pub bound-grows : (s : Side) (m : ℕ) → AtMost (boundAt st e F fi f s m) (boundAt st e' F fi f s m)
+  unfolding boundAt rangeAt errorAt
+  bound-grows s m = record { range = h .carries st s m .0; error = omega (arith, h .carries st s m .1, owns-grow m s m) }

@@ -12,7 +12,7 @@ use Rattle.lines.specs.LineLaws.{some-highs}
 use Rattle.lines.specs.Neighbours.{low-after-in, high-before-in, high-after-in}
 use Rattle.exact.specs.Fractions.{Frac, _≈_, _⊕_, _⊗_, neg}
 use Rattle.exact.specs.Exact.{lift}
-use Rattle.exact.specs.FracLaws.{≈-refl, ≈-sym, ≈-trans, ⊕-cong, ⊗-cong, ⊕-zero-r, zeroF, through, times-sub, sub-sum, Within, within-zero, within-near}
+use Rattle.exact.specs.FracLaws.{≈-refl, ≈-sym, ≈-trans, ⊕-cong, ⊗-cong, ⊕-zero-r, neg-cong, zeroF, through, times-sub, sub-sum, Within, within-≈, within-zero, within-near}
 use Rattle.stages.specs.Stages.{Side, low, high, Kind, lifts, scales, Stage, stage, made, worked, replaced, bits}
 use Rattle.stages.specs.OnLine.{other, beforeIn, afterIn, count, exactAfter, fixedMade, fixedAfter}
 use Rattle.stages.specs.Rule.{Bound, Entering, rangeAt, ownFrom, errorAt, boundAt}
@@ -33,6 +33,10 @@ off v f x = meant v f ⊕ neg x
 pub record Good (b : Bound) (f : ℕ) (v : ℤ) (x : Frac) : Type 0 where
   pub range : Within x (b .range) Q
   pub error : Within (off v f x) (b .error) Q
+
+pub good-≈ : {b : Bound} {f : ℕ} {v w : ℤ} {x y : Frac} → v ≡ w → x ≈ y → Good b f w y → Good b f v x
+good-≈ {b} {f} {v} {w} {x} {y} e h g =
+    subst (λ (u : ℤ). Good b f u x) (sym e) (record { range = within-≈ (≈-sym h) (g .range); error = within-≈ (⊕-cong (≈-refl _) (neg-cong (≈-sym h))) (g .error) })
 
 -- ---- the difference of two liftings
 

@@ -5,8 +5,8 @@ use Prim.Native.Nat.{ℕ, _+_, _*_, _-_, _≤_}
 use native.Mathlib.Omega.{arith}
 use lib.ListN.{length}
 use Rattle.lifting.specs.Patch.{at}
-use Rattle.lifting.specs.Kernels.{SafeKernel, columnsWorked}
-use Rattle.lifting.specs.Strips.{column-as-was, columns-more, columns-none, some-width, enough-room}
+use Rattle.lifting.specs.Kernels.{worked, SafeKernel, columnsWorked}
+use Rattle.lifting.specs.Strips.{column-as-was, columns-more, columns-none, some-width, enough-room, part-strip}
 use Rattle.lifting.proofs.columns.Statement.{statement}
 use Rattle.lifting.proofs.columns.Tie as tie
 
@@ -18,7 +18,7 @@ abbrev μ-loop : tie.MeasureT-loop
 μ-loop plane₀ tile₀ stride from w h kernel most done₀ plane tile done = w - done
 
 loop-holds : tie.Need-loop-holds Inv-loop μ-loop
-loop-holds c = (omega arith, refl, refl, columns-none _ _ _ _ _)
+loop-holds c = (omega arith, refl, refl, columns-none (worked (c .before .args .kernel)) _ _ _ _)
 
 -- the strip's width
 width : (c : tie.After-smaller2 Inv-loop μ-loop) → let a = c .before .before .before .before .args in
@@ -36,14 +36,9 @@ strip-requires c κs =
     let p = a .pre .0 .0 in
     let kernel = a .args .kernel in
     let wide = width m in (
-      record {
-        lines = record { some = omega (arith, a .pre .0 .1); few = omega (arith, p .few); narrow = omega (arith, p .narrow); fits = λ r h. omega (arith, p .fits r h) };
-        some = wide .0;
-        two = a .pre .0 .1;
-        room = omega arith;
-      },
+      part-strip p (a .pre .0 .1) _ _ (omega arith) (t .loop .done) _ (wide .0) (wide .1) (omega arith),
       λ j g. subst (SafeKernel kernel (a .args .h))
-          (sym (column-as-was kernel (a .args .stride) (a .args .from) (t .loop .done) (m .smaller2 .result) (a .args .h) (omega (arith, p .narrow)) (at (a .args .plane .now)) _ (t .loop .inv .3) j g))
+          (sym (column-as-was (worked kernel) (a .args .stride) (a .args .from) (t .loop .done) (m .smaller2 .result) (a .args .h) (omega (arith, p .narrow)) (at (a .args .plane .now)) _ (t .loop .inv .3) j g))
           (a .pre .1 (t .loop .done + j) (omega arith)),
     )
 
@@ -57,7 +52,7 @@ loop-again c =
       omega arith,
       omega arith,
       omega arith,
-      columns-more (a .args .kernel) (a .args .stride) (a .args .from) (t .loop .done) (m .smaller2 .result) (a .args .h) (omega (arith, a .pre .0 .0 .narrow)) (at (a .args .plane .now)) _ (t .loop .inv .3) _ (f .strip .ensures),
+      columns-more (worked (a .args .kernel)) (a .args .stride) (a .args .from) (t .loop .done) (m .smaller2 .result) (a .args .h) (omega (arith, a .pre .0 .0 .narrow)) (at (a .args .plane .now)) _ (t .loop .inv .3) _ (f .strip .ensures),
     )
 
 add-strip : tie.Need-add-strip Inv-loop μ-loop

@@ -10,7 +10,7 @@ use mir.Syntax.{w32, w64}
 use mir.Facts.{toZ-ofZ}
 use Rattle.lifting.specs.Steps.{scaled, signed, turnedSum}
 use Rattle.lifting.specs.Raise.{raised, far-is, fused-small, base-small}
-use Rattle.lifting.proofs.Read.{got, fits-at}
+use Rattle.lifting.specs.Turns.{got, fits-at}
 use Rattle.lifting.proofs.far_of.Statement.{statement}
 use Rattle.lifting.proofs.far_of.Tie as tie
 

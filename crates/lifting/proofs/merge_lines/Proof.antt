@@ -1,22 +1,16 @@
 -- `lifting::merge_lines` meets its contract. The loop's invariant: the first 2 i lines are there.
 -- Assumes nothing.
-use mathlib.Core.Path.{_≡_, refl, sym, ap, _∙_}
-use Prim.Native.Nat.{ℕ, _+_, _*_, _-_, _≤_}
+use mathlib.Core.Path.{_≡_, refl}
+use Prim.Native.Nat.{_*_, _-_, _≤_}
 use native.Mathlib.Omega.{arith}
-use lib.IntN.{ℤ}
 use lib.ListN.{length}
-use Rattle.lines.specs.Lines.{lows, highs, interleaved}
-use Rattle.lines.specs.LineLaws.{even-place, odd-place}
-use Rattle.lifting.specs.Patch.{at, patch}
-use Rattle.lifting.specs.PatchLines.{lineAt, patchLines, lines-none, lines-more, lines-to}
-use Rattle.lifting.specs.Tiles.{column, highColumn, sizes}
-use Rattle.lifting.specs.Strips.{two-lines, last-line}
+use Rattle.lines.specs.Lines.{highs}
+use Rattle.lifting.specs.Patch.{at}
+use Rattle.lifting.specs.PatchLines.{lineAt, patchLines, lines-none, lines-to}
+use Rattle.lifting.specs.Tiles.{sizes}
+use Rattle.lifting.specs.Strips.{two-lines, last-line, woven, woven-pair, woven-last}
 use Rattle.lifting.proofs.merge_lines.Statement.{statement}
 use Rattle.lifting.proofs.merge_lines.Tie as tie
-
--- line i as it should be
-abbrev woven : ℕ → ℕ → (ℕ → ℤ) → ℕ → ℕ → ℤ
-woven s n y i j = interleaved (column s y j) (highColumn s n y j) i
 
 abbrev Inv-loop : tie.InvT-loop
 Inv-loop tile plane₀ stride from s n low high top i₀ plane i =
@@ -33,37 +27,14 @@ loop-holds c = (omega arith, refl, lines-none _ _ _ _)
 
 loop-again : tie.Need-loop-again Inv-loop μ-loop
 loop-again c =
-    let f = c .before in
-    let t = f .before .before in
-    let a = t .before .before in
-    let i = t .before .loop .i in
-    let z = two-lines (a .pre) i (t .loop-test .taken) in
-    let y = at (a .args .tile .now) in
-    let s = a .args .s in
-    let n = a .args .n in
-    let from = a .args .from in
-    let stride = a .args .stride in (
-      omega arith,
-      omega arith,
-      lines-to _ _ _ _ _ _ _
-          (lines-more (lineAt from stride) s (woven s n y) _ (2 * i + 1) _ _ _
-          (lines-more (lineAt from stride) s (woven s n y) _ (2 * i) _ _ _ (t .before .loop .inv .2) refl (λ j g. sym (even-place (column s y j) (highColumn s n y j) i)))
-          (f .copy-pair .ensures ∙ ap (λ (u : ℕ). patch u s (λ j. y (lows n * s + i * s + j)) (patch (from + 2 * i * stride) s (λ j. y (i * s + j)) (at (t .before .loop .plane)))) (sym (z .odd)))
-          (λ j g. ap y (omega arith) ∙ sym (odd-place (column s y j) (highColumn s n y j) i)))
-          (omega arith),
-    )
+    let t = c .before .before .before in
+    (omega arith, omega arith, woven-pair _ _ _ _ (at (t .before .before .args .tile .now)) _ _ _ _ (t .before .loop .inv .2) (c .before .copy-pair .ensures))
 
 returns : tie.Need-returns Inv-loop μ-loop
 returns c =
     let t = c .before .before .before .before in
     let a = t .before .before in
-    let y = at (a .args .tile .now) in
-    let s = a .args .s in
-    let n = a .args .n in
-    lines-to _ _ _ _ _ _ _
-    (lines-more (lineAt (a .args .from) (a .args .stride)) s (woven s n y) _ (2 * highs n) _ _ _
-    (lines-to _ _ _ (2 * highs n) _ _ _ (t .before .loop .inv .2) (omega arith)) (c .before .copy-run .ensures) (λ j g. sym (even-place (column s y j) (highColumn s n y j) (highs n))))
-    (omega arith)
+    woven-last _ _ _ _ (at (a .args .tile .now)) _ (c .before .before .before .if1 .taken) _ _ (lines-to _ _ _ (2 * highs (a .args .n)) _ _ _ (t .before .loop .inv .2) (omega arith)) (c .before .copy-run .ensures)
 
 returns-2 : tie.Need-returns-2 Inv-loop μ-loop
 returns-2 c = lines-to _ _ _ _ _ _ _ (c .before .before .loop .inv .2) (omega arith)

@@ -9,7 +9,7 @@ use mir.Syntax.{w32, w64}
 use mir.Facts.{toZ-ofZ}
 use Rattle.lifting.specs.Steps.{scaled, signed, turnedSum}
 use Rattle.lifting.specs.Raise.{raised, near-is, base-small}
-use Rattle.lifting.proofs.Read.{back, got, fits-at}
+use Rattle.lifting.specs.Turns.{back, got, fits-at}
 use Rattle.lifting.proofs.near_of.Statement.{statement}
 use Rattle.lifting.proofs.near_of.Tie as tie
 

@@ -1,23 +1,23 @@
 -- `lifting::on_lows` meets its contract: a run for the first line, one for the middle, and one for the last line where n is odd.
 -- Assumes nothing.
-use mathlib.Core.Path.{_≡_, sym, ap, _∙_}
-use Prim.Native.Nat.{ℕ, _+_, _*_, _-_}
+use mathlib.Core.Path.{_≡_, refl}
+use Prim.Native.Nat.{_*_}
 use native.Mathlib.Omega.{arith}
 use lib.IntN.{ℤ}
-use Rattle.lines.specs.Lines.{lows, highs}
+use Rattle.lines.specs.Lines.{highs}
 use Rattle.lifting.specs.Steps.{applied, Safe}
-use Rattle.lifting.specs.Patch.{at, patch, patch-ext, patch-to}
-use Rattle.lifting.specs.Runs.{as-type, front-safe, front-run}
-use Rattle.lifting.specs.Tiles.{Sizes, sizes, packed, newLows, at-lows, lows-first, lows-middle, lows-last}
+use Rattle.lifting.specs.Patch.{at}
+use Rattle.lifting.specs.Tiles.{Sizes, sizes}
+use Rattle.lifting.specs.TileRuns.{first-low-runs, middle-low-runs, last-low-runs, someLows, first-low-asks, first-lows, middle-low-asks, middle-lows, last-low-asks, all-lows, no-last-low}
 use Rattle.lifting.proofs.on_lows.Statement.{statement}
 use Rattle.lifting.proofs.on_lows.Tie as tie
 
--- the tile at entry, and with k of its lows done
-abbrev x : tie.Start → ℕ → ℤ
-x a = at (a .args .tile .now)
+-- the step and what it asks
+abbrev f : tie.Start → ℤ → ℤ → ℤ → ℤ
+f a = applied (a .args .step)
 
-abbrev done : tie.Start → ℕ → ℕ → ℤ
-done a k = patch 0 k (packed (a .args .s) (newLows (applied (a .args .step)) (a .args .s) (a .args .n) (x a) (a .pre .0 .two))) (x a)
+abbrev P : tie.Start → ℤ → ℤ → ℤ → Type 0
+P a = Safe (a .args .step)
 
 counts : (a : tie.Start) → Sizes (a .args .s) (a .args .n)
 counts a = sizes (a .args .s) (a .args .n) (a .pre .0 .two)
@@ -25,63 +25,42 @@ counts a = sizes (a .args .s) (a .args .n) (a .pre .0 .two)
 lift-run-requires : tie.Need-lift-run-requires
 lift-run-requires c κs =
     let a = c .before in
-    let z = counts a in (
-      omega arith,
-      λ p h. as-type (lows-first (Safe (a .args .step)) (a .args .s) (a .args .n) (x a) (a .pre .0 .two) p h) (at-lows (Safe (a .args .step)) (a .args .s) (a .args .n) (x a) (a .pre .0 .two) (a .pre .1) p (omega arith)),
-    )
+    (first-low-runs (a .pre .0) _ refl, first-low-asks (f a) (P a) (a .pre .0) (a .pre .1))
 
-one : (c : tie.After-lift-run) → let a = c .before .before in at (c .lift-run .last .0) ≡ done a (a .args .s)
-one c =
-    let a = c .before .before in
-    c .lift-run .ensures ∙ patch-ext _ _ _ _ _ (λ p h. sym (lows-first (applied (a .args .step)) (a .args .s) (a .args .n) (x a) (a .pre .0 .two) p h))
+one : (c : tie.After-lift-run) → let a = c .before .before in at (c .lift-run .last .0) ≡ someLows (f a) (a .pre .0) (a .args .s)
+one c = let a = c .before .before in first-lows (f a) (P a) (a .pre .0) _ (c .lift-run .ensures)
 
 lift-run-requires-2 : tie.Need-lift-run-requires-2
 lift-run-requires-2 c κs =
-    let f = c .before .before in
-    let a = f .before .before in
-    let z = counts a in (
-      omega arith,
-      front-safe (a .args .s) _ _ ((highs (a .args .n) - 1) * a .args .s) _ _ _ (one f) (omega arith) (omega arith) (Safe (a .args .step))
-          (λ p h. as-type (lows-middle (Safe (a .args .step)) (a .args .s) (a .args .n) (x a) (a .pre .0 .two) p h) (at-lows (Safe (a .args .step)) (a .args .s) (a .args .n) (x a) (a .pre .0 .two) (a .pre .1) _ (omega arith))),
-    )
+    let g = c .before .before in
+    let a = g .before .before in
+    (middle-low-runs (a .pre .0) _ (omega arith), middle-low-asks (f a) (P a) (a .pre .0) _ (one g) (a .pre .1))
 
-most : (c : tie.After-lift-run2) → let a = c .before .before .before .before .before in at (c .lift-run2 .last .0) ≡ done a (highs (a .args .n) * a .args .s)
+most : (c : tie.After-lift-run2) → let a = c .before .before .before .before .before in
+    at (c .lift-run2 .last .0) ≡ someLows (f a) (a .pre .0) (highs (a .args .n) * a .args .s)
 most c =
-    let f = c .before .before .before in
-    let a = f .before .before in
-    let z = counts a in
-    let top = lows (a .args .n) * a .args .s in
-    front-run (a .args .s) top (top + a .args .s) ((highs (a .args .n) - 1) * a .args .s) _ _ _ (one f) (omega arith) (omega arith) (applied (a .args .step)) _ _ (c .lift-run2 .ensures) (omega arith)
-    (λ p h. sym (lows-middle (applied (a .args .step)) (a .args .s) (a .args .n) (x a) (a .pre .0 .two) p h))
+    let g = c .before .before .before in
+    let a = g .before .before in
+    middle-lows (f a) (P a) (a .pre .0) _ (one g) _ (c .lift-run2 .ensures)
 
 lift-run-requires-3 : tie.Need-lift-run-requires-3
 lift-run-requires-3 c κs =
-    let f = c .before .before .before in
-    let a = f .before .before .before .before .before in
-    let z = counts a in
-    let odd = z .odd (c .before .if1 .taken) in (
-      omega arith,
-      front-safe (highs (a .args .n) * a .args .s) _ _ (a .args .s) _ _ _ (most f) (omega arith) (omega arith) (Safe (a .args .step))
-          (λ p h. as-type (lows-last (Safe (a .args .step)) (a .args .s) (a .args .n) (x a) (a .pre .0 .two) (c .before .if1 .taken) p h) (at-lows (Safe (a .args .step)) (a .args .s) (a .args .n) (x a) (a .pre .0 .two) (a .pre .1) _ (omega arith))),
-    )
+    let g = c .before .before .before in
+    let a = g .before .before .before .before .before in
+    let odd = c .before .if1 .taken in
+    (last-low-runs (a .pre .0) _ (omega arith) odd, last-low-asks (f a) (P a) (a .pre .0) _ (most g) odd (a .pre .1))
 
 returns : tie.Need-returns
 returns c =
-    let f = c .before .before .before .before .before in
-    let a = f .before .before .before .before .before in
-    let z = counts a in
-    let taken = c .before .before .before .if1 .taken in
-    let odd = z .odd taken in
-    let end = lows (a .args .n) * a .args .s + (highs (a .args .n) - 1) * a .args .s in
-    front-run (highs (a .args .n) * a .args .s) end end (a .args .s) _ _ _ (most f) (omega arith) (omega arith) (applied (a .args .step)) _ _ (c .before .lift-run3 .ensures) (omega arith)
-    (λ p h. sym (lows-last (applied (a .args .step)) (a .args .s) (a .args .n) (x a) (a .pre .0 .two) taken p h))
+    let g = c .before .before .before .before .before in
+    let a = g .before .before .before .before .before in
+    all-lows (f a) (P a) (a .pre .0) _ (most g) (c .before .before .before .if1 .taken) _ (c .before .lift-run3 .ensures)
 
 returns-2 : tie.Need-returns-2
 returns-2 c =
-    let f = c .before .before in
-    let a = f .before .before .before .before .before in
-    let e : highs (a .args .n) * a .args .s ≡ lows (a .args .n) * a .args .s = ap (λ (t : ℕ). t * a .args .s) (omega arith) in
-    patch-to _ _ _ _ _ _ (most f) e
+    let g = c .before .before in
+    let a = g .before .before .before .before .before in
+    no-last-low (f a) (P a) (a .pre .0) _ (most g) (λ h. omega arith)
 
 pub on-lows-spec : {M : Type 1} → statement M
 on-lows-spec =

@@ -8,7 +8,7 @@ use mir.Syntax.{w32}
 use mir.Facts.{toZ-ofZ}
 use Rattle.lifting.specs.Steps.{turnedSum}
 use Rattle.lifting.specs.Raise.{raised, fused-small, fused-most}
-use Rattle.lifting.proofs.Read.{got}
+use Rattle.lifting.specs.Turns.{got}
 use Rattle.lifting.proofs.product.Statement.{statement}
 use Rattle.lifting.proofs.product.Tie as tie
 

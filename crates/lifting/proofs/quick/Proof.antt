@@ -12,7 +12,7 @@ use Rattle.lifting.specs.declared.Step.the-variants.{Scaled}
 use Rattle.lifting.specs.Runs.{as-type}
 use Rattle.lifting.specs.Steps.{Same, signed}
 use Rattle.lifting.specs.Raise.{signed-is}
-use Rattle.lifting.proofs.Read.{back}
+use Rattle.lifting.specs.Turns.{back}
 use Rattle.lifting.proofs.quick.Statement.{statement}
 use Rattle.lifting.proofs.quick.Tie as tie
 

@@ -9,7 +9,7 @@ use lib.Signed.{shrZ}
 use mir.Syntax.{w32, w64}
 use mir.Facts.{toZ-ofZ}
 use Rattle.lifting.specs.Raise.{raised, padded-is, fused-small, base-small}
-use Rattle.lifting.proofs.Read.{got, fits-at}
+use Rattle.lifting.specs.Turns.{got, fits-at}
 use Rattle.lifting.proofs.raised_by.Statement.{statement}
 use Rattle.lifting.proofs.raised_by.Tie as tie
 

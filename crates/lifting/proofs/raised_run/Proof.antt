@@ -10,7 +10,7 @@ use Rattle.lifting.specs.declared.Step.{Step}
 use Rattle.lifting.specs.Steps.{applied, Safe, raisedStep}
 use Rattle.lifting.specs.Patch.{at, patch-none, patch-set, patch-to}
 use Rattle.lifting.specs.Runs.{ran}
-use Rattle.lifting.proofs.Turn.{turn-safe, turn-gives}
+use Rattle.lifting.specs.Turns.{turn-safe, turn-gives}
 use Rattle.lifting.proofs.raised_run.Statement.{statement}
 use Rattle.lifting.proofs.raised_run.Tie as tie
 

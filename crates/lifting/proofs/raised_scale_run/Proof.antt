@@ -11,7 +11,7 @@ use mir.Facts.{toZ-ofZ}
 use Rattle.lifting.specs.declared.Factor.the-variants.{Raised}
 use Rattle.lifting.specs.Steps.{scaledBy, FactorSafe}
 use Rattle.lifting.specs.Patch.{at, patch, patch-none, patch-set, patch-to}
-use Rattle.lifting.proofs.Read.{back, got}
+use Rattle.lifting.specs.Turns.{back, got}
 use Rattle.lifting.proofs.raised_scale_run.Statement.{statement}
 use Rattle.lifting.proofs.raised_scale_run.Tie as tie
 

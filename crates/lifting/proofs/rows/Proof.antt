@@ -6,7 +6,7 @@ use native.Mathlib.Omega.{arith}
 use lib.ListN.{length}
 use Rattle.lifting.specs.Patch.{at}
 use Rattle.lifting.specs.PatchLines.{lines-none, lines-to}
-use Rattle.lifting.specs.Kernels.{SafeKernel, columnOf, rowsWorked}
+use Rattle.lifting.specs.Kernels.{worked, SafeKernel, columnOf, rowsWorked}
 use Rattle.lifting.specs.Strips.{row-as-was, row-done}
 use Rattle.lifting.proofs.rows.Statement.{statement}
 use Rattle.lifting.proofs.rows.Tie as tie
@@ -43,7 +43,7 @@ strip-requires c κs =
         room = omega arith;
       },
       λ j g. subst (λ (u : ℕ). SafeKernel kernel (a .args .w) (columnOf 1 b y u)) (omega arith)
-          (subst (SafeKernel kernel (a .args .w)) (sym (row-as-was kernel (a .args .stride) (a .args .w) (t .loop .r) b (omega (arith, part .narrow)) _ _ _ (t .loop .inv .3) (omega arith))) (a .pre .1 (t .loop .r) h)),
+          (subst (SafeKernel kernel (a .args .w)) (sym (row-as-was (a .args .stride) (a .args .w) (t .loop .r) b (omega (arith, part .narrow)) _ _ _ (t .loop .inv .3) (omega arith))) (a .pre .1 (t .loop .r) h)),
     )
 
 loop-again : tie.Need-loop-again Inv-loop μ-loop
@@ -53,7 +53,7 @@ loop-again c =
       omega arith,
       omega arith,
       omega arith,
-      row-done (a .args .kernel) (a .args .stride) (a .args .w) (t .loop .r) (t .loop .r * a .args .stride) (omega (arith, a .pre .0 .0 .narrow)) (at (a .args .plane .now)) _ _ (t .loop .inv .3) (omega arith) (c .before .before .strip .ensures),
+      row-done (worked (a .args .kernel)) (a .args .stride) (a .args .w) (t .loop .r) (t .loop .r * a .args .stride) (omega (arith, a .pre .0 .0 .narrow)) (at (a .args .plane .now)) _ _ (t .loop .inv .3) (omega arith) (c .before .before .strip .ensures),
     )
 
 returns : tie.Need-returns Inv-loop μ-loop

@@ -12,7 +12,7 @@ use mir.Syntax.{w32, w64}
 use mir.Val.{SFits, Fits}
 use mir.Facts.{toZ-ofZ}
 use Rattle.lifting.specs.Raise.{below-zero, above-zero}
-use Rattle.lifting.proofs.Read.{back}
+use Rattle.lifting.specs.Turns.{back}
 use Rattle.lifting.proofs.size.Statement.{statement}
 use Rattle.lifting.proofs.size.Tie as tie
 

@@ -7,7 +7,7 @@ use lib.IntN.{ℤ, pos, _+ℤ_, _-ℤ_}
 use mir.Syntax.{w32}
 use mir.Facts.{toZ-ofZ}
 use Rattle.lifting.specs.Steps.{turnedSum}
-use Rattle.lifting.proofs.Read.{back}
+use Rattle.lifting.specs.Turns.{back}
 use Rattle.lifting.proofs.turned.Statement.{statement}
 use Rattle.lifting.proofs.turned.Tie as tie
 

@@ -23,7 +23,7 @@ part-between-requires : tie.Need-part-between-requires Inv-loop μ-loop
 part-between-requires c κs =
     let s = c .before .before .before .before .before in
     let t = c .before .before .before .before .loop in
-    part-here (s .pre) (t .k - 1) (omega arith) _ _ _ (omega (arith, t .inv .1)) (c .before .before .side-after .ensures) (c .before .side-after2 .ensures)
+    part-here (s .pre) (t .k - 1) (omega arith) (t .values) _ _ (omega (arith, t .inv .1)) (c .before .before .side-after .ensures) (c .before .side-after2 .ensures) .fits
 
 level-back-requires : tie.Need-level-back-requires Inv-loop μ-loop
 level-back-requires c κs =

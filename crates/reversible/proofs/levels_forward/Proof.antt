@@ -7,10 +7,11 @@ use lib.IntN.{ℤ}
 use lib.ListN.{length}
 use Rattle.lines.specs.Lines.{lows}
 use Rattle.lines.specs.Planes.{side}
+use Rattle.lines.specs.PlaneLaws.{side-one, side-more}
 use Rattle.lifting.specs.Patch.{at}
 use Rattle.pictures.specs.MemoryLaws.{loaded}
 use Rattle.reversible.specs.LevelLaws.{levelForward}
-use Rattle.reversible.specs.LoopLaws.{ForwardDone, sides, side-one, side-more, forward-first, forward-more, forward-part}
+use Rattle.reversible.specs.LoopLaws.{ForwardDone, sides, forward-first, forward-more, forward-part}
 use Rattle.reversible.specs.Needs.{levels-room, level-room}
 use Rattle.reversible.specs.StepLaws.{first-room, loaded-small}
 use Rattle.reversible.proofs.levels_forward.Statement.{statement}

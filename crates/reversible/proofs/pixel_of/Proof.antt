@@ -5,16 +5,15 @@ use native.Mathlib.Omega.{arith}
 use lib.Dec.{T}
 use lib.IntN.{ℤ, natAbs, _+ℤ_}
 use lib.Signed.{nonNeg, yes-nonNeg}
-use mir.Syntax.{w16}
+use mir.Syntax.{w16, w32}
 use mir.Val.{Fits}
 use Rattle.numbers.specs.Abs.{abs-add}
-use Rattle.numbers.specs.Auto.{values, v-arg, auto-fits, auto-exact}
+use Rattle.numbers.specs.Auto.{values, v-arg, auto-fits, auto-exact, rd}
 use Rattle.reversible.specs.FoundLaws.{below, sample-size}
-use Rattle.reversible.proofs.Read.{rd}
 use Rattle.reversible.proofs.pixel_of.Statement.{statement}
 use Rattle.reversible.proofs.pixel_of.Tie as tie
 
-sum : (c : tie.Start) → rd (rd (c .args .v) +ℤ rd (c .args .half)) ≡ c .args .v +ℤ c .args .half
+sum : (c : tie.Start) → rd w32 (rd w32 (c .args .v) +ℤ rd w32 (c .args .half)) ≡ c .args .v +ℤ c .args .half
 sum c = auto-exact (search (values, v-arg (c .args .v) 2048 (sample-size 2048 (c .args .half) (c .args .v) (c .pre .0) (c .pre .1)), v-arg (c .args .half) 2048 (c .pre .0)) depth 40) tt
 
 cast-result : tie.Need-cast-result

@@ -6,11 +6,12 @@ use native.Mathlib.Omega.{arith}
 use borrow.Author.Needs.{needs}
 use lib.IntN.{ℤ, pos, natAbs, negℤ, _-ℤ_}
 use lib.Pow.{pow-mono}
-use Rattle.numbers.specs.Auto.{values, v-arg, auto-fits, auto-exact}
+use mir.Syntax.{w32}
+use Rattle.numbers.specs.Auto.{values, v-arg, auto-fits, auto-exact, rd}
 use Rattle.lifting.specs.Patch.{at}
 use Rattle.lifting.specs.Runs.{as-type}
-use Rattle.reversible.proofs.Read.{rd}
-use Rattle.reversible.specs.BackLaws.{Tells, Between, zero-less}
+use Rattle.numbers.specs.Laws.{zero-less}
+use Rattle.pictures.specs.Looks.{Tells, Between}
 use Rattle.reversible.proofs.samples_right.Statement.{statement}
 use Rattle.reversible.proofs.samples_right.Tie as tie
 
@@ -23,8 +24,8 @@ returns c =
     let half = c .before .middle .result in
     let is = c .before .middle .ensures in
     let v = v-arg half 2048 (half-small (c .before)) in
-    let least : rd (pos 0 -ℤ rd half) ≡ negℤ (pos (2 ^ (a .depth - 1))) = auto-exact (search (values, v) depth 40) tt ∙ ap (λ (z : ℤ). pos 0 -ℤ z) is ∙ zero-less (pos (2 ^ (a .depth - 1))) in
-    let most : rd (rd half -ℤ pos 1) ≡ pos (2 ^ (a .depth - 1)) -ℤ pos 1 = auto-exact (search (values, v) depth 40) tt ∙ ap (λ (z : ℤ). z -ℤ pos 1) is in
+    let least : rd w32 (pos 0 -ℤ rd w32 half) ≡ negℤ (pos (2 ^ (a .depth - 1))) = auto-exact (search (values, v) depth 40) tt ∙ ap (λ (z : ℤ). pos 0 -ℤ z) is ∙ zero-less (pos (2 ^ (a .depth - 1))) in
+    let most : rd w32 (rd w32 half -ℤ pos 1) ≡ pos (2 ^ (a .depth - 1)) -ℤ pos 1 = auto-exact (search (values, v) depth 40) tt ∙ ap (λ (z : ℤ). z -ℤ pos 1) is in
     let front : (j : ℕ) → 0 + j ≡ j = λ j. omega arith in
     as-type (λ u. Tells ((j : ℕ) → j < a .n → Between (least u) (most u) (at (a .values .now) (front j u))) (c .all-between .result)) (c .all-between .ensures)
 

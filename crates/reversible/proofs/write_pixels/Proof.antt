@@ -12,8 +12,8 @@ use mir.Facts.{toZ-ofZ}
 use Rattle.lifting.specs.Patch.{at, patch, patch-none, patch-to}
 use Rattle.lifting.specs.Runs.{as-type}
 use Rattle.pictures.specs.MemoryLaws.{patch-next}
-use Rattle.reversible.specs.BackLaws.{Between}
-use Rattle.reversible.proofs.Read.{rd}
+use Rattle.numbers.specs.Auto.{rd}
+use Rattle.pictures.specs.Looks.{Between}
 use Rattle.reversible.proofs.write_pixels.Statement.{statement}
 use Rattle.reversible.proofs.write_pixels.Tie as tie
 
@@ -28,7 +28,7 @@ pixel-of-requires : tie.Need-pixel-of-requires Inv-loop μ-loop
 pixel-of-requires c κs =
     let s = c .before .before .before .before .before in
     let m = c .before .before .before .middle in
-    let half : rd (m .result) ≡ pos (2 ^ (s .args .depth - 1)) = toZ-ofZ (sfits-of (m .ok)) ∙ m .ensures in
+    let half : rd w32 (m .result) ≡ pos (2 ^ (s .args .depth - 1)) = toZ-ofZ (sfits-of (m .ok)) ∙ m .ensures in
     let v = toZ-ofZ (sfits-of (c .pixel-of-arg .given)) in
     as-type (λ u. (natAbs (sym half u) ≤ 2 ^ 11) × Between (negℤ (sym half u)) (sym half u -ℤ pos 1) (sym v u))
     (pow-mono {i = s .args .depth - 1} {j = 11} (omega (arith, s .pre .0)), s .pre .1 (c .before .before .loop .i) (c .before .loop-test .taken))
@@ -38,7 +38,7 @@ loop-again c =
     let t = c .before .before .before .loop in
     let s = c .before .before .before .before .before .before in
     let m = c .before .before .before .before .middle in
-    let half : rd (m .result) ≡ pos (2 ^ (s .args .depth - 1)) = toZ-ofZ (sfits-of (m .ok)) ∙ m .ensures in
+    let half : rd w32 (m .result) ≡ pos (2 ^ (s .args .depth - 1)) = toZ-ofZ (sfits-of (m .ok)) ∙ m .ensures in
     let v = toZ-ofZ {w = w32} {z = at (s .args .values .now) (t .i)} (sfits-of (c .before .pixel-of-arg .given)) in
     (omega arith, simp length-set (t .inv .1), patch-next (t .i) _ _ (t .pixels) 0 (t .inv .2) (omega arith) _ (c .pixel-of .ensures ∙ (λ u. natAbs (v u +ℤ half u))))
 

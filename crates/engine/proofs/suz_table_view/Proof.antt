@@ -1,0 +1,36 @@
+use mathlib.Core.Path.{sym, _∙_, ap}
+use Rattle.refusals.specs.Answers.{code}
+use Rattle.refusals.specs.Told.{told}
+use Rattle.width_table.specs.ReadLaws.{table-read}
+use Rattle.view_precision.specs.Bounds.{viewVerdict}
+use Rattle.engine.specs.AnswerLaws.{view-refused, view-judged}
+use borrow.Author.Needs.{needs}
+use Rattle.engine.proofs.suz_table_view.Statement.{statement}
+use Rattle.engine.proofs.suz_table_view.Tie as tie
+
+returns : tie.Need-returns
+returns c =
+    let v = c .before .before .before .before in
+    let b = v .before .before .args .table .now in
+    c .refusal-code .ensures ∙ sym (ap code (view-refused b _ (sym (v .read .ensures .0) ∙ ap told (c .before .before .outcome .given .1))))
+
+returns-2 : tie.Need-returns-2
+returns-2 c =
+    let t = c .before .before .before in
+    let v = t .before .before in
+    let b = v .before .before .args .table .now in
+    let right = sym (v .read .ensures .0) ∙ ap told (t .enum-told .given .1) in
+    c .code .ensures ∙ ap code (c .before .judge .ensures ∙ ap viewVerdict (v .read .ensures .1 ∙ table-read b right) ∙ sym (view-judged b right))
+
+pub suz-table-view-spec : {M : Type 1} → statement M
+suz-table-view-spec =
+    tie.close
+    (tie.spec
+    (λ c κs. search needs)
+    (λ c. search needs)
+    (λ c κs. search needs)
+    (λ c. search needs)
+    (λ c κs. search needs)
+    (λ c κs. search needs)
+    returns
+    returns-2)

@@ -1,0 +1,68 @@
+-- `unlifting::rows` meets its contract. The loop's invariant: the first r rows are done.
+-- Assumes nothing.
+use mathlib.Core.Path.{_≡_, refl, sym, subst}
+use Prim.Native.Nat.{_*_, _-_, _≤_}
+use native.Mathlib.Omega.{arith}
+use lib.ListN.{length}
+use Rattle.lifting.specs.Patch.{at}
+use Rattle.lifting.specs.PatchLines.{lines-none, lines-to}
+use Rattle.lifting.specs.Strips.{row-kept, row-next}
+use Rattle.unlifting.specs.Fixed.{nodeBits, fixedBack}
+use Rattle.unlifting.specs.Planes.{Safe, rowsBack}
+use Rattle.unlifting.proofs.rows.Statement.{statement}
+use Rattle.unlifting.proofs.rows.Tie as tie
+
+abbrev Inv-loop : tie.InvT-loop
+Inv-loop work₀ tile₀ stride w h r₀ work tile r =
+    (r ≤ h) × (length work ≡ length work₀) × (length tile ≡ length tile₀) × (at work ≡ rowsBack stride w r (at work₀))
+
+abbrev μ-loop : tie.MeasureT-loop
+μ-loop work₀ tile₀ stride w h r₀ work tile r = h - r
+
+loop-holds : tie.Need-loop-holds Inv-loop μ-loop
+loop-holds c = (omega arith, refl, refl, lines-none _ _ _ _)
+
+mul-row : tie.Need-mul-row Inv-loop μ-loop
+mul-row c =
+    let t = c .before .before .before in
+    omega (arith, t .before .pre .0 .0 .fits (t .loop .r) (c .before .before .loop-test .taken))
+
+row-requires : tie.Need-row-requires Inv-loop μ-loop
+row-requires c κs =
+    let t = c .before .before .before in
+    let a = t .before in
+    let part = a .pre .0 .0 in
+    let h = c .before .before .loop-test .taken in
+    let there = part .fits (t .loop .r) h in (
+      (omega arith, omega arith, a .pre .0 .1, omega (arith, part .narrow, part .wide)),
+      subst (Safe nodeBits nodeBits (a .args .w)) (sym (row-kept (a .args .stride) (a .args .w) (t .loop .r) (t .loop .r * a .args .stride) (omega (arith, part .narrow)) _ _ _ (t .loop .inv .3) (omega arith))) (a .pre .1 (t .loop .r) h),
+    )
+
+loop-again : tie.Need-loop-again Inv-loop μ-loop
+loop-again c =
+    let t = c .before .before .before .before .before .before in
+    let a = t .before in (
+      omega arith,
+      omega arith,
+      omega arith,
+      row-next (fixedBack nodeBits nodeBits) (a .args .stride) (a .args .w) (t .loop .r) (t .loop .r * a .args .stride) (omega (arith, a .pre .0 .0 .narrow)) (at (a .args .work .now)) _ _ (t .loop .inv .3) (omega arith) (c .before .before .row .ensures .0),
+    )
+
+returns : tie.Need-returns Inv-loop μ-loop
+returns c = (lines-to _ _ _ _ _ _ _ (c .before .loop .inv .3) (omega arith), c .before .loop .inv .2)
+
+pub rows-spec : {M : Type 1} → statement M
+rows-spec =
+    tie.close
+    (tie.spec
+    Inv-loop
+    μ-loop
+    loop-holds
+    mul-row
+    row-requires
+    (λ c. omega arith)
+    (λ c. omega arith)
+    loop-again
+    (λ c. omega arith)
+    (λ c. omega arith)
+    returns)

@@ -1,0 +1,18 @@
+-- Rows and columns of a plane in memory with the lifting undone (document 02, job 1).
+use Prim.Native.Nat.{ℕ, _*_, _^_, _<_, _≤_}
+use lib.IntN.{ℤ, natAbs}
+use Rattle.lifting.specs.Kernels.{rowsBy, columnsBy}
+use Rattle.unlifting.specs.Fixed.{nodeBits, fixedBack, Small, limit}
+
+-- what enters a line of n values, and every value on the way, is at most 2^15 in magnitude at the bits of a node
+pub record Safe (fl fh n : ℕ) (y : ℕ → ℤ) : Type 0 where
+  pub enters : (k : ℕ) → k < n → natAbs (y k) ≤ limit
+  pub small : Small fl fh n y
+
+-- the first w values of h rows; lows and highs have the bits of a node
+abbrev pub rowsBack : ℕ → ℕ → ℕ → (ℕ → ℤ) → ℕ → ℤ
+rowsBack = rowsBy (fixedBack nodeBits nodeBits)
+
+-- w columns of h rows, from column `from` on; the lows have fl bits, the highs fh
+abbrev pub columnsBack : ℕ → ℕ → ℕ → ℕ → ℕ → ℕ → (ℕ → ℤ) → ℕ → ℤ
+columnsBack fl fh = columnsBy (fixedBack fl fh)

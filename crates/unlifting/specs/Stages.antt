@@ -1,0 +1,117 @@
+-- A stage undone, as it is worked with 64-bit numbers: the cut product of a constant is added to the own value.
+-- Assumes nothing.
+use mathlib.Core.Path.{_≡_, refl, sym, ap, subst, _∙_, fun-ext}
+use mathlib.Core.List.{List, [], _∷_}
+use Prim.Native.Nat.{ℕ, _+_, _*_, _^_, _-_, _≤_}
+use native.Mathlib.Omega.{arith}
+use lib.IntN.{ℤ, pos, negℤ, natAbs, _+ℤ_, _-ℤ_, _*ℤ_}
+use lib.Dec.{lit<}
+use mir.Syntax.{w64}
+use mir.Val.{SFits}
+use mir.Facts.{toZ-ofZ}
+use Rattle.numbers.specs.Floor.{floorDiv, floor-add-mul}
+use Rattle.numbers.specs.Quote.{terms, vars, ring}
+use Rattle.exact.specs.Fractions.{Frac}
+use Rattle.exact.specs.Exact.{alpha, beta, gamma, delta, zeta, zetaInverse}
+use Rattle.lifting.specs.Turns.{back}
+use Rattle.stages.specs.Fixed.{nearest, cut, scale}
+use Rattle.unlifting.specs.Fixed.{nodeBits, inverseBits, unstep, limit}
+
+-- a value and its neighbours are in the limit
+pub record Inside (own x y : ℤ) : Type 0 where
+  pub middle : natAbs own ≤ limit
+  pub left : natAbs x ≤ limit
+  pub right : natAbs y ≤ limit
+
+-- a constant of at most 2 in magnitude
+abbrev pub Constant : ℤ → Type 0
+Constant c = natAbs c ≤ 2 * 2 ^ inverseBits
+
+-- own + ⌊(0 - c) (x + y) / 2^24⌋
+abbrev pub movedBy : ℤ → ℤ → ℤ → ℤ → ℤ
+movedBy c own x y = own +ℤ floorDiv ((pos 0 -ℤ c) *ℤ (x +ℤ y)) (2 ^ inverseBits)
+
+-- ⌊c x / 2^b⌋
+abbrev pub scaledBy : ℤ → ℕ → ℤ → ℤ
+scaledBy c b x = floorDiv (c *ℤ x) (2 ^ b)
+
+-- the same of a constant that was read back from its bits
+pub constant-back : {c : ℤ} → SFits w64 c → Constant c → Constant (back w64 c)
+constant-back fits h = subst Constant (sym (toZ-ofZ fits)) h
+
+pub moved-back : {c : ℤ} → SFits w64 c → movedBy (back w64 c) ≡ movedBy c
+moved-back fits = ap movedBy (toZ-ofZ fits)
+
+pub scaled-back : {c : ℤ} → SFits w64 c → scaledBy (back w64 c) ≡ scaledBy c
+scaled-back fits = ap scaledBy (toZ-ofZ fits)
+
+-- the bits that a scaling of a value of f bits cuts
+abbrev pub cutBits : ℕ → ℕ
+cutBits f = inverseBits - nodeBits + f
+
+sum-law : (own k s m : ℤ) → (own *ℤ m -ℤ k *ℤ s) *ℤ pos 1 ≡ (pos 0 -ℤ k) *ℤ s +ℤ m *ℤ own
+sum-law own k s m = let ρ : List ℤ = own ∷ k ∷ s ∷ m ∷ [] in ring ρ (search (terms, vars ρ) depth 30) (search (terms, vars ρ) depth 30) tt
+
+flip : (a b : ℤ) → a +ℤ b ≡ b +ℤ a
+flip a b = let ρ : List ℤ = a ∷ b ∷ [] in ring ρ (search (terms, vars ρ) depth 30) (search (terms, vars ρ) depth 30) tt
+
+once : (z : ℤ) → z *ℤ pos 1 ≡ z
+once z = let ρ : List ℤ = z ∷ [] in ring ρ (search (terms, vars ρ) depth 30) (search (terms, vars ρ) depth 30) tt
+
+-- own times 2^24 is a multiple of 2^24, so the cut leaves own as it is
+moved-is : (f : Frac) (c : ℤ) → c ≡ nearest f inverseBits → movedBy c ≡ unstep f
+unfolding unstep cut
+moved-is f c e = fun-ext λ own. fun-ext λ x. fun-ext λ y.
+    flip own _ ∙ sym (ap (λ (z : ℤ). floorDiv z (2 ^ inverseBits)) (ap (λ (k : ℤ). (own *ℤ pos (2 ^ inverseBits) -ℤ k *ℤ (x +ℤ y)) *ℤ pos 1) (sym e) ∙ sum-law own c (x +ℤ y) (pos (2 ^ inverseBits)))
+    ∙ floor-add-mul ((pos 0 -ℤ c) *ℤ (x +ℤ y)) own (2 ^ inverseBits) (lit< tt))
+
+scaled-is : (g : Frac) (c : ℤ) (f : ℕ) → c ≡ nearest g inverseBits → scaledBy c (cutBits f) ≡ scale g inverseBits f nodeBits
+unfolding scale cut
+scaled-is g c f e = fun-ext λ x.
+    let a : nodeBits - (inverseBits + f) ≡ 0 = omega arith in
+    let b : inverseBits + f - nodeBits ≡ cutBits f = omega arith in
+    sym ((λ u. floorDiv (nearest g inverseBits *ℤ x *ℤ pos (2 ^ a u)) (2 ^ b u)) ∙ ap (λ (z : ℤ). floorDiv z (2 ^ cutBits f)) (once (nearest g inverseBits *ℤ x)) ∙ ap (λ (k : ℤ). floorDiv (k *ℤ x) (2 ^ cutBits f)) (sym e))
+
+-- ---- the constants at 24 bits
+
+abbrev pub atAlpha : ℤ
+atAlpha = negℤ (pos 26610918)
+
+abbrev pub atBeta : ℤ
+atBeta = negℤ (pos 888859)
+
+abbrev pub atGamma : ℤ
+atGamma = pos 14812790
+
+abbrev pub atDelta : ℤ
+atDelta = pos 7440810
+
+abbrev pub atZeta : ℤ
+atZeta = pos 19287161
+
+abbrev pub atInverse : ℤ
+atInverse = pos 14593904
+
+pub moved-alpha : movedBy atAlpha ≡ unstep alpha
+unfolding nearest
+moved-alpha = moved-is alpha _ refl
+
+pub moved-beta : movedBy atBeta ≡ unstep beta
+unfolding nearest
+moved-beta = moved-is beta _ refl
+
+pub moved-gamma : movedBy atGamma ≡ unstep gamma
+unfolding nearest
+moved-gamma = moved-is gamma _ refl
+
+pub moved-delta : movedBy atDelta ≡ unstep delta
+unfolding nearest
+moved-delta = moved-is delta _ refl
+
+pub scaled-zeta : (f : ℕ) → scaledBy atZeta (cutBits f) ≡ scale zeta inverseBits f nodeBits
+unfolding nearest
+scaled-zeta f = scaled-is zeta _ f refl
+
+pub scaled-inverse : (f : ℕ) → scaledBy atInverse (cutBits f) ≡ scale zetaInverse inverseBits f nodeBits
+unfolding nearest
+scaled-inverse f = scaled-is zetaInverse _ f refl

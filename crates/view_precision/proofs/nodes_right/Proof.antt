@@ -1,0 +1,63 @@
+use Prim.Native.Nat.{_-_, _≤_}
+use mathlib.Core.Path.{_≡_, sym, subst}
+use native.Mathlib.Omega.{arith}
+use Rattle.view_precision.specs.Bounds.{boundAt}
+use Rattle.view_precision.specs.Places.{stages, nodeAfter, meant, AllSmall}
+use Rattle.view_precision.specs.PlaceLaws.{node-bound, RightBelow, right-next, wrong-here, all-right, one-wrong}
+use Rattle.view_precision.specs.SizeLaws.{owns-small}
+use Rattle.view_precision.proofs.nodes_right.Statement.{statement}
+use Rattle.view_precision.proofs.nodes_right.Tie as tie
+
+abbrev Inv-loop : tie.InvT-loop
+Inv-loop low high own stage₀ stage = (stage ≤ stages) × RightBelow (boundAt (meant low) (meant high)) stage
+
+abbrev μ-loop : tie.MeasureT-loop
+μ-loop low high own stage₀ stage = stages - stage
+
+bound-at-requires : tie.Need-bound-at-requires Inv-loop μ-loop
+bound-at-requires c κs =
+    let s = c .before .before in
+    let a = s .args in
+    (s .pre .0 .0 .range, s .pre .0 .1 .range, omega arith, subst AllSmall (sym (s .pre .1)) (owns-small (meant (a .low)) (meant (a .high)) (s .pre .0 .0) (s .pre .0 .1) stages (omega arith)))
+
+-- the bound is that of the node
+held : (c : tie.After-struct-known Inv-loop μ-loop) → meant (c .before .bound-at .result) ≡ boundAt (meant (c .before .before .before .before .args .low)) (meant (c .before .before .before .before .args .high)) (nodeAfter (c .before .before .before .loop .stage))
+held c =
+    let i = c .before .before .before in
+    let s = i .before in
+    node-bound (meant (s .args .low)) (meant (s .args .high)) (i .loop .stage) (omega arith) (s .pre .1) (c .before .bound-at .ensures .0)
+
+returns : tie.Need-returns Inv-loop μ-loop
+returns c =
+    let k = c .before in
+    let i = k .before .before .before in
+    let b = boundAt (meant (i .before .args .low)) (meant (i .before .args .high)) in
+    sym (one-wrong b (i .loop .stage) (omega arith) (wrong-here b (i .loop .stage) _ (held k) (omega arith)))
+
+loop-again : tie.Need-loop-again Inv-loop μ-loop
+loop-again c =
+    let k = c .before in
+    let i = k .before .before .before in
+    (omega arith, right-next (boundAt (meant (i .before .args .low)) (meant (i .before .args .high))) (i .loop .stage) _ (held k) (i .loop .inv .1) (omega arith))
+
+returns-2 : tie.Need-returns-2 Inv-loop μ-loop
+returns-2 c =
+    let i = c .before in
+    let b = boundAt (meant (i .before .args .low)) (meant (i .before .args .high)) in
+    let end : i .loop .stage ≡ stages = omega arith in
+    sym (all-right b (subst (RightBelow b) end (i .loop .inv .1)))
+
+pub nodes-right-spec : {M : Type 1} → statement M
+nodes-right-spec =
+    tie.close
+    (tie.spec
+    Inv-loop
+    μ-loop
+    (λ c. (omega arith, λ i h. absurd (omega arith)))
+    bound-at-requires
+    (λ c. omega arith)
+    returns
+    (λ c. omega arith)
+    (λ c. omega arith)
+    loop-again
+    returns-2)

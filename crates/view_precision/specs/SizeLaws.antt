@@ -1,0 +1,136 @@
+-- What the program computes of a pass fits in 64 bits, and what a pass gives on grows by no more than what is stored (`larger-most`).
+use Prim.Native.Nat.{ℕ, zero, suc, _+_, _*_, _-_, _/_, _%_, _^_, _<_, _≤_}
+use mathlib.Core.Bool.{Bool, true, false}
+use mathlib.Core.List.{List, [], _∷_}
+use mathlib.Core.Path.{_≡_, sym, _∙_, ap, subst}
+use native.Mathlib.Omega.{arith}
+use native.Mathlib.Nat.{mul-le-mul-left, mul-le-mul-right, le-trans}
+use lib.Dec.{T, ltb, leb, leb→le, lit≤, lit<}
+use lib.ListN.{getD, set, replicate}
+use Rattle.numbers.specs.Tests.{every, both}
+use Rattle.exact.specs.Fractions.{upDiv}
+use Rattle.unlifting.specs.Fixed.{nodeBits, inverseBits}
+use Rattle.stages.specs.GainTable.{inverseGains}
+use Rattle.stages.specs.Rule.{Bound, timesGain}
+use Rattle.view_precision.specs.Bounds.{larger}
+use Rattle.view_precision.specs.Odd.{odd-larger}
+use Rattle.view_precision.specs.Places.{stages, sources, scalings, gainAt, carriedTo, boundFrom, total, totalFrom, ownFrom, ownAt, ownsBelow, Within, mostFed, largest, Small, AllSmall, mostTotal}
+use Rattle.view_precision.specs.PlaceLaws.{own-is, total-is, owns-again, bound-is}
+
+-- ---- products by a gain
+
+times-most : (x g : ℕ) → timesGain x g * 65536 ≤ x * g + 65535
+unfolding timesGain upDiv
+times-most x g = omega arith
+
+-- the wholes of 2^16 and the rest apart
+pub times-split : (x g : ℕ) → x / 65536 * g + (x % 65536 * g + 65535) / 65536 ≡ timesGain x g
+unfolding timesGain upDiv
+times-split x g = omega (arith, ap (λ (y : ℕ). y * g) e)
+  where
+    e : x ≡ 65536 * (x / 65536) + x % 65536
+    e = omega arith
+
+-- what holds of each entry and of what stands for a missing one
+at-any : {A : Type 0} (test : A → Bool) (d : A) → T (test d) → (l : List A) → T (every test l) → (k : ℕ) → T (test (getD l k d))
+unfolding every
+at-any test d h [] e k = h
+at-any test d h (x ∷ xs) e zero = both (test x) (every test xs) e .0
+at-any test d h (x ∷ xs) e (suc k) = at-any test d h xs (both (test x) (every test xs) e .1) k
+
+-- the largest gain
+abbrev pub mostGain : ℕ
+mostGain = 207898
+
+pub gain-most : (i j : ℕ) → gainAt i j ≤ mostGain
+unfolding every
+gain-most i j =
+    let small : ℕ → Bool = λ g. leb g mostGain in
+    leb→le _ _ (at-any small 0 tt (getD inverseGains i []) (at-any (every small) [] tt inverseGains tt i) j)
+
+pub product-most : (m x g : ℕ) → x ≤ m → g ≤ mostGain → x * g ≤ m * mostGain
+product-most m x g h k = le-trans (mul-le-mul-right g h) (mul-le-mul-left m k)
+
+pub times-small : (x i j : ℕ) → x ≤ largest → timesGain x (gainAt i j) ≤ 4 * largest
+times-small x i j h = omega (arith, times-most x (gainAt i j), product-most largest x (gainAt i j) h (gain-most i j))
+
+-- ---- a pass, where what enters is small
+
+pub carried-small : (own : List ℕ) (j : ℕ) → AllSmall own → (n : ℕ) → carriedTo own j n ≤ n * (4 * largest)
+unfolding carriedTo
+carried-small own j h zero = lit≤ tt
+carried-small own j h (suc n) = omega (arith, carried-small own j h n, times-small (getD own n 0) n j (h n))
+
+pub bound-small : (low high : ℕ) (own : List ℕ) (j : ℕ) → low ≤ largest → high ≤ largest → AllSmall own → total (boundFrom low high own j) ≤ mostTotal
+bound-small low high own j h k s = omega (arith, times-small low 0 j h, times-small high 1 j k, carried-small own j s sources)
+
+own-small : (j r : ℕ) → r ≤ mostTotal → ownFrom j r ≤ 2 ^ 32
+unfolding ownFrom upDiv
+own-small j r h = go (ltb j scalings)
+  where
+    go : (t : Bool) → elim t [ true ↦ upDiv r (2 ^ (inverseBits + 1)) + 2 ^ (32 - nodeBits) | false ↦ upDiv r (2 ^ inverseBits) + 2 ^ (32 - nodeBits) ] ≤ 2 ^ 32
+    go true = omega arith
+    go false = omega arith
+
+cons-small : (x : ℕ) (l : List ℕ) → x ≤ largest → AllSmall l → AllSmall (x ∷ l)
+cons-small x l h k zero = h
+cons-small x l h k (suc i) = k i
+
+nil-small : AllSmall []
+nil-small i = lit≤ tt
+
+zeros : (n : ℕ) → AllSmall (replicate n 0)
+zeros zero = nil-small
+zeros (suc n) = cons-small 0 (replicate n 0) (lit≤ tt) (zeros n)
+
+set-small : (l : List ℕ) (k x : ℕ) → AllSmall l → x ≤ largest → AllSmall (set l k x)
+set-small [] k x h i = h
+set-small (y ∷ l) zero x h i = cons-small x l i (λ j. h (suc j))
+set-small (y ∷ l) (suc k) x h i = cons-small y (set l k x) (h 0) (set-small l k x (λ j. h (suc j)) i)
+
+module _ (a b : Bound) (sa : Small a) (sb : Small b) where
+  pub total-small : (own : List ℕ) → AllSmall own → (j : ℕ) → totalFrom a b own j ≤ mostTotal
+  total-small own s zero = omega (arith, sa .range, sa .error)
+  total-small own s (suc zero) = omega (arith, sb .range, sb .error)
+  total-small own s (suc (suc j)) = bound-small (a .range) (b .range) own (suc j) (sa .range) (sb .range) s
+
+  pub owns-small : (j : ℕ) → j ≤ stages → AllSmall (ownsBelow a b (j + 2))
+  unfolding ownsBelow ownAt
+  owns-small zero h = cons-small (a .error) (b .error ∷ replicate 6 0) (sa .error) (cons-small (b .error) (replicate 6 0) (sb .error) (zeros 6))
+  owns-small (suc j) h =
+      let s = owns-small j (omega arith) in
+      let e : j + 3 ≡ suc j + 2 = omega arith in
+      subst AllSmall (owns-again a b j h ∙ ap (ownsBelow a b) e) (set-small (ownsBelow a b (j + 2)) (j + 2) _ s (le-trans (own-small j _ (total-small _ s j)) (lit≤ tt)))
+
+  stage-small : (j : ℕ) → j < stages → ownAt a b (j + 2) ≤ 2 ^ 32
+  stage-small j h = subst (λ (x : ℕ). x ≤ 2 ^ 32) (sym (own-is a b j h)) (own-small j _ (subst (λ (x : ℕ). x ≤ mostTotal) (total-is a b j h) (total-small _ (owns-small j (omega arith)) j)))
+
+-- What a pass gives on.
+pub larger-most : (a b : Bound) (n m : ℕ) → 1 ≤ m → n ≤ mostFed → m ≤ mostFed → Within n a → Within m b → Within (n + 2 * m) (larger a b)
+unfolding carriedTo ownsBelow ownAt
+larger-most a b n m one hn hm wa wb =
+    subst (Within (n + 2 * m)) (bound-is a b 5 (lit< tt) ∙ sym (odd-larger a b)) (record {
+      range = omega (arith, wa .range, wb .range, times-most (a .range) (gainAt 0 5), times-most (b .range) (gainAt 1 5));
+      error = omega (
+        arith,
+        wa .error,
+        wb .error,
+        times-most (a .error) (gainAt 0 5),
+        times-most (b .error) (gainAt 1 5),
+        own 0 (lit< tt),
+        own 1 (lit< tt),
+        own 2 (lit< tt),
+        own 3 (lit< tt),
+        own 4 (lit< tt),
+        own 5 (lit< tt),
+      );
+    })
+  where
+    sa : Small a
+    sa = record { range = omega (arith, wa .range); error = omega (arith, wa .error) }
+
+    sb : Small b
+    sb = record { range = omega (arith, wb .range); error = omega (arith, wb .error) }
+
+    own : (j : ℕ) → j < stages → timesGain (ownAt a b (j + 2)) (gainAt (j + 2) 5) * 65536 ≤ 2 ^ 32 * gainAt (j + 2) 5 + 65535
+    own j h = le-trans (times-most (ownAt a b (j + 2)) (gainAt (j + 2) 5)) (omega (arith, mul-le-mul-right (gainAt (j + 2) 5) (stage-small a b sa sb j h)))

@@ -1,0 +1,342 @@
+// The precision analysis of viewing (document 02, job 1). Every definition that the contracts cite is in specs/.
+// All bounds are whole numbers of 2^-32.
+use refusals::Outcome;
+use refusals::Refusal;
+use width_table::WidthTable;
+ghost use mathlib.Core.Path.{_≡_};
+ghost use Prim.Native.Nat.{_+_, _*_, _^_, _<_, _≤_, max};
+ghost use mathlib.Core.Bool.{_&&_};
+ghost use lib.Dec.{T};
+ghost use Rattle.refusals.specs.Answers.{answered};
+ghost use Rattle.refusals.specs.Told.{told};
+ghost use Rattle.exact.specs.Fractions.{upDiv};
+ghost use Rattle.unlifting.specs.Fixed.{inverseBits};
+ghost use Rattle.stages.specs.Rule.{timesGain};
+ghost use Rattle.width_table.specs.Nodes.{Rows, passNumber};
+ghost use Rattle.width_table.specs.Numbered.{nodeOf, passOf, IsNode};
+ghost use Rattle.width_table.specs.Table.{formRight};
+ghost use Rattle.precision.specs.Places.{At};
+ghost use Rattle.view_precision.specs.Bounds.{boundAt, larger, stored, levelGives, givesFrom, startBound, passRight, stepsAllowed, viewDistance, viewVerdict};
+ghost use Rattle.view_precision.specs.Places.{stages, sources, mostEntering, largest, mostTotal, gainAt, carriedTo, boundFrom, totalFrom, ownFrom, ownsBelow, meant, Small, AllSmall, Within, levelRight, levelsRight};
+
+// Range and error.
+struct Bound {
+    range: u64,
+    error: u64,
+}
+
+impl Bound {
+    // 1, and what no node may exceed.
+    const ONE: u64 = 1 << 32;
+
+    const MOST: u64 = Bound::ONE << 15;
+
+    // The stages of a pass undone, from 0: G1 and G2, which scale, then U2, P2, U1, P1.
+    const STAGES: u8 = WidthTable::NODES;
+
+    const SCALING_STAGES: u8 = 2;
+
+    // Those that leave the even and the odd output: U1 and P1.
+    const EVEN: u8 = 4;
+
+    const ODD: u8 = 5;
+
+    // What errors come from: the lows (0) and the highs (1), which are the inputs, then the stages.
+    const LOWS: u8 = 0;
+
+    const HIGHS: u8 = 1;
+
+    const INPUTS: u8 = 2;
+
+    const SOURCES: u8 = Bound::INPUTS + Bound::STAGES;
+
+    // A gain of 1: gains are whole numbers of 2^-16.
+    const GAIN_ONE: u64 = 1 << 16;
+
+    // A step of a node, and the bits of a constant.
+    const STEP: u64 = Bound::ONE >> unlifting::NODE_BITS;
+
+    const CONSTANT_BITS: u8 = unlifting::CONSTANT_BITS as u8;
+
+    // The error of a stored coefficient, in its steps: none in viewing, and what demand 3 of document 01 allows it.
+    const NO_STEPS: u64 = 0;
+
+    const ALLOWED_STEPS: u64 = 2;
+}
+
+// 2^bits.
+fn power(bits: u8) -> u64
+    requires { ⌜ bits < 64 ⌝ }
+    ensures { λ r. ⌜ r ≡ 2 ^ bits ⌝ }
+{
+    1u64 << bits
+}
+
+// x / 2^bits, rounded up.
+fn up_div(x: u64, bits: u8) -> u64
+    requires { ⌜ (x ≤ mostTotal) × (bits ≤ inverseBits + 1) ⌝ }
+    ensures { λ r. ⌜ (r ≡ upDiv x (2 ^ bits)) × (r ≤ 2 * mostTotal) ⌝ }
+{
+    let divisor = power(bits);
+    (x + (divisor - 1)) / divisor
+}
+
+// The larger of two.
+fn larger_of(x: u64, y: u64) -> u64
+    ensures { λ r. ⌜ r ≡ max x y ⌝ }
+{
+    if x < y { y } else { x }
+}
+
+// Both.
+fn both(x: bool, y: bool) -> bool
+    ensures { λ r. ⌜ r ≡ (x && y) ⌝ }
+{
+    if x { y } else { false }
+}
+
+// The gain from a source to what a stage leaves, in whole numbers of 2^-16; a line for each source.
+fn gain(from: u8, to: u8) -> u64
+    requires { ⌜ (from < sources) × (to < stages) ⌝ }
+    ensures { λ r. ⌜ r ≡ gainAt from to ⌝ }
+{
+    let gains: [[u64; Bound::STAGES as usize]; Bound::SOURCES as usize] = [
+        [57008, 0, 57008, 100665, 57008, 63260],
+        [0, 75341, 66829, 193347, 52593, 75341],
+        [65536, 0, 65536, 115725, 65536, 72724],
+        [0, 65536, 58132, 168186, 45749, 65536],
+        [0, 0, 65536, 115725, 65536, 72724],
+        [0, 0, 0, 65536, 6945, 87565],
+        [0, 0, 0, 0, 65536, 207898],
+        [0, 0, 0, 0, 0, 65536],
+    ];
+    gains[from as usize][to as usize]
+}
+
+// A product by a gain, rounded up by itself. The wholes and the rest of 2^16 are multiplied apart, since the product may leave 64 bits.
+fn times_gain(x: u64, from: u8, to: u8) -> u64
+    requires { ⌜ (x ≤ largest) × (from < sources) × (to < stages) ⌝ }
+    ensures { λ r. ⌜ (r ≡ timesGain x (gainAt from to)) × (r ≤ 4 * largest) ⌝ }
+{
+    let gain = gain(from, to);
+    x / Bound::GAIN_ONE * gain
+        + (x % Bound::GAIN_ONE * gain + (Bound::GAIN_ONE - 1)) / Bound::GAIN_ONE
+}
+
+// The error of what a stage leaves: what each source has of its own, carried to it.
+fn error_at(own: [u64; Bound::SOURCES as usize], stage: u8) -> u64
+    requires { ⌜ (stage < stages) × AllSmall own ⌝ }
+    ensures { λ r. ⌜ (r ≡ carriedTo own stage sources) × (r ≤ sources * (4 * largest)) ⌝ }
+{
+    let mut error = 0;
+    for from in 0..Bound::SOURCES {
+        error += times_gain(own[from as usize], from, stage);
+    }
+    error
+}
+
+// Range and error of what a stage leaves, from the ranges of the lows and the highs and from what each source has of its own.
+fn bound_at(low: u64, high: u64, own: [u64; Bound::SOURCES as usize], stage: u8) -> Bound
+    requires { ⌜ (low ≤ largest) × (high ≤ largest) × (stage < stages) × AllSmall own ⌝ }
+    ensures { λ r. ⌜ (meant r ≡ boundFrom low high own stage) × (r .range + r .error ≤ mostTotal) ⌝ }
+{
+    Bound {
+        range: times_gain(low, Bound::LOWS, stage) + times_gain(high, Bound::HIGHS, stage),
+        error: error_at(own, stage),
+    }
+}
+
+// Range plus error of the value that a stage multiplies: G1 the lows, G2 the highs, any other what the stage before left.
+fn total_before(low: Bound, high: Bound, own: [u64; Bound::SOURCES as usize], stage: u8) -> u64
+    requires { ⌜ (stage < stages) × AllSmall own × Small (meant low) × Small (meant high) ⌝ }
+    ensures { λ r. ⌜ (r ≡ totalFrom (meant low) (meant high) own stage) × (r ≤ mostTotal) ⌝ }
+{
+    if stage == 0 {
+        return low.range + low.error;
+    }
+    if stage == 1 {
+        return high.range + high.error;
+    }
+    let bound = bound_at(low.range, high.range, own, stage - 1);
+    bound.range + bound.error
+}
+
+// The own error of a stage, where `total` is the range plus error of the value that it multiplies.
+fn own_error(stage: u8, total: u64) -> u64
+    requires { ⌜ total ≤ mostTotal ⌝ }
+    ensures { λ r. ⌜ r ≡ ownFrom stage total ⌝ }
+{
+    if stage < Bound::SCALING_STAGES {
+        return up_div(total, Bound::CONSTANT_BITS + 1) + Bound::STEP;
+    }
+    up_div(total, Bound::CONSTANT_BITS) + Bound::STEP
+}
+
+// What each source has of its own: the lows and the highs their errors, a stage its own error.
+fn own_errors(low: Bound, high: Bound) -> [u64; Bound::SOURCES as usize]
+    requires { ⌜ Small (meant low) × Small (meant high) ⌝ }
+    ensures { λ r. ⌜ r ≡ ownsBelow (meant low) (meant high) sources ⌝ }
+{
+    let mut own = [0u64; Bound::SOURCES as usize];
+    own[0] = low.error;
+    own[1] = high.error;
+    for stage in 0..Bound::STAGES {
+        let total = total_before(low, high, own, stage);
+        own[(stage + Bound::INPUTS) as usize] = own_error(stage, total);
+    }
+    own
+}
+
+// Range plus error of no node of a pass is above 2^15.
+fn nodes_right(low: Bound, high: Bound, own: [u64; Bound::SOURCES as usize]) -> bool
+    requires { ⌜ Small (meant low) × Small (meant high) ⌝ }
+    requires { ⌜ own ≡ ownsBelow (meant low) (meant high) sources ⌝ }
+    ensures { λ r. ⌜ r ≡ passRight (boundAt (meant low) (meant high)) ⌝ }
+{
+    for stage in 0..Bound::STAGES {
+        let bound = bound_at(low.range, high.range, own, stage);
+        if bound.range + bound.error <= Bound::MOST {} else {
+            return false;
+        }
+    }
+    true
+}
+
+// Whether the nodes of a pass, a level or some levels are right, and the bound of what these give on.
+struct Given {
+    right: bool,
+    bound: Bound,
+}
+
+// One pass, which is fed lows and highs: it gives on the larger of the even and the odd output.
+fn work_pass(low: Bound, high: Bound) -> Given
+    requires { ⌜ Small (meant low) × Small (meant high) ⌝ }
+    ensures right { λ r. ⌜ r .right ≡ passRight (boundAt (meant low) (meant high)) ⌝ }
+    ensures bound { λ r. ⌜ meant (r .bound) ≡ larger (meant low) (meant high) ⌝ }
+{
+    let own = own_errors(low, high);
+    let even = bound_at(low.range, high.range, own, Bound::EVEN);
+    let odd = bound_at(low.range, high.range, own, Bound::ODD);
+    Given {
+        right: nodes_right(low, high, own),
+        bound: Bound {
+            range: larger_of(even.range, odd.range),
+            error: larger_of(even.error, odd.error),
+        },
+    }
+}
+
+// A stored coefficient whose error is so many of its steps.
+fn stored_bound(table: WidthTable, steps: u64, level: u8, pass: u8, node: u8) -> Bound
+    requires { ⌜ At table level pass ⌝ }
+    requires { ⌜ IsNode node ⌝ }
+    requires { ⌜ steps ≤ stepsAllowed ⌝ }
+    ensures { λ r. ⌜ (meant r ≡ stored table steps level (passOf pass) (nodeOf node)) × Within 1 (meant r) ⌝ }
+{
+    let integer = table.integer_bits(level, pass, node);
+    let fraction = table.fraction_bits(level, pass, node);
+    Bound {
+        range: power(integer - 1) * Bound::ONE,
+        error: steps * power(32 - fraction),
+    }
+}
+
+// One level, whose low-low has a bound: the columns take it and stored coefficients, the rows what the columns give.
+fn work_level(table: WidthTable, steps: u64, level: u8, entering: Bound) -> Given
+    requires { ⌜ At table level (passNumber Rows) ⌝ }
+    requires { ⌜ (steps ≤ stepsAllowed) × Within mostEntering (meant entering) ⌝ }
+    ensures right { λ r. ⌜ r .right ≡ levelRight table steps level (meant entering) ⌝ }
+    ensures bound { λ r. ⌜ meant (r .bound) ≡ levelGives table steps level (meant entering) ⌝ }
+{
+    let low_high = stored_bound(table, steps, level, WidthTable::LOW_COLUMNS, WidthTable::G2);
+    let high_low = stored_bound(
+        table,
+        steps,
+        level,
+        WidthTable::HIGH_COLUMNS,
+        WidthTable::G1,
+    );
+    let high_high = stored_bound(
+        table,
+        steps,
+        level,
+        WidthTable::HIGH_COLUMNS,
+        WidthTable::G2,
+    );
+    let low_columns = work_pass(entering, low_high);
+    let high_columns = work_pass(high_low, high_high);
+    let low = low_columns.bound;
+    let high = high_columns.bound;
+    let rows = work_pass(low, high);
+    let bound = rows.bound;
+    Given {
+        right: both(both(low_columns.right, high_columns.right), rows.right),
+        bound,
+    }
+}
+
+// All levels, the last first; each stored coefficient has an error of so many of its steps.
+fn work_levels(table: WidthTable, steps: u64) -> Given
+    requires { ⌜ T (formRight table) × (steps ≤ stepsAllowed) ⌝ }
+    ensures right { λ r. ⌜ r .right ≡ levelsRight table steps (table .levels) (startBound table steps) ⌝ }
+    ensures bound { λ r. ⌜ meant (r .bound) ≡ givesFrom table steps (table .levels) (startBound table steps) ⌝ }
+{
+    let mut level = table.levels;
+    let mut right = true;
+    let mut bound = stored_bound(table, steps, level, WidthTable::LOW_COLUMNS, WidthTable::G1);
+    while 0 < level {
+        let given = work_level(table, steps, level, bound);
+        right = both(right, given.right);
+        bound = given.bound;
+        level -= 1;
+    }
+    Given { right, bound }
+}
+
+// The verdict on a width table for viewing: the judge's verdict (4, 6, 7), then 13 where a node is above 2^15 or the pixel bound is not
+// below half a grey.
+pub fn judge(table: WidthTable) -> Outcome
+    ensures { λ r. ⌜ told r ≡ viewVerdict table ⌝ }
+{
+    match precision::judge(table) {
+        Outcome::Refused(why) => return Outcome::Refused(why),
+        Outcome::Done => {}
+    }
+    let pixels = work_levels(table, Bound::NO_STEPS);
+    if pixels.right {} else {
+        return Outcome::Refused(Refusal::NotViewable);
+    }
+    let bound = pixels.bound;
+    if bound.error < power(32 - (table.depth + 1)) {
+        Outcome::Done
+    } else {
+        Outcome::Refused(Refusal::NotViewable)
+    }
+}
+
+// The distance from scan to view, where the outcome is Done.
+pub struct DistanceAnswer {
+    pub outcome: Outcome,
+    pub distance: u64,
+}
+
+// The distance from scan to view, in whole numbers of 2^-32: the refusals of `judge`, else the pixel bound where each stored coefficient
+// starts at an error of two steps.
+pub fn distance(table: WidthTable) -> DistanceAnswer
+    ensures outcome { λ r. ⌜ told (r .outcome) ≡ viewVerdict table ⌝ }
+    ensures distance { λ r. ⌜ r .distance ≡ answered (viewVerdict table) (viewDistance table) 0 ⌝ }
+{
+    match judge(table) {
+        Outcome::Refused(why) => return DistanceAnswer {
+            outcome: Outcome::Refused(why),
+            distance: 0,
+        },
+        Outcome::Done => {}
+    }
+    let pixels = work_levels(table, Bound::ALLOWED_STEPS);
+    let bound = pixels.bound;
+    DistanceAnswer {
+        outcome: Outcome::Done,
+        distance: bound.error,
+    }
+}

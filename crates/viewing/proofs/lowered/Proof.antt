@@ -1,0 +1,21 @@
+-- `viewing::lowered` meets its contract: what the shift leaves is no larger.
+-- Assumes nothing.
+use mathlib.Core.Path.{_∙_, ap}
+use Prim.Native.Nat.{_^_}
+use borrow.Author.Needs.{needs}
+use lib.IntN.{ℤ}
+use lib.Signed.{shrZ, mag-shr}
+use mir.Syntax.{w64}
+use mir.ValLaws.{sfits-le}
+use mir.Facts.{toZ-ofZ}
+use Rattle.numbers.specs.Auto.{rd}
+use Rattle.viewing.proofs.lowered.Statement.{statement}
+use Rattle.viewing.proofs.lowered.Tie as tie
+
+returns : tie.Need-returns
+returns c =
+    let m = 2 ^ c .args .cut in
+    ap (λ (z : ℤ). rd w64 (shrZ z m)) (toZ-ofZ (c .fits .z)) ∙ toZ-ofZ (sfits-le (mag-shr (c .args .z) m) (c .fits .z))
+
+pub lowered-spec : {M : Type 1} → statement M
+lowered-spec = tie.close (tie.spec (λ c. search needs) (λ c. search needs) returns)

@@ -1,0 +1,264 @@
+-- What a pass taken back makes of good values, by the rule of the crate stages: a value is good where the exact one lies within a range and
+-- the fixed-point one within an error of it.
+use Prim.Native.Nat.{ℕ, zero, suc, _+_, _*_, _-_, _^_, _<_, _≤_}
+use mathlib.Core.Path.{_≡_, refl, sym, _∙_, ap, subst, subst₂}
+use mathlib.Core.Bool.{Bool, true, false}
+use mathlib.Core.List.{List, [], _∷_}
+use native.Mathlib.Omega.{arith}
+use native.Mathlib.Nat.{le-of-mul-le-mul-right}
+use lib.Dec.{T, leb→le, lit≤}
+use lib.Pow.{pow-pos}
+use lib.IntN.{ℤ, pos, negℤ, natAbs, _+ℤ_, _-ℤ_, _*ℤ_}
+use Rattle.numbers.specs.Tests.{ltb-true}
+use Rattle.numbers.specs.Lists.{In, here, there, every-in}
+use Rattle.numbers.specs.Dif.{by-dif, difs}
+use Rattle.lines.specs.Lines.{lows, highs, Liftable, onHighs, onLows}
+use Rattle.lines.specs.LineLaws.{even-place, odd-place, by-parity}
+use Rattle.exact.specs.Fractions.{Frac, _≈_, _⊕_, neg, upDiv}
+use Rattle.exact.specs.FracLaws.{≈-refl, ≈-sym, ≈-trans, ⊕-cong, neg-⊗-l, within-near, within-most}
+use Rattle.exact.specs.Exact.{lift, alpha, beta, gamma, delta}
+use Rattle.exact.specs.Inverse.{unlift, unG1, unG2, unU2, unP2, unU1, unP1, exactBack}
+use Rattle.stages.specs.Stages.{Side, low, high, lifts, stage, inverse, made, bits}
+use Rattle.stages.specs.Fixed.{meant, nearest, cut, step}
+use Rattle.stages.specs.OnLine.{count, exactAfter, fixedMade, fixedAfter}
+use Rattle.stages.specs.Rule as Rule
+use Rattle.stages.specs.Rule.{Bound, loss, ownScale, Entering, apart, brought, rangeAt, ownFrom, ownsBring, owns, errorAt}
+use Rattle.stages.specs.Held.{enters, made-cong}
+use Rattle.stages.specs.Sound.{Good, good-≈, good}
+use Rattle.width_table.specs.Nodes.{Node, P1, U1, P2, U2, G1, G2}
+use Rattle.unlifting.specs.Fixed.{nodeBits, inverseBits, unstep, atG1, atG2, atU2, atP2, atU1, atP1, fixedBack, Small, limit}
+use Rattle.view_precision.specs.Bounds.{boundAfter, boundAt, larger, atMost15, passRight}
+use Rattle.irreversible.specs.Fixed.{countAt}
+
+-- ---- a stage undone is a stage with the constant negated
+
+unlift-neg : (c o x y : Frac) → unlift c o x y ≈ lift (neg c) o x y
+unfolding unlift lift
+unlift-neg c o x y = ⊕-cong (≈-refl o) (≈-sym (neg-⊗-l c (x ⊕ y)))
+
+-- the nearest multiple of the negated constant is the negated one
+abbrev Negates : Frac → Type 0
+Negates c = nearest (neg c) inverseBits ≡ negℤ (nearest c inverseBits)
+
+negates-alpha : Negates alpha
+unfolding nearest neg
+negates-alpha = refl
+
+negates-beta : Negates beta
+unfolding nearest neg
+negates-beta = refl
+
+negates-gamma : Negates gamma
+unfolding nearest neg
+negates-gamma = refl
+
+negates-delta : Negates delta
+unfolding nearest neg
+negates-delta = refl
+
+-- a stage whose own value, neighbours and result are nodes
+abbrev nodeStep : Frac → ℤ → ℤ → ℤ → ℤ
+nodeStep c = step c inverseBits nodeBits nodeBits nodeBits
+
+unstep-neg : (c : Frac) → Negates c → (o x y : ℤ) → unstep c o x y ≡ nodeStep (neg c) o x y
+unfolding unstep step
+unstep-neg c e o x y =
+    ap (cut (inverseBits + nodeBits) nodeBits)
+    (law (o *ℤ pos (2 ^ inverseBits)) (nearest c inverseBits) (x +ℤ y) ∙ ap (λ (t : ℤ). o *ℤ pos (2 ^ inverseBits) +ℤ t *ℤ (x +ℤ y) *ℤ pos 1) (sym e))
+  where
+    law : (a c s : ℤ) → a -ℤ c *ℤ s ≡ a +ℤ negℤ c *ℤ s *ℤ pos 1
+    law = by-dif _ λ a a'. by-dif _ λ c c'. by-dif _ λ s s'. simp difs (omega arith)
+
+-- ---- the bits of what is fed do not matter
+
+-- a node has fewer bits than a constant alone
+node-loss : (fm : ℕ) → loss nodeBits (inverseBits + fm) ≡ loss nodeBits (inverseBits + 0)
+unfolding loss
+node-loss fm = ap (λ (t : Bool). elim t [ true ↦ 2 ^ (32 - nodeBits) | false ↦ 0 ]) (ltb-true nodeBits (inverseBits + fm) (omega arith))
+
+module _ (e : Entering) (fi : Side → ℕ) where
+  abbrev F : ℕ → ℕ
+  F i = inverseBits
+
+  abbrev f : ℕ → ℕ
+  f i = nodeBits
+
+  abbrev zeros : Side → ℕ
+  zeros s = 0
+
+  own-free : (i : ℕ) (r : Side → ℕ) → i < 6 → ownFrom inverse e F fi f (stage inverse i .kind) (stage inverse i .side) i r ≡ ownFrom inverse e F zeros f (stage inverse i .kind) (stage inverse i .side) i r
+  unfolding ownFrom ownScale bits
+  own-free zero r h = ap (λ (t : ℕ). upDiv (r low) (2 ^ (inverseBits + 1)) + t) (node-loss (fi low))
+  own-free (suc zero) r h = ap (λ (t : ℕ). upDiv (r high) (2 ^ (inverseBits + 1)) + t) (node-loss (fi high))
+  own-free (suc (suc zero)) r h = refl
+  own-free (suc (suc (suc zero))) r h = refl
+  own-free (suc (suc (suc (suc zero)))) r h = refl
+  own-free (suc (suc (suc (suc (suc zero))))) r h = refl
+  own-free (suc (suc (suc (suc (suc (suc i)))))) r h = absurd (omega arith)
+
+  owns-free : (i : ℕ) → i ≤ 6 → owns inverse e F fi f i ≡ owns inverse e F zeros f i
+  unfolding owns ownsBring rangeAt
+  owns-free zero h = refl
+  owns-free (suc i) h =
+      own-next (owns inverse e F fi f i) ∙ ap (λ (l : List ℕ). own l ∷ l) (owns-free i (omega arith))
+    where
+      total : List ℕ → Side → ℕ
+      total l s = rangeAt inverse e F zeros f s i + (brought inverse (λ b. b .error) e s i + ownsBring inverse e F zeros f i l s i)
+
+      own : List ℕ → ℕ
+      own l = ownFrom inverse e F zeros f (stage inverse i .kind) (stage inverse i .side) i (total l)
+
+      own-next : (l : List ℕ) → ownFrom inverse e F fi f (stage inverse i .kind) (stage inverse i .side) i (total l) ∷ l ≡ own l ∷ l
+      own-next l = ap (λ (t : ℕ). t ∷ l) (own-free i (total l) (omega arith))
+
+  -- so 0 may stand for them (Bounds of view_precision)
+  pub bound-free : (s : Side) (m : ℕ) → m ≤ 6 → Rule.boundAt inverse e F fi f s m ≡ Rule.boundAt inverse e F zeros f s m
+  unfolding Rule.boundAt rangeAt errorAt ownsBring
+  bound-free s m h = ap (λ (l : List ℕ). record { range = brought inverse (λ b. b .range) e s m; error = brought inverse (λ b. b .error) e s m + ownsBring inverse e F zeros f m l s m }) (owns-free m h)
+
+-- ---- all six nodes of a line of n
+
+-- a line, the lows first, by sides
+abbrev split : {A : Type 0} → ℕ → (ℕ → A) → Side → ℕ → A
+split n y low k = y k
+split n y high k = y (lows n + k)
+
+abbrev bitsFed : ℕ → ℕ → Side → ℕ
+bitsFed fl fh low = fl
+bitsFed fl fh high = fh
+
+-- the exact value of each node, and the fixed-point one
+abbrev exactAt : ℕ → (ℕ → Frac) → Node → ℕ → Frac
+exactAt n x G1 = unG1 n x
+exactAt n x G2 = unG2 n x
+exactAt n x U2 = unU2 n x
+exactAt n x P2 = unP2 n x
+exactAt n x U1 = unU1 n x
+exactAt n x P1 = unP1 n x
+
+abbrev leftAt : ℕ → ℕ → ℕ → (ℕ → ℤ) → Node → ℕ → ℤ
+leftAt fl fh n v G1 = atG1 fl fh n v
+leftAt fl fh n v G2 = atG2 fl fh n v
+leftAt fl fh n v U2 = atU2 fl fh n v
+leftAt fl fh n v P2 = atP2 fl fh n v
+leftAt fl fh n v U1 = atU1 fl fh n v
+leftAt fl fh n v P1 = atP1 fl fh n v
+
+module _ (n : ℕ) (x : ℕ → Frac) where
+  abbrev exactly : ℕ → Side → ℕ → Frac
+  exactly = exactAfter inverse n (split n x)
+
+  undone : (c : Frac) {o o' p p' q q' : Frac} → o ≈ o' → p ≈ p' → q ≈ q' → unlift c o p q ≈ made lifts (neg c) o' p' q'
+  unfolding made
+  undone c {o} {o'} {p} {p'} {q} {q'} h i j = ≈-trans (unlift-neg c o p q) (made-cong lifts (neg c) h i j)
+
+  exactU2 : (k : ℕ) → unU2 n x k ≈ exactly 3 low k
+  unfolding unU2 unG1 unG2 onLows exactAfter
+  exactU2 k = undone delta (≈-refl _) (≈-refl _) (≈-refl _)
+
+  exactP2 : (k : ℕ) → unP2 n x k ≈ exactly 4 high k
+  unfolding unP2 unG2 onHighs exactAfter
+  exactP2 k = undone gamma (≈-refl _) (exactU2 k) (exactU2 _)
+
+  exactU1 : (k : ℕ) → unU1 n x k ≈ exactly 5 low k
+  unfolding unU1 onLows exactAfter
+  exactU1 k = undone beta (exactU2 k) (exactP2 _) (exactP2 _)
+
+  exactP1 : (k : ℕ) → unP1 n x k ≈ exactly 6 high k
+  unfolding unP1 onHighs exactAfter
+  exactP1 k = undone alpha (exactP2 k) (exactU1 k) (exactU1 _)
+
+module _ (fl fh n : ℕ) (v : ℕ → ℤ) where
+  abbrev fixed : ℕ → Side → ℕ → ℤ
+  fixed = fixedAfter inverse (λ i. inverseBits) (bitsFed fl fh) (λ i. nodeBits) n (split n v)
+
+  unstepped : (c : Frac) → Negates c → {o o' p p' q q' : ℤ} → o ≡ o' → p ≡ p' → q ≡ q' → unstep c o p q ≡ nodeStep (neg c) o' p' q'
+  unstepped c e {o} {o'} {p} {p'} {q} {q'} h i j = (λ u. unstep c (h u) (i u) (j u)) ∙ unstep-neg c e o' p' q'
+
+  fixedU2 : (k : ℕ) → atU2 fl fh n v k ≡ fixed 3 low k
+  unfolding atU2 atG1 atG2 onLows fixedAfter fixedMade bits
+  fixedU2 k = unstepped delta negates-delta refl refl refl
+
+  fixedP2 : (k : ℕ) → atP2 fl fh n v k ≡ fixed 4 high k
+  unfolding atP2 atG2 onHighs fixedAfter fixedMade bits
+  fixedP2 k = unstepped gamma negates-gamma refl (fixedU2 k) (fixedU2 _)
+
+  fixedU1 : (k : ℕ) → atU1 fl fh n v k ≡ fixed 5 low k
+  unfolding atU1 onLows fixedAfter fixedMade bits
+  fixedU1 k = unstepped beta negates-beta (fixedU2 k) (fixedP2 _) (fixedP2 _)
+
+  fixedP1 : (k : ℕ) → atP1 fl fh n v k ≡ fixed 6 high k
+  unfolding atP1 onHighs fixedAfter fixedMade bits
+  fixedP1 k = unstepped alpha negates-alpha (fixedP2 k) (fixedU1 k) (fixedU1 _)
+
+-- A line whose lows are good for a at fl bits, and whose highs are good for b at fh bits.
+pub record Fed (fl fh : ℕ) (a b : Bound) (n : ℕ) (v : ℕ → ℤ) (x : ℕ → Frac) : Type 0 where
+  pub works : Liftable n
+  pub lows-good : (k : ℕ) → k < lows n → Good a fl (v k) (x k)
+  pub highs-good : (k : ℕ) → k < highs n → Good b fh (v (lows n + k)) (x (lows n + k))
+
+module _ {fl fh : ℕ} {a b : Bound} {n : ℕ} {v : ℕ → ℤ} {x : ℕ → Frac} (fed : Fed fl fh a b n v x) where
+  entered : (s : Side) (k : ℕ) → k < count n s → Good (enters (apart a b) s) (bitsFed fl fh s) (split n v s k) (split n x s k)
+  entered low = fed .lows-good
+  entered high = fed .highs-good
+
+  -- each side after m stages
+  after : (m : ℕ) → m ≤ 6 → (s : Side) (k : ℕ) → k < count n s → Good (boundAfter a b s m) (bits inverse (bitsFed fl fh) (λ i. nodeBits) m s) (fixed fl fh n v m s k) (exactly n x m s k)
+  after m h s k i =
+      subst (λ (t : Bound). Good t (bits inverse (bitsFed fl fh) (λ i. nodeBits) m s) (fixed fl fh n v m s k) (exactly n x m s k)) (bound-free (apart a b) (bitsFed fl fh) s m h)
+      (good inverse (apart a b) (λ i. inverseBits) (bitsFed fl fh) (λ i. nodeBits) n (split n v) (split n x) (fed .works) (λ m. omega arith) entered m s k i)
+
+  node-good : (i : Node) (k : ℕ) → k < countAt n i → Good (boundAt a b i) nodeBits (leftAt fl fh n v i k) (exactAt n x i k)
+  unfolding boundAt bits fixedAfter fixedMade exactAfter made atG1 atG2 unG1 unG2
+  node-good G1 k i = after 1 (lit≤ tt) low k i
+  node-good G2 k i = after 2 (lit≤ tt) high k i
+  node-good U2 k i = good-≈ (fixedU2 fl fh n v k) (exactU2 n x k) (after 3 (lit≤ tt) low k i)
+  node-good P2 k i = good-≈ (fixedP2 fl fh n v k) (exactP2 n x k) (after 4 (lit≤ tt) high k i)
+  node-good U1 k i = good-≈ (fixedU1 fl fh n v k) (exactU1 n x k) (after 5 (lit≤ tt) low k i)
+  node-good P1 k i = good-≈ (fixedP1 fl fh n v k) (exactP1 n x k) (after 6 (lit≤ tt) high k i)
+
+  even-good : (k : ℕ) → k < lows n → Good (larger a b) nodeBits (atU1 fl fh n v k) (unU1 n x k)
+  unfolding larger
+  even-good k i = record { range = within-most (omega arith) (node-good U1 k i .range); error = within-most (omega arith) (node-good U1 k i .error) }
+
+  odd-good : (k : ℕ) → k < highs n → Good (larger a b) nodeBits (atP1 fl fh n v k) (unP1 n x k)
+  unfolding larger
+  odd-good k i = record { range = within-most (omega arith) (node-good P1 k i .range); error = within-most (omega arith) (node-good P1 k i .error) }
+
+  -- what the pass gives on, at each place
+  pub pass-good : (k : ℕ) → k < n → Good (larger a b) nodeBits (fixedBack fl fh n v k) (exactBack n x k)
+  unfolding fixedBack exactBack
+  pass-good = by-parity (λ k. Good (larger a b) nodeBits (fixedBack fl fh n v k) (exactBack n x k)) n
+      (λ k i. subst₂ (Good (larger a b) nodeBits) (sym (even-place (atU1 fl fh n v) (atP1 fl fh n v) k)) (sym (even-place (unU1 n x) (unP1 n x) k)) (even-good k i))
+      (λ k i. subst₂ (Good (larger a b) nodeBits) (sym (odd-place (atU1 fl fh n v) (atP1 fl fh n v) k)) (sym (odd-place (unU1 n x) (unP1 n x) k)) (odd-good k i))
+
+-- ---- sizes
+
+-- |v| is at most 2^15 where range plus error is
+small : (b : Bound) (v : ℤ) (x : Frac) → b .range + b .error ≤ 2 ^ 15 * 2 ^ 32 → Good b nodeBits v x → natAbs v ≤ limit
+unfolding meant
+small b v x room g =
+    le-of-mul-le-mul-right {m = natAbs v} {n = limit} {k = 2 ^ 32}
+    (law (natAbs v) (b .range + b .error) room (within-near (g .range) (g .error) .most)) (pow-pos 32)
+  where
+    law : (m s : ℕ) → s ≤ 2 ^ 15 * 2 ^ 32 → m * 2 ^ 32 ≤ s * 2 ^ nodeBits → m * 2 ^ 32 ≤ limit * 2 ^ 32
+    law m s h k = omega arith
+
+undone-nodes : (i : Node) → In i (G1 ∷ G2 ∷ U2 ∷ P2 ∷ U1 ∷ P1 ∷ [])
+undone-nodes G1 = here
+undone-nodes G2 = there here
+undone-nodes U2 = there (there here)
+undone-nodes P2 = there (there (there here))
+undone-nodes U1 = there (there (there (there here)))
+undone-nodes P1 = there (there (there (there (there here))))
+
+-- each node of a pass that 13 does not turn away
+each-right : (b : Node → Bound) → T (passRight b) → (i : Node) → b i .range + b i .error ≤ 2 ^ 15 * 2 ^ 32
+each-right b ok i = leb→le _ _ (every-in (λ n. atMost15 (b n)) (undone-nodes i) ok)
+
+module _ {fl fh : ℕ} {a b : Bound} {n : ℕ} {v : ℕ → ℤ} {x : ℕ → Frac} (fed : Fed fl fh a b n v x) (right : T (passRight (boundAt a b))) where
+  node-small : (i : Node) (k : ℕ) → k < countAt n i → natAbs (leftAt fl fh n v i k) ≤ limit
+  node-small i k h = small (boundAt a b i) _ _ (each-right (boundAt a b) right i) (node-good fed i k h)
+
+  pub pass-small : Small fl fh n v
+  pass-small = record { g1 = node-small G1; g2 = node-small G2; u2 = node-small U2; p2 = node-small P2; u1 = node-small U1; p1 = node-small P1 }

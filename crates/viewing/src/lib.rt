@@ -1,0 +1,420 @@
+// Viewing a stored strip: the picture of a 9/7 plane (document 02, job 1).
+ghost use mathlib.Core.Path.{_≡_};
+ghost use Prim.Native.Nat.{ℕ, _+_, _*_, _-_, _<_, _≤_, _^_};
+ghost use lib.IntN.{pos, negℤ, natAbs, _-ℤ_};
+ghost use lib.ListN.{length, getD};
+ghost use Rattle.numbers.specs.Floor.{floorDiv};
+ghost use Rattle.numbers.specs.Lists.{over};
+ghost use Rattle.refusals.specs.Told.{told};
+ghost use Rattle.lines.specs.Planes.{rowByRow};
+ghost use Rattle.lifting.specs.Patch.{at, patch};
+ghost use Rattle.lifting.specs.PatchLines.{lineAt};
+ghost use Rattle.width_table.specs.Table.{maxIntegerBits, maxFractionBits, maxDepth, fractionBits};
+ghost use Rattle.width_table.specs.Nodes.{G1, LowColumns};
+ghost use Rattle.width_table.specs.Numbered.{nodeOf, passOf, IsNode, IsPass};
+ghost use Rattle.irreversible.specs.LevelBits.{IsLevel};
+ghost use Rattle.pictures.specs.Pictures.{planeOf, zeroed};
+ghost use Rattle.pictures.specs.Looks.{Tells};
+ghost use Rattle.unlifting.specs.Fixed.{nodeBits, limit};
+ghost use Rattle.viewing.specs.View.{enteringBits, viewPicture, grey, pixel};
+ghost use Rattle.viewing.specs.Calls.{coefficientsRight, viewAnswer, viewPixels, viewWork};
+ghost use Rattle.viewing.specs.WidthLaws.{PartFits, LookReady, DetailsFit, Lookable};
+ghost use Rattle.viewing.specs.LevelSteps.{columned, levelBack};
+ghost use Rattle.viewing.specs.RowSteps.{RowReady, rowShown, RowsReady, shownRows, clearedRows};
+ghost use Rattle.viewing.specs.CallSteps.{LevelReady, ViewReady, Left, answerOf};
+use refusals::Outcome;
+use refusals::Refusal;
+use width_table::WidthTable;
+
+// Elements of the tile: eight columns of MAX_SIDE.
+const TILE: usize = 8 * pictures::MAX_SIDE;
+
+// The fractional bits of a value.
+const VALUE_BITS: u8 = unlifting::NODE_BITS as u8;
+
+// The least number of so many bits.
+fn least_in(bits: u8) -> i32
+    requires { ⌜ (1 ≤ bits) × (bits ≤ maxIntegerBits + maxFractionBits) ⌝ }
+    ensures { λ r. ⌜ r ≡ negℤ (pos (2 ^ (bits - 1))) ⌝ }
+{
+    (-irreversible::power(bits - 1)) as i32
+}
+
+// The greatest number of so many bits.
+fn most_in(bits: u8) -> i32
+    requires { ⌜ (1 ≤ bits) × (bits ≤ maxIntegerBits + maxFractionBits) ⌝ }
+    ensures { λ r. ⌜ r ≡ pos (2 ^ (bits - 1)) -ℤ pos 1 ⌝ }
+{
+    (irreversible::power(bits - 1) - 1) as i32
+}
+
+// Whether the coefficients of a part of w columns and h rows, which starts at a place, are in the width of a node.
+fn part_fits(
+    table: WidthTable,
+    level: u8,
+    pass: u8,
+    node: u8,
+    plane: &[i32],
+    from: usize,
+    stride: usize,
+    w: usize,
+    h: usize,
+) -> bool
+    requires { ⌜ IsLevel table level × IsPass pass × IsNode node ⌝ }
+    requires { ⌜ ((i : ℕ) → i < h → lineAt from stride i + w ≤ length (now plane)) ⌝ }
+    ensures { λ r. ⌜ Tells (PartFits table level (passOf pass) (nodeOf node) (at (now (plane .entry))) from stride w h) r ⌝ }
+{
+    let bits = table.integer_bits(level, pass, node) + table.fraction_bits(level, pass, node);
+    pictures::part_between(plane, from, stride, w, h, least_in(bits), most_in(bits))
+}
+
+// Whether HL, LH and HH of a level are in the widths of their nodes.
+fn details_fit(
+    table: WidthTable,
+    level: u8,
+    plane: &[i32],
+    stride: usize,
+    w: usize,
+    h: usize,
+) -> bool
+    requires { ⌜ LookReady table level (now plane) stride w h ⌝ }
+    ensures { λ r. ⌜ Tells (DetailsFit table level (at (now (plane .entry))) stride w h) r ⌝ }
+{
+    let right = (w + 1) / 2;
+    let below = (h + 1) / 2;
+    let high = WidthTable::HIGH_COLUMNS;
+    if part_fits(
+        table,
+        level,
+        high,
+        WidthTable::G1,
+        plane,
+        right,
+        stride,
+        w / 2,
+        below,
+    ) {} else {
+        return false;
+    }
+    let low = WidthTable::LOW_COLUMNS;
+    let start = below * stride;
+    if part_fits(
+        table,
+        level,
+        low,
+        WidthTable::G2,
+        plane,
+        start,
+        stride,
+        right,
+        h / 2,
+    ) {} else {
+        return false;
+    }
+    part_fits(
+        table,
+        level,
+        high,
+        WidthTable::G2,
+        plane,
+        start + right,
+        stride,
+        w / 2,
+        h / 2,
+    )
+}
+
+// Refusal 12: looks at each of the first w * h coefficients.
+fn coefficients_right(table: WidthTable, plane: &[i32], w: usize, h: usize) -> Outcome
+    requires { ⌜ Lookable table w h (length (now plane)) ⌝ }
+    ensures { λ r. ⌜ told r ≡ coefficientsRight table w h (now (plane .entry)) ⌝ }
+{
+    let levels = table.levels;
+    let mut across = w;
+    let mut down = h;
+    for k in 0..levels {
+        if details_fit(table, k + 1, plane, w, across, down) {} else {
+            return Outcome::Refused(Refusal::OutsideWidth);
+        }
+        across = (across + 1) / 2;
+        down = (down + 1) / 2;
+    }
+    let pass = WidthTable::LOW_COLUMNS;
+    if part_fits(
+        table,
+        levels,
+        pass,
+        WidthTable::G1,
+        plane,
+        0,
+        w,
+        across,
+        down,
+    ) {
+        Outcome::Done
+    } else {
+        Outcome::Refused(Refusal::OutsideWidth)
+    }
+}
+
+// The first n coefficients go to the work area.
+fn load(plane: &[i32], work: &mut [i64], n: usize)
+    requires { ⌜ (n ≤ length (now plane)) × (n ≤ length (now work)) ⌝ }
+    ensures { λ _. ⌜ at (now (work .exit)) ≡ patch 0 n (at (now (plane .entry))) (at (now (work .entry))) ⌝ }
+{
+    for i in 0..n {
+        work[i] = plane[i] as i64;
+    }
+}
+
+// A number over a power of 2, rounded down.
+fn lowered(z: i64, cut: u8) -> i64
+    requires { ⌜ cut < 64 ⌝ }
+    ensures { λ r. ⌜ r ≡ floorDiv z (2 ^ cut) ⌝ }
+{
+    z >> cut
+}
+
+// A value in greys, rounded to the nearest, halves up: half a grey is added, what is below a grey cut off, and the middle added.
+fn greys(v: i64, depth: u8) -> i64
+    requires { ⌜ (1 ≤ depth) × (depth ≤ maxDepth) × (natAbs v ≤ limit) ⌝ }
+    ensures { λ r. ⌜ r ≡ grey depth v ⌝ }
+{
+    let cut = VALUE_BITS - depth;
+    let half = irreversible::power(cut - 1);
+    let whole = lowered(v + half, cut);
+    whole + irreversible::power(depth - 1)
+}
+
+// A value as a pixel, limited to the depth.
+fn shown(v: i64, depth: u8) -> u16
+    requires { ⌜ (1 ≤ depth) × (depth ≤ maxDepth) × (natAbs v ≤ limit) ⌝ }
+    ensures { λ r. ⌜ r ≡ pixel depth v ⌝ }
+{
+    let g = greys(v, depth);
+    let most = irreversible::power(depth) - 1;
+    if g < 0 {
+        return 0;
+    }
+    if most < g {
+        return most as u16;
+    }
+    g as u16
+}
+
+// n values from a place on go to the pixels.
+fn show_row(work: &[i64], pixels: &mut [u16], from: usize, n: usize, depth: u8)
+    requires { ⌜ (1 ≤ depth) × (depth ≤ maxDepth) × (from + n ≤ length (now work)) × (from + n ≤ length (now pixels)) ⌝ }
+    requires { ⌜ ((j : ℕ) → j < n → natAbs (at (now work) (from + j)) ≤ limit) ⌝ }
+    ensures { λ _. ⌜ (λ k. getD (now (pixels .exit)) k 0) ≡ patch from n (λ j. pixel depth (at (now (work .entry)) (from + j))) (λ k. getD (now (pixels .entry)) k 0) ⌝ }
+{
+    for i in 0..n {
+        pixels[from + i] = shown(work[from + i], depth);
+    }
+}
+
+// n elements from a place on become 0.
+fn clear_row(work: &mut [i64], from: usize, n: usize)
+    requires { ⌜ from + n ≤ length (now work) ⌝ }
+    ensures { λ _. ⌜ at (now (work .exit)) ≡ patch from n (λ j. pos 0) (at (now (work .entry))) ⌝ }
+{
+    for i in 0..n {
+        work[from + i] = 0;
+    }
+}
+
+// The fractional bits of a stored coefficient.
+fn stored_bits(table: WidthTable, level: u8, pass: u8, node: u8) -> u32
+    requires { ⌜ IsLevel table level × IsPass pass × IsNode node ⌝ }
+    ensures { λ r. ⌜ (r ≡ fractionBits table level (passOf pass) (nodeOf node)) × (r ≤ nodeBits) ⌝ }
+{
+    table.fraction_bits(level, pass, node) as u32
+}
+
+// The fractional bits of the low-low part that a level takes: stored at the last level, else left by the next coarser one.
+fn low_low_bits(table: WidthTable, level: u8) -> u32
+    requires { ⌜ IsLevel table level ⌝ }
+    ensures { λ r. ⌜ (r ≡ enteringBits table level LowColumns G1) × (r ≤ nodeBits) ⌝ }
+{
+    if level == table.levels {
+        stored_bits(table, level, WidthTable::LOW_COLUMNS, WidthTable::G1)
+    } else {
+        unlifting::NODE_BITS
+    }
+}
+
+// The columns of a level taken back, of the w columns and h rows at the front of a work area whose rows are `stride` long.
+fn columns_back(
+    table: WidthTable,
+    level: u8,
+    work: &mut [i64],
+    tile: &mut [i64],
+    stride: usize,
+    w: usize,
+    h: usize,
+)
+    requires { ⌜ LevelReady table level (now work) (length (now tile)) stride w h ⌝ }
+    ensures { λ _. ⌜ at (now (work .exit)) ≡ columned table level stride w h (at (now (work .entry))) ⌝ }
+{
+    let low = (w + 1) / 2;
+    unlifting::columns(
+        work,
+        tile,
+        stride,
+        0,
+        low,
+        h,
+        low_low_bits(table, level),
+        stored_bits(table, level, WidthTable::LOW_COLUMNS, WidthTable::G2),
+    );
+    unlifting::columns(
+        work,
+        tile,
+        stride,
+        low,
+        w / 2,
+        h,
+        stored_bits(table, level, WidthTable::HIGH_COLUMNS, WidthTable::G1),
+        stored_bits(table, level, WidthTable::HIGH_COLUMNS, WidthTable::G2),
+    );
+}
+
+// One level taken back: its columns, then its rows.
+fn level_back(
+    table: WidthTable,
+    level: u8,
+    work: &mut [i64],
+    tile: &mut [i64],
+    stride: usize,
+    w: usize,
+    h: usize,
+)
+    requires { ⌜ LevelReady table level (now work) (length (now tile)) stride w h ⌝ }
+    ensures { λ _. ⌜ at (now (work .exit)) ≡ levelBack table level stride w h (at (now (work .entry))) ⌝ }
+{
+    columns_back(table, level, work, tile, stride, w, h);
+    unlifting::rows(work, tile, stride, w, h);
+}
+
+// The plane goes to the work area, and all levels but the first are taken back there, the last one first.
+fn levels_back(
+    table: WidthTable,
+    plane: &[i32],
+    work: &mut [i64],
+    tile: &mut [i64],
+    w: usize,
+    h: usize,
+)
+    requires { ⌜ ViewReady table (now plane) (length (now work)) (length (now tile)) w h ⌝ }
+    ensures { λ _. ⌜ Left table w h 1 (planeOf w (now (plane .entry))) (at (now (work .entry))) (at (now (work .exit))) ⌝ }
+{
+    load(plane, work, w * h);
+    let mut k = table.levels;
+    while 1 < k {
+        k -= 1;
+        let across = pictures::side_after(w, k);
+        let down = pictures::side_after(h, k);
+        level_back(table, k + 1, work, tile, w, across, down);
+    }
+}
+
+// A row of the first level taken back and shown, and its place in the work area cleared.
+fn finish_row(
+    work: &mut [i64],
+    tile: &mut [i64],
+    pixels: &mut [u16],
+    from: usize,
+    w: usize,
+    depth: u8,
+)
+    requires { ⌜ RowReady depth (now work) (length (now pixels)) (length (now tile)) from w ⌝ }
+    ensures pixels { λ _. ⌜ (λ k. getD (now (pixels .exit)) k 0) ≡ patch from w (rowShown depth w (λ c. at (now (work .entry)) (from + c))) (λ k. getD (now (pixels .entry)) k 0) ⌝ }
+    ensures work { λ _. ⌜ at (now (work .exit)) ≡ patch from w (λ j. pos 0) (at (now (work .entry))) ⌝ }
+{
+    unlifting::row(work, tile, from, w);
+    show_row(work, pixels, from, w, depth);
+    clear_row(work, from, w);
+}
+
+// The rows of the first level, one after the other: each is still in the cache when it is shown and cleared.
+fn finish_rows(
+    work: &mut [i64],
+    tile: &mut [i64],
+    pixels: &mut [u16],
+    w: usize,
+    h: usize,
+    depth: u8,
+)
+    requires { ⌜ RowsReady depth (now work) (length (now pixels)) (length (now tile)) w h ⌝ }
+    ensures pixels { λ _. ⌜ (λ k. getD (now (pixels .exit)) k 0) ≡ shownRows depth w h (at (now (work .entry))) (λ k. getD (now (pixels .entry)) k 0) ⌝ }
+    ensures work { λ _. ⌜ at (now (work .exit)) ≡ clearedRows w h (at (now (work .entry))) ⌝ }
+{
+    for r in 0..h {
+        finish_row(work, tile, pixels, r * w, w, depth);
+    }
+}
+
+// What a call does that is not refused.
+fn show(
+    table: WidthTable,
+    plane: &[i32],
+    w: usize,
+    h: usize,
+    pixels: &mut [u16],
+    work: &mut [i64],
+    tile: &mut [i64],
+)
+    requires { ⌜ ViewReady table (now plane) (length (now work)) (length (now tile)) w h × (w * h ≤ length (now pixels)) ⌝ }
+    ensures pixels { λ _. ⌜ now (pixels .exit) ≡ over (rowByRow w h (viewPicture table w h (planeOf w (now (plane .entry))))) (now (pixels .entry)) ⌝ }
+    ensures work { λ _. ⌜ now (work .exit) ≡ zeroed (w * h) (now (work .entry)) ⌝ }
+{
+    levels_back(table, plane, work, tile, w, h);
+    columns_back(table, 1, work, tile, w, w, h);
+    finish_rows(work, tile, pixels, w, h, table.depth);
+}
+
+// The answer of the call, for pixels and a work area of so many elements.
+fn answer(
+    table: WidthTable,
+    plane: &[i32],
+    w: usize,
+    h: usize,
+    first: usize,
+    third: usize,
+) -> Outcome
+    ensures { λ r. ⌜ told r ≡ answerOf table w h (now (plane .entry)) first third ⌝ }
+{
+    match view_precision::judge(table) {
+        Outcome::Refused(why) => Outcome::Refused(why),
+        Outcome::Done => {
+            match pictures::room_right(table.levels, w, h, first, plane.len(), third) {
+                Outcome::Refused(why) => Outcome::Refused(why),
+                Outcome::Done => coefficients_right(table, plane, w, h),
+            }
+        }
+    }
+}
+
+// The picture of a 9/7 plane: refusals 4, 6, 7, 13, 8, 9 and 12. Success leaves the picture in the pixels, row by row, and zeros in the
+// work area; a refusal leaves both as they were. The tile is made before anything is judged (docs/DECISIONS.md, the compiler's back end).
+pub fn view(
+    table: WidthTable,
+    plane: &[i32],
+    w: usize,
+    h: usize,
+    pixels: &mut [u16],
+    work: &mut [i64],
+) -> Outcome
+    ensures answer { λ r. ⌜ told r ≡ viewAnswer table w h (now (plane .entry)) (now (pixels .entry)) (now (work .entry)) ⌝ }
+    ensures pixels { λ _. ⌜ now (pixels .exit) ≡ viewPixels table w h (now (plane .entry)) (now (pixels .entry)) (now (work .entry)) ⌝ }
+    ensures work { λ _. ⌜ now (work .exit) ≡ viewWork table w h (now (plane .entry)) (now (pixels .entry)) (now (work .entry)) ⌝ }
+{
+    let mut tile = [0i64; TILE];
+    match answer(table, plane, w, h, pixels.len(), work.len()) {
+        Outcome::Refused(why) => Outcome::Refused(why),
+        Outcome::Done => {
+            show(table, plane, w, h, pixels, work, &mut tile);
+            Outcome::Done
+        }
+    }
+}

@@ -7,8 +7,9 @@
  *
  * POINTERS. Where a length is 0 its pointer is not used and may be NULL; a
  * pointer without a length must point to what its type says. Every pointer is
- * aligned as its type asks: one to uint16_t, int32_t, uint32_t or uint64_t
- * stands where the compiler would put such a number. (NULL is aligned.)
+ * aligned as its type asks: one to uint16_t, int32_t, uint32_t, int64_t or
+ * uint64_t stands where the compiler would put such a number. (NULL is
+ * aligned.)
  *
  * Lengths count elements, not bytes: `pixels_len` of a uint16_t array of
  * 640 * 512 pixels is 640 * 512.
@@ -42,14 +43,17 @@
  *    9      a lent slice is too short
  *   10      a pixel is 2^B or more
  *   11      the 5/3 plane is the transform of no picture of that depth and size
+ *   12      a coefficient is outside its node's width
+ *   13      viewing is not accurate to half a grey, or a value may pass 2^15
  *
  * STACK. No call takes memory but on the stack, and no call calls itself. In
  * the library for x86-64 each stays within so many KiB, beside what memcpy and
  * memset of the C library take (the project's tests read this off its machine
  * code):
  *
- *   260   suz_inverse53
- *     4   suz_forward53, suz_forward97, suz_table_check, suz_table_bound
+ *   260   suz_inverse53, suz_view97
+ *     4   suz_forward53, suz_forward97, suz_table_check, suz_table_bound,
+ *         suz_table_view, suz_view_distance
  *     2   suz_table_change, suz_table_change_constant
  *     1   suz_table_form, suz_table_value, suz_table_write
  *
@@ -65,11 +69,12 @@
  *
  * LENT MEMORY. Each transform takes pixels, plane and a work area. All three
  * need width * height elements. Elements past that count are never written.
- * The work area may hold anything before the call.
+ * The work area is 32-bit, that of suz_view97 64-bit, and may hold anything
+ * before the call.
  *
- *   done         the output (plane, or pixels for the way back) has its first
- *                width * height elements written; the work area's first
- *                width * height elements are 0
+ *   done         the output (plane, or pixels for the way back and for viewing)
+ *                has its first width * height elements written; the work area's
+ *                first width * height elements are 0
  *   refused 11   the work area's first width * height elements are 0, the
  *                output is untouched
  *   refused by   nothing is touched
@@ -91,6 +96,21 @@
  * 2^(IB+f-1) - 1. A coefficient of the 9/7 plane has the f of the node that
  * gave it: pass 2 left of the middle, pass 3 right of it, G1 above, G2 below,
  * of its level.
+ *
+ * VIEWING undoes the 9/7 transform with 20 fractional bits at every node and
+ * constants of 24 bits, whatever bits the table has for them; of the table it
+ * takes depth, levels, and the widths of the nodes that gave the coefficients.
+ * A viewed value means a pixel's (p - 2^(B-1)) / 2^B: it is taken in greys of
+ * 2^-B, 2^(B-1) is added, and the pixel shown is the nearest, halves up, within
+ * 0 to 2^B - 1. Under a table that viewing does not refuse every value is less
+ * than half a grey from the exact inverse of what is stored, so the pixel shown
+ * is one of the two greys nearest to it.
+ *
+ * The more levels and the more bits a pixel has, the harder that is. Some
+ * tables can be viewed with one level at any depth, with two up to 11 bits,
+ * three up to 9, four up to 7, five up to 5 bits; beyond that every table is
+ * refused 13. Integer bits of kept nodes that are more than the judge asks for
+ * make it harder.
  */
 #ifndef SUZDREPA_H
 #define SUZDREPA_H
@@ -143,6 +163,8 @@ static inline const char *suz_refusal_text(uint32_t answer)
     case 9: return "a lent slice is too short";
     case 10: return "a pixel is 2^B or more";
     case 11: return "the 5/3 plane is the transform of no picture of that depth and size";
+    case 12: return "a coefficient is outside its node's width";
+    case 13: return "viewing is not accurate to half a grey, or a value may pass 2^15";
     default: return "unknown";
     }
 }
@@ -225,6 +247,29 @@ uint32_t suz_table_write(uint8_t depth, uint8_t levels,
                          uint8_t *out, size_t out_len);
 
 /*
+ * Reads a width table, judges it, and judges whether planes stored under it can
+ * be viewed.
+ * 0: suz_view97 shows every plane whose coefficients are within their widths,
+ *    each value less than half a grey from the exact inverse (see VIEWING).
+ * Refused 1 to 5, then 6 and 7 as suz_table_check refuses them, then 13. Reads
+ * the table, writes nothing.
+ */
+uint32_t suz_table_view(const uint8_t *table, size_t table_len);
+
+/*
+ * How far viewing may lead from what was scanned, in units of 2 to the power
+ * -32: where suz_forward97 stored a picture under this table and suz_view97
+ * shows it, each value before rounding is at most so far from the scanned
+ * pixel's (p - 2^(B-1)) / 2^B. A grey is 2 to the power (32 - B) such units; a
+ * pixel shown is at most the distance in greys, rounded to the nearest, halves
+ * up, from the one scanned.
+ * 0: *distance is written.
+ * Refused as suz_table_view refuses; *distance is untouched.
+ */
+uint32_t suz_view_distance(const uint8_t *table, size_t table_len,
+                           uint64_t *distance);
+
+/*
  * 9/7 forward under a width table; depth and levels are the table's.
  * Reads table and pixels, writes plane and work (see LENT MEMORY).
  * Refused 1 to 5 of the table's bytes, then 6 and 7, 8, 9, 10.
@@ -234,6 +279,20 @@ uint32_t suz_forward97(const uint8_t *table, size_t table_len,
                        size_t width, size_t height,
                        int32_t *plane, size_t plane_len,
                        int32_t *work, size_t work_len);
+
+/*
+ * Viewing: the picture of a stored 9/7 plane (see VIEWING); depth and levels
+ * are the table's. The plane need not be one that suz_forward97 stored.
+ * Reads table and plane, writes pixels and work (see LENT MEMORY).
+ * Refused 1 to 5 of the table's bytes, then 6 and 7, 13, 8, 9, and 12 where
+ * one of the plane's first width * height coefficients is outside the width of
+ * the node that gives that place.
+ */
+uint32_t suz_view97(const uint8_t *table, size_t table_len,
+                    const int32_t *plane, size_t plane_len,
+                    size_t width, size_t height,
+                    uint16_t *pixels, size_t pixels_len,
+                    int64_t *work, size_t work_len);
 
 /*
  * 5/3 forward: the exact copy of a picture.

@@ -1,19 +1,18 @@
 //! Links the proved static library `libengine.a`.
 //!
 //! It is looked for in the folder that the environment variable
-//! SUZDREPA_LIB_DIR names, else in `target/staticlib` of the work tree.
+//! SUZDREPA_LIB_DIR names, a relative one from the work tree's root, else in
+//! `target/staticlib` there.
 
 use std::path::PathBuf;
 
 fn main() {
     println!("cargo::rerun-if-env-changed=SUZDREPA_LIB_DIR");
-    let folder = match std::env::var_os("SUZDREPA_LIB_DIR") {
-        Some(folder) => PathBuf::from(folder),
-        None => {
-            let manifest = std::env::var_os("CARGO_MANIFEST_DIR").expect("cargo sets it");
-            PathBuf::from(manifest).join("../../target/staticlib")
-        }
-    };
+    let manifest = std::env::var_os("CARGO_MANIFEST_DIR").expect("cargo sets it");
+    let named = std::env::var_os("SUZDREPA_LIB_DIR");
+    let folder = PathBuf::from(manifest)
+        .join("../..")
+        .join(named.unwrap_or_else(|| "target/staticlib".into()));
     let archive = folder.join("libengine.a");
     println!("cargo::rerun-if-changed={}", archive.display());
     if !archive.is_file() {

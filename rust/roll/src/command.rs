@@ -3,21 +3,25 @@
 use crate::container::Plane;
 use crate::pgm::Picture;
 use crate::progress::Progress;
-use crate::{png, sample, show, suggest, text, Failure};
+use crate::{counted, png, sample, show, suggest, text, Failure};
 use std::ffi::{OsStr, OsString};
 use std::io::Write;
 use std::os::unix::fs::MetadataExt;
 use std::path::Path;
-use suzdrepa::{Node, Pass, Place, Refusal, Width, WidthTable, MAX_SIDE};
+use suzdrepa::{Bound, Node, Pass, Place, Refusal, Width, WidthTable, MAX_SIDE};
 
 const HELP: &str = "\
 roll - works scanned pictures of punched rolls
 
-  roll check TABLE                      is this width table accepted? The exit
-                                        status tells: 0 yes, 1 no
+  roll check [--view] TABLE             is this width table accepted? The exit
+                                        status tells: 0 yes, 1 no. With --view:
+                                        can its planes be viewed, too?
   roll show TABLE                       its widths, bounds and head-room
-  roll suggest DEPTH LEVELS [OUT]       a tight table that is accepted; written
-                                        to OUT, or shown
+  roll suggest [--view] DEPTH LEVELS [OUT]
+                                        a tight table that is accepted; written
+                                        to OUT, or shown. With --view: one whose
+                                        planes can be viewed, with the finest
+                                        steps, and how far that leads at most
   roll text TABLE                       the table as lines of text, to edit
   roll table TEXT OUT                   such a text made into a table
   roll change TABLE LEVEL PASS NODE IB f OUT
@@ -26,10 +30,15 @@ roll - works scanned pictures of punched rolls
   roll constant TABLE NODE F OUT        the constant of a node with other
                                         fractional bits F
   roll forward97 TABLE IN.pgm OUT       9/7 coefficients under a width table
+  roll view [TABLE] PLANE OUT.pgm       9/7 coefficients as a picture; a TABLE
+                                        that is named must be the one in PLANE
+  roll difference ONE.pgm OTHER.pgm OUT.pgm
+                                        how many greys two pictures differ at
+                                        most, and a picture of where
   roll copy [--levels N] IN.pgm OUT     exact copy as 5/3 coefficients; without
                                         --levels as many as the sides admit
   roll restore IN OUT.pgm               the picture of an exact copy
-  roll picture PLANE OUT.png            coefficients as a grey picture
+  roll picture PLANE OUT.png            coefficients drawn where they stand
   roll sample DIR                       a drawn roll and some tables to try
   roll --help
 
@@ -53,10 +62,15 @@ PASS is rows, low-columns (of row-low) or high-columns (of row-high), or 1 to
 not, and tell which; `show` tells it too. All four exit 0 where the table is
 not accepted: what they were asked for is done. Ask `check` before it is used.
 
+Viewing is right to half a grey of what is stored, or it is refused 13. Tables
+that can be viewed exist with 1 level at any depth, 2 levels up to 11 bits, 3
+up to 9, 4 up to 7, 5 up to 5 bits; there `suggest --view` gives one.
+
 No command writes over a file that it reads: OUT is another file.
 
 Pictures are PGM files (P5) with a largest value up to 4095; the depth is the
-bits of the largest value. `restore` writes 2^depth - 1 as largest value.
+bits of the largest value. `restore` and `view` write 2^depth - 1 as largest
+value. `difference` draws no difference black and the largest white.
 
 Files of coefficients have two lines of text, `suzdrepa-53` or `suzdrepa-97`
 and then depth, levels, width and height; with 97 the width table follows;
@@ -95,11 +109,18 @@ fn command(arguments: &[OsString], out: &mut dyn Write) -> Result<(), Failure> {
     if options.levels.is_some() && name != "copy" {
         return Err(Failure::Usage("--levels goes with `copy` alone".into()));
     }
+    let view = options.view;
+    if view && !["check", "suggest"].contains(&name) {
+        return Err(Failure::Usage(
+            "--view goes with `check` and `suggest` alone".into(),
+        ));
+    }
     match (name, files) {
+        ("check", [table]) if view => check_view(table, out),
         ("check", [table]) => check(table, out),
         ("show", [table]) => show_table(table, out),
-        ("suggest", [depth, levels]) => suggest_table(depth, levels, None, out),
-        ("suggest", [depth, levels, to]) => suggest_table(depth, levels, Some(to), out),
+        ("suggest", [depth, levels]) => suggest_table(view, depth, levels, None, out),
+        ("suggest", [depth, levels, to]) => suggest_table(view, depth, levels, Some(to), out),
         ("text", [table]) => show_text(table, out),
         ("table", [from, to]) => make_table(from, to, out),
         ("change", [table, level, pass, node, integer_bits, fraction_bits, to]) => {
@@ -120,13 +141,16 @@ fn command(arguments: &[OsString], out: &mut dyn Write) -> Result<(), Failure> {
             change_constant(table, node, bits, to, out)
         }
         ("forward97", [table, from, to]) => forward97(table, from, to, out),
+        ("view", [from, to]) => view97(None, from, to, out),
+        ("view", [table, from, to]) => view97(Some(table), from, to, out),
+        ("difference", [one, other, to]) => difference(one, other, to, out),
         ("copy", [from, to]) => copy(options.levels, from, to, out),
         ("restore", [from, to]) => restore(from, to, out),
         ("picture", [from, to]) => picture(from, to, out),
         ("sample", [folder]) => write_sample(folder, out),
         (
             "check" | "show" | "suggest" | "text" | "table" | "change" | "constant" | "forward97"
-            | "copy" | "restore" | "picture" | "sample",
+            | "view" | "difference" | "copy" | "restore" | "picture" | "sample",
             _,
         ) => Err(Failure::Usage(format!(
             "`{name}` takes other arguments than these"
@@ -139,6 +163,7 @@ fn command(arguments: &[OsString], out: &mut dyn Write) -> Result<(), Failure> {
 struct Options {
     help: bool,
     levels: Option<u8>,
+    view: bool,
 }
 
 /// Takes the options out of the arguments; after `--` there are none. What
@@ -153,6 +178,8 @@ fn sort(arguments: &[OsString]) -> Result<(Options, Vec<&OsStr>), Failure> {
             words.extend(rest.by_ref().map(OsString::as_os_str));
         } else if text == "--help" || text == "-h" {
             options.help = true;
+        } else if text == "--view" {
+            options.view = true;
         } else if text == "--levels" {
             let number = rest
                 .next()
@@ -235,6 +262,69 @@ fn check(path: &OsStr, out: &mut dyn Write) -> Result<(), Failure> {
     tell(out, &format!("{}: accepted\n", shown(path)))
 }
 
+fn check_view(path: &OsStr, out: &mut dyn Write) -> Result<(), Failure> {
+    let table = WidthTable::from_bytes(&read(path)?).map_err(refused(path))?;
+    let distance = table
+        .view_distance()
+        .map_err(viewing_refused(path, &table))?;
+    let far = far(distance, table.depth());
+    tell(
+        out,
+        &format!("{}: accepted, viewable: {far}\n", shown(path)),
+    )
+}
+
+/// How far a viewed picture may be from the scanned one. Rounding to a pixel
+/// adds at most half a grey to the distance of a value.
+fn far(distance: u64, depth: u8) -> String {
+    let grey = Bound::ONE >> depth;
+    let hundredths = distance.saturating_mul(100).div_ceil(grey);
+    let pixel = (distance + grey / 2) / grey;
+    // No pixel is farther from another than the lightest from the darkest.
+    let pixel = pixel.min((1 << depth) - 1);
+    format!(
+        "at most {}.{:02} greys from the scan, {pixel} after rounding",
+        hundredths / 100,
+        hundredths % 100
+    )
+}
+
+/// Why planes of that depth and so many levels are not viewed, and what to do.
+fn viewing_advice(depth: u8, levels: u8) -> String {
+    if suggest::can_be_viewed(depth, levels) {
+        return format!(
+            "fewer integer bits at the kept nodes help: `roll suggest --view {depth} {levels} OUT` \
+             makes a table that can be viewed"
+        );
+    }
+    let fewer = (1..levels)
+        .rev()
+        .find(|&l| suggest::can_be_viewed(depth, l));
+    let smaller = (1..depth)
+        .rev()
+        .find(|&d| suggest::can_be_viewed(d, levels));
+    let fewer = fewer.map(|l| format!("at most {}", counted(l, "level")));
+    let smaller = smaller.map(|d| format!("at most {}", counted(d, "bit")));
+    let ways: Vec<String> = [fewer, smaller].into_iter().flatten().collect();
+    format!(
+        "no table of {} and {} can be viewed: take {}",
+        counted(depth, "bit"),
+        counted(levels, "level"),
+        ways.join(", or ")
+    )
+}
+
+/// As [`refused`], with what to do where a table cannot be viewed.
+fn viewing_refused<'a>(path: &'a OsStr, table: &'a WidthTable) -> impl Fn(Refusal) -> Failure + 'a {
+    move |refusal| match refusal {
+        Refusal::NotViewable => {
+            let advice = viewing_advice(table.depth(), table.levels());
+            Failure::Refused(format!("{}: {refusal}; {advice}", shown(path)))
+        }
+        _ => refused(path)(refusal),
+    }
+}
+
 fn show_table(path: &OsStr, out: &mut dyn Write) -> Result<(), Failure> {
     let table = WidthTable::from_bytes(&read(path)?).map_err(refused(path))?;
     tell(out, &show::text(&table))?;
@@ -250,6 +340,7 @@ fn verdict(table: &WidthTable) -> String {
 }
 
 fn suggest_table(
+    view: bool,
     depth: &OsStr,
     levels: &OsStr,
     to: Option<&OsStr>,
@@ -257,10 +348,30 @@ fn suggest_table(
 ) -> Result<(), Failure> {
     let depth = word("DEPTH", depth, text::depth)?;
     let levels = word("LEVELS", levels, text::levels)?;
-    let table = suggest::suggest(depth, levels, &Progress::new())
-        .map_err(|refusal| Failure::Refused(refusal.to_string()))?;
+    let suggested = match view {
+        true => suggest::suggest_viewable(depth, levels, &Progress::new()),
+        false => suggest::suggest(depth, levels, &Progress::new()),
+    };
+    let table = suggested.map_err(|refusal| match refusal {
+        Refusal::NotViewable => {
+            let advice = viewing_advice(depth, levels);
+            Failure::Refused(format!("{refusal}; {advice}"))
+        }
+        _ => Failure::Refused(refusal.to_string()),
+    })?;
+    let viewed = match view {
+        true => {
+            let distance = table.view_distance();
+            let distance = distance.map_err(|refusal| Failure::Refused(refusal.to_string()))?;
+            Some(far(distance, depth))
+        }
+        false => None,
+    };
     match to {
-        None => tell(out, &show::text(&table)),
+        None => {
+            tell(out, &show::text(&table))?;
+            viewed.map_or(Ok(()), |far| tell(out, &format!("viewable: {far}\n")))
+        }
         Some(path) => {
             write(path, table.as_bytes())?;
             let bits: usize = table
@@ -272,9 +383,11 @@ fn suggest_table(
             tell(
                 out,
                 &format!(
-                    "{}: {depth} bits, {levels} levels, {:.1} bits a node on average\n",
+                    "{}: {}, {:.1} bits a node on average{}\n",
                     shown(path),
-                    bits as f64 / nodes as f64
+                    show::bits_and_levels(depth, levels),
+                    bits as f64 / nodes as f64,
+                    viewed.map_or(String::new(), |far| format!("; viewable: {far}"))
                 ),
             )
         }
@@ -308,10 +421,10 @@ fn change_width(
         .map_err(|refusal| match refusal {
             // The other numbers are within their limits.
             Refusal::OutsideLimits if place.level > levels => Failure::Refused(format!(
-                "{}: refused {}: the table has {levels} level{}, there is no level {}",
+                "{}: refused {}: the table has {}, there is no level {}",
                 shown(from),
                 refusal.number(),
-                if levels == 1 { "" } else { "s" },
+                counted(levels, "level"),
                 place.level
             )),
             _ => refused(from)(refusal),
@@ -339,10 +452,9 @@ fn write_table(table: &WidthTable, to: &OsStr, out: &mut dyn Write) -> Result<()
     tell(
         out,
         &format!(
-            "{}: written, {} bits, {} levels, {}\n",
+            "{}: written, {}, {}\n",
             shown(to),
-            table.depth(),
-            table.levels(),
+            show::bits_and_levels(table.depth(), table.levels()),
             verdict(table)
         ),
     )
@@ -377,11 +489,94 @@ fn forward97(
     tell(
         out,
         &format!(
-            "{}: 9/7 coefficients, {} x {}, {} levels\n",
+            "{}: 9/7 coefficients, {} x {}, {}\n",
             shown(to),
             plane.width,
             plane.height,
-            plane.levels
+            counted(plane.levels, "level")
+        ),
+    )
+}
+
+fn view97(
+    named: Option<&OsStr>,
+    from: &OsStr,
+    to: &OsStr,
+    out: &mut dyn Write,
+) -> Result<(), Failure> {
+    let inputs: Vec<&OsStr> = named.into_iter().chain([from]).collect();
+    apart(&inputs, to)?;
+    let plane = Plane::read(&read(from)?).map_err(not_understood(from))?;
+    let Some(table) = &plane.table else {
+        return Err(Failure::File(format!(
+            "{}: an exact copy; 9/7 coefficients (suzdrepa-97) are viewed, `restore` takes a copy",
+            shown(from)
+        )));
+    };
+    if let Some(named) = named {
+        if read(named)? != table.as_bytes() {
+            return Err(Failure::File(format!(
+                "{}: stored under another table than {}",
+                shown(from),
+                shown(named)
+            )));
+        }
+    }
+    let (width, height) = (plane.width, plane.height);
+    let progress = Progress::new();
+    progress.tell(&format!("viewing {width} x {height}"));
+    let pixels = suzdrepa::view97_to_vec(table.as_bytes(), &plane.values, width, height)
+        .map_err(viewing_refused(from, table))?;
+    let distance = table
+        .view_distance()
+        .map_err(viewing_refused(from, table))?;
+    let picture = Picture {
+        width,
+        height,
+        depth: plane.depth,
+        pixels,
+    };
+    progress.tell("writing");
+    write(to, &picture.write())?;
+    drop(progress);
+    tell(
+        out,
+        &format!(
+            "{}: {}; if `forward97` stored it, {}\n",
+            shown(to),
+            picture.shape(),
+            far(distance, plane.depth)
+        ),
+    )
+}
+
+fn difference(one: &OsStr, other: &OsStr, to: &OsStr, out: &mut dyn Write) -> Result<(), Failure> {
+    apart(&[one, other], to)?;
+    let [first, second] = [one, other].map(|path| {
+        let picture = Picture::read(&read(path)?);
+        picture.map_err(not_understood(path))
+    });
+    let (first, second) = (first?, second?);
+    let shape = |picture: &Picture| (picture.width, picture.height, picture.depth);
+    if shape(&first) != shape(&second) {
+        return Err(Failure::File(format!(
+            "{}: {}; {}: {}; pictures of one size and depth are compared",
+            shown(one),
+            first.shape(),
+            shown(other),
+            second.shape()
+        )));
+    }
+    let (changed, most) = first.difference(&second);
+    write(to, &changed.write())?;
+    let moved = changed.pixels.iter().filter(|&&pixel| pixel > 0).count();
+    tell(
+        out,
+        &format!(
+            "{}: at most {}, {moved} of {} pixels differ\n",
+            shown(to),
+            counted(most, "grey"),
+            changed.pixels.len()
         ),
     )
 }
@@ -419,9 +614,9 @@ fn copy(levels: Option<u8>, from: &OsStr, to: &OsStr, out: &mut dyn Write) -> Re
     tell(
         out,
         &format!(
-            "{}: exact copy, {width} x {height}, {} bits, {levels} levels\n",
+            "{}: exact copy, {width} x {height}, {}\n",
             shown(to),
-            picture.depth
+            show::bits_and_levels(picture.depth, levels)
         ),
     )
 }
@@ -431,7 +626,7 @@ fn restore(from: &OsStr, to: &OsStr, out: &mut dyn Write) -> Result<(), Failure>
     let plane = Plane::read(&read(from)?).map_err(not_understood(from))?;
     if plane.table.is_some() {
         return Err(Failure::File(format!(
-            "{}: 9/7 coefficients; an exact copy (suzdrepa-53) is restored",
+            "{}: 9/7 coefficients; an exact copy (suzdrepa-53) is restored, `view` takes these",
             shown(from)
         )));
     }
@@ -454,16 +649,7 @@ fn restore(from: &OsStr, to: &OsStr, out: &mut dyn Write) -> Result<(), Failure>
     progress.tell("writing");
     write(to, &picture.write())?;
     drop(progress);
-    tell(
-        out,
-        &format!(
-            "{}: {} x {}, {} bits\n",
-            shown(to),
-            picture.width,
-            picture.height,
-            picture.depth
-        ),
-    )
+    tell(out, &format!("{}: {}\n", shown(to), picture.shape()))
 }
 
 /// The grey values of a plane. Each band has its own scale: the coarsest
@@ -512,9 +698,9 @@ fn picture(from: &OsStr, to: &OsStr, out: &mut dyn Write) -> Result<(), Failure>
             .all(|&side| side > 1 << (plane.levels - 1) && side <= MAX_SIDE);
     if !drawn {
         return Err(Failure::File(format!(
-            "{}: no plane has {} levels and {} x {} coefficients",
+            "{}: no plane has {} and {} x {} coefficients",
             shown(from),
-            plane.levels,
+            counted(plane.levels, "level"),
             plane.width,
             plane.height
         )));
@@ -556,6 +742,38 @@ mod tests {
         assert_eq!(max_levels(3, 9), 2);
         assert_eq!(max_levels(2, 9), 1);
         assert_eq!(max_levels(0, 0), 1);
+    }
+
+    #[test]
+    fn how_far_in_greys() {
+        let numbers = |distance, depth| far(distance, depth).replace(" greys from the scan", "");
+        // Eight bits: a grey is 2^24. What is shown is never less than it is.
+        assert_eq!(numbers(0, 8), "at most 0.00, 0 after rounding");
+        assert_eq!(numbers(1, 8), "at most 0.01, 0 after rounding");
+        assert_eq!(numbers((1 << 23) - 1, 8), "at most 0.50, 0 after rounding");
+        assert_eq!(numbers(1 << 23, 8), "at most 0.50, 1 after rounding");
+        assert_eq!(numbers(3 << 23, 8), "at most 1.50, 2 after rounding");
+        assert_eq!(
+            numbers((41 << 24) + 1, 8),
+            "at most 41.01, 41 after rounding"
+        );
+        assert_eq!(numbers(1 << 31, 1), "at most 1.00, 1 after rounding");
+        // More than there are.
+        assert_eq!(numbers(9 << 31, 1), "at most 9.00, 1 after rounding");
+    }
+
+    #[test]
+    fn advice_where_viewing_is_refused() {
+        for (depth, levels, due) in [
+            (8, 4, "take at most 3 levels, or at most 7 bits"),
+            (8, 5, "take at most 3 levels, or at most 5 bits"),
+            (12, 2, "take at most 1 level, or at most 11 bits"),
+        ] {
+            let none = format!("no table of {depth} bits and {levels} levels can be viewed: ");
+            assert_eq!(viewing_advice(depth, levels), none + due);
+        }
+        let some = viewing_advice(8, 3);
+        assert!(some.contains("`roll suggest --view 8 3 OUT`"), "{some}");
     }
 
     #[test]

@@ -19,6 +19,13 @@ pub use command::run;
 
 use std::fmt;
 
+/// A number and what it counts, as `1 level` or `2 levels`.
+fn counted(number: impl Into<u64>, what: &str) -> String {
+    let number = number.into();
+    let end = if number == 1 { "" } else { "s" };
+    format!("{number} {what}{end}")
+}
+
 /// Why a command was not done.
 #[derive(Debug, PartialEq, Eq)]
 pub enum Failure {

@@ -1,6 +1,7 @@
 //! Grey pictures as PGM files (P5): one byte a pixel up to a largest value of
 //! 255, two bytes, high byte first, up to 4095.
 
+use crate::counted;
 use suzdrepa::WidthTable;
 
 /// The maximum of a pixel.
@@ -124,6 +125,33 @@ impl Picture {
         bytes
     }
 
+    /// Width, height and depth in words.
+    pub fn shape(&self) -> String {
+        let Picture {
+            width,
+            height,
+            depth,
+            ..
+        } = self;
+        format!("{width} x {height}, {}", counted(*depth, "bit"))
+    }
+
+    /// A picture of where this one and another of its size and depth differ,
+    /// no difference black and the largest white, and the largest in greys.
+    pub fn difference(&self, other: &Picture) -> (Picture, u16) {
+        let off: Vec<u16> = (self.pixels.iter().zip(&other.pixels))
+            .map(|(one, other)| one.abs_diff(*other))
+            .collect();
+        let most = off.iter().copied().max().unwrap_or(0);
+        let white = (1 << self.depth) - 1;
+        let drawn = |&off: &u16| (u32::from(off) * white).div_ceil(u32::from(most.max(1))) as u16;
+        let picture = Picture {
+            pixels: off.iter().map(drawn).collect(),
+            ..*self
+        };
+        (picture, most)
+    }
+
     /// A part from the middle, at most `side` wide and high.
     pub fn middle(&self, side: usize) -> Picture {
         let (width, height) = (self.width.min(side), self.height.min(side));
@@ -216,6 +244,24 @@ mod tests {
         for length in 0..whole.len() {
             assert!(Picture::read(&whole[..length]).is_err());
         }
+    }
+
+    #[test]
+    fn the_difference_of_two_pictures() {
+        let picture = |pixels: [u16; 4]| Picture {
+            width: 2,
+            height: 2,
+            depth: 8,
+            pixels: pixels.to_vec(),
+        };
+        let one = picture([0, 10, 200, 255]);
+        assert_eq!(one.difference(&one), (picture([0; 4]), 0));
+        // 255 / 3 is 85, and a difference is never drawn as none.
+        let other = picture([0, 11, 198, 252]);
+        assert_eq!(one.difference(&other), (picture([0, 85, 170, 255]), 3));
+        let far = picture([255, 11, 200, 255]);
+        assert_eq!(one.difference(&far), (picture([255, 1, 0, 0]), 255));
+        assert_eq!(one.shape(), "2 x 2, 8 bits");
     }
 
     #[test]

@@ -2,7 +2,7 @@
 
 use crate::pgm::Picture;
 use crate::progress::Progress;
-use crate::suggest::{moved, suggest};
+use crate::suggest::{moved, suggest, suggest_viewable};
 use suzdrepa::{Node, Pass, Place, Refusal, Width, WidthTable};
 
 /// The files of the sample, by name.
@@ -10,6 +10,8 @@ pub fn files(progress: &Progress) -> Result<Vec<(&'static str, Vec<u8>)>, Refusa
     // Generous: widths as they come, and steps finer than a pixel's.
     let church = WidthTable::kept_and_others(8, 3, 24, Width::new(12, 10), Width::new(12, 20))?;
     let museum = suggest(8, 5, progress)?;
+    // Its planes can be viewed; five levels of eight bits never can.
+    let archive = suggest_viewable(8, 3, progress)?;
     // As in a table that was cut too close at the third level.
     let third = Place::new(3, Pass::Rows, Node::P1);
     let narrow = moved(&museum, third, -1, 0).ok_or(Refusal::OutsideLimits)?;
@@ -22,6 +24,7 @@ pub fn files(progress: &Progress) -> Result<Vec<(&'static str, Vec<u8>)>, Refusa
         ("roll.pgm", roll(640, 512).write()),
         ("church.table", church.to_bytes()),
         ("museum.table", museum.to_bytes()),
+        ("archive.table", archive.to_bytes()),
         ("refused6.table", narrow.to_bytes()),
         ("refused7.table", rough.to_bytes()),
     ])
@@ -85,6 +88,14 @@ mod tests {
         };
         assert_eq!(number("church.table"), 0);
         assert_eq!(number("museum.table"), 0);
+        assert_eq!(number("archive.table"), 0);
+        let viewable = |name: &str| {
+            let (_, bytes) = files.iter().find(|(n, _)| *n == name).unwrap();
+            suzdrepa::table_view(bytes)
+        };
+        assert_eq!(viewable("archive.table"), Ok(()));
+        assert_eq!(viewable("church.table"), Err(Refusal::NotViewable));
+        assert_eq!(viewable("museum.table"), Err(Refusal::NotViewable));
         assert_eq!(number("refused6.table"), 6);
         assert_eq!(number("refused7.table"), 7);
     }

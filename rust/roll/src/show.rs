@@ -1,5 +1,6 @@
 //! A width table in words and numbers.
 
+use crate::counted;
 use suzdrepa::{Bound, Node, Place, Refusal, Width, WidthTable};
 
 /// What a node holds beyond range and error; below zero where it does not fit.
@@ -36,10 +37,15 @@ fn bounds(table: &WidthTable, place: Place, width: Width, verdict: Result<(), Re
     )
 }
 
+/// Depth and levels in words.
+pub fn bits_and_levels(depth: u8, levels: u8) -> String {
+    format!("{}, {}", counted(depth, "bit"), counted(levels, "level"))
+}
+
 /// The table as text: widths, bounds and head-room of every node. The nodes
 /// after the first refused one have no bounds.
 pub fn text(table: &WidthTable) -> String {
-    let mut text = format!("depth {} bits, {} levels\n", table.depth(), table.levels());
+    let mut text = format!("depth {}\n", bits_and_levels(table.depth(), table.levels()));
     text += "bits of the constants:";
     for node in Node::ALL {
         text += &format!(" {node} {}", table.constant_bits(node));

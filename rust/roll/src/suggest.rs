@@ -1,14 +1,22 @@
-//! A tight table that the engine accepts: found by asking the engine.
+//! A tight table that the engine accepts, or one whose planes can also be
+//! viewed: found by asking the engine.
 
 use crate::progress::Progress;
 use suzdrepa::{Node, Place, Refusal, Width, WidthTable};
 
 const WIDEST: Width = Width::new(WidthTable::MAX_INTEGER_BITS, WidthTable::MAX_FRACTION_BITS);
 
-/// Changes the table by steps for as long as it stays accepted. `change` gives
-/// the next table; none, or a refused one, ends it.
-fn push(table: &mut WidthTable, change: impl Fn(&WidthTable) -> Option<WidthTable>) {
-    while let Some(next) = change(table).filter(|next| next.check().is_ok()) {
+/// What is asked of a table.
+type Demand = fn(&WidthTable) -> Result<(), Refusal>;
+
+/// Changes the table by steps for as long as it meets the demand. `change`
+/// gives the next table; none, or a refused one, ends it.
+fn push(
+    table: &mut WidthTable,
+    demand: Demand,
+    change: impl Fn(&WidthTable) -> Option<WidthTable>,
+) {
+    while let Some(next) = change(table).filter(|next| demand(next).is_ok()) {
         *table = next;
     }
 }
@@ -31,11 +39,15 @@ fn rougher(table: &WidthTable, node: Node) -> Option<WidthTable> {
     table.with_constant(node, bits).ok()
 }
 
-/// A table for pictures of `depth` bits in `levels` levels; refused 4 where
-/// they are outside their limits. Its kept coefficients have steps as fine as
-/// a pixel's, or the finest that are accepted; every other number is the least
-/// that goes with them, found one after the other.
-pub fn suggest(depth: u8, levels: u8, progress: &Progress) -> Result<WidthTable, Refusal> {
+/// The nodes of a table that are kept, and all others.
+fn kept_and_inner(table: &WidthTable) -> (Vec<Place>, Vec<Place>) {
+    table.places().partition(|&place| table.is_kept(place))
+}
+
+/// A table with kept coefficients of so many fractional bits, or the most that
+/// are accepted; all else is as wide as it gets. Refused 4 where a number is
+/// outside its limits.
+fn finest(depth: u8, levels: u8, most: u8) -> Result<WidthTable, Refusal> {
     let coarse = Width {
         fraction_bits: depth.min(2),
         ..WIDEST
@@ -43,24 +55,44 @@ pub fn suggest(depth: u8, levels: u8, progress: &Progress) -> Result<WidthTable,
     let constant_bits = WidthTable::MAX_CONSTANT_BITS;
     let mut table = WidthTable::kept_and_others(depth, levels, constant_bits, coarse, WIDEST)?;
     table.check()?;
-    let (kept, inner): (Vec<Place>, Vec<Place>) =
-        table.places().partition(|&place| table.is_kept(place));
-
-    for &place in &kept {
-        push(&mut table, |table| {
+    for place in kept_and_inner(&table).0 {
+        push(&mut table, WidthTable::check, |table| {
             let bits = table.width(place)?.fraction_bits;
-            moved(table, place, 0, 1).filter(|_| bits < depth)
+            moved(table, place, 0, 1).filter(|_| bits < most)
         });
     }
+    Ok(table)
+}
+
+/// As [`finest`], with the most fractional bits of all, so that what is viewed
+/// is near to what was scanned, and the kept nodes have the fewest integer bits
+/// that are accepted, which is what viewing asks for; refused 13 where planes
+/// cannot be viewed even so: then no table of that depth and so many levels has
+/// any that can.
+fn finest_viewable(depth: u8, levels: u8) -> Result<WidthTable, Refusal> {
+    let mut table = finest(depth, levels, WidthTable::MAX_FRACTION_BITS)?;
+    for place in kept_and_inner(&table).0 {
+        push(&mut table, WidthTable::check, |table| {
+            moved(table, place, -1, 0)
+        });
+    }
+    table.viewable()?;
+    Ok(table)
+}
+
+/// Every number of the table that can be lowered by one, one after the other,
+/// for as long as the demand is met; kept coefficients keep their steps.
+fn tightened(mut table: WidthTable, demand: Demand, progress: &Progress) -> WidthTable {
+    let (_, inner) = kept_and_inner(&table);
     // Evenly first, so that the first node does not take all there is.
-    push(&mut table, |table| {
+    push(&mut table, demand, |table| {
         let mut next = table.clone();
         for &place in &inner {
             next = moved(&next, place, 0, -1).unwrap_or(next);
         }
         Some(next).filter(|next| next != table)
     });
-    push(&mut table, |table| {
+    push(&mut table, demand, |table| {
         let mut next = table.clone();
         for node in Node::ALL {
             next = rougher(&next, node).unwrap_or(next);
@@ -73,23 +105,47 @@ pub fn suggest(depth: u8, levels: u8, progress: &Progress) -> Result<WidthTable,
             "fractional bits: {} nodes of {nodes} left",
             left + 1
         ));
-        push(&mut table, |table| moved(table, place, 0, -1));
+        push(&mut table, demand, |table| moved(table, place, 0, -1));
     }
     for node in Node::ALL {
-        push(&mut table, |table| rougher(table, node));
+        push(&mut table, demand, |table| rougher(table, node));
     }
     let places: Vec<Place> = table.places().collect();
     for (done, &place) in places.iter().enumerate() {
         let nodes = places.len();
         progress.tell(&format!("integer bits: {done} nodes of {nodes} done"));
-        push(&mut table, |table| moved(table, place, -1, 0));
+        push(&mut table, demand, |table| moved(table, place, -1, 0));
     }
-    Ok(table)
+    table
+}
+
+/// A table for pictures of `depth` bits in `levels` levels; refused 4 where
+/// they are outside their limits. Its kept coefficients have steps as fine as
+/// a pixel's, or the finest that are accepted; every other number is the least
+/// that goes with them, found one after the other.
+pub fn suggest(depth: u8, levels: u8, progress: &Progress) -> Result<WidthTable, Refusal> {
+    let table = finest(depth, levels, depth)?;
+    Ok(tightened(table, WidthTable::check, progress))
+}
+
+/// As [`suggest`], for planes that are to be viewed: its kept coefficients have
+/// the finest steps that are accepted, whatever a pixel's are. Refused 13 where
+/// no table of that depth and so many levels has any that can be.
+pub fn suggest_viewable(depth: u8, levels: u8, progress: &Progress) -> Result<WidthTable, Refusal> {
+    let table = finest_viewable(depth, levels)?;
+    Ok(tightened(table, WidthTable::viewable, progress))
+}
+
+/// Whether some table of that depth and so many levels has planes that can be
+/// viewed.
+pub fn can_be_viewed(depth: u8, levels: u8) -> bool {
+    finest_viewable(depth, levels).is_ok()
 }
 
 #[cfg(test)]
 mod tests {
     use super::*;
+    use suzdrepa::Bound;
 
     #[test]
     fn accepted_and_tight() {
@@ -109,8 +165,47 @@ mod tests {
     #[test]
     fn numbers_outside_their_limits_are_refused() {
         for (depth, levels) in [(0, 1), (13, 1), (8, 0), (8, 6)] {
-            let refusal = suggest(depth, levels, &Progress::silent());
-            assert_eq!(refusal, Err(Refusal::OutsideLimits));
+            for suggest in [suggest, suggest_viewable] {
+                let refusal = suggest(depth, levels, &Progress::silent());
+                assert_eq!(refusal, Err(Refusal::OutsideLimits));
+            }
+            assert!(!can_be_viewed(depth, levels));
+        }
+    }
+
+    #[test]
+    fn viewable_and_tight() {
+        for (depth, levels) in [(1, 1), (12, 1), (11, 2), (8, 3), (7, 4), (5, 5)] {
+            let table = suggest_viewable(depth, levels, &Progress::silent()).unwrap();
+            assert_eq!((table.check(), table.viewable()), (Ok(()), Ok(())));
+            let refused = |table: WidthTable| table.viewable().is_err();
+            for place in table.places() {
+                assert!(moved(&table, place, -1, 0).is_none_or(refused));
+            }
+            for node in Node::ALL {
+                assert!(rougher(&table, node).is_none_or(refused));
+            }
+        }
+    }
+
+    /// The depths that can be viewed at each number of levels: by document
+    /// 02's rules at larger ones every table is refused 13. What is viewed is
+    /// near to what was scanned, and no farther for the tightening.
+    #[test]
+    fn depths_that_can_be_viewed() {
+        for (levels, most) in [(1, 12), (2, 11), (3, 9), (4, 7), (5, 5)] {
+            for depth in 1..=12 {
+                assert_eq!(can_be_viewed(depth, levels), depth <= most);
+                let suggested = suggest_viewable(depth, levels, &Progress::silent());
+                if depth > most {
+                    assert_eq!(suggested, Err(Refusal::NotViewable));
+                    continue;
+                }
+                let distance = suggested.unwrap().view_distance().unwrap();
+                let finest = finest_viewable(depth, levels).unwrap();
+                assert_eq!(finest.view_distance(), Ok(distance));
+                assert!(distance < 3 * (Bound::ONE >> depth), "{depth} {levels}");
+            }
         }
     }
 }

@@ -2,6 +2,7 @@
 
 use std::ffi::OsString;
 use std::path::PathBuf;
+use suzdrepa::{Width, WidthTable};
 
 /// A folder of its own for each test.
 struct Folder(PathBuf);
@@ -66,6 +67,8 @@ fn help() {
         "change",
         "constant",
         "forward97",
+        "view",
+        "difference",
         "copy",
         "restore",
         "picture",
@@ -76,6 +79,8 @@ fn help() {
     // Node and constant have letters of their own, as in document 01.
     assert!(help.contains("roll change TABLE LEVEL PASS NODE IB f OUT"));
     assert!(help.contains("roll constant TABLE NODE F OUT"));
+    assert!(help.contains("roll check [--view] TABLE"));
+    assert!(help.contains("roll suggest [--view] DEPTH LEVELS [OUT]"));
     assert!(help.lines().all(|line| line.len() <= 80), "{help}");
     assert_eq!(succeeds(&["-h"]), help);
     assert_eq!(succeeds(&["help"]), help);
@@ -99,6 +104,16 @@ fn wrong_command_lines() {
     fails(&["copy", "--levels=256", "a", "b"], 2, "not `256`");
     fails(&["check", "--levels", "2", "a"], 2, "`copy` alone");
     fails(&["check", "--fast", "a"], 2, "no option `--fast`");
+    fails(&["show", "--view", "a"], 2, "`check` and `suggest` alone");
+    fails(
+        &["view", "--view", "a", "b"],
+        2,
+        "`check` and `suggest` alone",
+    );
+    fails(&["check", "--view"], 2, "`check` takes other arguments");
+    fails(&["view", "a"], 2, "`view` takes other arguments");
+    fails(&["view", "a", "b", "c", "d"], 2, "`view` takes other");
+    fails(&["difference", "a", "b"], 2, "`difference` takes other");
     fails(&["suggest", "8"], 2, "other arguments");
     fails(&["suggest", "13", "1"], 2, "the depth is 1 to 12, not `13`");
     fails(&["suggest", "8", "6"], 2, "the levels are 1 to 5, not `6`");
@@ -167,9 +182,14 @@ fn files_that_are_not_there() {
     );
     fails(&["copy", &missing, "x"], 2, "missing: ");
     fails(&["restore", &missing, "x"], 2, "missing: ");
+    fails(&["check", "--view", &missing], 2, "missing: ");
+    fails(&["view", &missing, "x"], 2, "missing: ");
     fails(&["picture", &missing, "x"], 2, "missing: ");
     fails(&["forward97", &missing, "x", "y"], 2, "missing: ");
     let picture = folder.file("p.pgm", b"P5\n2 2\n255\n\x01\x02\x03\x04");
+    for pair in [[&missing, &picture], [&picture, &missing]] {
+        fails(&["difference", pair[0], pair[1], "x"], 2, "missing: ");
+    }
     let nowhere = folder.path("no/such/folder/out");
     fails(&["copy", &picture, &nowhere], 2, "out: ");
 }
@@ -220,10 +240,8 @@ fn a_table_is_edited_as_text() {
         let text = succeeds(&["text", &table]);
         let written = folder.file("t.txt", text.as_bytes());
         let told = succeeds(&["table", &written, &again]);
-        assert_eq!(
-            told,
-            format!("{again}: written, 8 bits, {levels} levels, accepted\n")
-        );
+        let shape = format!("8 bits, {}", counted(levels, "level"));
+        assert_eq!(told, format!("{again}: written, {shape}, accepted\n"));
         assert_eq!(folder.bytes("again.table"), folder.bytes("t.table"));
         assert_eq!(succeeds(&["text", &again]), text);
 
@@ -233,12 +251,8 @@ fn a_table_is_edited_as_text() {
         let narrow = format!("1 rows P1 2 {}", words[4]);
         let edited = folder.file("t.txt", text.replacen(first, &narrow, 1).as_bytes());
         let told = succeeds(&["table", &edited, &again]);
-        assert!(
-            told.ends_with(
-                "levels, not accepted: refused 6: a node does not fit (level 1, rows, P1)\n"
-            ),
-            "{told}"
-        );
+        let refused = "not accepted: refused 6: a node does not fit (level 1, rows, P1)";
+        assert_eq!(told, format!("{again}: written, {shape}, {refused}\n"));
         let changed = folder.path("changed.table");
         for (pass, node) in [("rows", "P1"), ("1", "1")] {
             let told = succeeds(&["change", &table, "1", pass, node, "2", words[4], &changed]);
@@ -254,10 +268,7 @@ fn a_table_is_edited_as_text() {
         succeeds(&["table", &edited, &again]);
         for node in ["G2", "6"] {
             let told = succeeds(&["constant", &table, node, "24", &changed]);
-            assert_eq!(
-                told,
-                format!("{changed}: written, 8 bits, {levels} levels, accepted\n")
-            );
+            assert_eq!(told, format!("{changed}: written, {shape}, accepted\n"));
             assert_eq!(folder.bytes("changed.table"), folder.bytes("again.table"));
         }
     }
@@ -373,11 +384,13 @@ fn a_file_that_is_read_is_not_written() {
     succeeds(&["suggest", "8", "1", &table]);
     let text = folder.file("t.txt", succeeds(&["text", &table]).as_bytes());
     let picture = folder.file("p.pgm", &pgm(5, 4, 255));
-    let copy = folder.path("copy");
+    let (copy, plane) = (folder.path("copy"), folder.path("plane"));
     succeeds(&["copy", &picture, &copy]);
+    succeeds(&["forward97", &table, &picture, &plane]);
+    let other = folder.file("other.pgm", &pgm(5, 4, 255));
     let (sub, link, hard) = (folder.path("sub"), folder.path("link"), folder.path("hard"));
     std::fs::create_dir_all(&sub).unwrap();
-    for name in ["t.table", "t.txt", "p.pgm", "copy"] {
+    for name in ["t.table", "t.txt", "p.pgm", "copy", "plane"] {
         let before = folder.bytes(name);
         let path = folder.path(name);
         for old in [&link, &hard] {
@@ -396,7 +409,10 @@ fn a_file_that_is_read_is_not_written() {
                 "p.pgm" => &[
                     &["forward97", &table, &picture, to],
                     &["copy", &picture, to],
+                    &["difference", &picture, &other, to],
+                    &["difference", &other, &picture, to],
                 ],
+                "plane" => &[&["view", &plane, to], &["picture", &plane, to]],
                 _ => &[&["restore", &copy, to], &["picture", &copy, to]],
             };
             for command in commands {
@@ -448,17 +464,18 @@ fn pgm(width: usize, height: usize, largest: u32) -> Vec<u8> {
 fn copies_come_back() {
     let folder = Folder::new("copies");
     for (width, height, largest, levels) in [
-        (2, 2, 1, 1),
-        (3, 2, 255, 1),
-        (19, 17, 255, 5),
-        (40, 31, 4095, 5),
-        (9, 30, 1023, 4),
+        (2, 2, 1, "1"),
+        (3, 2, 255, "1"),
+        (19, 17, 255, "5"),
+        (40, 31, 4095, "5"),
+        (9, 30, 1023, "4"),
     ] {
         let whole = pgm(width, height, largest);
         let picture = folder.file("p.pgm", &whole);
         let (copy, back) = (folder.path("copy"), folder.path("back.pgm"));
         let told = succeeds(&["copy", &picture, &copy]);
-        assert!(told.contains(&format!(" {levels} levels")), "{told}");
+        let due = format!(", {}\n", counted(levels, "level"));
+        assert!(told.ends_with(&due), "{told}");
         succeeds(&["restore", &copy, &back]);
         assert_eq!(folder.bytes("back.pgm"), whole);
         succeeds(&["copy", &picture, &copy, "--levels", "1"]);
@@ -503,6 +520,169 @@ fn coefficients_under_a_table() {
     assert_eq!(bytes.len(), 22 + 20 + 108 + 4 * 21 * 14);
     succeeds(&["picture", &plane, &folder.path("plane.png")]);
     fails(&["restore", &plane, "x"], 2, "9/7 coefficients");
+}
+
+/// A number and what it counts, in words.
+fn counted(number: &str, what: &str) -> String {
+    format!("{number} {what}{}", if number == "1" { "" } else { "s" })
+}
+
+/// Scanned, stored, viewed: as the engine shows it, and as near as it says.
+#[test]
+fn viewing() {
+    let folder = Folder::new("viewing");
+    for (width, height, largest, depth, levels) in [
+        (2, 2, 1, "1", "1"),
+        (21, 14, 255, "8", "3"),
+        (9, 30, 4095, "12", "1"),
+        (40, 31, 31, "5", "5"),
+    ] {
+        let (table, plane) = (folder.path("t.table"), folder.path("plane"));
+        let suggested = succeeds(&["suggest", "--view", depth, levels, &table]);
+        let shown = succeeds(&["suggest", depth, levels, "--view"]);
+        let bits = counted(depth, "bit");
+        assert!(shown.starts_with(&format!("depth {bits}, {}\n", counted(levels, "level"))));
+        succeeds(&["check", &table]);
+        let told = succeeds(&["check", "--view", &table]);
+        let (_, far) = told.split_once("t.table: accepted, viewable: ").unwrap();
+        assert!(shown.ends_with(&format!("\nviewable: {far}")), "{shown}");
+        assert!(suggested.ends_with(&format!("; viewable: {far}")));
+        let (_, most) = far.split_once(" greys from the scan, ").unwrap();
+        let most: u16 = most
+            .strip_suffix(" after rounding\n")
+            .unwrap()
+            .parse()
+            .unwrap();
+
+        let scanned = folder.file("p.pgm", &pgm(width, height, largest));
+        succeeds(&["forward97", &table, &scanned, &plane]);
+        let viewed = folder.path("viewed.pgm");
+        let told = succeeds(&["view", &plane, &viewed]);
+        assert_eq!(succeeds(&["view", &table, &plane, &viewed]), told);
+        let other = folder.path("other.table");
+        succeeds(&["constant", &table, "P1", "1", &other]);
+        fails(
+            &["view", &other, &plane, &viewed],
+            2,
+            "plane: stored under another table than ",
+        );
+        let shape = format!("{width} x {height}, {bits}; if `forward97` stored it, {far}");
+        assert!(told.ends_with(&shape), "{told}");
+
+        let changed = folder.path("changed.pgm");
+        let told = succeeds(&["difference", &scanned, &viewed, &changed]);
+        let (_, told) = told.split_once("changed.pgm: at most ").unwrap();
+        let (greys, told) = told.split_once(", ").unwrap();
+        let (greys, _) = greys.split_once(" grey").unwrap();
+        let greys: u16 = greys.parse().unwrap();
+        assert!(greys <= most, "{greys} {most}");
+        assert!(told.ends_with(&format!(" of {} pixels differ\n", width * height)));
+        let read = |name| roll::pgm::Picture::read(&folder.bytes(name)).unwrap();
+        assert_eq!(read("p.pgm").difference(&read("viewed.pgm")).1, greys);
+
+        // The engine's own answer.
+        let stored = roll::container::Plane::read(&folder.bytes("plane")).unwrap();
+        let bytes = folder.bytes("t.table");
+        let due = suzdrepa::view97_to_vec(&bytes, &stored.values, width, height);
+        assert_eq!(Ok(read("viewed.pgm").pixels), due);
+    }
+}
+
+/// 13 says what to do, 12 and the others what is wrong; nothing is written.
+#[test]
+fn refused_viewing() {
+    let folder = Folder::new("refused_viewing");
+    let (table, plane, out) = (
+        folder.path("t.table"),
+        folder.path("plane"),
+        folder.path("out"),
+    );
+    let picture = folder.file("p.pgm", &pgm(21, 20, 255));
+    let none = "refused 13: viewing is not accurate to half a grey, or a value may pass 2^15; \
+                no table of 8 bits and 5 levels can be viewed: \
+                take at most 3 levels, or at most 5 bits";
+    succeeds(&["suggest", "8", "5", &table]);
+    fails(&["check", "--view", &table], 1, none);
+    fails(&["suggest", "--view", "8", "5"], 1, none);
+    fails(&["suggest", "--view", "8", "5", &out], 1, none);
+    succeeds(&["forward97", &table, &picture, &plane]);
+    fails(&["view", &plane, &out], 1, none);
+
+    // More integer bits than are needed.
+    let (kept, others) = (Width::new(12, 8), Width::new(12, 20));
+    let wide = WidthTable::kept_and_others(8, 3, 24, kept, others).unwrap();
+    let wide = folder.file("wide.table", wide.as_bytes());
+    succeeds(&["check", &wide]);
+    let fewer = "refused 13: viewing is not accurate to half a grey, or a value may pass 2^15; \
+                 fewer integer bits at the kept nodes help: `roll suggest --view 8 3 OUT` makes a \
+                 table that can be viewed";
+    fails(&["check", "--view", &wide], 1, fewer);
+    succeeds(&["forward97", &wide, &picture, &plane]);
+    fails(&["view", &plane, &out], 1, fewer);
+
+    // Refusals that the table has before 13.
+    let mut narrow = folder.bytes("t.table");
+    let cut = folder.file("cut.table", &narrow[..narrow.len() - 1]);
+    fails(&["check", "--view", &cut], 1, "cut.table: refused 1");
+    narrow[20] = 1;
+    let narrow = folder.file("narrow.table", &narrow);
+    fails(
+        &["check", "--view", &narrow],
+        1,
+        "refused 6: a node does not fit (level 1, rows, P1)",
+    );
+
+    // A coefficient that its node does not hold.
+    succeeds(&["suggest", "--view", "8", "3", &table]);
+    succeeds(&["forward97", &table, &picture, &plane]);
+    let mut stored = folder.bytes("plane");
+    let last = stored.len() - 1;
+    stored[last] = 0x7f;
+    let damaged = folder.file("damaged", &stored);
+    fails(
+        &["view", &damaged, &out],
+        1,
+        "damaged: refused 12: a coefficient is outside its node's width",
+    );
+    for length in 0..stored.len() {
+        let cut = folder.file("cut", &stored[..length]);
+        fails(&["view", &cut, &out], 2, "cut: ");
+    }
+    // An exact copy is restored and not viewed.
+    succeeds(&["copy", &picture, &plane]);
+    fails(&["view", &plane, &out], 2, "plane: an exact copy; 9/7");
+    // Sides are the engine's to refuse.
+    let mut head = b"suzdrepa-97\n8 3 2 1\n".to_vec();
+    head.extend(folder.bytes("t.table"));
+    head.extend([0; 8]);
+    let thin = folder.file("thin", &head);
+    fails(&["view", &thin, &out], 1, "thin: refused 8");
+    assert!(!std::path::Path::new(&out).exists());
+}
+
+#[test]
+fn pictures_that_are_not_compared() {
+    let folder = Folder::new("not_compared");
+    let one = folder.file("one.pgm", &pgm(5, 4, 255));
+    let out = folder.path("out");
+    for (width, height, largest, bits) in [(4, 5, 255, 8), (5, 5, 255, 8), (5, 4, 127, 7)] {
+        let other = folder.file("other.pgm", &pgm(width, height, largest));
+        let text = format!(
+            "one.pgm: 5 x 4, 8 bits; {other}: {width} x {height}, {bits} bits; \
+             pictures of one size and depth are compared"
+        );
+        fails(&["difference", &one, &other, &out], 2, &text);
+    }
+    let table = folder.path("t.table");
+    succeeds(&["suggest", "8", "1", &table]);
+    fails(&["difference", &one, &table, &out], 2, "t.table: not a PGM");
+    assert!(!std::path::Path::new(&out).exists());
+    // Two pictures that are the same.
+    let same = folder.file("other.pgm", &pgm(5, 4, 255));
+    let told = succeeds(&["difference", &one, &same, &folder.path("none.pgm")]);
+    assert!(told.ends_with("none.pgm: at most 0 greys, 0 of 20 pixels differ\n"));
+    let drawn = roll::pgm::Picture::read(&folder.bytes("none.pgm")).unwrap();
+    assert_eq!(drawn.pixels, [0; 20]);
 }
 
 #[test]
@@ -566,7 +746,7 @@ fn random_damage_never_panics() {
             (&text, &["table"][..]),
             (&picture, &["copy"][..]),
             (&copy, &["restore", "picture"][..]),
-            (&fixed, &["restore", "picture"][..]),
+            (&fixed, &["restore", "picture", "view"][..]),
         ] {
             let mut bytes = whole.clone();
             // Mostly in the head, where the structure is.
@@ -600,9 +780,13 @@ fn random_damage_never_panics() {
 fn the_sample() {
     let folder = Folder::new("sample");
     let told = succeeds(&["sample", folder.0.to_str().unwrap()]);
-    assert_eq!(told.lines().count(), 5);
+    assert_eq!(told.lines().count(), 6);
     succeeds(&["check", &folder.path("church.table")]);
     succeeds(&["check", &folder.path("museum.table")]);
+    succeeds(&["check", "--view", &folder.path("archive.table")]);
+    for table in ["church.table", "museum.table"] {
+        fails(&["check", "--view", &folder.path(table)], 1, "refused 13");
+    }
     fails(
         &["check", &folder.path("refused6.table")],
         1,

@@ -13,8 +13,8 @@
 //! * a pointer and the length after it name memory that is the caller's, in
 //!   whole elements; where the length is 0 the pointer is not used and may be
 //!   null,
-//! * `start`, `length`, `range` and `error` each point to one number,
-//!   `constants` and `widths` to an array,
+//! * `start`, `length`, `range`, `error` and `distance` each point to one
+//!   number, `constants` and `widths` to an array,
 //! * every pointer is aligned as its type asks (null is aligned),
 //! * what the call writes (`*mut`) overlaps nothing else that it is given.
 //!
@@ -116,6 +116,13 @@ extern "C" {
         out_len: usize,
     ) -> u32;
 
+    /// Would viewing refuse this table? 1 to 5, 6 and 7, 13.
+    pub fn suz_table_view(table: *const u8, table_len: usize) -> u32;
+
+    /// How far a viewed value may lie from the scanned one, in units of 2^-32:
+    /// 1 to 5, 6 and 7, 13.
+    pub fn suz_view_distance(table: *const u8, table_len: usize, distance: *mut u64) -> u32;
+
     /// 9/7 forward under a width table: 1 to 5, 6 and 7, 8, 9, 10.
     pub fn suz_forward97(
         table: *const u8,
@@ -127,6 +134,21 @@ extern "C" {
         plane: *mut i32,
         plane_len: usize,
         work: *mut i32,
+        work_len: usize,
+    ) -> u32;
+
+    /// Viewing, the picture of a stored 9/7 plane: 1 to 5, 6 and 7, 13, 8, 9,
+    /// 12.
+    pub fn suz_view97(
+        table: *const u8,
+        table_len: usize,
+        plane: *const i32,
+        plane_len: usize,
+        width: usize,
+        height: usize,
+        pixels: *mut u16,
+        pixels_len: usize,
+        work: *mut i64,
         work_len: usize,
     ) -> u32;
 

@@ -5,11 +5,13 @@
 //!
 //! * the **9/7 transform** in fixed point, under a *width table* that says how
 //!   many bits every intermediate value has ([`forward97`]),
+//! * **viewing**, which shows a stored 9/7 plane as a picture ([`view97`]),
 //! * the **5/3 transform**, an exact copy that goes back to the same picture
 //!   ([`forward53`], [`inverse53`]),
 //! * **width tables**: built, read, judged, changed, written ([`WidthTable`]),
-//!   or as plain bytes ([`check_table`], [`table_bound`], [`table_form`],
-//!   [`table_value`], [`write_table`], [`change_width`], [`change_constant`]).
+//!   or as plain bytes ([`check_table`], [`table_view`], [`view_distance`],
+//!   [`table_bound`], [`table_form`], [`table_value`], [`write_table`],
+//!   [`change_width`], [`change_constant`]).
 //!
 //! Under a table that [`check_table`] accepts, no picture of its depth and of
 //! admitted size drives a value out of its width, and every coefficient stands
@@ -30,7 +32,7 @@
 //! area, each of at least width times height elements. What lies past that
 //! count never changes. A refused call changes nothing, but refusal 11 zeroes
 //! the first width times height elements of the work area, as success does.
-//! The functions ending in `_to_vec` allocate plane and work area themselves.
+//! The functions ending in `_to_vec` allocate output and work area themselves.
 //!
 //! ```
 //! let pixels = [5u16, 7, 4, 4];
@@ -57,6 +59,32 @@
 //! assert!((value - 0.25).abs() < 2.0 / 1024.0);
 //! # Ok::<(), suzdrepa::Refusal>(())
 //! ```
+//!
+//! # Viewing
+//!
+//! A stored plane is shown as a picture under a table that
+//! [`table_view`] accepts: then every value is less than half a grey from the
+//! exact inverse of what is stored, and the pixel shown is one of the two greys
+//! nearest to it. [`view_distance`] tells how far viewing may lead from what
+//! was scanned.
+//!
+//! ```
+//! use suzdrepa::{Bound, Width, WidthTable};
+//!
+//! let table = WidthTable::kept_and_others(3, 1, 24, Width::new(3, 10), Width::new(12, 20))?;
+//! table.viewable()?;
+//! let pixels = [5u16, 7, 4, 4];
+//! let plane = suzdrepa::forward97_to_vec(table.as_bytes(), &pixels, 2, 2)?;
+//! // A grey is 2^-3; less than a tenth of one changes no pixel.
+//! let greys = table.view_distance()? as f64 / (Bound::ONE >> 3) as f64;
+//! assert!(greys < 0.1);
+//! assert_eq!(suzdrepa::view97_to_vec(table.as_bytes(), &plane, 2, 2)?, pixels);
+//! # Ok::<(), suzdrepa::Refusal>(())
+//! ```
+//!
+//! Many levels and deep pixels do not go together: tables that can be viewed
+//! exist with one level at any depth, with two up to 11 bits, three up to 9,
+//! four up to 7 and five up to 5 bits. Beyond that every table is refused 13.
 
 mod place;
 mod refusal;
@@ -66,7 +94,7 @@ pub use place::{Bound, Node, Pass, Place, Width};
 pub use refusal::Refusal;
 pub use table::{
     change_constant, change_constant_into, change_width, change_width_into, check_table,
-    table_bound, table_form, table_value, write_table, WidthTable,
+    table_bound, table_form, table_value, table_view, view_distance, write_table, WidthTable,
 };
 
 use suzdrepa_sys as sys;
@@ -116,6 +144,53 @@ pub fn forward97_to_vec(
     let (mut plane, mut work) = plane_and_work(width, height);
     forward97(table, pixels, width, height, &mut plane, &mut work)?;
     Ok(plane)
+}
+
+/// Shows a stored 9/7 plane as a picture.
+///
+/// Depth and levels are the table's. The plane need not be one that
+/// [`forward97`] stored; whatever is stored, every value before rounding is
+/// less than half a grey from its exact inverse. Refused 1 to 5 by the table's
+/// bytes, then 6 and 7, then 13 (see [`table_view`]), 8 (sides), 9 (a slice too
+/// short), 12 where a coefficient is outside the width of the node that gives
+/// its place.
+pub fn view97(
+    table: &[u8],
+    plane: &[i32],
+    width: usize,
+    height: usize,
+    pixels: &mut [u16],
+    work: &mut [i64],
+) -> Result<(), Refusal> {
+    // SAFETY: pointers and lengths are those of slices; `pixels` and `work`
+    // are exclusive.
+    Refusal::from_answer(unsafe {
+        sys::suz_view97(
+            table.as_ptr(),
+            table.len(),
+            plane.as_ptr(),
+            plane.len(),
+            width,
+            height,
+            pixels.as_mut_ptr(),
+            pixels.len(),
+            work.as_mut_ptr(),
+            work.len(),
+        )
+    })
+}
+
+/// As [`view97`], with pixels of its own.
+pub fn view97_to_vec(
+    table: &[u8],
+    plane: &[i32],
+    width: usize,
+    height: usize,
+) -> Result<Vec<u16>, Refusal> {
+    let count = elements(width, height);
+    let (mut pixels, mut work) = (vec![0; count], vec![0; count]);
+    view97(table, plane, width, height, &mut pixels, &mut work)?;
+    Ok(pixels)
 }
 
 /// Works a picture into its exact 5/3 copy.
@@ -235,12 +310,20 @@ mod tests {
         assert_eq!(refusal.number(), 8);
         let refusal = inverse53_to_vec(8, 1, &[], usize::MAX, 2).unwrap_err();
         assert_eq!(refusal.number(), 8);
+        let (kept, others) = (Width::new(4, 10), Width::new(12, 20));
+        let table = WidthTable::kept_and_others(8, 1, 24, kept, others).unwrap();
+        let refusal = view97_to_vec(table.as_bytes(), &[], usize::MAX, 2).unwrap_err();
+        assert_eq!(refusal.number(), 8);
     }
 
     #[test]
     fn empty_slices_are_taken() {
         assert_eq!(check_table(&[]).unwrap_err().number(), 1);
         assert_eq!(table_form(&[]).unwrap_err().number(), 1);
+        assert_eq!(table_view(&[]).unwrap_err().number(), 1);
+        assert_eq!(view_distance(&[]).unwrap_err().number(), 1);
+        let refusal = view97(&[], &[], 2, 2, &mut [], &mut []).unwrap_err();
+        assert_eq!(refusal.number(), 1);
         let place = Place::new(1, Pass::Rows, Node::P1);
         assert_eq!(table_bound(&[], place).unwrap_err().number(), 1);
         assert_eq!(table_value(&[], 1).unwrap_err().number(), 1);

@@ -78,6 +78,8 @@ refusals! {
     9 SliceTooShort "a lent slice is too short";
     10 PixelTooLarge "a pixel is 2^B or more";
     11 NoPicture "the 5/3 plane is the transform of no picture of that depth and size";
+    12 OutsideWidth "a coefficient is outside its node's width";
+    13 NotViewable "viewing is not accurate to half a grey, or a value may pass 2^15";
 }
 
 impl Refusal {

@@ -26,6 +26,42 @@ pub fn table_form(table: &[u8]) -> Result<(), Refusal> {
     Refusal::from_answer(unsafe { sys::suz_table_form(table.as_ptr(), table.len()) })
 }
 
+/// Reads a width table, judges it, and judges whether planes stored under it
+/// can be viewed.
+///
+/// `Ok` means that [`view97`](crate::view97) shows every plane whose
+/// coefficients are within their widths, each value before rounding less than
+/// half a grey from the exact inverse of what is stored.
+///
+/// Refused 1 to 5, 6 and 7 as [`check_table`] refuses, then 13. It is the
+/// integer bits of the kept nodes that count, beside depth and levels: where a
+/// table is refused 13, fewer levels, a smaller depth, or no more integer bits
+/// there than the judge asks for can make it viewable, within the depths that
+/// the [crate's page](crate#viewing) lists.
+pub fn table_view(table: &[u8]) -> Result<(), Refusal> {
+    // SAFETY: pointer and length are those of a slice.
+    Refusal::from_answer(unsafe { sys::suz_table_view(table.as_ptr(), table.len()) })
+}
+
+/// How far viewing may lead from what was scanned, in units of 2^-32 (see
+/// [`Bound::ONE`]).
+///
+/// Where [`forward97`](crate::forward97) stored a picture under this table and
+/// [`view97`](crate::view97) shows it, each value before rounding is at most so
+/// far from the scanned pixel's value, (p - 2^(depth - 1)) / 2^depth. A grey is
+/// 2^(32 - depth) such units; a pixel shown is at most the distance in greys,
+/// rounded to the nearest, halves up, from the one scanned.
+///
+/// Refused as [`table_view`] refuses.
+pub fn view_distance(table: &[u8]) -> Result<u64, Refusal> {
+    let mut distance = 0;
+    // SAFETY: pointer and length are those of a slice; the distance is a
+    // number of its own.
+    let answer = unsafe { sys::suz_view_distance(table.as_ptr(), table.len(), &mut distance) };
+    Refusal::from_answer(answer)?;
+    Ok(distance)
+}
+
 /// Range and error of a node's values under a width table.
 ///
 /// Refused 1 to 5 where the bytes are malformed, 4 where the table lacks the
@@ -406,6 +442,51 @@ impl WidthTable {
     /// Judges the table, as [`check_table`] does: refused 6 or 7.
     pub fn check(&self) -> Result<(), Refusal> {
         check_table(&self.bytes)
+    }
+
+    /// Whether planes stored under the table can be viewed, as [`table_view`]
+    /// tells: refused 6 or 7, then 13.
+    ///
+    /// ```
+    /// use suzdrepa::{Refusal, Width, WidthTable};
+    ///
+    /// let table = |levels, integer_bits| {
+    ///     let (kept, others) = (Width::new(integer_bits, 2), Width::new(12, 20));
+    ///     WidthTable::kept_and_others(8, levels, 24, kept, others)
+    /// };
+    /// assert_eq!(table(1, 4)?.viewable(), Ok(()));
+    /// // Accepted, but with integer bits that no value needs,
+    /// assert_eq!(table(3, 12)?.check(), Ok(()));
+    /// assert_eq!(table(3, 12)?.viewable(), Err(Refusal::NotViewable));
+    /// assert_eq!(table(3, 7)?.viewable(), Ok(()));
+    /// // or with more levels than can be viewed at this depth.
+    /// assert_eq!(table(4, 8)?.check(), Ok(()));
+    /// assert_eq!(table(4, 8)?.viewable(), Err(Refusal::NotViewable));
+    /// # Ok::<(), Refusal>(())
+    /// ```
+    pub fn viewable(&self) -> Result<(), Refusal> {
+        table_view(&self.bytes)
+    }
+
+    /// How far viewing may lead from what was scanned, as [`view_distance`]
+    /// tells, in units of 2^-32: refused 6 or 7, then 13.
+    ///
+    /// ```
+    /// # use suzdrepa::{Bound, Refusal, Width, WidthTable};
+    /// let table = |fraction_bits| {
+    ///     let (kept, others) = (Width::new(3, fraction_bits), Width::new(12, 20));
+    ///     WidthTable::kept_and_others(8, 1, 24, kept, others)
+    /// };
+    /// let greys = |fraction_bits| {
+    ///     let distance = table(fraction_bits)?.view_distance()?;
+    ///     Ok::<f64, Refusal>(distance as f64 / (Bound::ONE >> 8) as f64)
+    /// };
+    /// // Coarser steps lead farther.
+    /// assert!(greys(8)? < 10.0 && greys(4)? > 100.0);
+    /// # Ok::<(), Refusal>(())
+    /// ```
+    pub fn view_distance(&self) -> Result<u64, Refusal> {
+        view_distance(&self.bytes)
     }
 
     /// Range and error of a node's values, as [`table_bound`] has them:

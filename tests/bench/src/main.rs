@@ -13,6 +13,9 @@ use suzdrepa::{Place, Width, WidthTable, MAX_SIDE};
 const DEPTH: u8 = 8;
 const LEVELS: u8 = 5;
 
+/// Levels of what is viewed: more cannot be at this depth.
+const VIEW_LEVELS: u8 = 3;
+
 /// The least side that so many levels admit.
 const MIN_SIDE: usize = (1 << (LEVELS - 1)) + 1;
 
@@ -70,6 +73,24 @@ fn tight_table() -> WidthTable {
     table
 }
 
+/// Steps as fine as a pixel's, kept nodes with as few integer bits as are
+/// accepted, all else as wide as it gets: a table whose planes can be viewed.
+fn view_table() -> WidthTable {
+    let (kept, others) = (Width::new(12, DEPTH), Width::new(12, 20));
+    let mut table = WidthTable::kept_and_others(DEPTH, VIEW_LEVELS, 24, kept, others)
+        .expect("the numbers are within their limits");
+    let places: Vec<Place> = table.places().collect();
+    for place in places {
+        if table.is_kept(place) {
+            table = pushed(table, place, |width| {
+                Some(Width::new(width.integer_bits - 1, width.fraction_bits))
+            });
+        }
+    }
+    table.viewable().expect("its planes can be viewed");
+    table
+}
+
 /// Paper with a dense row of holes and some noise.
 fn picture(side: usize) -> Vec<u16> {
     let mut state = 0x2545_F491_4F6C_DD1Du64;
@@ -93,23 +114,31 @@ struct Buffers {
     pixels: Vec<u16>,
     /// The exact copy of the picture.
     copy: Vec<i32>,
+    /// Its coefficients under the table for viewing.
+    stored: Vec<i32>,
     plane: Vec<i32>,
     back: Vec<u16>,
     work: Vec<i32>,
+    /// The work area of viewing.
+    view_work: Vec<i64>,
 }
 
 impl Buffers {
-    fn new(side: usize) -> Buffers {
+    fn new(side: usize, view_table: &WidthTable) -> Buffers {
         let pixels = picture(side);
         let copy = suzdrepa::forward53_to_vec(DEPTH, LEVELS, &pixels, side, side)
+            .expect("the picture is admitted");
+        let stored = suzdrepa::forward97_to_vec(view_table.as_bytes(), &pixels, side, side)
             .expect("the picture is admitted");
         Buffers {
             side,
             pixels,
             copy,
+            stored,
             plane: vec![0; side * side],
             back: vec![0; side * side],
             work: vec![0; side * side],
+            view_work: vec![0; side * side],
         }
     }
 
@@ -118,6 +147,12 @@ impl Buffers {
         self.plane.fill(-1);
         self.back.fill(u16::MAX);
         self.work.fill(1);
+        self.view_work.fill(1);
+    }
+
+    /// Whether the work area of the call, which is one of the two, is zero.
+    fn zeroed(&self) -> bool {
+        self.work.iter().all(|&value| value == 0) || self.view_work.iter().all(|&value| value == 0)
     }
 }
 
@@ -141,7 +176,7 @@ fn compare(buffers: &mut Buffers, engine: Call, plain: Call) -> [f64; 2] {
             let start = Instant::now();
             let done = call(buffers);
             let time = start.elapsed();
-            assert!(done && buffers.work.iter().all(|&value| value == 0));
+            assert!(done && buffers.zeroed());
             let (plane, back) = due.get_or_insert((buffers.plane.clone(), buffers.back.clone()));
             assert!(
                 *plane == buffers.plane && *back == buffers.back,
@@ -169,8 +204,8 @@ fn row(name: &str, buffers: &mut Buffers, engine: Call, plain: Call) {
     );
 }
 
-fn measure(side: usize, tables: &[(&str, WidthTable)]) {
-    let mut buffers = Buffers::new(side);
+fn measure(side: usize, tables: &[(&str, WidthTable)], view_table: &WidthTable) {
+    let mut buffers = Buffers::new(side, view_table);
     let size = (side, side);
     row(
         "5/3 forward",
@@ -225,6 +260,39 @@ fn measure(side: usize, tables: &[(&str, WidthTable)]) {
               }| { plain::forward97(table, pixels, size, plane, work) },
         );
     }
+    let table = view_table.as_bytes();
+    row(
+        &format!("9/7 view, {VIEW_LEVELS} levels"),
+        &mut buffers,
+        &|Buffers {
+              stored,
+              back,
+              view_work,
+              ..
+          }| { suzdrepa::view97(table, stored, side, side, back, view_work).is_ok() },
+        &|Buffers {
+              stored,
+              back,
+              view_work,
+              ..
+          }| { plain::view97_in_place(table, stored, size, back, view_work) },
+    );
+    row(
+        &format!("9/7 view, {VIEW_LEVELS} levels, plain straight from the plane"),
+        &mut buffers,
+        &|Buffers {
+              stored,
+              back,
+              view_work,
+              ..
+          }| { suzdrepa::view97(table, stored, side, side, back, view_work).is_ok() },
+        &|Buffers {
+              stored,
+              back,
+              view_work,
+              ..
+          }| { plain::view97(table, stored, size, back, view_work) },
+    );
 }
 
 fn main() -> ExitCode {
@@ -242,12 +310,13 @@ fn main() -> ExitCode {
         sides = vec![256, 512, 1024, 2048, 4096];
     }
     let tables = [("tight table", tight_table()), ("wide table", wide_table())];
-    println!("Depth {DEPTH}, {LEVELS} levels, medians in milliseconds.");
+    let view_table = view_table();
+    println!("Depth {DEPTH}, {LEVELS} levels where none are named, medians in milliseconds.");
     println!();
     println!("| transform | picture | engine | plain Rust | engine / plain |");
     println!("|---|---|---:|---:|---:|");
     for side in sides {
-        measure(side, &tables);
+        measure(side, &tables, &view_table);
     }
     ExitCode::SUCCESS
 }
@@ -362,5 +431,49 @@ mod tests {
             ));
             assert_eq!((plane, work), (due, vec![0; count]));
         }
+    }
+    /// Under tables of every viewable depth and number of levels; a
+    /// coefficient outside its width is found, and nothing is touched.
+    #[test]
+    fn the_same_views() {
+        let mut chance = Chance::new(3);
+        let mut refused = 0;
+        for round in 0..400 {
+            let levels = 1 + (round % 5) as u8;
+            let depth = chance.within(1, tables::deepest_viewed(levels).into()) as u8;
+            let shape = Shape::small(&mut chance, depth, levels, 90);
+            let table = match round % 3 {
+                0 => tables::narrow(depth, levels),
+                1 => tables::tight_viewable(&mut chance, depth, levels),
+                _ => tables::loose_viewable(&mut chance, depth, levels),
+            };
+            let (width, height) = (shape.width, shape.height);
+            let count = shape.count();
+            let mut stored = chance.stored(&table, width, height);
+            let bytes = table.bytes().unwrap();
+            let due = suzdrepa::view97_to_vec(&bytes, &stored, width, height).unwrap();
+            let mut pixels = chance.sixteen_bits(count);
+            let mut work = chance.sixty_four_bits(count);
+            let size = (width, height);
+            let mut other = (pixels.clone(), work.clone());
+            assert!(plain::view97(&bytes, &stored, size, &mut pixels, &mut work));
+            assert_eq!((&pixels, &work), (&due, &vec![0; count]));
+            let (shown, area) = (&mut other.0, &mut other.1);
+            assert!(plain::view97_in_place(&bytes, &stored, size, shown, area));
+            assert_eq!(other, (due, vec![0; count]));
+            stored[chance.below(count)] = chance.bits() as i32 >> chance.below(32);
+            let due = suzdrepa::view97_to_vec(&bytes, &stored, width, height);
+            let work_before = chance.sixty_four_bits(count);
+            let mut work = work_before.clone();
+            let before = pixels.clone();
+            let done = plain::view97(&bytes, &stored, size, &mut pixels, &mut work);
+            assert_eq!(done, due.is_ok());
+            refused += usize::from(!done);
+            match due {
+                Ok(due) => assert_eq!((pixels, work), (due, vec![0; count])),
+                Err(_) => assert_eq!((pixels, work), (before, work_before)),
+            }
+        }
+        assert!((100..400).contains(&refused), "{refused}");
     }
 }

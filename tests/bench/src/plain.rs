@@ -12,20 +12,20 @@
 const STRIP: usize = 64;
 
 /// A loop over a tile that changes each value by two neighbours.
-trait Sweep {
-    fn run(self, op: impl Fn(i32, i32, i32) -> i32);
+trait Sweep<T> {
+    fn run(self, op: impl Fn(T, T, T) -> T);
 }
 
 /// Changes every high value by the lows on its two sides.
-struct HighsByLows<'a> {
-    lows: &'a [i32],
-    highs: &'a mut [i32],
+struct HighsByLows<'a, T> {
+    lows: &'a [T],
+    highs: &'a mut [T],
     n: usize,
 }
 
-impl Sweep for HighsByLows<'_> {
+impl<T: Copy> Sweep<T> for HighsByLows<'_, T> {
     #[inline(always)]
-    fn run(self, op: impl Fn(i32, i32, i32) -> i32) {
+    fn run(self, op: impl Fn(T, T, T) -> T) {
         let (lows, n) = (self.lows, self.n);
         let (inner, last) = self.highs.split_at_mut(lows.len() - n);
         for ((high, &a), &b) in inner.iter_mut().zip(lows).zip(&lows[n..]) {
@@ -38,15 +38,15 @@ impl Sweep for HighsByLows<'_> {
 }
 
 /// Changes every low value by the highs on its two sides.
-struct LowsByHighs<'a> {
-    lows: &'a mut [i32],
-    highs: &'a [i32],
+struct LowsByHighs<'a, T> {
+    lows: &'a mut [T],
+    highs: &'a [T],
     n: usize,
 }
 
-impl Sweep for LowsByHighs<'_> {
+impl<T: Copy> Sweep<T> for LowsByHighs<'_, T> {
     #[inline(always)]
-    fn run(self, op: impl Fn(i32, i32, i32) -> i32) {
+    fn run(self, op: impl Fn(T, T, T) -> T) {
         let (highs, n) = (self.highs, self.n);
         let (first, rest) = self.lows.split_at_mut(n);
         for (low, &a) in first.iter_mut().zip(highs) {
@@ -80,16 +80,16 @@ fn part<T: Copy>(line: &[T], out: &mut [i32], enter: impl Fn(T) -> i32) {
     }
 }
 
-/// The reverse of [`part`].
+/// The reverse of [`part`], each value by `leave`.
 #[inline(always)]
-fn join(parted: &[i32], out: &mut [i32]) {
+fn join<T: Copy, U>(parted: &[T], out: &mut [U], leave: impl Fn(T) -> U) {
     let (lows, highs) = parted.split_at(parted.len().div_ceil(2));
     let mut pairs = out.chunks_exact_mut(2);
     for ((pair, &low), &high) in pairs.by_ref().zip(lows).zip(highs) {
-        pair.copy_from_slice(&[low, high]);
+        (pair[0], pair[1]) = (leave(low), leave(high));
     }
     if let [last] = pairs.into_remainder() {
-        *last = lows[lows.len() - 1];
+        *last = leave(lows[lows.len() - 1]);
     }
 }
 
@@ -259,7 +259,7 @@ fn rows_back(
         let (lows, highs) = line.split_at_mut(w.div_ceil(2));
         ReversibleBack.run(lows, highs, 1);
         bits |= together(line, middle);
-        join(line, &mut row[..w]);
+        join(line, &mut row[..w], |value| value);
     }
     bits
 }
@@ -345,7 +345,7 @@ impl Stage {
     /// plainest x86-64 multiplies unsigned 32-bit numbers alone, so values are
     /// raised by 2^31 before it, and the product is too large by a multiple
     /// of 2^31. Neighbours are added before it where their sum fits.
-    fn run(self, sweep: impl Sweep) {
+    fn run(self, sweep: impl Sweep<i32>) {
         let c = self.constant.unsigned_abs() as u32;
         let one = u64::from(c) << 31;
         match (self.short, self.constant < 0) {
@@ -366,7 +366,7 @@ impl Stage {
     /// `product` is too large by `more`. An own value with no bit below the
     /// cut is added after it.
     #[inline(always)]
-    fn run_raised(self, sweep: impl Sweep, more: u64, product: impl Fn(i32, i32) -> u64) {
+    fn run_raised(self, sweep: impl Sweep<i32>, more: u64, product: impl Fn(i32, i32) -> u64) {
         let (own_shift, cut) = (self.own_shift, self.cut);
         let base = (more >> cut) as i32;
         let moved = |a, b| ((product(a, b) >> cut) as i32).wrapping_sub(base);
@@ -383,7 +383,7 @@ impl Stage {
         }
     }
 
-    fn run_any(self, sweep: impl Sweep) {
+    fn run_any(self, sweep: impl Sweep<i32>) {
         sweep.run(|own, a, b| {
             let sum = i64::from(a) + i64::from(b);
             let total = (i64::from(own) << self.own_shift) + self.constant * sum;
@@ -438,7 +438,7 @@ impl Scale {
 /// A loop whose values are scaled once they are changed.
 struct Scaled<S>(S, Scale);
 
-impl<S: Sweep> Sweep for Scaled<S> {
+impl<S: Sweep<i32>> Sweep<i32> for Scaled<S> {
     #[inline(always)]
     fn run(self, op: impl Fn(i32, i32, i32) -> i32) {
         let Scaled(sweep, scale) = self;
@@ -526,5 +526,258 @@ pub fn forward97(
         input = bits(20);
     }
     work.fill(0);
+    true
+}
+
+/// The nearest multiple of 2^-24 to a constant, in these units.
+const fn nearest24((numerator, denominator): (i128, i128)) -> i64 {
+    ((numerator << 25) + denominator).div_euclid(2 * denominator) as i64
+}
+
+const ALPHA: i64 = nearest24(CONSTANTS[0]);
+const BETA: i64 = nearest24(CONSTANTS[1]);
+const GAMMA: i64 = nearest24(CONSTANTS[2]);
+const DELTA: i64 = nearest24(CONSTANTS[3]);
+const ZETA: i64 = nearest24(CONSTANTS[4]);
+const ONE_OVER_ZETA: i64 = nearest24(CONSTANTS[5]);
+
+/// The most columns that are viewed side by side.
+const VIEW_STRIP: usize = 16;
+
+/// Undoes the stages of a tile whose values have 20 fractional bits and are
+/// scaled.
+#[inline(always)]
+fn unlift(lows: &mut [i64], highs: &mut [i64], n: usize) {
+    LowsByHighs { lows, highs, n }.run(|own, a, b| own + ((-DELTA * (a + b)) >> 24));
+    HighsByLows { lows, highs, n }.run(|own, a, b| own + ((-GAMMA * (a + b)) >> 24));
+    LowsByHighs { lows, highs, n }.run(|own, a, b| own + ((-BETA * (a + b)) >> 24));
+    HighsByLows { lows, highs, n }.run(|own, a, b| own + ((-ALPHA * (a + b)) >> 24));
+}
+
+/// Scales values with `f` fractional bits into ones with 20.
+#[inline(always)]
+fn scaled<T: Copy + Into<i64>>(from: &[T], to: &mut [i64], constant: i64, f: u8) {
+    for (to, &from) in to.iter_mut().zip(from) {
+        *to = (constant * from.into()) >> (4 + f);
+    }
+}
+
+/// What a level's columns read: bits of the lows, where they are stored, and
+/// of the highs.
+#[derive(Clone, Copy)]
+struct Stored {
+    lows: Option<u8>,
+    highs: u8,
+}
+
+/// Undoes columns `from` to `to` of a part of `h` rows, from the plane and,
+/// where a coarser level left the lows, from the work area, into it.
+fn view_columns(
+    plane: &[i32],
+    work: &mut [i64],
+    width: usize,
+    (from, to): (usize, usize),
+    h: usize,
+    tile: &mut [i64],
+    stored: Stored,
+) {
+    let middle = h.div_ceil(2);
+    for x in (from..to).step_by(VIEW_STRIP) {
+        let n = VIEW_STRIP.min(to - x);
+        let tile = &mut tile[..h * n];
+        let (lows, highs) = tile.split_at_mut(middle * n);
+        let rows = plane.chunks_exact(width);
+        match stored.lows {
+            Some(f) => {
+                for (row, line) in rows.clone().zip(lows.chunks_exact_mut(n)) {
+                    scaled(&row[x..x + n], line, ONE_OVER_ZETA, f);
+                }
+            }
+            None => {
+                for (row, line) in work.chunks_exact(width).zip(lows.chunks_exact_mut(n)) {
+                    scaled(&row[x..x + n], line, ONE_OVER_ZETA, 20);
+                }
+            }
+        }
+        for (row, line) in rows.skip(middle).zip(highs.chunks_exact_mut(n)) {
+            scaled(&row[x..x + n], line, ZETA, stored.highs);
+        }
+        unlift(lows, highs, n);
+        for (y, row) in work.chunks_exact_mut(width).take(h).enumerate() {
+            row[x..x + n].copy_from_slice(&tile[parted(y, h) * n..][..n]);
+        }
+    }
+}
+
+/// Undoes a row into `line`, its lows first.
+#[inline(always)]
+fn view_row(row: &[i64], line: &mut [i64]) {
+    let middle = row.len().div_ceil(2);
+    let (lows, highs) = line.split_at_mut(middle);
+    scaled(&row[..middle], lows, ONE_OVER_ZETA, 20);
+    scaled(&row[middle..], highs, ZETA, 20);
+    unlift(lows, highs, 1);
+}
+
+/// Whether every value of a rectangle is held by a node of so many bits.
+fn held(
+    plane: &[i32],
+    width: usize,
+    (x0, x1): (usize, usize),
+    (y0, y1): (usize, usize),
+    node: &[u8],
+) -> bool {
+    let bits = u32::from(node[0] + node[1]);
+    let middle = 1 << (bits - 1);
+    let mut all = 0;
+    for row in plane.chunks_exact(width).take(y1).skip(y0) {
+        all |= together(&row[x0..x1], middle);
+    }
+    all.checked_shr(bits).unwrap_or(0) == 0
+}
+
+/// The pair of bytes of a node: level, pass and node from 0.
+fn node(table: &[u8], level: usize, pass: usize, node: usize) -> &[u8] {
+    &table[20 + 36 * level + 12 * pass + 2 * node..][..2]
+}
+
+/// Whether every coefficient is in the width of its node.
+fn all_held(table: &[u8], plane: &[i32], width: usize, parts: &[(usize, usize)]) -> bool {
+    let last = parts.len() - 1;
+    parts.iter().enumerate().all(|(level, &(w, h))| {
+        let (mw, mh) = (w.div_ceil(2), h.div_ceil(2));
+        let node = |pass, at| node(table, level, pass, at);
+        (level < last || held(plane, width, (0, mw), (0, mh), node(1, 4)))
+            && held(plane, width, (0, mw), (mh, h), node(1, 5))
+            && held(plane, width, (mw, w), (0, mh), node(2, 4))
+            && held(plane, width, (mw, w), (mh, h), node(2, 5))
+    })
+}
+
+/// A value as a pixel: 2^(B-1) greys and half a grey are added.
+#[inline(always)]
+fn shown(value: i64, depth: u8) -> u16 {
+    let (cut, most) = (20 - depth, (1 << depth) - 1);
+    (((value + (1i64 << (cut - 1))) >> cut) + (1 << (depth - 1))).clamp(0, most) as u16
+}
+
+/// Viewing under a table that allows it; false where a coefficient is outside
+/// its width.
+pub fn view97(
+    table: &[u8],
+    plane: &[i32],
+    size: (usize, usize),
+    pixels: &mut [u16],
+    work: &mut [i64],
+) -> bool {
+    let (depth, levels) = (table[3], table[7]);
+    let width = size.0;
+    let last = usize::from(levels) - 1;
+    let parts = parts(size, levels);
+    if !all_held(table, plane, width, &parts) {
+        return false;
+    }
+    let mut tile = vec![0; (size.1 * VIEW_STRIP).max(width)];
+    for (level, &(w, h)) in parts.iter().enumerate().rev() {
+        let bits = |pass, at| node(table, level, pass, at)[1];
+        let left = Stored {
+            lows: Some(bits(1, 4)).filter(|_| level == last),
+            highs: bits(1, 5),
+        };
+        let right = Stored {
+            lows: Some(bits(2, 4)),
+            highs: bits(2, 5),
+        };
+        let middle = w.div_ceil(2);
+        view_columns(plane, work, width, (0, middle), h, &mut tile, left);
+        view_columns(plane, work, width, (middle, w), h, &mut tile, right);
+        let line = &mut tile[..w];
+        if level > 0 {
+            for row in work.chunks_exact_mut(width).take(h) {
+                view_row(&row[..w], line);
+                join(line, &mut row[..w], |value| value);
+            }
+            continue;
+        }
+        // The last rows are shown.
+        for (row, pixels) in work
+            .chunks_exact_mut(width)
+            .zip(pixels.chunks_exact_mut(width))
+        {
+            view_row(row, line);
+            join(line, pixels, |value| shown(value, depth));
+            row.fill(0);
+        }
+    }
+    true
+}
+
+/// Undoes columns `from` to `to` of a part of `h` rows in place.
+fn columns_in_place(
+    work: &mut [i64],
+    width: usize,
+    (from, to): (usize, usize),
+    h: usize,
+    tile: &mut [i64],
+    (low_bits, high_bits): (u8, u8),
+) {
+    let middle = h.div_ceil(2);
+    for x in (from..to).step_by(VIEW_STRIP) {
+        let n = VIEW_STRIP.min(to - x);
+        let tile = &mut tile[..h * n];
+        let (lows, highs) = tile.split_at_mut(middle * n);
+        let rows = work.chunks_exact(width);
+        for (row, line) in rows.clone().zip(lows.chunks_exact_mut(n)) {
+            scaled(&row[x..x + n], line, ONE_OVER_ZETA, low_bits);
+        }
+        for (row, line) in rows.skip(middle).zip(highs.chunks_exact_mut(n)) {
+            scaled(&row[x..x + n], line, ZETA, high_bits);
+        }
+        unlift(lows, highs, n);
+        for (y, row) in work.chunks_exact_mut(width).take(h).enumerate() {
+            row[x..x + n].copy_from_slice(&tile[parted(y, h) * n..][..n]);
+        }
+    }
+}
+
+/// The same by the passes of the engine: the coefficients go to the work area,
+/// every level is undone there, and each of the last rows is shown from it.
+pub fn view97_in_place(
+    table: &[u8],
+    plane: &[i32],
+    size: (usize, usize),
+    pixels: &mut [u16],
+    work: &mut [i64],
+) -> bool {
+    let (depth, levels) = (table[3], table[7]);
+    let width = size.0;
+    let parts = parts(size, levels);
+    if !all_held(table, plane, width, &parts) {
+        return false;
+    }
+    for (to, &from) in work.iter_mut().zip(plane) {
+        *to = from.into();
+    }
+    let mut tile = vec![0; (size.1 * VIEW_STRIP).max(width)];
+    for (level, &(w, h)) in parts.iter().enumerate().rev() {
+        let bits = |pass, at| node(table, level, pass, at)[1];
+        let last = level + 1 == parts.len();
+        let left = (if last { bits(1, 4) } else { 20 }, bits(1, 5));
+        let right = (bits(2, 4), bits(2, 5));
+        let middle = w.div_ceil(2);
+        columns_in_place(work, width, (0, middle), h, &mut tile, left);
+        columns_in_place(work, width, (middle, w), h, &mut tile, right);
+        let line = &mut tile[..w];
+        for (y, row) in work.chunks_exact_mut(width).take(h).enumerate() {
+            view_row(&row[..w], line);
+            join(line, &mut row[..w], |value| value);
+            if level == 0 {
+                for (to, &value) in pixels[y * width..].iter_mut().zip(row.iter()) {
+                    *to = shown(value, depth);
+                }
+                row.fill(0);
+            }
+        }
+    }
     true
 }

@@ -33,6 +33,29 @@ pub fn table_form(table: &[u8]) -> Answer {
     same(suzdrepa::table_form(table), calls::table_form(table))
 }
 
+pub fn table_view(table: &[u8]) -> Answer {
+    same(suzdrepa::table_view(table), calls::table_view(table))
+}
+
+/// `lent` is what the distance holds before the call. Gives the answer and
+/// what it holds afterwards.
+pub fn view_distance(table: &[u8], lent: u64) -> (Answer, u64) {
+    let mut due_distance = lent;
+    let due = calls::view_distance(table, &mut due_distance);
+    let mut ours_distance = lent;
+    // SAFETY: pointer and length are those of a slice; the distance is a
+    // number of its own.
+    let bare = unsafe { sys::suz_view_distance(table.as_ptr(), table.len(), &mut ours_distance) };
+    assert_eq!(bare, answer(due), "engine left, reference right");
+    assert_eq!(ours_distance, due_distance, "the distance");
+    let ours = suzdrepa::view_distance(table);
+    if let Ok(distance) = ours {
+        assert_eq!(distance, due_distance);
+    }
+    assert_eq!(same(ours.map(|_| ()), due), due);
+    (due, due_distance)
+}
+
 /// `place` is any numbers; `lent` is what range and error hold before the call.
 /// Gives the answer and what they hold afterwards.
 pub fn table_bound(table: &[u8], place: [u8; 3], lent: (u64, u64)) -> (Answer, (u64, u64)) {
@@ -203,10 +226,10 @@ fn lend<T>(out: &[u8], call: impl FnOnce(&mut [u8]) -> T) -> (T, Vec<u8>) {
 
 /// What is lent to a transform: input, output and work area, as they stand
 /// before the call.
-pub struct Lent<'a, In, Out> {
+pub struct Lent<'a, In, Out, Work = i32> {
     pub input: &'a [In],
     pub output: &'a [Out],
-    pub work: &'a [i32],
+    pub work: &'a [Work],
 }
 
 /// What a transform answered, and the output afterwards.
@@ -216,14 +239,15 @@ pub struct Done<Out> {
 }
 
 /// Calls both and compares answers, output, work area and input.
-fn transform<In, Out>(
-    lent: Lent<In, Out>,
-    ours: impl FnOnce(&[In], &mut [Out], &mut [i32]) -> Result<(), suzdrepa::Refusal>,
-    due: impl FnOnce(&[In], &mut [Out], &mut [i32]) -> Answer,
+fn transform<In, Out, Work>(
+    lent: Lent<In, Out, Work>,
+    ours: impl FnOnce(&[In], &mut [Out], &mut [Work]) -> Result<(), suzdrepa::Refusal>,
+    due: impl FnOnce(&[In], &mut [Out], &mut [Work]) -> Answer,
 ) -> Done<Out>
 where
     In: Clone + PartialEq,
     Out: Clone + PartialEq + std::fmt::Debug,
+    Work: Clone + PartialEq,
 {
     let input = lent.input.to_vec();
     let (mut ours_out, mut ours_work) = (lent.output.to_vec(), lent.work.to_vec());
@@ -245,6 +269,14 @@ pub fn forward97(table: &[u8], width: usize, height: usize, lent: Lent<u16, i32>
         lent,
         |pixels, plane, work| suzdrepa::forward97(table, pixels, width, height, plane, work),
         |pixels, plane, work| calls::forward97(table, pixels, width, height, plane, work),
+    )
+}
+
+pub fn view97(table: &[u8], width: usize, height: usize, lent: Lent<i32, u16, i64>) -> Done<u16> {
+    transform(
+        lent,
+        |plane, pixels, work| suzdrepa::view97(table, plane, width, height, pixels, work),
+        |plane, pixels, work| calls::view97(table, plane, width, height, pixels, work),
     )
 }
 

@@ -1,5 +1,8 @@
 //! Chance from a fixed seed (xorshift64*).
 
+use reference::places::kept_node;
+use reference::WidthTable;
+
 pub struct Chance(u64);
 
 impl Chance {
@@ -49,9 +52,32 @@ impl Chance {
         (0..count).map(|_| self.below(1 << depth) as u16).collect()
     }
 
+    /// A plane of coefficients within their widths: each at an end of it, near
+    /// one, or anywhere.
+    pub fn stored(&mut self, table: &WidthTable, width: usize, height: usize) -> Vec<i32> {
+        let mut one = |i: usize| {
+            let node = kept_node(width, height, table.levels, i % width, i / width);
+            let (least, most) = table.width(node).ends();
+            let off = self.below(4).min((most - least) as usize) as i128;
+            let value = match self.below(8) {
+                0 => least,
+                1 => most,
+                2 => least + off,
+                3 => most - off,
+                _ => least + self.below((most - least) as usize + 1) as i128,
+            };
+            value as i32
+        };
+        (0..width * height).map(&mut one).collect()
+    }
+
     /// Anything, as lent memory may hold it.
     pub fn plane(&mut self, count: usize) -> Vec<i32> {
         (0..count).map(|_| self.bits() as i32).collect()
+    }
+
+    pub fn sixty_four_bits(&mut self, count: usize) -> Vec<i64> {
+        (0..count).map(|_| self.bits() as i64).collect()
     }
 
     pub fn sixteen_bits(&mut self, count: usize) -> Vec<u16> {

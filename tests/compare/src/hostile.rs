@@ -1,9 +1,11 @@
 //! Pictures that drive a chosen value as far as it goes: every pixel is the
 //! lightest or the darkest, by the sign with which it counts in that value.
+//! Planes that do so with a viewed value: every coefficient is the least or
+//! the largest that its node holds.
 
 use crate::chance::Chance;
-use reference::places::{low_count, side_at};
-use reference::Place;
+use reference::places::{kept_node, low_count, side_at};
+use reference::{Place, WidthTable};
 
 /// The constants of a filter bank as doubles; signs are all that is asked.
 pub struct Filter {
@@ -40,6 +42,73 @@ impl Filter {
                 line[i] += constant * (line[before] + line[after]);
             }
         }
+    }
+
+    /// One pass undone; lows stand first, samples come back in their order.
+    fn undone(&self, line: &[f64]) -> Vec<f64> {
+        let n = line.len();
+        let sample = |i: usize| match i % 2 {
+            0 => line[i / 2],
+            _ => line[low_count(n) + i / 2],
+        };
+        let mut line: Vec<f64> = (0..n).map(sample).collect();
+        for (stage, constant) in self.stages.iter().enumerate().rev() {
+            for i in (1 - stage % 2..n).step_by(2) {
+                let before = if i == 0 { 1 } else { i - 1 };
+                let after = if i + 1 == n { n - 2 } else { i + 1 };
+                line[i] -= constant * (line[before] + line[after]);
+            }
+        }
+        line
+    }
+
+    /// How each value of the line that a level left counts in the sample at
+    /// `index`, where `n` samples were worked.
+    fn weights_back(&self, n: usize, level: u8, index: usize) -> Vec<f64> {
+        (0..side_at(n, level))
+            .map(|place| {
+                let mut line = vec![0.0; side_at(n, level)];
+                line[place] = 1.0;
+                for finer in (1..=level).rev() {
+                    // What was worked is the low part of the finer level.
+                    line.resize(side_at(n, finer), 0.0);
+                    line = self.undone(&line);
+                }
+                line[index]
+            })
+            .collect()
+    }
+
+    /// The plane under a table that makes the value viewed at column `x` and
+    /// row `y` as large as it gets, or as small.
+    pub fn plane(
+        &self,
+        table: &WidthTable,
+        shape: Shape,
+        x: usize,
+        y: usize,
+        largest: bool,
+    ) -> Vec<i32> {
+        let levels = 1..=shape.levels;
+        let weights: Vec<[Vec<f64>; 2]> = levels
+            .map(|level| {
+                [
+                    self.weights_back(shape.width, level, x),
+                    self.weights_back(shape.height, level, y),
+                ]
+            })
+            .collect();
+        let end = |i: usize| {
+            let (column, row) = (i % shape.width, i / shape.width);
+            let node = kept_node(shape.width, shape.height, shape.levels, column, row);
+            let [across, down] = &weights[usize::from(node.level) - 1];
+            let (least, most) = table.width(node).ends();
+            match (across[column] * down[row] > 0.0) == largest {
+                true => most as i32,
+                false => least as i32,
+            }
+        };
+        (0..shape.count()).map(end).collect()
     }
 
     /// How each of `n` samples counts in a value at `index`.
@@ -175,7 +244,40 @@ pub fn against(filter: &Filter, chance: &mut Chance, shape: Shape, place: Place)
 #[cfg(test)]
 mod tests {
     use super::*;
-    use reference::{fixed97, Width, WidthTable};
+    use reference::{fixed97, fixed_inverse97, Width};
+
+    /// The chosen value of the hostile plane is the largest among many.
+    #[test]
+    fn no_other_plane_goes_farther() {
+        let shape = Shape {
+            depth: 8,
+            levels: 3,
+            width: 7,
+            height: 6,
+        };
+        let table = WidthTable::uniform(8, 3, 24, Width::new(12, 2));
+        let value = |plane: &[i32], at: usize| {
+            let plane: Vec<i128> = plane.iter().map(|&v| i128::from(v)).collect();
+            fixed_inverse97::undo(&table, &plane, 7, 6).values[at]
+        };
+        let mut chance = Chance::new(2);
+        for (x, y) in [(0, 0), (3, 2), (6, 5), (2, 5), (5, 0)] {
+            let at = y * shape.width + x;
+            let most = NINE_SEVEN.plane(&table, shape, x, y, true);
+            let least = NINE_SEVEN.plane(&table, shape, x, y, false);
+            assert!(value(&least, at) < 0 && 0 < value(&most, at));
+            for _ in 0..300 {
+                let any = chance.stored(&table, shape.width, shape.height);
+                assert!((value(&least, at)..=value(&most, at)).contains(&value(&any, at)));
+            }
+            // One coefficient turned round takes away from it, but for cuts.
+            for i in 0..most.len() {
+                let mut other = most.clone();
+                other[i] = -1 - other[i];
+                assert!(value(&other, at) <= value(&most, at) + 16);
+            }
+        }
+    }
 
     /// The chosen value of the hostile picture is the largest among many.
     #[test]

@@ -12,6 +12,20 @@ pub mod hostile;
 pub mod program;
 pub mod tables;
 
+use std::path::{Path, PathBuf};
+
+/// The work tree's root.
+pub fn root() -> PathBuf {
+    Path::new(env!("CARGO_MANIFEST_DIR")).join("../..")
+}
+
+/// The static library that is tested, as `suzdrepa-sys` looks for it.
+pub fn archive() -> PathBuf {
+    let named = std::env::var_os("SUZDREPA_LIB_DIR");
+    let folder = named.unwrap_or_else(|| "target/staticlib".into());
+    root().join(folder).join("libengine.a")
+}
+
 /// The number of rounds: as given, or twenty times as many in a long run.
 pub fn rounds(usual: usize) -> usize {
     match std::env::var_os("SUZDREPA_LONG") {

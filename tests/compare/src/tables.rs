@@ -3,6 +3,7 @@
 use crate::chance::Chance;
 use reference::precision::verdict;
 use reference::table::MAX_FRACTION_BITS;
+use reference::viewing::viewable;
 use reference::{Place, Width, WidthTable};
 
 /// All nodes (12, 20), kept ones (12, 2), all constants with 24 bits.
@@ -28,120 +29,191 @@ fn accepted(table: &WidthTable) -> bool {
     verdict(table).is_ok()
 }
 
-/// Changes one number of an accepted table step by step for as long as the
-/// table stays accepted, at most `steps` times.
-fn push(table: &mut WidthTable, steps: usize, change: impl Fn(&mut WidthTable) -> bool) {
-    for _ in 0..steps {
-        let mut next = table.clone();
-        if !change(&mut next) || !accepted(&next) {
-            return;
-        }
-        *table = next;
-    }
+fn accepted_and_viewable(table: &WidthTable) -> bool {
+    accepted(table) && viewable(table).is_ok()
 }
 
-fn lower_fraction(table: &mut WidthTable, place: Place, steps: usize) {
-    push(table, steps, |table| {
-        let width = table.width_mut(place);
-        width.fraction_bits > 0 && {
-            width.fraction_bits -= 1;
-            true
-        }
-    });
+/// What is asked of a table.
+type Demand = fn(&WidthTable) -> bool;
+
+/// A table that is changed for as long as it meets a demand.
+struct Pushed {
+    table: WidthTable,
+    demand: Demand,
 }
 
-fn lower_integer(table: &mut WidthTable, place: Place) {
-    push(table, 12, |table| {
-        let width = table.width_mut(place);
-        width.integer_bits > 1 && {
-            width.integer_bits -= 1;
-            true
-        }
-    });
-}
-
-fn lower_constant(table: &mut WidthTable, node: usize, steps: usize) {
-    push(table, steps, |table| {
-        let bits = &mut table.constant_bits[node];
-        *bits > 1 && {
-            *bits -= 1;
-            true
-        }
-    });
-}
-
-fn raise_fraction(table: &mut WidthTable, place: Place, steps: usize) {
-    push(table, steps, |table| {
-        let width = table.width_mut(place);
-        width.fraction_bits < MAX_FRACTION_BITS && {
-            width.fraction_bits += 1;
-            true
-        }
-    });
-}
-
-/// An accepted table on which little can be spared: from a generous one, the
-/// fractional bits of the inner nodes and of the constants are lowered in an
-/// order drawn by chance, some all the way; then the kept nodes get finer
-/// steps and every node the fewest integer bits.
-pub fn tight(chance: &mut Chance, depth: u8, levels: u8) -> WidthTable {
-    let mut table = generous(depth, levels);
-    let mut places = table.places();
-    let kept_first = chance.one_in(2);
-    if kept_first {
-        // Part of the way, so that something is left for the inner nodes.
-        for &place in &places {
-            if table.is_kept(place) {
-                let steps = chance.below(8);
-                raise_fraction(&mut table, place, steps);
+impl Pushed {
+    /// Changes one number step by step, at most `steps` times.
+    fn push(&mut self, steps: usize, change: impl Fn(&mut WidthTable) -> bool) {
+        for _ in 0..steps {
+            let mut next = self.table.clone();
+            if !change(&mut next) || !(self.demand)(&next) {
+                return;
             }
+            self.table = next;
         }
     }
-    // What the numbers are lowered by: evenly first, then one by one.
-    let even = chance.below(12);
-    for _ in 0..even {
-        let mut next = table.clone();
-        for place in &places {
-            let kept = next.is_kept(*place);
-            let width = next.width_mut(*place);
-            if !kept && width.fraction_bits > 0 {
+
+    fn lower_fraction(&mut self, place: Place, steps: usize) {
+        self.push(steps, |table| {
+            let width = table.width_mut(place);
+            width.fraction_bits > 0 && {
                 width.fraction_bits -= 1;
+                true
+            }
+        });
+    }
+
+    fn lower_integer(&mut self, place: Place) {
+        self.push(12, |table| {
+            let width = table.width_mut(place);
+            width.integer_bits > 1 && {
+                width.integer_bits -= 1;
+                true
+            }
+        });
+    }
+
+    fn lower_constant(&mut self, node: usize, steps: usize) {
+        self.push(steps, |table| {
+            let bits = &mut table.constant_bits[node];
+            *bits > 1 && {
+                *bits -= 1;
+                true
+            }
+        });
+    }
+
+    fn raise_fraction(&mut self, place: Place, steps: usize) {
+        self.push(steps, |table| {
+            let width = table.width_mut(place);
+            width.fraction_bits < MAX_FRACTION_BITS && {
+                width.fraction_bits += 1;
+                true
+            }
+        });
+    }
+
+    /// One fractional bit less at every inner node and every constant.
+    fn lower_evenly(&mut self, steps: usize) {
+        self.push(steps, |table| {
+            for place in table.places() {
+                let kept = table.is_kept(place);
+                let width = table.width_mut(place);
+                if !kept && width.fraction_bits > 0 {
+                    width.fraction_bits -= 1;
+                }
+            }
+            for bits in &mut table.constant_bits {
+                *bits = (*bits - 1).max(1);
+            }
+            true
+        });
+    }
+
+    /// The fractional bits of the inner nodes and of the constants are lowered
+    /// in an order drawn by chance, some all the way; then the kept nodes get
+    /// finer steps and every node the fewest integer bits.
+    fn tightened(mut self, chance: &mut Chance) -> WidthTable {
+        let mut places = self.table.places();
+        let kept = self.table.kept_places();
+        let is_kept = |place: &Place| kept.contains(place);
+        let kept_first = chance.one_in(2);
+        if kept_first {
+            // Part of the way, so that something is left for the inner nodes.
+            for &place in places.iter().filter(|place| is_kept(place)) {
+                let steps = chance.below(8);
+                self.raise_fraction(place, steps);
             }
         }
-        for bits in &mut next.constant_bits {
-            *bits = (*bits - 1).max(1);
+        // What the numbers are lowered by: evenly first, then one by one.
+        let even = chance.below(12);
+        self.lower_evenly(even);
+        let mut constants = [0, 1, 2, 3, 4, 5];
+        chance.shuffle(&mut constants);
+        for node in constants {
+            let steps = chance.below(20);
+            self.lower_constant(node, steps);
         }
-        if !accepted(&next) {
-            break;
-        }
-        table = next;
-    }
-    let mut constants = [0, 1, 2, 3, 4, 5];
-    chance.shuffle(&mut constants);
-    for node in constants {
-        let steps = chance.below(20);
-        lower_constant(&mut table, node, steps);
-    }
-    chance.shuffle(&mut places);
-    for &place in &places {
-        if !table.is_kept(place) {
+        chance.shuffle(&mut places);
+        for &place in places.iter().filter(|place| !is_kept(place)) {
             let steps = if chance.one_in(3) {
                 20
             } else {
                 chance.below(6)
             };
-            lower_fraction(&mut table, place, steps);
+            self.lower_fraction(place, steps);
         }
-    }
-    for &place in &places {
-        if table.is_kept(place) {
-            raise_fraction(&mut table, place, 20);
+        for &place in places.iter().filter(|place| is_kept(place)) {
+            self.raise_fraction(place, 20);
         }
+        for &place in &places {
+            self.lower_integer(place);
+        }
+        self.table
     }
-    for &place in &places {
-        lower_integer(&mut table, place);
+}
+
+/// An accepted table on which little can be spared, from a generous one.
+pub fn tight(chance: &mut Chance, depth: u8, levels: u8) -> WidthTable {
+    let pushed = Pushed {
+        table: generous(depth, levels),
+        demand: accepted,
+    };
+    pushed.tightened(chance)
+}
+
+/// The largest depth at which some table of so many levels can be viewed.
+pub fn deepest_viewed(levels: u8) -> u8 {
+    [12, 11, 9, 7, 5][usize::from(levels) - 1]
+}
+
+/// Inner nodes (12, 20), kept ones with 5 fractional bits and the fewest
+/// integer bits that are accepted, all constants with 24 bits.
+pub fn narrow(depth: u8, levels: u8) -> WidthTable {
+    let (kept, others) = (Width::new(12, 5), Width::new(12, 20));
+    let mut pushed = Pushed {
+        table: WidthTable::kept_and_others(depth, levels, 24, kept, others),
+        demand: accepted,
+    };
+    for place in pushed.table.kept_places() {
+        pushed.lower_integer(place);
     }
-    table
+    pushed.table
+}
+
+/// A table whose planes can be viewed and on which little can be spared, of a
+/// depth that is viewed with so many levels.
+pub fn tight_viewable(chance: &mut Chance, depth: u8, levels: u8) -> WidthTable {
+    let pushed = Pushed {
+        table: narrow(depth, levels),
+        demand: accepted_and_viewable,
+    };
+    pushed.tightened(chance)
+}
+
+/// A table whose planes can be viewed: as [`narrow`], then some integer bits
+/// more, drawn by chance, and other fractional bits.
+pub fn loose_viewable(chance: &mut Chance, depth: u8, levels: u8) -> WidthTable {
+    let mut pushed = Pushed {
+        table: narrow(depth, levels),
+        demand: accepted_and_viewable,
+    };
+    let mut places = pushed.table.kept_places();
+    chance.shuffle(&mut places);
+    for place in places {
+        let (wider, other) = (chance.below(8) as u8, chance.within(0, 20) as u8);
+        pushed.push(1, |table| {
+            let width = table.width_mut(place);
+            width.integer_bits = (width.integer_bits + wider).min(12);
+            true
+        });
+        pushed.push(1, |table| {
+            table.width_mut(place).fraction_bits = other;
+            true
+        });
+    }
+    pushed.table
 }
 
 /// Every integer width of an accepted table one less, one at a time, is
@@ -182,6 +254,29 @@ pub fn damaged(chance: &mut Chance, bytes: &[u8]) -> Vec<u8> {
 #[cfg(test)]
 mod tests {
     use super::*;
+
+    #[test]
+    fn viewable_tables_can_be_viewed() {
+        let mut chance = Chance::new(4);
+        for levels in 1..=5 {
+            for depth in 1..=12 {
+                let due = depth <= deepest_viewed(levels);
+                assert_eq!(accepted_and_viewable(&narrow(depth, levels)), due);
+                if due {
+                    assert!(accepted_and_viewable(&tight_viewable(
+                        &mut chance,
+                        depth,
+                        levels
+                    )));
+                    assert!(accepted_and_viewable(&loose_viewable(
+                        &mut chance,
+                        depth,
+                        levels
+                    )));
+                }
+            }
+        }
+    }
 
     #[test]
     fn tight_tables_are_accepted_and_tight() {

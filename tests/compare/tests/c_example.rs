@@ -1,20 +1,9 @@
-//! The C example compiles without a warning against the header, links the
-//! static library and runs.
+//! The C examples compile without a warning against the header, link the
+//! static library and run.
 
+use compare::{archive, root};
 use std::path::{Path, PathBuf};
 use std::process::Command;
-
-fn root() -> PathBuf {
-    Path::new(env!("CARGO_MANIFEST_DIR")).join("../..")
-}
-
-fn archive() -> PathBuf {
-    let folder = match std::env::var_os("SUZDREPA_LIB_DIR") {
-        Some(folder) => PathBuf::from(folder),
-        None => root().join("target/staticlib"),
-    };
-    folder.join("libengine.a")
-}
 
 fn compile(name: &str, source: &Path) -> PathBuf {
     let program = Path::new(env!("CARGO_TARGET_TMPDIR")).join(name);
@@ -35,20 +24,37 @@ fn compile(name: &str, source: &Path) -> PathBuf {
     program
 }
 
-#[test]
-fn the_example_runs() {
-    let program = compile("copy", &root().join("examples/copy.c"));
-    let output = Command::new(program).output().expect("it starts");
+/// Runs an example; it ends well and prints these lines.
+fn prints(name: &str, lines: &[&str]) {
+    let source = root().join("examples").join(name).with_extension("c");
+    let output = Command::new(compile(name, &source))
+        .output()
+        .expect("it starts");
     let text = String::from_utf8(output.stdout).unwrap();
     assert!(output.status.success(), "{text}");
-    for line in [
+    for line in lines {
+        assert!(text.lines().any(|l| l == *line), "{line}\n---\n{text}");
+    }
+}
+
+#[test]
+fn the_copy_runs() {
+    prints("copy", &[
         "the picture came back the same",
         "inverse53 of a damaged copy: refused 11: the 5/3 plane is the transform of no picture of that depth and size",
         "check of a wide table: done",
         "check of the narrow table: refused 6: a node does not fit (level 1, pass 1, node 1)",
-    ] {
-        assert!(text.lines().any(|l| l == line), "{line}\n---\n{text}");
-    }
+    ]);
+}
+
+#[test]
+fn the_view_runs() {
+    prints("view", &[
+        "the picture shown is at most 0 greys from the one scanned",
+        "view97 of a damaged plane: refused 12: a coefficient is outside its node's width",
+        "is it accepted: done",
+        "can its planes be viewed: refused 13: viewing is not accurate to half a grey, or a value may pass 2^15",
+    ]);
 }
 
 #[test]
@@ -75,5 +81,6 @@ fn the_macros_take_an_answer_apart() {
     assert_eq!(lines[0], "7 5 3 6 200 180");
     assert_eq!(lines[1], "done");
     assert_eq!(lines[8], "a kept node's error is not below two steps");
+    assert_eq!(lines[13], "a coefficient is outside its node's width");
     assert_eq!(lines[256], "unknown");
 }

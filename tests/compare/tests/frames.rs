@@ -9,8 +9,8 @@
 //! function's entry r11 holds nothing. So a frame of a page or more must be set
 //! up in the entry block: before the first branch, and where no branch leads.
 
+use compare::archive;
 use std::collections::BTreeMap;
-use std::path::{Path, PathBuf};
 use std::process::Command;
 
 /// From this size on a frame is touched page by page.
@@ -21,7 +21,7 @@ const RED_ZONE: i64 = 128;
 
 /// The exported calls, and the stack in KiB that each stays within, its return
 /// address included, but not what `memcpy` and `memset` of the C library take.
-const CALLS: [(&str, i64); 10] = [
+const CALLS: [(&str, i64); 13] = [
     ("suz_forward53", 4),
     ("suz_forward97", 4),
     ("suz_inverse53", 260),
@@ -31,7 +31,10 @@ const CALLS: [(&str, i64); 10] = [
     ("suz_table_check", 4),
     ("suz_table_form", 1),
     ("suz_table_value", 1),
+    ("suz_table_view", 4),
     ("suz_table_write", 1),
+    ("suz_view97", 260),
+    ("suz_view_distance", 4),
 ];
 
 struct Line<'a> {
@@ -261,14 +264,6 @@ fn stack_of<'a>(
     }
     known.insert(name, Some(most));
     most
-}
-
-fn archive() -> PathBuf {
-    let folder = match std::env::var_os("SUZDREPA_LIB_DIR") {
-        Some(folder) => PathBuf::from(folder),
-        None => Path::new(env!("CARGO_MANIFEST_DIR")).join("../../target/staticlib"),
-    };
-    folder.join("libengine.a")
 }
 
 /// The library's disassembly, by the binutils that `cc` needs too.

@@ -2,20 +2,22 @@
 //! show.
 
 use compare::chance::Chance;
-use compare::tables::{any, damaged, generous};
+use compare::tables::{any, damaged, generous, narrow};
 use reference::refusal::answer;
 use reference::{calls, Width};
 use std::ptr::{null, null_mut};
 use suzdrepa_sys::{
     suz_forward53, suz_forward97, suz_inverse53, suz_table_bound, suz_table_change,
-    suz_table_change_constant, suz_table_check, suz_table_form, suz_table_value, suz_table_write,
-    SUZ_TABLE_CONSTANTS, SUZ_TABLE_WIDTHS,
+    suz_table_change_constant, suz_table_check, suz_table_form, suz_table_value, suz_table_view,
+    suz_table_write, suz_view97, suz_view_distance, SUZ_TABLE_CONSTANTS, SUZ_TABLE_WIDTHS,
 };
 
 fn some_table(chance: &mut Chance) -> Vec<u8> {
-    let table = match chance.below(2) {
-        0 => any(chance),
-        _ => generous(chance.within(1, 12) as u8, chance.within(1, 5) as u8),
+    let (depth, levels) = (chance.within(1, 12) as u8, chance.within(1, 5) as u8);
+    let table = match chance.below(4) {
+        0 | 1 => any(chance),
+        2 => generous(depth, levels),
+        _ => narrow(depth, levels),
     };
     let bytes = table.bytes().unwrap();
     match chance.below(3) {
@@ -30,15 +32,36 @@ fn table_answers_in_whole() {
     for _ in 0..20_000 {
         let table = some_table(&mut chance);
         // SAFETY: pointer and length are those of a vector.
-        let (check, form) = unsafe {
+        let (check, form, view) = unsafe {
             (
                 suz_table_check(table.as_ptr(), table.len()),
                 suz_table_form(table.as_ptr(), table.len()),
+                suz_table_view(table.as_ptr(), table.len()),
             )
         };
         assert_eq!(check, answer(calls::table_check(&table)));
         assert_eq!(form, answer(calls::table_form(&table)));
+        assert_eq!(view, answer(calls::table_view(&table)));
     }
+}
+
+#[test]
+fn the_distance_is_untouched_on_refusal() {
+    let mut chance = Chance::new(25);
+    let mut seen = std::collections::BTreeSet::new();
+    for _ in 0..20_000 {
+        let table = some_table(&mut chance);
+        let before = chance.bits();
+        let (mut ours, mut due) = (before, before);
+        // SAFETY: pointer and length are those of a vector; the distance is a
+        // number of its own.
+        let told = unsafe { suz_view_distance(table.as_ptr(), table.len(), &mut ours) };
+        assert_eq!(told, answer(calls::view_distance(&table, &mut due)));
+        assert_eq!(ours, due);
+        assert!(told == 0 || ours == before);
+        seen.insert(told & 255);
+    }
+    assert_eq!(Vec::from_iter(seen), [0, 1, 2, 3, 4, 5, 6, 7, 13]);
 }
 
 #[test]
@@ -141,8 +164,40 @@ fn transform_answers_in_whole() {
             &mut due_work,
         );
         assert_eq!(ours, answer(due));
-        assert_eq!((our_plane, our_work), (due_plane, due_work));
+        assert_eq!((&our_plane, &our_work), (&due_plane, &due_work));
         seen.insert((97, ours & 255));
+
+        // Viewed is what that left in the plane: coefficients, or anything.
+        let work64 = chance.sixty_four_bits(lengths[2]);
+        let (mut our_pixels, mut due_pixels) = (pixels.clone(), pixels.clone());
+        let (mut our_work, mut due_work) = (work64.clone(), work64);
+        // SAFETY: pointers and lengths are those of vectors.
+        let ours = unsafe {
+            suz_view97(
+                table.as_ptr(),
+                table.len(),
+                our_plane.as_ptr(),
+                our_plane.len(),
+                width,
+                height,
+                our_pixels.as_mut_ptr(),
+                our_pixels.len(),
+                our_work.as_mut_ptr(),
+                our_work.len(),
+            )
+        };
+        let due = calls::view97(
+            &table,
+            &due_plane,
+            width,
+            height,
+            &mut due_pixels,
+            &mut due_work,
+        );
+        assert_eq!(ours, answer(due));
+        assert_eq!((our_pixels, our_work), (due_pixels, due_work));
+        assert_eq!(our_plane, due_plane);
+        seen.insert((79, ours & 255));
 
         let (mut our_plane, mut our_work) = (plane.clone(), work.clone());
         let (mut due_plane, mut due_work) = (plane.clone(), work.clone());
@@ -205,10 +260,11 @@ fn transform_answers_in_whole() {
         assert_eq!((our_pixels, our_work), (due_pixels, due_work));
         seen.insert((35, ours & 255));
     }
-    // Every number that the three calls have was seen, and no other.
+    // Every number that the four calls have was seen, and no other.
     let due = [
         (35, &[0, 4, 8, 9, 11][..]),
         (53, &[0, 4, 8, 9, 10][..]),
+        (79, &[0, 1, 2, 3, 4, 5, 6, 7, 8, 9, 12, 13][..]),
         (97, &[0, 1, 2, 3, 4, 5, 6, 7, 8, 9, 10][..]),
     ];
     let due: Vec<(i32, u32)> = due
@@ -221,9 +277,10 @@ fn transform_answers_in_whole() {
 /// Header and declarations allow a null pointer where a length is 0.
 #[test]
 fn null_pointers_of_length_0() {
-    let table = generous(8, 1).bytes().unwrap();
+    let table = narrow(8, 1).bytes().unwrap();
     let (at, len) = (table.as_ptr(), table.len());
     let (mut start, mut length, mut range, mut error) = (5, 6, 7, 8);
+    let mut distance = 9;
     let (constants, widths) = ([24; SUZ_TABLE_CONSTANTS], [0; SUZ_TABLE_WIDTHS]);
     // SAFETY: what is null has length 0; the rest are a vector's and its own.
     unsafe {
@@ -233,6 +290,8 @@ fn null_pointers_of_length_0() {
         assert_eq!(suz_table_value(null(), 0, 9, &mut start, &mut length), 2);
         let bound = suz_table_bound(null(), 0, 1, 1, 1, &mut range, &mut error);
         assert_eq!(bound, 1);
+        assert_eq!(suz_table_view(null(), 0), 1);
+        assert_eq!(suz_view_distance(null(), 0, &mut distance), 1);
         assert_eq!(suz_table_change(null(), 0, 1, 1, 1, 9, 9, null_mut(), 0), 1);
         assert_eq!(suz_table_change(at, len, 1, 1, 1, 9, 9, null_mut(), 0), 9);
         assert_eq!(suz_table_change(at, len, 9, 1, 1, 9, 9, null_mut(), 0), 4);
@@ -244,7 +303,10 @@ fn null_pointers_of_length_0() {
             assert_eq!(suz_forward97(at, len, null(), 0, w, h, i, 0, i, 0), due);
             assert_eq!(suz_forward53(8, 1, null(), 0, w, h, i, 0, i, 0), due);
             assert_eq!(suz_inverse53(8, 1, null(), 0, w, h, o, 0, i, 0), due);
+            let long = null_mut::<i64>();
+            assert_eq!(suz_view97(at, len, null(), 0, w, h, o, 0, long, 0), due);
+            assert_eq!(suz_view97(null(), 0, null(), 0, w, h, o, 0, long, 0), 1);
         }
     }
-    assert_eq!((start, length, range, error), (5, 6, 7, 8));
+    assert_eq!((start, length, range, error, distance), (5, 6, 7, 8, 9));
 }

@@ -2,11 +2,11 @@
 //! A refused call leaves everything untouched, but 11 zeroes the work area's
 //! first width times height elements, as success of any transform does.
 
-use crate::places::side_admitted;
+use crate::places::{kept_node, side_admitted};
 use crate::precision::{bound_of, verdict};
 use crate::refusal::{Place, Refusal};
 use crate::table::{value_of_tag, Width, WidthTable, WIDTHS};
-use crate::{fixed97, reversible53};
+use crate::{fixed97, fixed_inverse97, reversible53, viewing};
 use std::ops::Range;
 
 /// Reads a width table and judges it: 1 to 5, then 6 and 7.
@@ -101,6 +101,43 @@ pub fn forward97(
     Ok(())
 }
 
+/// Whether viewing would refuse a table: 1 to 5, 6 and 7, 13.
+pub fn table_view(table: &[u8]) -> Result<(), Refusal> {
+    viewable_table(table)?;
+    Ok(())
+}
+
+/// How far a viewed value before rounding may stand from the scanned pixel's
+/// value, in 2^-32: 1 to 5, 6 and 7, 13.
+pub fn view_distance(table: &[u8], distance: &mut u64) -> Result<(), Refusal> {
+    let bound = viewing::distance(&viewable_table(table)?);
+    *distance = u64::try_from(bound).expect("a viewable table's numbers are small");
+    Ok(())
+}
+
+/// Viewing, the picture of a stored 9/7 plane: 1 to 5 of the bytes, then 6 and
+/// 7, 13, 8, 9, 12.
+pub fn view97(
+    table: &[u8],
+    plane: &[i32],
+    width: usize,
+    height: usize,
+    pixels: &mut [u16],
+    work: &mut [i64],
+) -> Result<(), Refusal> {
+    let table = viewable_table(table)?;
+    let count = sides(width, height, table.levels)?;
+    lengths(count, &[pixels.len(), plane.len(), work.len()])?;
+    let plane: Vec<i128> = plane[..count].iter().map(|&v| i128::from(v)).collect();
+    widths_of_coefficients(&table, &plane, width, height)?;
+    let undone = fixed_inverse97::undo(&table, &plane, width, height);
+    for (place, value) in pixels.iter_mut().zip(undone.values) {
+        *place = fixed_inverse97::pixel(value, table.depth);
+    }
+    work[..count].fill(0);
+    Ok(())
+}
+
 /// 5/3 forward: 4, 8, 9, 10.
 pub fn forward53(
     depth: u8,
@@ -148,6 +185,14 @@ pub fn inverse53(
     }
 }
 
+/// The table, where neither the judge nor viewing refuses it.
+fn viewable_table(table: &[u8]) -> Result<WidthTable, Refusal> {
+    let table = WidthTable::read(table)?;
+    verdict(&table)?;
+    viewing::viewable(&table)?;
+    Ok(table)
+}
+
 fn depth_and_levels(depth: u8, levels: u8) -> Result<(), Refusal> {
     if (1..=12).contains(&depth) && (1..=5).contains(&levels) {
         Ok(())
@@ -178,6 +223,23 @@ fn depth_of_pixels(pixels: &[u16], depth: u8) -> Result<(), Refusal> {
         Ok(())
     } else {
         Err(Refusal::plain(10))
+    }
+}
+
+fn widths_of_coefficients(
+    table: &WidthTable,
+    plane: &[i128],
+    width: usize,
+    height: usize,
+) -> Result<(), Refusal> {
+    let holds = |(i, &v): (usize, &i128)| {
+        let node = kept_node(width, height, table.levels, i % width, i / width);
+        table.width(node).holds(v)
+    };
+    if plane.iter().enumerate().all(holds) {
+        Ok(())
+    } else {
+        Err(Refusal::plain(12))
     }
 }
 
@@ -266,6 +328,90 @@ mod tests {
         assert_eq!((plane[4], work), (7, [0, 0, 0, 0, 7]));
         // A white picture of depth 1 is 0 everywhere.
         assert_eq!(plane[..4], [0; 4]);
+    }
+
+    /// One level, one bit: kept nodes (3, 2), so that -16 .. 15 are held.
+    fn narrow() -> Vec<u8> {
+        WidthTable::kept_and_others(1, 1, 24, Width::new(3, 2), Width::new(12, 20))
+            .bytes()
+            .unwrap()
+    }
+
+    #[test]
+    fn order_of_viewing() {
+        let run = |table: &[u8], plane: &[i32], w, h, pixels_len: usize, work_len: usize| {
+            let (mut pixels, mut work) = (vec![7; pixels_len], vec![7; work_len]);
+            let number = number(view97(table, plane, w, h, &mut pixels, &mut work));
+            assert!(pixels.iter().all(|&p| p == 7) && work.iter().all(|&v| v == 7));
+            number
+        };
+        let table = narrow();
+        let outside = [16; 4];
+        assert_eq!(run(&table[..55], &outside[..3], 1, 1, 0, 0), 1);
+        let mut tight = generous(12, 5);
+        tight[20] = 2;
+        assert_eq!(run(&tight, &outside[..3], 1, 1, 0, 0), 6);
+        assert_eq!(run(&generous(12, 5), &outside[..3], 1, 1, 0, 0), 13);
+        assert_eq!(run(&table, &outside[..3], 1, 2, 0, 0), 8);
+        assert_eq!(run(&table, &outside[..3], usize::MAX, usize::MAX, 0, 0), 8);
+        assert_eq!(run(&table, &outside[..3], 2, 2, 4, 4), 9);
+        assert_eq!(run(&table, &outside, 2, 2, 3, 4), 9);
+        assert_eq!(run(&table, &outside, 2, 2, 4, 3), 9);
+        for at in 0..4 {
+            for (value, right) in [(-17, false), (-16, true), (15, true), (16, false)] {
+                let mut plane = [0, 0, 0, 0, i32::MAX];
+                plane[at] = value;
+                if !right {
+                    assert_eq!(run(&table, &plane, 2, 2, 4, 4), 12);
+                    continue;
+                }
+                let (mut pixels, mut work) = ([7; 5], [7; 6]);
+                view97(&table, &plane, 2, 2, &mut pixels, &mut work).unwrap();
+                assert_eq!((pixels[4], work), (7, [0, 0, 0, 0, 7, 7]));
+                assert!(pixels[..4].iter().all(|&p| p < 2));
+            }
+        }
+    }
+
+    /// A picture stored and viewed is near the scanned one.
+    #[test]
+    fn a_stored_picture_is_viewed() {
+        let table = WidthTable::kept_and_others(8, 2, 24, Width::new(6, 10), Width::new(12, 20))
+            .bytes()
+            .unwrap();
+        assert_eq!(table_view(&table), Ok(()));
+        let scanned: Vec<u16> = (0..35).map(|i| i * i * 7 % 256).collect();
+        let (mut plane, mut work) = ([0; 35], [0; 35]);
+        forward97(&table, &scanned, 7, 5, &mut plane, &mut work).unwrap();
+        let (mut viewed, mut work) = ([0; 35], [1; 35]);
+        view97(&table, &plane, 7, 5, &mut viewed, &mut work).unwrap();
+        assert_eq!(work, [0; 35]);
+        let mut distance = 0;
+        view_distance(&table, &mut distance).unwrap();
+        // The rounding takes another half grey.
+        let greys = distance as f64 / f64::from(1 << 24) + 0.5;
+        assert!(greys < 20.0);
+        for (a, b) in scanned.iter().zip(viewed) {
+            assert!(f64::from(a.abs_diff(b)) <= greys);
+        }
+    }
+
+    #[test]
+    fn refusals_of_the_two_questions() {
+        let ask = |table: &[u8]| {
+            let mut distance = 77;
+            let told = view_distance(table, &mut distance);
+            assert_eq!(told, table_view(table));
+            assert_eq!(told.is_err(), distance == 77);
+            told.map_or_else(|refusal| refusal.number, |()| 0)
+        };
+        assert_eq!(ask(&narrow()), 0);
+        assert_eq!(ask(&narrow()[..55]), 1);
+        assert_eq!(ask(&[narrow(), vec![0]].concat()), 5);
+        assert_eq!(ask(&generous(12, 5)), 13);
+        let mut refused = generous(12, 5);
+        refused[20] = 2;
+        assert_eq!(ask(&refused), 6);
     }
 
     #[test]

@@ -31,7 +31,12 @@ pub struct Distance {
 }
 
 /// own * denominator + numerator * (sum of two), for each own value.
-fn stage(own: &mut [Big], others: &[Big], by: Ratio, beside: impl Fn(usize) -> (usize, usize)) {
+pub(crate) fn stage(
+    own: &mut [Big],
+    others: &[Big],
+    by: Ratio,
+    beside: impl Fn(usize) -> (usize, usize),
+) {
     for (k, value) in own.iter_mut().enumerate() {
         let (a, b) = beside(k);
         let product = others[a].plus(&others[b]).times_small(by.numerator);
@@ -39,7 +44,7 @@ fn stage(own: &mut [Big], others: &[Big], by: Ratio, beside: impl Fn(usize) -> (
     }
 }
 
-fn scale(values: &mut [Big], by: i64) {
+pub(crate) fn scale(values: &mut [Big], by: i64) {
     for value in values {
         *value = value.times_small(by);
     }
@@ -73,7 +78,7 @@ fn pass(line: &[Big]) -> Vec<Big> {
     lows
 }
 
-fn pass_factor() -> Big {
+pub(crate) fn pass_factor() -> Big {
     [
         ALPHA.denominator,
         BETA.denominator,

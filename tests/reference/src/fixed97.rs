@@ -22,14 +22,14 @@ pub struct Worked {
 
 /// A whole number with its fractional bits.
 #[derive(Clone, Copy)]
-struct Fixed {
-    value: i128,
-    bits: u8,
+pub(crate) struct Fixed {
+    pub value: i128,
+    pub bits: u8,
 }
 
 /// The largest whole number of 2^-f that is not above own + constant * sum,
 /// all three being taken without loss. This is the only cut of a stage.
-fn cut(own: Fixed, constant: Fixed, sum: Fixed, f: u8) -> i128 {
+pub(crate) fn cut(own: Fixed, constant: Fixed, sum: Fixed, f: u8) -> i128 {
     let product_bits = constant.bits + sum.bits;
     let bits = own.bits.max(product_bits);
     let total =
@@ -43,7 +43,7 @@ fn cut(own: Fixed, constant: Fixed, sum: Fixed, f: u8) -> i128 {
 
 /// One stage on the own values of a line. `others` are the values whose
 /// neighbours are added; `neighbours` names the two of place k.
-fn stage(
+pub(crate) fn stage(
     own: &[i128],
     own_bits: u8,
     others: &[i128],
@@ -67,8 +67,8 @@ fn stage(
     (0..own.len()).map(one).collect()
 }
 
-/// The scaling at the end: constant times value, cut once.
-fn scale(values: &[i128], bits: u8, constant: Fixed, f: u8) -> Vec<i128> {
+/// A scaling: constant times value, cut once.
+pub(crate) fn scale(values: &[i128], bits: u8, constant: Fixed, f: u8) -> Vec<i128> {
     let one = |&value: &i128| {
         let nothing = Fixed { value: 0, bits: 0 };
         cut(nothing, constant, Fixed { value, bits }, f)

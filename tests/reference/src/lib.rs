@@ -1,14 +1,17 @@
-//! A second implementation of the engine, written from document 01 alone.
+//! A second implementation of the engine, written from documents 01 and 02
+//! alone.
 //!
 //! It is kept plain: every rule stands where it can be read beside the
-//! document, whole numbers have no limit that a picture could reach, and
+//! documents, whole numbers have no limit that a picture could reach, and
 //! fractions are exact. Nothing here is made for speed.
 //!
-//! * [`refusal`]: the numbers 1 to 11
+//! * [`refusal`]: the numbers 1 to 13
 //! * [`table`]: width tables (document 01: books) and their bytes
 //! * [`constants`], [`gains`], [`precision`]: the precision analysis and its
 //!   verdict (document 01: the judge)
 //! * [`fixed97`], [`exact97`]: the 9/7 transform in fixed point and in fractions
+//! * [`fixed_inverse97`], [`exact_inverse97`], [`viewing`]: the same undone, and
+//!   the bound between the two
 //! * [`reversible53`]: the 5/3 transform forward and back
 //! * [`places`]: sides, low and high parts, kept nodes
 //! * [`calls`]: every call with its order of refusals and what it leaves in
@@ -22,7 +25,9 @@ pub mod calls;
 pub mod constants;
 pub mod exact97;
 pub mod exact_copy;
+pub mod exact_inverse97;
 pub mod fixed97;
+pub mod fixed_inverse97;
 pub mod fraction;
 pub mod gains;
 pub mod places;
@@ -31,6 +36,7 @@ pub mod refusal;
 pub mod reversible53;
 pub mod table;
 pub mod tag_value;
+pub mod viewing;
 
 pub use refusal::{Place, Refusal};
 pub use table::{Width, WidthTable};

@@ -13,20 +13,20 @@ pub struct Bound {
 }
 
 /// One in units of 2^-32.
-const ONE: u128 = 1 << 32;
+pub(crate) const ONE: u128 = 1 << 32;
 
 /// A bound times a gain in 2^-16, rounded up.
-fn times_gain(bound: u128, gain: u64) -> u128 {
+pub(crate) fn times_gain(bound: u128, gain: u64) -> u128 {
     (bound * u128::from(gain)).div_ceil(1 << 16)
 }
 
 /// A bound times 2^-bits, rounded up.
-fn halved(bound: u128, bits: u8) -> u128 {
+pub(crate) fn halved(bound: u128, bits: u8) -> u128 {
     bound.div_ceil(1 << bits)
 }
 
 /// 2^-f in units of 2^-32.
-fn step(fraction_bits: u8) -> u128 {
+pub(crate) fn step(fraction_bits: u8) -> u128 {
     ONE >> fraction_bits
 }
 

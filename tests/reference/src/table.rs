@@ -33,10 +33,16 @@ impl Width {
             && self.fraction_bits <= MAX_FRACTION_BITS
     }
 
+    /// The least and the largest integer that the node can hold.
+    pub fn ends(self) -> (i128, i128) {
+        let half = 1i128 << (self.integer_bits + self.fraction_bits - 1);
+        (-half, half - 1)
+    }
+
     /// Whether the integer `v` is one that the node can hold.
     pub fn holds(self, v: i128) -> bool {
-        let half = 1i128 << (self.integer_bits + self.fraction_bits - 1);
-        -half <= v && v < half
+        let (least, most) = self.ends();
+        least <= v && v <= most
     }
 }
 
@@ -103,6 +109,12 @@ impl WidthTable {
         let column_gain = place.pass >= 2 && place.node >= 5;
         let low_low = place.pass == 2 && place.node == 5;
         column_gain && (!low_low || place.level == self.levels)
+    }
+
+    /// Every kept node in table order.
+    pub fn kept_places(&self) -> Vec<Place> {
+        let kept = |&place: &Place| self.is_kept(place);
+        self.places().into_iter().filter(kept).collect()
     }
 
     pub fn width(&self, place: Place) -> Width {

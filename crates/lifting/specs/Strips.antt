@@ -210,30 +210,38 @@ row-done pass stride w r b narrow x y z is start e = row-next pass stride w r b 
 
 -- ---- strip by strip: the first d columns are done, and the next s are as they were
 
-module _ (pass : OnLine ℤ) (stride from d s h : ℕ) (narrow : from + (d + s) ≤ stride) (x y : ℕ → ℤ) (is : y ≡ columnsBy pass stride from d h x) where
+module _ (stride from d s h : ℕ) (narrow : from + (d + s) ≤ stride) (new : ℕ → ℕ → ℤ) (x y : ℕ → ℤ) (is : y ≡ patchLines (lineAt from stride) d h new x) where
   moved : (i j : ℕ) → lineAt (from + d) stride i + j ≡ lineAt from stride i + (d + j)
   moved i j = omega arith
 
-  pub column-as-was : (j : ℕ) → j < s → columnOf stride (from + d) y j ≡ columnOf stride from x (d + j)
-  column-as-was j g = fun-ext λ r. ap y (moved r j) ∙ ap (λ (q : ℕ → ℤ). q (lineAt from stride r + (d + j))) is
-      ∙ lines-out (lineAt from stride) d _ x h _ (λ u v a b e. omega (arith, same-line from stride u r v (d + j) (omega arith) (omega arith) e .1))
+  pub value-as-was : (i j : ℕ) → j < s → y (lineAt (from + d) stride i + j) ≡ x (lineAt from stride i + (d + j))
+  value-as-was r j g = ap y (moved r j) ∙ ap (λ (q : ℕ → ℤ). q (lineAt from stride r + (d + j))) is
+      ∙ lines-out (lineAt from stride) d new x h _ (λ u v a b e. omega (arith, same-line from stride u r v (d + j) (omega arith) (omega arith) e .1))
 
-  pub columns-more : (z : ℕ → ℤ) → z ≡ columnsBy pass stride (from + d) s h y → z ≡ columnsBy pass stride from (d + s) h x
-  columns-more z e = e ∙ lines-is (lineAt from stride) (d + s) _ x (λ u v a. lines-apart from stride (d + s) u v (omega arith) (omega arith)) h _
+  -- s columns more
+  pub strips-more : (next : ℕ → ℕ → ℤ) (z : ℕ → ℤ) → z ≡ patchLines (lineAt (from + d) stride) s h next y → ((i j : ℕ) → i < h → j < s → next i j ≡ new i (d + j)) → z ≡ patchLines (lineAt from stride) (d + s) h new x
+  strips-more next z e same = e ∙ lines-is (lineAt from stride) (d + s) new x (λ u v a. lines-apart from stride (d + s) u v (omega arith) (omega arith)) h _
       (λ i j p g. go i j p g (decLt j d))
-      (λ p off. lines-out (lineAt (from + d) stride) s _ y h p (λ u v a b q. off u (d + v) a (omega arith) (sym (moved u v) ∙ q))
-      ∙ ap (λ (g : ℕ → ℤ). g p) is ∙ lines-out (lineAt from stride) d _ x h p (λ u v a b q. off u v a (omega arith) q))
+      (λ p off. lines-out (lineAt (from + d) stride) s next y h p (λ u v a b q. off u (d + v) a (omega arith) (sym (moved u v) ∙ q))
+      ∙ ap (λ (g : ℕ → ℤ). g p) is ∙ lines-out (lineAt from stride) d new x h p (λ u v a b q. off u v a (omega arith) q))
     where
-      go : (i j : ℕ) → i < h → j < d + s → Dec (j < d) → columnsBy pass stride (from + d) s h y (lineAt from stride i + j) ≡ pass h (columnOf stride from x j) i
-      go i j p g (yes l) = lines-out (lineAt (from + d) stride) s _ y h _ (λ u v a b q. omega (arith, same-line from stride u i (d + v) j (omega arith) (omega arith) (sym (moved u v) ∙ q) .1))
+      go : (i j : ℕ) → i < h → j < d + s → Dec (j < d) → patchLines (lineAt (from + d) stride) s h next y (lineAt from stride i + j) ≡ new i j
+      go i j p g (yes l) = lines-out (lineAt (from + d) stride) s next y h _ (λ u v a b q. omega (arith, same-line from stride u i (d + v) j (omega arith) (omega arith) (sym (moved u v) ∙ q) .1))
           ∙ ap (λ (f : ℕ → ℤ). f (lineAt from stride i + j)) is
-          ∙ lines-in (lineAt from stride) d _ x (λ u v a. lines-apart from stride d u v (omega arith) (omega arith)) h i j p l
+          ∙ lines-in (lineAt from stride) d new x (λ u v a. lines-apart from stride d u v (omega arith) (omega arith)) h i j p l
       go i j p g (no f) =
           let o : j ≡ d + (j - d) = omega arith in
           let m : lineAt from stride i + j ≡ lineAt (from + d) stride i + (j - d) = omega arith in
-          ap (columnsBy pass stride (from + d) s h y) m
-          ∙ lines-in (lineAt (from + d) stride) s _ y (λ u v a. lines-apart (from + d) stride s u v (omega arith) (omega arith)) h i (j - d) p (omega arith)
-          ∙ ap (λ (c : ℕ → ℤ). pass h c i) (column-as-was (j - d) (omega arith) ∙ ap (columnOf stride from x) (sym o))
+          ap (patchLines (lineAt (from + d) stride) s h next y) m
+          ∙ lines-in (lineAt (from + d) stride) s next y (λ u v a. lines-apart (from + d) stride s u v (omega arith) (omega arith)) h i (j - d) p (omega arith)
+          ∙ same i (j - d) p (omega arith) ∙ ap (new i) (sym o)
+
+module _ (pass : OnLine ℤ) (stride from d s h : ℕ) (narrow : from + (d + s) ≤ stride) (x y : ℕ → ℤ) (is : y ≡ columnsBy pass stride from d h x) where
+  pub column-as-was : (j : ℕ) → j < s → columnOf stride (from + d) y j ≡ columnOf stride from x (d + j)
+  column-as-was j g = fun-ext λ r. value-as-was stride from d s h narrow _ x y is r j g
+
+  pub columns-more : (z : ℕ → ℤ) → z ≡ columnsBy pass stride (from + d) s h y → z ≡ columnsBy pass stride from (d + s) h x
+  columns-more z e = strips-more stride from d s h narrow _ x y is _ z e (λ i j p g. ap (λ (c : ℕ → ℤ). pass h c i) (column-as-was j g))
 
 -- no column is done
 pub columns-none : (pass : OnLine ℤ) (stride from h : ℕ) (x : ℕ → ℤ) → x ≡ columnsBy pass stride from 0 h x

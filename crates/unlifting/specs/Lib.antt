@@ -8,5 +8,10 @@
 pub mod Fixed
 pub mod Planes
 pub mod Stages
-pub mod Tiles
+pub mod Turns
+pub mod Rows
+pub mod Columns
+pub mod Strips
+pub mod StripTurns
+pub mod StripLoop
 pub mod Examples

@@ -2,18 +2,22 @@
 -- Assumes nothing.
 use mathlib.Core.Path.{_≡_, refl, sym, ap, subst, _∙_, fun-ext}
 use mathlib.Core.List.{List, [], _∷_}
-use Prim.Native.Nat.{ℕ, _+_, _*_, _^_, _-_, _≤_}
+use Prim.Native.Nat.{ℕ, _+_, _*_, _^_, _-_, _<_, _≤_}
+use native.Mathlib.Nat.{lt-of-le-of-lt}
 use native.Mathlib.Omega.{arith}
 use lib.IntN.{ℤ, pos, negℤ, natAbs, _+ℤ_, _-ℤ_, _*ℤ_}
 use lib.Dec.{lit<}
 use mir.Syntax.{w64}
-use mir.Val.{SFits}
+use lib.Signed.{mag}
+use mir.Val.{SFits, hbits}
 use mir.Facts.{toZ-ofZ}
 use Rattle.numbers.specs.Floor.{floorDiv, floor-add-mul}
 use Rattle.numbers.specs.Quote.{terms, vars, ring}
 use Rattle.exact.specs.Fractions.{Frac}
 use Rattle.exact.specs.Exact.{alpha, beta, gamma, delta, zeta, zetaInverse}
-use Rattle.lifting.specs.Turns.{back}
+use Rattle.numbers.specs.Abs.{mag-of-abs}
+use Rattle.lifting.specs.Runs.{as-type}
+use Rattle.lifting.specs.Turns.{back, got}
 use Rattle.stages.specs.Fixed.{nearest, cut, scale}
 use Rattle.unlifting.specs.Fixed.{nodeBits, inverseBits, unstep, limit}
 
@@ -44,6 +48,30 @@ moved-back fits = ap movedBy (toZ-ofZ fits)
 
 pub scaled-back : {c : ℤ} → SFits w64 c → scaledBy (back w64 c) ≡ scaledBy c
 scaled-back fits = ap scaledBy (toZ-ofZ fits)
+
+-- numbers in the limit, read back from their bits
+pub limit-fits : {z : ℤ} → natAbs z ≤ limit → SFits w64 z
+limit-fits {z} h = record { sfits = mag-of-abs z (lt-of-le-of-lt h (lit< tt)) }
+
+pub read : (z : ℤ) → natAbs z ≤ limit → back w64 z ≡ z
+read z h = toZ-ofZ (limit-fits h)
+
+pub size-read : (z : ℤ) → natAbs z ≤ limit → natAbs (back w64 z) ≤ limit
+size-read z h = subst (λ (v : ℤ). natAbs v ≤ limit) (sym (read z h)) h
+
+-- a result read back
+pub again : (r : ℤ) → mag r < 2 ^ hbits w64 → back w64 r ≡ r
+again r ok = got w64 ok refl
+
+pub inside-read : {own x y : ℤ} → Inside own x y → Inside (back w64 own) (back w64 x) (back w64 y)
+inside-read {own} {x} {y} h = as-type (λ u. Inside (sym (read own (h .middle)) u) (sym (read x (h .left)) u) (sym (read y (h .right)) u)) h
+
+-- what `moved` gives of them
+pub moved-raw : {c own x y r : ℤ} → SFits w64 c → Inside own x y → r ≡ movedBy (back w64 c) (back w64 own) (back w64 x) (back w64 y) → r ≡ movedBy c own x y
+moved-raw {c} {own} {x} {y} {r} fits h e = e ∙ (λ u. movedBy (toZ-ofZ fits u) (read own (h .middle) u) (read x (h .left) u) (read y (h .right) u))
+
+pub moved-got : {c own x y r : ℤ} → SFits w64 c → Inside own x y → mag r < 2 ^ hbits w64 → r ≡ movedBy (back w64 c) (back w64 own) (back w64 x) (back w64 y) → back w64 r ≡ movedBy c own x y
+moved-got fits h ok e = got w64 ok (moved-raw fits h e)
 
 -- the bits that a scaling of a value of f bits cuts
 abbrev pub cutBits : ℕ → ℕ
@@ -91,6 +119,19 @@ atZeta = pos 19287161
 
 abbrev pub atInverse : ℤ
 atInverse = pos 14593904
+
+-- they fit 64 bits
+pub fits-alpha : SFits w64 atAlpha
+fits-alpha = record { sfits = lit< tt }
+
+pub fits-beta : SFits w64 atBeta
+fits-beta = record { sfits = lit< tt }
+
+pub fits-gamma : SFits w64 atGamma
+fits-gamma = record { sfits = lit< tt }
+
+pub fits-delta : SFits w64 atDelta
+fits-delta = record { sfits = lit< tt }
 
 pub moved-alpha : movedBy atAlpha ≡ unstep alpha
 unfolding nearest

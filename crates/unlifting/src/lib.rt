@@ -1,20 +1,20 @@
-// The 9/7 lifting undone on tiles of 64-bit values (document 02, job 1). A tile is n lines of s values, one after the other: the lines of
-// the lows first, then those of the highs.
+// The 9/7 lifting undone in 64-bit values (document 02, job 1): a line turn by turn, its four stages together. Rows are undone one by one,
+// columns side by side in strips, so that memory is passed over once.
 ghost use mathlib.Core.Path.{_≡_};
-ghost use Prim.Native.Nat.{ℕ, _+_, _*_, _<_, _≤_, _^_};
+ghost use mathlib.Core.Bool.{true};
+ghost use Prim.Native.Nat.{ℕ, _+_, _*_, _<_, _≤_, min, max};
 ghost use lib.ListN.{length};
 ghost use lib.IntN.{natAbs};
+ghost use Rattle.lines.specs.Lines.{Liftable};
 ghost use Rattle.lifting.specs.Patch.{at, Free, patch};
-ghost use Rattle.lifting.specs.Runs.{ran, Runs, SafeBy};
-ghost use Rattle.lifting.specs.PatchLines.{lineAt, patchLines, Lying};
-ghost use Rattle.lifting.specs.Passes.{Liftable};
-ghost use Rattle.lifting.specs.Tiles.{Tile, highsDone, lowsDone, AtHighs, AtLows, Held};
-ghost use Rattle.lifting.specs.Kernels.{Part, rowOf, columnOf};
-ghost use Rattle.lifting.specs.Strips.{Strip, woven};
-ghost use Rattle.unlifting.specs.Fixed.{nodeBits, atG1, atG2, fixedBack, limit};
-ghost use Rattle.unlifting.specs.Planes.{Safe, rowsBack, columnsBack};
+ghost use Rattle.lifting.specs.Kernels.{Part, rowOf};
+ghost use Rattle.unlifting.specs.Fixed.{nodeBits, limit};
+ghost use Rattle.unlifting.specs.Planes.{Safe, rowsBack};
 ghost use Rattle.unlifting.specs.Stages.{Inside, Constant, movedBy, scaledBy};
-ghost use Rattle.unlifting.specs.Tiles.{BackSafe, backP1};
+ghost use Rattle.unlifting.specs.Turns.{LowAsks, LowTurned, HighTurned, SomeReady, Turned};
+ghost use Rattle.unlifting.specs.Rows.{RowReady, RowTurns, RowTurned, RowUndone};
+ghost use Rattle.unlifting.specs.Columns.{turnIn, Kept, ColumnTurn, ColumnTurned, StripTurn, StripTurned};
+ghost use Rattle.unlifting.specs.Strips.{source, undone, Lies, Fed, highPlace, PlaneTurn, PlaneTurned, StripReady};
 
 // ---- the constants
 
@@ -55,31 +55,113 @@ fn scaled(x: i64, c: i64, cut: u32) -> i64
     (c * x) >> cut
 }
 
+// ---- a turn of a line
+
+// What is held of a line that is undone turn by turn (specs/Turns.antt), and the two values that the last turn gave.
+pub struct Turn {
+    pub g2: i64,
+    pub u2: i64,
+    pub p2: i64,
+    pub u1: i64,
+    pub even: i64,
+    pub odd: i64,
+}
+
+// Low k of so many lows with a stage undone: the first has the high after it on both sides. Past the last one, what was kept.
+fn on_low(k: usize, lows: usize, kept: i64, own: i64, before: i64, after: i64, c: i64) -> i64
+    requires { ⌜ LowAsks k lows own before after × Constant c ⌝ }
+    ensures { λ r. ⌜ LowTurned (movedBy c) k lows kept own before after r ⌝ }
+{
+    if lows <= k {
+        return kept;
+    }
+    if k == 0 {
+        return moved(own, after, after, c);
+    }
+    moved(own, before, after, c)
+}
+
+// High k of so many highs with a stage undone. Past the last one, what was kept.
+fn on_high(k: usize, highs: usize, kept: i64, own: i64, before: i64, after: i64, c: i64) -> i64
+    requires { ⌜ (k < highs → Inside own before after) × Constant c ⌝ }
+    ensures { λ r. ⌜ HighTurned (movedBy c) k highs kept own before after r ⌝ }
+{
+    if highs <= k {
+        return kept;
+    }
+    moved(own, before, after, c)
+}
+
+// A turn away from the ends of a line.
+fn inner_turn(t: Turn, low: i64, high: i64, i: usize, lows: usize, highs: usize) -> Turn
+    requires { ⌜ SomeReady i lows highs t low high × (2 ≤ i) × (i < highs) ⌝ }
+    ensures { λ r. ⌜ Turned i lows highs t low high r ⌝ }
+{
+    let u2 = moved(low, t.g2, high, DELTA);
+    let p2 = moved(t.g2, t.u2, u2, GAMMA);
+    let u1 = moved(t.u2, t.p2, p2, BETA);
+    let p1 = moved(t.p2, t.u1, u1, ALPHA);
+    Turn {
+        g2: high,
+        u2: u2,
+        p2: p2,
+        u1: u1,
+        even: t.u1,
+        odd: p1,
+    }
+}
+
+// Any turn.
+fn end_turn(t: Turn, low: i64, high: i64, i: usize, lows: usize, highs: usize) -> Turn
+    requires { ⌜ SomeReady i lows highs t low high ⌝ }
+    ensures { λ r. ⌜ Turned i lows highs t low high r ⌝ }
+{
+    let u2 = on_low(i, lows, t.u2, low, t.g2, high, DELTA);
+    if i == 0 {
+        return Turn {
+            g2: high,
+            u2: u2,
+            p2: 0,
+            u1: 0,
+            even: 0,
+            odd: 0,
+        };
+    }
+    let p2 = on_high(i - 1, highs, t.p2, t.g2, t.u2, u2, GAMMA);
+    let u1 = on_low(i - 1, lows, t.u1, t.u2, t.p2, p2, BETA);
+    if i == 1 {
+        return Turn {
+            g2: high,
+            u2: u2,
+            p2: p2,
+            u1: u1,
+            even: 0,
+            odd: 0,
+        };
+    }
+    let p1 = on_high(i - 2, highs, 0, t.p2, t.u1, u1, ALPHA);
+    Turn {
+        g2: high,
+        u2: u2,
+        p2: p2,
+        u1: u1,
+        even: t.u1,
+        odd: p1,
+    }
+}
+
+// Turn i of a line, which takes a low and a high, scaled. Away from the ends, where `inner` may be set, it is quicker.
+fn turned(t: Turn, low: i64, high: i64, i: usize, lows: usize, highs: usize, inner: bool) -> Turn
+    requires { ⌜ SomeReady i lows highs t low high × (inner ≡ true → (2 ≤ i) × (i < highs)) ⌝ }
+    ensures { λ r. ⌜ Turned i lows highs t low high r ⌝ }
+{
+    if inner {
+        return inner_turn(t, low, high, i, lows, highs);
+    }
+    end_turn(t, low, high, i, lows, highs)
+}
+
 // ---- one run
-
-// A stage undone at each of n places from t on, each with the places as far from a and from b.
-fn run(buf: &mut [i64], t: usize, a: usize, b: usize, n: usize, c: i64)
-    requires { ⌜ Constant c × Runs (now buf) t a b n ⌝ }
-    requires { ⌜ SafeBy Inside t a b n (at (now buf)) ⌝ }
-    ensures { λ _. ⌜ at (now (buf .exit)) ≡ ran (movedBy c) t a b n (at (now (buf .entry))) ⌝ }
-{
-    for j in 0..n {
-        let v = moved(buf[t + j], buf[a + j], buf[b + j], c);
-        buf[t + j] = v;
-    }
-}
-
-// The n values of src from place `from` on, scaled, go to dst from place `to` on.
-fn scale_run(src: &[i64], from: usize, dst: &mut [i64], to: usize, n: usize, c: i64, cut: u32)
-    requires { ⌜ (from + n ≤ length (now src)) × (to + n ≤ length (now dst)) × Constant c × (cut < 64) ⌝ }
-    requires { ⌜ ((j : ℕ) → j < n → natAbs (at (now src) (from + j)) ≤ limit) ⌝ }
-    ensures { λ _. ⌜ at (now (dst .exit)) ≡ patch to n (λ j. scaledBy c cut (at (now (src .entry)) (from + j))) (at (now (dst .entry))) ⌝ }
-{
-    for j in 0..n {
-        let v = scaled(src[from + j], c, cut);
-        dst[to + j] = v;
-    }
-}
 
 // The n values of src from place `from` on go to dst from place `to` on.
 fn copy_run(src: &[i64], from: usize, dst: &mut [i64], to: usize, n: usize)
@@ -92,226 +174,377 @@ fn copy_run(src: &[i64], from: usize, dst: &mut [i64], to: usize, n: usize)
     }
 }
 
-// ---- a tile
-
-// A stage undone at each high of each column of a tile of n lines of s values.
-fn on_highs(tile: &mut [i64], s: usize, n: usize, c: i64)
-    requires { ⌜ Tile (now tile) s n × Constant c ⌝ }
-    requires { ⌜ AtHighs Inside s n (at (now tile)) ⌝ }
-    ensures { λ _. ⌜ at (now (tile .exit)) ≡ highsDone (movedBy c) s n (at (now (tile .entry))) ⌝ }
+// Place i, or the last one where i is past it. Where i is known not to be, `inner` may be set.
+fn place(i: usize, last: usize, inner: bool) -> usize
+    requires { ⌜ (inner ≡ true → i ≤ last) ⌝ }
+    ensures { λ r. ⌜ r ≡ min i last ⌝ }
 {
-    let low = (n + 1) / 2;
-    let top = low * s;
-    let most = (low - 1) * s;
-    run(tile, top, 0, s, most, c);
-    if low - 1 < n / 2 {
-        run(tile, top + most, most, most, s, c);
+    if inner {
+        return i;
     }
+    lifting::smaller(i, last)
 }
 
-// A stage undone at each low.
-fn on_lows(tile: &mut [i64], s: usize, n: usize, c: i64)
-    requires { ⌜ Tile (now tile) s n × Constant c ⌝ }
-    requires { ⌜ AtLows Inside s n (at (now tile)) ⌝ }
-    ensures { λ _. ⌜ at (now (tile .exit)) ≡ lowsDone (movedBy c) s n (at (now (tile .entry))) ⌝ }
-{
-    let low = (n + 1) / 2;
-    let high = n / 2;
-    let top = low * s;
-    let most = (high - 1) * s;
-    run(tile, 0, top, top, s, c);
-    run(tile, s, top, top + s, most, c);
-    if high < low {
-        run(tile, high * s, top + most, top + most, s, c);
-    }
-}
+// ---- a row
 
-// U2, P2, U1 and P1 undone.
-fn unlift(tile: &mut [i64], s: usize, n: usize)
-    requires { ⌜ Tile (now tile) s n ⌝ }
-    requires { ⌜ BackSafe s n (at (now tile)) ⌝ }
-    ensures { λ _. ⌜ at (now (tile .exit)) ≡ backP1 s n (at (now (tile .entry))) ⌝ }
-{
-    on_lows(tile, s, n, DELTA);
-    on_highs(tile, s, n, GAMMA);
-    on_lows(tile, s, n, BETA);
-    on_highs(tile, s, n, ALPHA);
-}
+// A row's values begin at this place of its line: each turn leaves two values there, and those of the first two turns do not count.
+pub const LEAD: usize = 4;
 
-// ---- lines in and out
-
-// n lines of m values of src, line i from place from + i * leap on, scaled, go to dst from place `to` on, one after the other.
-fn scale_lines(
-    src: &[i64],
-    from: usize,
-    leap: usize,
-    dst: &mut [i64],
-    to: usize,
-    n: usize,
-    m: usize,
-    c: i64,
-    cut: u32,
-)
-    requires { ⌜ Lying (now src) from leap n m × Lying (now dst) to m n m × Constant c × (cut < 64) ⌝ }
-    requires { ⌜ ((i j : ℕ) → i < n → j < m → natAbs (at (now src) (lineAt from leap i + j)) ≤ limit) ⌝ }
-    ensures { λ _. ⌜ at (now (dst .exit)) ≡ patchLines (lineAt to m) m n (λ i j. scaledBy c cut (at (now (src .entry)) (lineAt from leap i + j))) (at (now (dst .entry))) ⌝ }
-{
-    if leap == m {
-        scale_run(src, from, dst, to, n * m, c, cut);
-        return;
-    }
-    for i in 0..n {
-        scale_run(src, from + i * leap, dst, to + i * m, m, c, cut);
-    }
-}
-
-// Two lines of m values, from places a and b of src to places c and d of dst.
-fn copy_pair(src: &[i64], a: usize, b: usize, dst: &mut [i64], c: usize, d: usize, m: usize)
-    requires { ⌜ (a + m ≤ length (now src)) × (b + m ≤ length (now src)) × (c + m ≤ length (now dst)) × (d + m ≤ length (now dst)) ⌝ }
-    ensures { λ _. ⌜ at (now (dst .exit)) ≡ patch d m (λ j. at (now (src .entry)) (b + j)) (patch c m (λ j. at (now (src .entry)) (a + j)) (at (now (dst .entry)))) ⌝ }
-{
-    copy_run(src, a, dst, c, m);
-    copy_run(src, b, dst, d, m);
-}
-
-// The tile's lines go to the strip's, those of the lows to the even ones.
-fn merge_lines(tile: &[i64], work: &mut [i64], stride: usize, from: usize, s: usize, n: usize)
-    requires { ⌜ Strip (now work) (now tile) stride from s n ⌝ }
-    ensures { λ _. ⌜ at (now (work .exit)) ≡ patchLines (lineAt from stride) s n (woven s n (at (now (tile .entry)))) (at (now (work .entry))) ⌝ }
-{
-    let low = (n + 1) / 2;
-    let high = n / 2;
-    let top = low * s;
-    for i in 0..high {
-        let a = from + 2 * i * stride;
-        let c = i * s;
-        copy_pair(tile, c, top + c, work, a, a + stride, s);
-    }
-    if high < low {
-        copy_run(tile, high * s, work, from + 2 * high * stride, s);
-    }
-}
-
-// The same, with a loop of its own for a row.
-fn merge(tile: &[i64], work: &mut [i64], stride: usize, from: usize, s: usize, n: usize)
-    requires { ⌜ Strip (now work) (now tile) stride from s n ⌝ }
-    ensures { λ _. ⌜ at (now (work .exit)) ≡ patchLines (lineAt from stride) s n (woven s n (at (now (tile .entry)))) (at (now (work .entry))) ⌝ }
-{
-    if stride == 1 {
-        merge_lines(tile, work, 1, from, 1, n);
-    } else {
-        merge_lines(tile, work, stride, from, s, n);
-    }
-}
-
-// ---- a strip: s neighbouring columns of n lines, line i from place from + i * stride on; a row is one column with stride 1
-
-// The strip's lines go to the tile, scaled: the lows, whose bits are lowbits, and the highs, whose bits are highbits.
-fn load(
+// Turns start to end - 1 of the row of w values from place `from` on; turn i leaves its two values at places 2 i and 2 i + 1 of the line.
+// Away from the row's ends `inner` may be set.
+fn row_turns(
     work: &[i64],
-    tile: &mut [i64],
-    stride: usize,
+    line: &mut [i64],
     from: usize,
-    s: usize,
-    n: usize,
-    lowbits: u32,
-    highbits: u32,
-)
-    requires { ⌜ Strip (now work) (now tile) stride from s n × (lowbits ≤ nodeBits) × (highbits ≤ nodeBits) ⌝ }
-    requires { ⌜ ((i j : ℕ) → i < n → j < s → natAbs (columnOf stride from (at (now work)) j i) ≤ limit) ⌝ }
-    ensures { λ _. ⌜ Held s n (λ j. atG1 lowbits highbits n (columnOf stride from (at (now (work .entry))) j)) (λ j. atG2 lowbits highbits n (columnOf stride from (at (now (work .entry))) j)) (at (now (tile .exit))) ⌝ }
+    w: usize,
+    start: usize,
+    end: usize,
+    held: Turn,
+    inner: bool,
+) -> Turn
+    requires { ⌜ RowTurns (now work) (now line) from w start end held inner ⌝ }
+    ensures { λ r. ⌜ RowTurned (now (work .entry)) (now (line .exit)) from w end r ⌝ }
 {
-    let half = (n + 1) / 2;
-    scale_lines(
-        work,
-        from,
-        stride,
-        tile,
-        0,
-        half,
-        s,
-        ZETA_INVERSE,
-        CONSTANT_BITS - NODE_BITS + lowbits,
-    );
-    scale_lines(
-        work,
-        from + half * stride,
-        stride,
-        tile,
-        half * s,
-        n / 2,
-        s,
-        ZETA,
-        CONSTANT_BITS - NODE_BITS + highbits,
-    );
+    let low = (w + 1) / 2;
+    let high = w / 2;
+    let mut t = held;
+    for i in start..end {
+        let a = place(i, low - 1, inner);
+        let b = place(i, high - 1, inner);
+        t = turned(
+            t,
+            scaled(work[from + a], ZETA_INVERSE, CONSTANT_BITS),
+            scaled(work[from + low + b], ZETA, CONSTANT_BITS),
+            i,
+            low,
+            high,
+            inner,
+        );
+        let even = t.even;
+        line[2 * i] = even;
+        let odd = t.odd;
+        line[2 * i + 1] = odd;
+    }
+    t
 }
 
-// The strip, undone through the tile.
-fn strip(
-    work: &mut [i64],
-    tile: &mut [i64],
-    stride: usize,
-    from: usize,
-    s: usize,
-    n: usize,
-    lowbits: u32,
-    highbits: u32,
-)
-    requires { ⌜ Strip (now work) (now tile) stride from s n × (lowbits ≤ nodeBits) × (highbits ≤ nodeBits) ⌝ }
-    requires { ⌜ ((j : ℕ) → j < s → Safe lowbits highbits n (columnOf stride from (at (now work)) j)) ⌝ }
-    ensures { λ _. ⌜ at (now (work .exit)) ≡ columnsBack lowbits highbits stride from s n (at (now (work .entry))) ⌝ }
+// The larger of two numbers.
+fn larger(a: usize, b: usize) -> usize
+    ensures { λ r. ⌜ r ≡ max a b ⌝ }
 {
-    load(work, tile, stride, from, s, n, lowbits, highbits);
-    unlift(tile, s, n);
-    merge(tile, work, stride, from, s, n);
+    if a < b { b } else { a }
 }
 
-// ---- rows and columns of a plane
-
-// w values from place `from` on, undone in place through the tile. Lows and highs have the bits of a node.
-pub fn row(work: &mut [i64], tile: &mut [i64], from: usize, w: usize)
-    requires { ⌜ (from + w ≤ length (now work)) × (w ≤ length (now tile)) × Liftable w × (w < 2 ^ 31) ⌝ }
-    requires { ⌜ Safe nodeBits nodeBits w (λ c. at (now work) (from + c)) ⌝ }
-    ensures work { λ _. ⌜ at (now (work .exit)) ≡ patch from w (fixedBack nodeBits nodeBits w (λ c. at (now (work .entry)) (from + c))) (at (now (work .entry))) ⌝ }
-    ensures tile { λ _. ⌜ Free (now (tile .entry)) (now (tile .exit)) ⌝ }
+// The row of w values from place `from` on, undone: it stands in the line from place LEAD on. Lows and highs have the bits of a node.
+pub fn row(work: &[i64], line: &mut [i64], from: usize, w: usize)
+    requires { ⌜ RowReady (now work) (length (now line)) from w ⌝ }
+    ensures { λ _. ⌜ RowUndone (now (work .entry)) (now (line .exit)) from w ⌝ }
 {
-    strip(work, tile, 1, from, 1, w, NODE_BITS, NODE_BITS);
+    let none = Turn {
+        g2: 0,
+        u2: 0,
+        p2: 0,
+        u1: 0,
+        even: 0,
+        odd: 0,
+    };
+    let first = row_turns(work, line, from, w, 0, 2, none, false);
+    let end = larger(2, w / 2);
+    let then = row_turns(work, line, from, w, 2, end, first, true);
+    row_turns(work, line, from, w, end, (w + 1) / 2 + 2, then, false);
 }
 
-// The first w values of each of h rows, row r starting at r * stride, undone in place through the tile.
-pub fn rows(work: &mut [i64], tile: &mut [i64], stride: usize, w: usize, h: usize)
-    requires { ⌜ Part (now work) stride 0 w h × Liftable w × (w ≤ length (now tile)) ⌝ }
+// The first w values of each of h rows, row r starting at r * stride, undone in place.
+pub fn rows(work: &mut [i64], line: &mut [i64], stride: usize, w: usize, h: usize)
+    requires { ⌜ Part (now work) stride 0 w h × Liftable w × (w + 6 ≤ length (now line)) ⌝ }
     requires { ⌜ ((r : ℕ) → r < h → Safe nodeBits nodeBits w (rowOf stride 0 (at (now work)) r)) ⌝ }
     ensures work { λ _. ⌜ at (now (work .exit)) ≡ rowsBack stride w h (at (now (work .entry))) ⌝ }
-    ensures tile { λ _. ⌜ Free (now (tile .entry)) (now (tile .exit)) ⌝ }
+    ensures line { λ _. ⌜ Free (now (line .entry)) (now (line .exit)) ⌝ }
 {
     for r in 0..h {
-        row(work, tile, r * stride, w);
+        row(work, line, r * stride, w);
+        copy_run(line, LEAD, work, r * stride, w);
     }
 }
 
-// w columns of h rows, from column `from` on, undone in place through the tile, strip by strip. The lows have lowbits bits, the highs
-// highbits.
-pub fn columns(
+// ---- a strip: neighbouring columns, undone turn by turn side by side
+
+// A strip of so many lines and columns, of which `room` at most are held; the lows have lowbits bits, the highs highbits.
+pub struct Strip {
+    pub lines: usize,
+    pub columns: usize,
+    pub room: usize,
+    pub lowbits: u32,
+    pub highbits: u32,
+}
+
+// What is held of column j: five lines of `room` values, g2, u2, p2, u1 and the low that comes next.
+fn held(lines: &[i64], room: usize, j: usize) -> Turn
+    requires { ⌜ (j < room) × (5 * room ≤ length (now lines)) ⌝ }
+    ensures { λ r. ⌜ r ≡ turnIn room (at (now (lines .entry))) j ⌝ }
+{
+    Turn {
+        g2: lines[j],
+        u2: lines[room + j],
+        p2: lines[2 * room + j],
+        u1: lines[3 * room + j],
+        even: 0,
+        odd: 0,
+    }
+}
+
+// A turn is held of column j.
+fn keep(lines: &mut [i64], room: usize, j: usize, t: Turn)
+    requires { ⌜ (j < room) × (5 * room ≤ length (now lines)) ⌝ }
+    ensures { λ _. ⌜ Kept room j t (at (now (lines .entry))) (at (now (lines .exit))) ⌝ }
+{
+    let g2 = t.g2;
+    lines[j] = g2;
+    let u2 = t.u2;
+    lines[room + j] = u2;
+    let p2 = t.p2;
+    lines[2 * room + j] = p2;
+    let u1 = t.u1;
+    lines[3 * room + j] = u1;
+}
+
+// Turn i of column j of a strip, whose high stands at a place of the plane: its two values go to places to + j and to + gap + j.
+fn column_turn(
+    plane: &[i32],
+    high: usize,
+    lines: &mut [i64],
+    out: &mut [i64],
+    to: usize,
+    gap: usize,
+    b: Strip,
+    i: usize,
+    inner: bool,
+    j: usize,
+)
+    requires { ⌜ ColumnTurn (now plane) high (now lines) (length (now out)) to gap b i inner j ⌝ }
+    ensures { λ _. ⌜ ColumnTurned (now (plane .entry)) high (now (lines .entry)) (now (lines .exit)) (now (out .entry)) (now (out .exit)) to gap b i j ⌝ }
+{
+    let room = b.room;
+    let n = b.lines;
+    let lowbits = b.lowbits;
+    let highbits = b.highbits;
+    let t = turned(
+        held(lines, room, j),
+        scaled(
+            lines[4 * room + j],
+            ZETA_INVERSE,
+            CONSTANT_BITS - NODE_BITS + lowbits,
+        ),
+        scaled(
+            plane[high + j] as i64,
+            ZETA,
+            CONSTANT_BITS - NODE_BITS + highbits,
+        ),
+        i,
+        (n + 1) / 2,
+        n / 2,
+        inner,
+    );
+    keep(lines, room, j, t);
+    let even = t.even;
+    out[to + j] = even;
+    let odd = t.odd;
+    out[to + gap + j] = odd;
+}
+
+// Turn i of every column of a strip.
+fn turns(
+    plane: &[i32],
+    high: usize,
+    lines: &mut [i64],
+    out: &mut [i64],
+    to: usize,
+    gap: usize,
+    b: Strip,
+    i: usize,
+    inner: bool,
+)
+    requires { ⌜ StripTurn (now plane) high (now lines) (length (now out)) to gap b i inner ⌝ }
+    ensures { λ _. ⌜ StripTurned (now (plane .entry)) high (now (lines .entry)) (now (lines .exit)) (now (out .entry)) (now (out .exit)) to gap b i ⌝ }
+{
+    let n = b.columns;
+    for j in 0..n {
+        column_turn(plane, high, lines, out, to, gap, b, i, inner, j);
+    }
+}
+
+// ---- columns of a plane
+
+// Columns from column `from` on: a row of the plane is `width` long, and in the work area they have lines `stride` apart. Their lows are
+// stored in the plane, or stand on the even lines of the work area.
+pub struct Site {
+    pub width: usize,
+    pub stride: usize,
+    pub from: usize,
+    pub stored: bool,
+}
+
+// The n coefficients from place `from` on go to dst from place `to` on.
+fn load(plane: &[i32], from: usize, dst: &mut [i64], to: usize, n: usize)
+    requires { ⌜ (from + n ≤ length (now plane)) × (to + n ≤ length (now dst)) ⌝ }
+    ensures { λ _. ⌜ at (now (dst .exit)) ≡ patch to n (λ j. at (now (plane .entry)) (from + j)) (at (now (dst .entry))) ⌝ }
+{
+    for j in 0..n {
+        dst[to + j] = plane[from + j] as i64;
+    }
+}
+
+// Low i of every column of a strip is held, if there is one.
+fn feed(plane: &[i32], work: &[i64], lines: &mut [i64], a: Site, b: Strip, i: usize)
+    requires { ⌜ Lies (length (now plane)) (length (now work)) a (b .columns) (b .lines) × (b .columns ≤ b .room) × (5 * b .room ≤ length (now lines)) ⌝ }
+    ensures { λ _. ⌜ Fed (now (plane .entry)) (now (work .entry)) (now (lines .entry)) (now (lines .exit)) a b i ⌝ }
+{
+    let n = b.lines;
+    if (n + 1) / 2 <= i {
+        return;
+    }
+    let room = b.room;
+    let columns = b.columns;
+    let from = a.from;
+    let width = a.width;
+    let stride = a.stride;
+    if a.stored {
+        load(plane, from + i * width, lines, 4 * room, columns);
+        return;
+    }
+    copy_run(work, from + 2 * i * stride, lines, 4 * room, columns);
+}
+
+// Turn i of a strip at the ends of its columns: what it gives goes to the work area by way of `line`, as far as there are such lines.
+fn outer_turn(
+    plane: &[i32],
     work: &mut [i64],
-    tile: &mut [i64],
-    stride: usize,
-    from: usize,
+    lines: &mut [i64],
+    line: &mut [i64],
+    high: usize,
+    a: Site,
+    b: Strip,
+    i: usize,
+)
+    requires { ⌜ PlaneTurn (now plane) (now work) (now lines) (length (now line)) a b i × (high ≡ highPlace a b i) ⌝ }
+    ensures { λ _. ⌜ PlaneTurned (now (plane .entry)) (now (work .entry)) (now (work .exit)) (now (lines .entry)) (now (lines .exit)) a b i ⌝ }
+{
+    let room = b.room;
+    turns(plane, high, lines, line, 0, room, b, i, false);
+    if i < 2 {
+        return;
+    }
+    let n = b.lines;
+    let columns = b.columns;
+    let from = a.from;
+    let stride = a.stride;
+    let to = from + 2 * (i - 2) * stride;
+    copy_run(line, 0, work, to, columns);
+    if i - 2 < n / 2 {
+        copy_run(line, room, work, to + stride, columns);
+    }
+}
+
+// Turn i of a strip: it leaves lines 2 (i - 2) and 2 (i - 2) + 1 in the work area, as far as there are such lines.
+fn strip_turn(
+    plane: &[i32],
+    work: &mut [i64],
+    lines: &mut [i64],
+    line: &mut [i64],
+    a: Site,
+    b: Strip,
+    i: usize,
+)
+    requires { ⌜ PlaneTurn (now plane) (now work) (now lines) (length (now line)) a b i ⌝ }
+    ensures { λ _. ⌜ PlaneTurned (now (plane .entry)) (now (work .entry)) (now (work .exit)) (now (lines .entry)) (now (lines .exit)) a b i ⌝ }
+{
+    let n = b.lines;
+    let from = a.from;
+    let width = a.width;
+    let stride = a.stride;
+    let high = n / 2;
+    let top = from + ((n + 1) / 2 + lifting::smaller(i, high - 1)) * width;
+    if i < 2 {
+        outer_turn(plane, work, lines, line, top, a, b, i);
+        return;
+    }
+    if high <= i {
+        outer_turn(plane, work, lines, line, top, a, b, i);
+        return;
+    }
+    turns(
+        plane,
+        top,
+        lines,
+        work,
+        from + 2 * (i - 2) * stride,
+        stride,
+        b,
+        i,
+        true,
+    );
+}
+
+// A strip, undone.
+fn undo_strip(
+    plane: &[i32],
+    work: &mut [i64],
+    lines: &mut [i64],
+    line: &mut [i64],
+    a: Site,
+    b: Strip,
+)
+    requires { ⌜ StripReady (now plane) (now work) (length (now lines)) (length (now line)) a b ⌝ }
+    ensures { λ _. ⌜ at (now (work .exit)) ≡ undone a (b .lowbits) (b .highbits) (b .columns) (b .lines) (at (now (plane .entry))) (at (now (work .entry))) ⌝ }
+{
+    let n = b.lines;
+    let low = (n + 1) / 2;
+    for i in 0..low + 2 {
+        feed(plane, work, lines, a, b, i);
+        strip_turn(plane, work, lines, line, a, b, i);
+    }
+}
+
+// w columns of h lines, undone strip by strip. The lows have lowbits bits, the highs highbits.
+pub fn columns(
+    plane: &[i32],
+    work: &mut [i64],
+    lines: &mut [i64],
+    line: &mut [i64],
+    a: Site,
     w: usize,
     h: usize,
     lowbits: u32,
     highbits: u32,
 )
-    requires { ⌜ Part (now work) stride from w h × Liftable h × (h ≤ length (now tile)) × (lowbits ≤ nodeBits) × (highbits ≤ nodeBits) ⌝ }
-    requires { ⌜ ((j : ℕ) → j < w → Safe lowbits highbits h (columnOf stride from (at (now work)) j)) ⌝ }
-    ensures work { λ _. ⌜ at (now (work .exit)) ≡ columnsBack lowbits highbits stride from w h (at (now (work .entry))) ⌝ }
-    ensures tile { λ _. ⌜ Free (now (tile .entry)) (now (tile .exit)) ⌝ }
+    requires { ⌜ Lies (length (now plane)) (length (now work)) a w h × (5 ≤ length (now lines)) × (length (now lines) ≤ length (now line)) × (lowbits ≤ nodeBits) × (highbits ≤ nodeBits) ⌝ }
+    requires { ⌜ ((j : ℕ) → j < w → Safe lowbits highbits h (source a h (at (now plane)) (at (now work)) j)) ⌝ }
+    ensures work { λ _. ⌜ at (now (work .exit)) ≡ undone a lowbits highbits w h (at (now (plane .entry))) (at (now (work .entry))) ⌝ }
+    ensures lines { λ _. ⌜ Free (now (lines .entry)) (now (lines .exit)) ⌝ }
+    ensures line { λ _. ⌜ Free (now (line .entry)) (now (line .exit)) ⌝ }
 {
-    let most = lifting::smaller(lifting::STRIP, tile.len() / h);
+    let room = lines.len() / 5;
+    let width = a.width;
+    let stride = a.stride;
+    let from = a.from;
+    let stored = a.stored;
     let mut done = 0;
     while done < w {
-        let s = lifting::smaller(most, w - done);
-        strip(work, tile, stride, from + done, s, h, lowbits, highbits);
+        let s = lifting::smaller(room, w - done);
+        let at = Site {
+            width: width,
+            stride: stride,
+            from: from + done,
+            stored: stored,
+        };
+        let b = Strip {
+            lines: h,
+            columns: s,
+            room: room,
+            lowbits: lowbits,
+            highbits: highbits,
+        };
+        undo_strip(plane, work, lines, line, at, b);
         done += s;
     }
 }

@@ -1,25 +1,32 @@
--- A level taken back in memory: the columns of row-low, those of row-high, then the rows. Where a plane stands and no value on the way is
--- large, every pass is safe (`level-safe`), and what the level leaves stands (`level-stands`).
-use Prim.Native.Nat.{ℕ, _+_, _*_, _<_, _≤_}
+-- A level taken back in memory: the columns of row-low, those of row-high, then the rows. Where the part that it works stands in memory
+-- (`Standing`) and no value on the way is large, every pass is safe (`level-safe`), and what the level leaves stands in its rows
+-- (`level-at`).
+use Prim.Native.Nat.{ℕ, _+_, _*_, _-_, _<_, _≤_}
 use mathlib.Core.Bool.{Bool, true, false}
-use mathlib.Core.Path.{_≡_, sym, _∙_, ap, subst}
+use mathlib.Core.Path.{_≡_, refl, sym, _∙_, ap, subst}
 use native.Mathlib.Omega.{arith}
-use lib.Dec.{ltb}
+use native.Mathlib.Decide.{decLt, ℕ-discrete}
+use borrow.Author.Tests.{eq-eqb, ne-eqb}
+use lib.Dec.{ltb, eqb}
 use lib.IntN.{ℤ, natAbs}
 use Rattle.numbers.specs.Tests.{ltb-true, ltb-false, by-ltb}
 use Rattle.exact.specs.Exact.{alpha, beta, gamma, delta, zeta, zetaInverse}
 use Rattle.lines.specs.Lines.{lows, highs, Liftable}
 use Rattle.lines.specs.LineLaws.{some-highs, Equal, lows-equal, highs-equal, interleaved-equal}
 use Rattle.lines.specs.Neighbours.{on-highs-equal, on-lows-equal}
-use Rattle.lines.specs.Planes.{Plane, rows, columns, within, columnsFirst}
-use Rattle.lines.specs.PlaneLaws.{by-part, within-in, within-below, within-beyond}
+use Rattle.lines.specs.Planes.{Plane, columns}
+use Rattle.lines.specs.PlaneLaws.{columns-first-in}
 use Rattle.width_table.specs.Nodes.{G1, G2, Pass, Rows, LowColumns, HighColumns, columnPass}
 use Rattle.width_table.specs.declared.WidthTable.{WidthTable}
 use Rattle.stages.specs.Fixed.{scale}
-use Rattle.lifting.specs.Kernels.{rowOf, columnOf, rowsBy, columnsBy}
-use Rattle.pictures.specs.MemoryLaws.{Reads, Stands, columnsPlane, columns-in, columns-below, columns-left, columns-right, rows-stand, rows-beyond, columns-stand, columns-beyond}
+use Rattle.lifting.specs.PatchLines.{lineAt, lines-apart, lines-in, lines-out}
+use Rattle.lifting.specs.Kernels.{rowOf, rowsBy}
+use Rattle.lifting.specs.Strips.{same-line}
+use Rattle.pictures.specs.MemoryLaws.{Reads}
 use Rattle.unlifting.specs.Fixed.{nodeBits, inverseBits, unstep, atG1, atG2, atU2, atP2, atU1, atP1, fixedBack, Small, limit}
+use Rattle.unlifting.specs.declared.Site.{Site}
 use Rattle.unlifting.specs.Planes.{Safe}
+use Rattle.unlifting.specs.Strips.{source, undone, source-stored, source-left, source-high}
 use Rattle.viewing.specs.View.{enteringBits, viewLine, viewLevel}
 use Rattle.viewing.specs.Claims.{LevelSmall}
 use Rattle.viewing.specs.Words.{Bounded, columns-bounded}
@@ -76,102 +83,114 @@ line-reads t l p n works x y same = back-same (enteringBits t l p G1) (enteringB
 
 -- ---- one level
 
--- what the columns, and the level, leave of the w columns and h rows at the front of a memory whose rows are W long
-module _ (t : WidthTable) (l W w h : ℕ) (x : ℕ → ℤ) where
-  abbrev pub lowed : ℕ → ℤ
-  lowed = columnsBy (viewLine t l LowColumns) W 0 (lows w) h x
+-- W is a row of the stored plane, S the way from row to row in the work area; w columns and h rows are taken back.
+module _ (t : WidthTable) (l W S w : ℕ) where
+  -- where the columns of row-low and of row-high come from and go to
+  abbrev pub lowSite : Site
+  lowSite = record { width = W; stride = S; from = 0; stored = eqb l (t .levels) }
 
-  abbrev pub columned : ℕ → ℤ
-  columned = columnsBy (viewLine t l HighColumns) W (lows w) (highs w) h lowed
+  abbrev pub highSite : Site
+  highSite = record { width = W; stride = S; from = lows w; stored = true }
 
-  abbrev pub levelBack : ℕ → ℤ
-  levelBack = rowsBy (viewLine t l Rows) W w h columned
+  -- what the columns, and the level, leave in the work area x
+  module _ (h : ℕ) (plane x : ℕ → ℤ) where
+    abbrev pub lowed : ℕ → ℤ
+    lowed = undone lowSite (enteringBits t l LowColumns G1) (enteringBits t l LowColumns G2) (lows w) h plane x
+
+    abbrev pub columned : ℕ → ℤ
+    columned = undone highSite (enteringBits t l HighColumns G1) (enteringBits t l HighColumns G2) (highs w) h plane lowed
+
+    abbrev pub levelBack : ℕ → ℤ
+    levelBack = rowsBy (viewLine t l Rows) S w h columned
 
 -- a pass is safe on a line
 abbrev pub SafeLine : WidthTable → ℕ → Pass → ℕ → (ℕ → ℤ) → Type 0
 SafeLine t l p n y = Safe (enteringBits t l p G1) (enteringBits t l p G2) n y
 
 -- every pass of the level is
-pub record SafeLevel (t : WidthTable) (l W w h : ℕ) (x : ℕ → ℤ) : Type 0 where
-  pub onLowColumns : (j : ℕ) → j < lows w → SafeLine t l LowColumns h (columnOf W 0 x j)
-  pub onHighColumns : (j : ℕ) → j < highs w → SafeLine t l HighColumns h (columnOf W (lows w) (lowed t l W w h x) j)
-  pub onRows : (r : ℕ) → r < h → SafeLine t l Rows w (rowOf W 0 (columned t l W w h x) r)
+pub record SafeLevel (t : WidthTable) (l W S w h : ℕ) (plane x : ℕ → ℤ) : Type 0 where
+  pub onLowColumns : (j : ℕ) → j < lows w → SafeLine t l LowColumns h (source (lowSite t l W S w) h plane x j)
+  pub onHighColumns : (j : ℕ) → j < highs w → SafeLine t l HighColumns h (source (highSite t l W S w) h plane (lowed t l W S w h plane x) j)
+  pub onRows : (r : ℕ) → r < h → SafeLine t l Rows w (rowOf S 0 (columned t l W S w h plane x) r)
 
-module _ (t : WidthTable) (l W H w h : ℕ) (wide : Liftable w) (tall : Liftable h) (inW : w ≤ W) (inH : h ≤ H) (x : ℕ → ℤ) (p : Plane ℤ) (stands : Stands W H x p) where
+-- The part p that the level works stands in memory: what is stored, in the plane; what a coarser level left, in every second row of the
+-- work area.
+pub record Standing (t : WidthTable) (l W S w h : ℕ) (plane x : ℕ → ℤ) (p : Plane ℤ) : Type 0 where
+  pub all : l ≡ t .levels → (r c : ℕ) → r < h → c < w → plane (r * W + c) ≡ p r c
+  pub below : (r c : ℕ) → lows h ≤ r → r < h → c < w → plane (r * W + c) ≡ p r c
+  pub beyond : (r c : ℕ) → lows w ≤ c → r < h → c < w → plane (r * W + c) ≡ p r c
+  pub left : (l ≡ t .levels → ⊥) → (r c : ℕ) → r < lows h → c < lows w → x (lineAt 0 S (2 * r) + c) ≡ p r c
+
+module _ (t : WidthTable) (l W S w h : ℕ) (wide : Liftable w) (tall : Liftable h) (apart : w ≤ S) (plane x : ℕ → ℤ) (p : Plane ℤ) (stands : Standing t l W S w h plane x p) where
   -- the columns of the part taken back
   abbrev columnsOf : Plane ℤ
   columnsOf = columns (λ c. viewLine t l (columnPass (ltb c (lows w)))) h p
 
-  -- after the columns of row-low
-  lowPlane : Plane ℤ
-  lowPlane = columnsPlane (viewLine t l LowColumns) 0 (lows w) h p
-
-  low-stands : Stands W H (lowed t l W w h x) lowPlane
-  unfolding lowPlane
-  low-stands = columns-stand (viewLine t l LowColumns) (line-reads t l LowColumns) W H 0 (lows w) h x p tall (omega arith) inH stands
-
-  -- a column of row-high is not yet taken back
-  low-high : (r c : ℕ) → lows w ≤ c → lowPlane r c ≡ p r c
-  unfolding lowPlane
-  low-high r c a = columns-right (viewLine t l LowColumns) 0 (lows w) h p r c (omega arith)
-
-  -- after all columns
-  columnPlane : Plane ℤ
-  columnPlane = columnsPlane (viewLine t l HighColumns) (lows w) (highs w) h lowPlane
-
-  column-stands : Stands W H (columned t l W w h x) columnPlane
-  unfolding columnPlane
-  column-stands = columns-stand (viewLine t l HighColumns) (line-reads t l HighColumns) W H (lows w) (highs w) h (lowed t l W w h x) lowPlane tall (omega arith) inH low-stands
-
-  column-is : (r c : ℕ) → r < h → c < w → columnPlane r c ≡ columnsOf r c
-  unfolding columnPlane lowPlane columns
-  column-is r c i j =
-      by-ltb (λ q. columnPlane r c ≡ viewLine t l (columnPass q) h (λ k. p k c) r) c (lows w)
-      (λ a. columns-left (viewLine t l HighColumns) (lows w) (highs w) h lowPlane r c a ∙ columns-in (viewLine t l LowColumns) 0 (lows w) h p r c i (omega arith) (omega arith))
-      (λ a. columns-in (viewLine t l HighColumns) (lows w) (highs w) h lowPlane r c i a (omega arith) ∙ line-reads t l HighColumns h tall _ _ (λ m b. low-high m c a) r i)
-
-  column-below : (r c : ℕ) → h ≤ r → columnPlane r c ≡ p r c
-  unfolding columnPlane lowPlane
-  column-below r c i = columns-below (viewLine t l HighColumns) (lows w) (highs w) h lowPlane r c i ∙ columns-below (viewLine t l LowColumns) 0 (lows w) h p r c i
-
-  column-beyond : (r c : ℕ) → w ≤ c → columnPlane r c ≡ p r c
-  unfolding columnPlane lowPlane
-  column-beyond r c j = columns-right (viewLine t l HighColumns) (lows w) (highs w) h lowPlane r c (omega arith) ∙ columns-right (viewLine t l LowColumns) 0 (lows w) h p r c (omega arith)
-
-  -- a row of what the columns left, as the rows read it
-  pub row-is : (r c : ℕ) → r < h → c < w → rowOf W 0 (columned t l W w h x) r c ≡ columnsOf r c
-  row-is r c i j = ap (columned t l W w h x) (omega arith) ∙ column-stands r c (omega arith) (omega arith) ∙ column-is r c i j
-
-  -- What stands after the level.
-  pub level-stands : Stands W H (levelBack t l W w h x) (viewLevel t l w h p)
-  unfolding columnsFirst rows
-  level-stands r c a b = rows-stand (viewLine t l Rows) (line-reads t l Rows) W H w h (columned t l W w h x) columnPlane wide inW inH column-stands r c a b ∙ planes r c
+  -- a column of row-low, as its pass reads it
+  low-source : (j k : ℕ) → j < lows w → k < h → source (lowSite t l W S w) h plane x j k ≡ p k j
+  low-source j k m i = go (decLt k (lows h)) (ℕ-discrete l (t .levels))
     where
-      planes : (r c : ℕ) → within w h (rows (viewLine t l Rows) w columnPlane) columnPlane r c ≡ viewLevel t l w h p r c
-      planes = by-part (λ r c. within w h (rows (viewLine t l Rows) w columnPlane) columnPlane r c ≡ viewLevel t l w h p r c) w h
-          (λ r c i j. within-in w h _ columnPlane r c i j ∙ line-reads t l Rows w wide _ _ (λ m b. column-is r m i b) c j ∙ sym (within-in w h _ p r c i j))
-          (λ r c i. within-below w h _ columnPlane r c i ∙ column-below r c i ∙ sym (within-below w h _ p r c i))
-          (λ r c j. within-beyond w h _ columnPlane r c j ∙ column-beyond r c j ∙ sym (within-beyond w h _ p r c j))
+      here : lineAt 0 W k + j ≡ k * W + j
+      here = omega arith
 
-  -- What lies past the plane is as it was.
-  pub columned-beyond : (q : ℕ) → W * H ≤ q → columned t l W w h x q ≡ x q
-  columned-beyond q far =
-      columns-beyond (viewLine t l HighColumns) W H (lows w) (highs w) h (lowed t l W w h x) tall (omega arith) inH q far ∙ columns-beyond (viewLine t l LowColumns) W H 0 (lows w) h x tall (omega arith) inH q far
+      go : Dec (k < lows h) → Dec (l ≡ t .levels) → source (lowSite t l W S w) h plane x j k ≡ p k j
+      go (no f) d = source-high (lowSite t l W S w) h plane x j k (omega arith) ∙ ap plane here ∙ stands .below k j (omega arith) i (omega arith)
+      go (yes g) (yes e) = source-stored (lowSite t l W S w) h plane x j k g (eq-eqb l (t .levels) e) ∙ ap plane here ∙ stands .all e k j i (omega arith)
+      go (yes g) (no f) = source-left (lowSite t l W S w) h plane x j k g (ne-eqb l (t .levels) f) ∙ stands .left f k j g m
 
-  pub level-beyond : (q : ℕ) → W * H ≤ q → levelBack t l W w h x q ≡ x q
-  level-beyond q far = rows-beyond (viewLine t l Rows) W H w h (columned t l W w h x) wide inW inH q far ∙ columned-beyond q far
+  -- one of row-high
+  high-source : (y : ℕ → ℤ) (j k : ℕ) → j < highs w → k < h → source (highSite t l W S w) h plane y j k ≡ p k (lows w + j)
+  high-source y j k m i = go (decLt k (lows h))
+    where
+      there : plane (lineAt (lows w) W k + j) ≡ p k (lows w + j)
+      there = let e : lineAt (lows w) W k + j ≡ k * W + (lows w + j) = omega arith in ap plane e ∙ stands .beyond k (lows w + j) (omega arith) i (omega arith)
+
+      go : Dec (k < lows h) → source (highSite t l W S w) h plane y j k ≡ p k (lows w + j)
+      go (no f) = source-high (highSite t l W S w) h plane y j k (omega arith) ∙ there
+      go (yes g) = source-stored (highSite t l W S w) h plane y j k g refl ∙ there
+
+  -- what the columns leave
+  pub column-at : (r c : ℕ) → r < h → c < w → columned t l W S w h plane x (lineAt 0 S r + c) ≡ columnsOf r c
+  unfolding columns viewLine
+  column-at r c i j =
+      by-ltb (λ q. columned t l W S w h plane x (lineAt 0 S r + c) ≡ viewLine t l (columnPass q) h (λ k. p k c) r) c (lows w)
+      (λ a. lines-out (lineAt (lows w) S) (highs w) _ _ h _ (λ u v d e f. omega (arith, same-line 0 S u r (lows w + v) c (omega arith) (omega arith) (omega arith) .1))
+      ∙ lines-in (lineAt 0 S) (lows w) _ x (λ u v d. lines-apart 0 S (lows w) u v (omega arith) (omega arith)) h r c i a
+      ∙ line-reads t l LowColumns h tall _ _ (λ k b. low-source c k a b) r i)
+      (λ a. let e : lineAt 0 S r + c ≡ lineAt (lows w) S r + (c - lows w) = omega arith in
+      let f : lows w + (c - lows w) ≡ c = omega arith in
+      ap (columned t l W S w h plane x) e
+      ∙ lines-in (lineAt (lows w) S) (highs w) _ _ (λ u v d. lines-apart (lows w) S (highs w) u v (omega arith) (omega arith)) h r (c - lows w) i (omega arith)
+      ∙ line-reads t l HighColumns h tall _ _ (λ k b. high-source _ (c - lows w) k (omega arith) b ∙ ap (p k) f) r i)
+
+  -- what the level leaves
+  pub level-at : (r c : ℕ) → r < h → c < w → levelBack t l W S w h plane x (lineAt 0 S r + c) ≡ viewLevel t l w h p r c
+  unfolding columns
+  level-at r c i j =
+      lines-in (lineAt 0 S) w _ (columned t l W S w h plane x) (λ u v d. lines-apart 0 S w u v apart (omega arith)) h r c i j
+      ∙ line-reads t l Rows w wide _ _ (λ k b. column-at r k i b) c j
+      ∙ sym (columns-first-in (viewLine t l Rows) (λ low. viewLine t l (columnPass low)) w h p r c i j)
+
+  -- What lies past the part is as it was.
+  module _ (N : ℕ) (fits : (r : ℕ) → r < h → lineAt 0 S r + w ≤ N) where
+    pub columned-beyond : (q : ℕ) → N ≤ q → columned t l W S w h plane x q ≡ x q
+    columned-beyond q far =
+        lines-out (lineAt (lows w) S) (highs w) _ _ h q (λ u v d e f. omega (arith, fits u d))
+        ∙ lines-out (lineAt 0 S) (lows w) _ x h q (λ u v d e f. omega (arith, fits u d))
+
+    pub level-beyond : (q : ℕ) → N ≤ q → levelBack t l W S w h plane x q ≡ x q
+    level-beyond q far = lines-out (lineAt 0 S) w _ (columned t l W S w h plane x) h q (λ u v d e f. omega (arith, fits u d)) ∙ columned-beyond q far
 
   -- Every pass is safe.
-  module _ (small : LevelSmall t l w h p) (bounded : Bounded W H p) where
+  module _ (small : LevelSmall t l w h p) (bounded : Bounded w h p) where
     column-safe : (c : ℕ) → c < w → (q : Bool) → ltb c (lows w) ≡ q → (v : ℕ → ℤ) → ((r : ℕ) → r < h → v r ≡ p r c) → SafeLine t l (columnPass q) h v
     column-safe c j q e v same =
-        safe-same (enteringBits t l (columnPass q) G1) (enteringBits t l (columnPass q) G2) h tall v (λ r. p r c) same (λ r i. bounded r c (omega arith) (omega arith))
+        safe-same (enteringBits t l (columnPass q) G1) (enteringBits t l (columnPass q) G2) h tall v (λ r. p r c) same (λ r i. bounded r c i j)
         (subst (λ (b : Bool). Small (enteringBits t l (columnPass b) G1) (enteringBits t l (columnPass b) G2) h (λ r. p r c)) e (small .inColumns c j))
 
-    pub level-safe : SafeLevel t l W w h x
+    pub level-safe : SafeLevel t l W S w h plane x
     level-safe = record {
-      onLowColumns = λ j a. column-safe j (omega arith) true (ltb-true j (lows w) a) _ (λ r i. ap x (omega arith) ∙ stands r j (omega arith) (omega arith));
-      onHighColumns = λ j a. column-safe (lows w + j) (omega arith) false (ltb-false (lows w + j) (lows w) (omega arith)) _
-          (λ r i. ap (lowed t l W w h x) (omega arith) ∙ low-stands r (lows w + j) (omega arith) (omega arith) ∙ low-high r (lows w + j) (omega arith));
-      onRows = λ r i. safe-same nodeBits nodeBits w wide _ (columnsOf r) (λ c j. row-is r c i j) (λ c j. columns-bounded small r c i j) (small .inRows r i);
+      onLowColumns = λ j a. column-safe j (omega arith) true (ltb-true j (lows w) a) _ (λ r i. low-source j r a i);
+      onHighColumns = λ j a. column-safe (lows w + j) (omega arith) false (ltb-false (lows w + j) (lows w) (omega arith)) _ (λ r i. high-source _ j r a i);
+      onRows = λ r i. safe-same nodeBits nodeBits w wide _ (columnsOf r) (λ c j. column-at r c i j) (λ c j. columns-bounded small r c i j) (small .inRows r i);
     }

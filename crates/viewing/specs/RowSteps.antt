@@ -17,45 +17,31 @@ use Rattle.pictures.specs.MemoryLaws.{plane-over, patch-zeroed}
 use Rattle.width_table.specs.Table.{maxDepth}
 use Rattle.unlifting.specs.Fixed.{nodeBits, fixedBack, limit}
 use Rattle.unlifting.specs.Planes.{Safe}
+use Rattle.unlifting.specs.Rows.{RowReady as Undoable, RowUndone}
 use Rattle.viewing.specs.View.{pixel}
 use Rattle.viewing.specs.Words.{back-size}
 
 -- a row of the work area that is shown: w values from a place on
-pub record RowReady (B : ℕ) (work : List ℤ) (pixels tile from w : ℕ) : Type 0 where
+pub record RowReady (B : ℕ) (work : List ℤ) (pixels line from w : ℕ) : Type 0 where
   pub depth : (1 ≤ B) × (B ≤ maxDepth)
-  pub held : from + w ≤ length work
   pub room : from + w ≤ pixels
-  pub across : w ≤ tile
-  pub wide : Liftable w
-  pub short : w < 2 ^ 31
-  pub safe : Safe nodeBits nodeBits w (λ c. at work (from + c))
+  pub row : Undoable work line from w
 
 -- what it shows
 abbrev pub rowShown : ℕ → ℕ → (ℕ → ℤ) → ℕ → ℕ
 rowShown B w y c = pixel B (fixedBack nodeBits nodeBits w y c)
 
 -- a row taken back is small
-module _ {B : ℕ} {work : List ℤ} {pixels tile from w : ℕ} (ready : RowReady B work pixels tile from w) (y : ℕ → ℤ) (is : y ≡ patch from w (fixedBack nodeBits nodeBits w (λ c. at work (from + c))) (at work)) where
-  pub taken : (j : ℕ) → j < w → y (from + j) ≡ fixedBack nodeBits nodeBits w (λ c. at work (from + c)) j
-  taken j h = ap (λ (f : ℕ → ℤ). f (from + j)) is ∙ patch-in from w _ (at work) j h
-
-  pub taken-small : (j : ℕ) → j < w → natAbs (y (from + j)) ≤ limit
-  taken-small j h = subst (λ (z : ℤ). natAbs z ≤ limit) (sym (taken j h)) (back-size (ready .safe .small) j h)
-
-  -- cleared afterwards, it is cleared
-  pub then-cleared : (z : ℕ → ℤ) → z ≡ patch from w (λ j. pos 0) y → z ≡ patch from w (λ j. pos 0) (at work)
-  then-cleared z e = e ∙ patch-is from w (λ j. pos 0) (at work) _
-      (λ k h. patch-below from w _ y k h ∙ ap (λ (f : ℕ → ℤ). f k) is ∙ patch-below from w _ (at work) k h)
-      (λ j h. patch-in from w _ y j h)
-      (λ k h. patch-above from w _ y k h ∙ ap (λ (f : ℕ → ℤ). f k) is ∙ patch-above from w _ (at work) k h)
+pub taken-small : {B : ℕ} {work : List ℤ} {pixels line from w : ℕ} → RowReady B work pixels line from w → (l : List ℤ) → RowUndone work l from w → (j : ℕ) → j < w → natAbs (at l (4 + j)) ≤ limit
+taken-small ready l is j h = subst (λ (z : ℤ). natAbs z ≤ limit) (sym (is j h)) (back-size (ready .row .safe .small) j h)
 
 -- ---- all rows
 
-pub record RowsReady (B : ℕ) (work : List ℤ) (pixels tile w h : ℕ) : Type 0 where
+pub record RowsReady (B : ℕ) (work : List ℤ) (pixels line w h : ℕ) : Type 0 where
   pub depth : (1 ≤ B) × (B ≤ maxDepth)
   pub part : Part work w 0 w h
   pub room : w * h ≤ pixels
-  pub across : w ≤ tile
+  pub across : w + 6 ≤ line
   pub wide : Liftable w
   pub safe : (r : ℕ) → r < h → Safe nodeBits nodeBits w (rowOf w 0 (at work) r)
 
@@ -66,22 +52,24 @@ shownRows B w r x = patchLines (lineAt 0 w) w r (λ r. rowShown B w (rowOf w 0 x
 abbrev pub clearedRows : ℕ → ℕ → (ℕ → ℤ) → ℕ → ℤ
 clearedRows w r = patchLines (lineAt 0 w) w r (λ r c. pos 0)
 
-module _ {B : ℕ} {work : List ℤ} {pixels tile w h : ℕ} (ready : RowsReady B work pixels tile w h) (r : ℕ) (more : r < h) (now : List ℤ) (same : length now ≡ length work) (is : at now ≡ clearedRows w r (at work)) where
+module _ {B : ℕ} {work : List ℤ} {pixels line w h : ℕ} (ready : RowsReady B work pixels line w h) (r : ℕ) (more : r < h) (now : List ℤ) (same : length now ≡ length work) (is : at now ≡ clearedRows w r (at work)) where
   -- the next row is as it was
   pub next-row : (λ c. at now (r * w + c)) ≡ rowOf w 0 (at work) r
   next-row = fun-ext λ c.
       ap (λ (f : ℕ → ℤ). f (r * w + c)) is ∙ lines-out (lineAt 0 w) w _ (at work) r _ (λ i j a b e. omega (arith, mul-le-mul-right {m = i + 1} {n = r} w (omega arith)))
       ∙ ap (at work) (let e : r * w + c ≡ lineAt 0 w r + c = omega arith in e)
 
-  pub row-ready : (p t : ℕ) → p ≡ pixels → t ≡ tile → RowReady B now p t (r * w) w
+  pub row-ready : (p t : ℕ) → p ≡ pixels → t ≡ line → RowReady B now p t (r * w) w
   row-ready p t ep et = record {
     depth = ready .depth;
-    held = omega (arith, ready .part .fits r more);
     room = omega (arith, ready .room, mul-le-mul-right {m = r + 1} {n = h} w (omega arith), mul-comm w h);
-    across = omega (arith, ready .across);
-    wide = ready .wide;
-    short = omega (arith, ready .part .wide);
-    safe = subst (Safe nodeBits nodeBits w) (sym next-row) (ready .safe r more);
+    row = record {
+      held = omega (arith, ready .part .fits r more);
+      room = omega (arith, ready .across);
+      two = ready .wide;
+      short = omega (arith, ready .part .wide);
+      safe = subst (Safe nodeBits nodeBits w) (sym next-row) (ready .safe r more);
+    };
   }
 
   from-line : r * w ≡ lineAt 0 w r

@@ -9,11 +9,11 @@ ghost use Rattle.refusals.specs.Told.{told};
 ghost use Rattle.lines.specs.Planes.{rowByRow};
 ghost use Rattle.lifting.specs.Patch.{at, patch};
 ghost use Rattle.lifting.specs.PatchLines.{lineAt};
-ghost use Rattle.width_table.specs.Table.{maxIntegerBits, maxFractionBits, maxDepth, fractionBits};
+ghost use Rattle.width_table.specs.Table.{maxIntegerBits, maxFractionBits, maxDepth, maxLevels, fractionBits};
 ghost use Rattle.width_table.specs.Nodes.{G1, LowColumns};
 ghost use Rattle.width_table.specs.Numbered.{nodeOf, passOf, IsNode, IsPass};
 ghost use Rattle.irreversible.specs.LevelBits.{IsLevel};
-ghost use Rattle.pictures.specs.Pictures.{planeOf, zeroed};
+ghost use Rattle.pictures.specs.Pictures.{maxSide, planeOf, zeroed};
 ghost use Rattle.pictures.specs.Looks.{Tells};
 ghost use Rattle.unlifting.specs.Fixed.{nodeBits, limit};
 ghost use Rattle.viewing.specs.View.{enteringBits, viewPicture, grey, pixel};
@@ -26,8 +26,11 @@ use refusals::Outcome;
 use refusals::Refusal;
 use width_table::WidthTable;
 
-// Elements of the tile: eight columns of MAX_SIDE.
-const TILE: usize = 8 * pictures::MAX_SIDE;
+// Elements that are held of a strip of columns: five for each of its 512 at most.
+const LINES: usize = 5 * 512;
+
+// Elements of the line that a row is undone into.
+const LINE: usize = pictures::MAX_SIDE + 6;
 
 // The fractional bits of a value.
 const VALUE_BITS: u8 = unlifting::NODE_BITS as u8;
@@ -157,16 +160,6 @@ fn coefficients_right(table: WidthTable, plane: &[i32], w: usize, h: usize) -> O
     }
 }
 
-// The first n coefficients go to the work area.
-fn load(plane: &[i32], work: &mut [i64], n: usize)
-    requires { ⌜ (n ≤ length (now plane)) × (n ≤ length (now work)) ⌝ }
-    ensures { λ _. ⌜ at (now (work .exit)) ≡ patch 0 n (at (now (plane .entry))) (at (now (work .entry))) ⌝ }
-{
-    for i in 0..n {
-        work[i] = plane[i] as i64;
-    }
-}
-
 // A number over a power of 2, rounded down.
 fn lowered(z: i64, cut: u8) -> i64
     requires { ⌜ cut < 64 ⌝ }
@@ -202,14 +195,14 @@ fn shown(v: i64, depth: u8) -> u16
     g as u16
 }
 
-// n values from a place on go to the pixels.
-fn show_row(work: &[i64], pixels: &mut [u16], from: usize, n: usize, depth: u8)
-    requires { ⌜ (1 ≤ depth) × (depth ≤ maxDepth) × (from + n ≤ length (now work)) × (from + n ≤ length (now pixels)) ⌝ }
-    requires { ⌜ ((j : ℕ) → j < n → natAbs (at (now work) (from + j)) ≤ limit) ⌝ }
-    ensures { λ _. ⌜ (λ k. getD (now (pixels .exit)) k 0) ≡ patch from n (λ j. pixel depth (at (now (work .entry)) (from + j))) (λ k. getD (now (pixels .entry)) k 0) ⌝ }
+// n values from a place on go to the pixels from another on.
+fn show_row(values: &[i64], first: usize, pixels: &mut [u16], from: usize, n: usize, depth: u8)
+    requires { ⌜ (1 ≤ depth) × (depth ≤ maxDepth) × (first + n ≤ length (now values)) × (from + n ≤ length (now pixels)) ⌝ }
+    requires { ⌜ ((j : ℕ) → j < n → natAbs (at (now values) (first + j)) ≤ limit) ⌝ }
+    ensures { λ _. ⌜ (λ k. getD (now (pixels .exit)) k 0) ≡ patch from n (λ j. pixel depth (at (now (values .entry)) (first + j))) (λ k. getD (now (pixels .entry)) k 0) ⌝ }
 {
     for i in 0..n {
-        pixels[from + i] = shown(work[from + i], depth);
+        pixels[from + i] = shown(values[first + i], depth);
     }
 }
 
@@ -243,35 +236,64 @@ fn low_low_bits(table: WidthTable, level: u8) -> u32
     }
 }
 
-// The columns of a level taken back, of the w columns and h rows at the front of a work area whose rows are `stride` long.
+// From one row to the next of what level k + 1 leaves, where the plane's rows are w long: w doubled k times.
+fn spread(w: usize, k: u8) -> usize
+    requires { ⌜ (w ≤ maxSide) × (k ≤ maxLevels) ⌝ }
+    ensures { λ r. ⌜ r ≡ w * 2 ^ k ⌝ }
+{
+    let mut stride = w;
+    for i in 0..k {
+        stride = 2 * stride;
+    }
+    stride
+}
+
+// The columns of a level taken back: w columns and h rows, from a plane whose rows are `width` long to rows of the work area that are
+// `stride` apart. What the next coarser level left stands there in every second row.
 fn columns_back(
     table: WidthTable,
     level: u8,
+    plane: &[i32],
     work: &mut [i64],
-    tile: &mut [i64],
+    lines: &mut [i64],
+    line: &mut [i64],
+    width: usize,
     stride: usize,
     w: usize,
     h: usize,
 )
-    requires { ⌜ LevelReady table level (now work) (length (now tile)) stride w h ⌝ }
-    ensures { λ _. ⌜ at (now (work .exit)) ≡ columned table level stride w h (at (now (work .entry))) ⌝ }
+    requires { ⌜ LevelReady table level (now plane) (now work) (length (now lines)) (length (now line)) width stride w h ⌝ }
+    ensures { λ _. ⌜ at (now (work .exit)) ≡ columned table level width stride w h (at (now (plane .entry))) (at (now (work .entry))) ⌝ }
 {
     let low = (w + 1) / 2;
+    let levels = table.levels;
     unlifting::columns(
+        plane,
         work,
-        tile,
-        stride,
-        0,
+        lines,
+        line,
+        unlifting::Site {
+            width: width,
+            stride: stride,
+            from: 0,
+            stored: level == levels,
+        },
         low,
         h,
         low_low_bits(table, level),
         stored_bits(table, level, WidthTable::LOW_COLUMNS, WidthTable::G2),
     );
     unlifting::columns(
+        plane,
         work,
-        tile,
-        stride,
-        low,
+        lines,
+        line,
+        unlifting::Site {
+            width: width,
+            stride: stride,
+            from: low,
+            stored: true,
+        },
         w / 2,
         h,
         stored_bits(table, level, WidthTable::HIGH_COLUMNS, WidthTable::G1),
@@ -283,74 +305,88 @@ fn columns_back(
 fn level_back(
     table: WidthTable,
     level: u8,
+    plane: &[i32],
     work: &mut [i64],
-    tile: &mut [i64],
+    lines: &mut [i64],
+    line: &mut [i64],
+    width: usize,
     stride: usize,
     w: usize,
     h: usize,
 )
-    requires { ⌜ LevelReady table level (now work) (length (now tile)) stride w h ⌝ }
-    ensures { λ _. ⌜ at (now (work .exit)) ≡ levelBack table level stride w h (at (now (work .entry))) ⌝ }
+    requires { ⌜ LevelReady table level (now plane) (now work) (length (now lines)) (length (now line)) width stride w h ⌝ }
+    ensures { λ _. ⌜ at (now (work .exit)) ≡ levelBack table level width stride w h (at (now (plane .entry))) (at (now (work .entry))) ⌝ }
 {
-    columns_back(table, level, work, tile, stride, w, h);
-    unlifting::rows(work, tile, stride, w, h);
+    columns_back(table, level, plane, work, lines, line, width, stride, w, h);
+    unlifting::rows(work, line, stride, w, h);
 }
 
-// The plane goes to the work area, and all levels but the first are taken back there, the last one first.
+// All levels but the first taken back, the last one first.
 fn levels_back(
     table: WidthTable,
     plane: &[i32],
     work: &mut [i64],
-    tile: &mut [i64],
+    lines: &mut [i64],
+    line: &mut [i64],
     w: usize,
     h: usize,
 )
-    requires { ⌜ ViewReady table (now plane) (length (now work)) (length (now tile)) w h ⌝ }
-    ensures { λ _. ⌜ Left table w h 1 (planeOf w (now (plane .entry))) (at (now (work .entry))) (at (now (work .exit))) ⌝ }
+    requires { ⌜ ViewReady table (now plane) (length (now work)) (length (now lines)) (length (now line)) w h ⌝ }
+    ensures { λ _. ⌜ Left table w h 1 (at (now (plane .entry))) (at (now (work .entry))) (at (now (work .exit))) ⌝ }
 {
-    load(plane, work, w * h);
     let mut k = table.levels;
     while 1 < k {
         k -= 1;
         let across = pictures::side_after(w, k);
         let down = pictures::side_after(h, k);
-        level_back(table, k + 1, work, tile, w, across, down);
+        level_back(
+            table,
+            k + 1,
+            plane,
+            work,
+            lines,
+            line,
+            w,
+            spread(w, k),
+            across,
+            down,
+        );
     }
 }
 
 // A row of the first level taken back and shown, and its place in the work area cleared.
 fn finish_row(
     work: &mut [i64],
-    tile: &mut [i64],
+    line: &mut [i64],
     pixels: &mut [u16],
     from: usize,
     w: usize,
     depth: u8,
 )
-    requires { ⌜ RowReady depth (now work) (length (now pixels)) (length (now tile)) from w ⌝ }
+    requires { ⌜ RowReady depth (now work) (length (now pixels)) (length (now line)) from w ⌝ }
     ensures pixels { λ _. ⌜ (λ k. getD (now (pixels .exit)) k 0) ≡ patch from w (rowShown depth w (λ c. at (now (work .entry)) (from + c))) (λ k. getD (now (pixels .entry)) k 0) ⌝ }
     ensures work { λ _. ⌜ at (now (work .exit)) ≡ patch from w (λ j. pos 0) (at (now (work .entry))) ⌝ }
 {
-    unlifting::row(work, tile, from, w);
-    show_row(work, pixels, from, w, depth);
+    unlifting::row(work, line, from, w);
+    show_row(line, unlifting::LEAD, pixels, from, w, depth);
     clear_row(work, from, w);
 }
 
 // The rows of the first level, one after the other: each is still in the cache when it is shown and cleared.
 fn finish_rows(
     work: &mut [i64],
-    tile: &mut [i64],
+    line: &mut [i64],
     pixels: &mut [u16],
     w: usize,
     h: usize,
     depth: u8,
 )
-    requires { ⌜ RowsReady depth (now work) (length (now pixels)) (length (now tile)) w h ⌝ }
+    requires { ⌜ RowsReady depth (now work) (length (now pixels)) (length (now line)) w h ⌝ }
     ensures pixels { λ _. ⌜ (λ k. getD (now (pixels .exit)) k 0) ≡ shownRows depth w h (at (now (work .entry))) (λ k. getD (now (pixels .entry)) k 0) ⌝ }
     ensures work { λ _. ⌜ at (now (work .exit)) ≡ clearedRows w h (at (now (work .entry))) ⌝ }
 {
     for r in 0..h {
-        finish_row(work, tile, pixels, r * w, w, depth);
+        finish_row(work, line, pixels, r * w, w, depth);
     }
 }
 
@@ -362,15 +398,16 @@ fn show(
     h: usize,
     pixels: &mut [u16],
     work: &mut [i64],
-    tile: &mut [i64],
+    lines: &mut [i64],
+    line: &mut [i64],
 )
-    requires { ⌜ ViewReady table (now plane) (length (now work)) (length (now tile)) w h × (w * h ≤ length (now pixels)) ⌝ }
+    requires { ⌜ ViewReady table (now plane) (length (now work)) (length (now lines)) (length (now line)) w h × (w * h ≤ length (now pixels)) ⌝ }
     ensures pixels { λ _. ⌜ now (pixels .exit) ≡ over (rowByRow w h (viewPicture table w h (planeOf w (now (plane .entry))))) (now (pixels .entry)) ⌝ }
     ensures work { λ _. ⌜ now (work .exit) ≡ zeroed (w * h) (now (work .entry)) ⌝ }
 {
-    levels_back(table, plane, work, tile, w, h);
-    columns_back(table, 1, work, tile, w, w, h);
-    finish_rows(work, tile, pixels, w, h, table.depth);
+    levels_back(table, plane, work, lines, line, w, h);
+    columns_back(table, 1, plane, work, lines, line, w, w, w, h);
+    finish_rows(work, line, pixels, w, h, table.depth);
 }
 
 // The answer of the call, for pixels and a work area of so many elements.
@@ -396,7 +433,7 @@ fn answer(
 }
 
 // The picture of a 9/7 plane: refusals 4, 6, 7, 13, 8, 9 and 12. Success leaves the picture in the pixels, row by row, and zeros in the
-// work area; a refusal leaves both as they were. The tile is made before anything is judged (docs/DECISIONS.md, the compiler's back end).
+// work area; a refusal leaves both as they were. The two arrays are made before anything is judged (docs/DECISIONS.md, the compiler's back end).
 pub fn view(
     table: WidthTable,
     plane: &[i32],
@@ -409,11 +446,12 @@ pub fn view(
     ensures pixels { λ _. ⌜ now (pixels .exit) ≡ viewPixels table w h (now (plane .entry)) (now (pixels .entry)) (now (work .entry)) ⌝ }
     ensures work { λ _. ⌜ now (work .exit) ≡ viewWork table w h (now (plane .entry)) (now (pixels .entry)) (now (work .entry)) ⌝ }
 {
-    let mut tile = [0i64; TILE];
+    let mut lines = [0i64; LINES];
+    let mut line = [0i64; LINE];
     match answer(table, plane, w, h, pixels.len(), work.len()) {
         Outcome::Refused(why) => Outcome::Refused(why),
         Outcome::Done => {
-            show(table, plane, w, h, pixels, work, &mut tile);
+            show(table, plane, w, h, pixels, work, &mut lines, &mut line);
             Outcome::Done
         }
     }

@@ -1,26 +1,37 @@
--- `unlifting::row` meets its contract: a row is a strip of one column whose stride is 1.
+-- `unlifting::row` meets its contract: its first two turns, those away from its ends, and the others.
 -- Assumes nothing.
-use mathlib.Core.Path.{sym, subst, _∙_}
 use native.Mathlib.Omega.{arith}
-use Rattle.lifting.specs.Patch.{at}
-use Rattle.lifting.specs.Strips.{row-column, row-patch}
-use Rattle.unlifting.specs.Fixed.{nodeBits, fixedBack}
-use Rattle.unlifting.specs.Planes.{Safe}
+use Rattle.unlifting.specs.Rows.{turns-first, turns-inner, turns-last, row-undone}
 use Rattle.unlifting.proofs.row.Statement.{statement}
 use Rattle.unlifting.proofs.row.Tie as tie
 
-strip-requires : tie.Need-strip-requires
-strip-requires c κs =
-    let a = c .before .before in (
-      (record { lines = record { some = omega (arith, a .pre .0 .2); few = omega arith; narrow = omega arith; fits = λ i p. omega arith }; some = omega arith; two = a .pre .0 .2; room = omega arith }, omega arith, omega arith),
-      λ j g. subst (Safe nodeBits nodeBits (a .args .w)) (sym (row-column (a .args .from) j (at (a .args .work .now)) g)) (a .pre .1),
-    )
+row-turns-requires : tie.Need-row-turns-requires
+row-turns-requires c κs = turns-first (c .before .pre) _ (omega arith) _
+
+row-turns-requires-2 : tie.Need-row-turns-requires-2
+row-turns-requires-2 c κs =
+    let g = c .before in
+    let t = g .before .before in
+    turns-inner (t .before .before .pre) _ (omega arith) _ _ (g .larger .ensures) (t .row-turns .ensures)
+
+row-turns-requires-3 : tie.Need-row-turns-requires-3
+row-turns-requires-3 c κs =
+    let t = c .before .before in
+    let g = t .before .before in
+    turns-last (g .before .before .before .before .pre) _ (omega arith) _ _ (g .larger .ensures) (t .row-turns2 .ensures)
 
 returns : tie.Need-returns
-returns c =
-    let f = c .before .before in
-    let a = f .before .before .before .args in
-    (f .strip .ensures ∙ row-patch (fixedBack nodeBits nodeBits) (a .from) (a .w) (at (a .work .now)), omega arith)
+returns c = row-undone (c .before .row-turns3 .ensures)
 
 pub row-spec : {M : Type 1} → statement M
-row-spec = tie.close (tie.spec strip-requires (λ c. omega arith) (λ c. omega arith) returns)
+row-spec =
+    tie.close
+    (tie.spec
+    row-turns-requires
+    (λ c κs. tt)
+    row-turns-requires-2
+    (λ c. omega arith)
+    (λ c. omega arith)
+    row-turns-requires-3
+    (λ c. omega arith)
+    returns)

@@ -1,10 +1,10 @@
 -- `unlifting::rows` meets its contract. The loop's invariant: the first r rows are done.
 -- Assumes nothing.
-use mathlib.Core.Path.{_≡_, refl, sym, subst}
+use mathlib.Core.Path.{_≡_, refl, sym, subst, _∙_}
 use Prim.Native.Nat.{_*_, _-_, _≤_}
 use native.Mathlib.Omega.{arith}
 use lib.ListN.{length}
-use Rattle.lifting.specs.Patch.{at}
+use Rattle.lifting.specs.Patch.{at, patch-ext}
 use Rattle.lifting.specs.PatchLines.{lines-none, lines-to}
 use Rattle.lifting.specs.Strips.{row-kept, row-next}
 use Rattle.unlifting.specs.Fixed.{nodeBits, fixedBack}
@@ -13,39 +13,42 @@ use Rattle.unlifting.proofs.rows.Statement.{statement}
 use Rattle.unlifting.proofs.rows.Tie as tie
 
 abbrev Inv-loop : tie.InvT-loop
-Inv-loop work₀ tile₀ stride w h r₀ work tile r =
-    (r ≤ h) × (length work ≡ length work₀) × (length tile ≡ length tile₀) × (at work ≡ rowsBack stride w r (at work₀))
+Inv-loop work₀ line₀ stride w h r₀ work line r =
+    (r ≤ h) × (length work ≡ length work₀) × (length line ≡ length line₀) × (at work ≡ rowsBack stride w r (at work₀))
 
 abbrev μ-loop : tie.MeasureT-loop
-μ-loop work₀ tile₀ stride w h r₀ work tile r = h - r
-
-loop-holds : tie.Need-loop-holds Inv-loop μ-loop
-loop-holds c = (omega arith, refl, refl, lines-none _ _ _ _)
-
-mul-row : tie.Need-mul-row Inv-loop μ-loop
-mul-row c =
-    let t = c .before .before .before in
-    omega (arith, t .before .pre .0 .0 .fits (t .loop .r) (c .before .before .loop-test .taken))
+μ-loop work₀ line₀ stride w h r₀ work line r = h - r
 
 row-requires : tie.Need-row-requires Inv-loop μ-loop
 row-requires c κs =
-    let t = c .before .before .before in
+    let i = c .before .before in
+    let t = i .before in
     let a = t .before in
     let part = a .pre .0 .0 in
-    let h = c .before .before .loop-test .taken in
-    let there = part .fits (t .loop .r) h in (
-      (omega arith, omega arith, a .pre .0 .1, omega (arith, part .narrow, part .wide)),
-      subst (Safe nodeBits nodeBits (a .args .w)) (sym (row-kept (a .args .stride) (a .args .w) (t .loop .r) (t .loop .r * a .args .stride) (omega (arith, part .narrow)) _ _ _ (t .loop .inv .3) (omega arith))) (a .pre .1 (t .loop .r) h),
-    )
+    let there = part .fits (t .loop .r) (i .loop-test .taken) in record {
+      held = omega arith;
+      room = omega arith;
+      two = a .pre .0 .1;
+      short = omega (arith, part .narrow, part .wide);
+      safe = subst (Safe nodeBits nodeBits (a .args .w)) (sym (row-kept (a .args .stride) (a .args .w) (t .loop .r) (t .loop .r * a .args .stride) (omega (arith, part .narrow)) _ _ _ (t .loop .inv .3) (omega arith))) (a .pre .1 (t .loop .r) (i .loop-test .taken));
+    }
+
+copy-run-requires : tie.Need-copy-run-requires Inv-loop μ-loop
+copy-run-requires c κs =
+    let i = c .before .before .before .before .before .before in
+    let there = i .before .before .pre .0 .0 .fits (i .before .loop .r) (i .loop-test .taken) in
+    (omega arith, omega arith)
 
 loop-again : tie.Need-loop-again Inv-loop μ-loop
 loop-again c =
-    let t = c .before .before .before .before .before .before in
+    let n = c .before .before .before .before .before in
+    let t = n .before .before .before .before in
     let a = t .before in (
       omega arith,
       omega arith,
       omega arith,
-      row-next (fixedBack nodeBits nodeBits) (a .args .stride) (a .args .w) (t .loop .r) (t .loop .r * a .args .stride) (omega (arith, a .pre .0 .0 .narrow)) (at (a .args .work .now)) _ _ (t .loop .inv .3) (omega arith) (c .before .before .row .ensures .0),
+      row-next (fixedBack nodeBits nodeBits) (a .args .stride) (a .args .w) (t .loop .r) (t .loop .r * a .args .stride) (omega (arith, a .pre .0 .0 .narrow)) (at (a .args .work .now)) _ _ (t .loop .inv .3) (omega arith)
+          (c .before .copy-run .ensures ∙ patch-ext _ _ _ _ _ (n .row .ensures)),
     )
 
 returns : tie.Need-returns Inv-loop μ-loop
@@ -57,9 +60,11 @@ rows-spec =
     (tie.spec
     Inv-loop
     μ-loop
-    loop-holds
-    mul-row
+    (λ c. (omega arith, refl, refl, lines-none _ _ _ _))
+    (λ c. omega (arith, c .before .before .before .before .pre .0 .0 .fits (c .before .before .before .loop .r) (c .before .before .loop-test .taken)))
     row-requires
+    (λ c. omega (arith, c .before .before .before .before .before .before .before .before .pre .0 .0 .fits (c .before .before .before .before .before .before .before .loop .r) (c .before .before .before .before .before .before .loop-test .taken)))
+    copy-run-requires
     (λ c. omega arith)
     (λ c. omega arith)
     loop-again

@@ -19,9 +19,9 @@ done c =
 
 show-requires : tie.Need-show-requires
 show-requires c κs =
-    let d = c .before .before .before in
+    let d = c .before .before .before .before in
     let a = d .before .before .before .before .args in
-    (view-ready (a .table) (a .w) (a .h) (a .plane .now) (a .pixels .now) (a .work .now) (done d) _ (omega arith), call-room (a .table) (a .w) (a .h) (a .plane .now) (a .pixels .now) (a .work .now) (done d) .first)
+    (view-ready (a .table) (a .w) (a .h) (a .plane .now) (a .pixels .now) (a .work .now) (done d) _ _ (omega arith) (omega arith) (omega arith), call-room (a .table) (a .w) (a .h) (a .plane .now) (a .pixels .now) (a .work .now) (done d) .first)
 
 returns : tie.Need-returns
 returns c =
@@ -32,8 +32,8 @@ returns c =
 
 returns-2 : tie.Need-returns-2
 returns-2 c =
-    let s = c .before .before .before .before in
-    let d = s .before .before .before .before in
+    let s = c .before .before .before .before .before in
+    let d = s .before .before .before .before .before in
     let a = d .before .before .before .before .args in (
       sym (done d),
       (s .show .ensures .0 ∙ pixels-done (a .table) (a .w) (a .h) (a .plane .now) (a .pixels .now) (a .work .now) (done d), s .show .ensures .1 ∙ work-done (a .table) (a .w) (a .h) (a .plane .now) (a .pixels .now) (a .work .now) (done d)),
@@ -44,6 +44,7 @@ view-spec =
     tie.close
     (tie.spec
     (λ c κs. search needs)
+    (λ c. search needs)
     (λ c. search needs)
     (λ c. search needs)
     (λ c. search needs)

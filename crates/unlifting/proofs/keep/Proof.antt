@@ -1,0 +1,36 @@
+-- `unlifting::keep` meets its contract: four stores.
+-- Assumes nothing.
+use native.Mathlib.Omega.{arith}
+use lib.ListN.{length-set}
+use Rattle.unlifting.specs.Stages.{again}
+use Rattle.unlifting.specs.Columns.{kept-sets}
+use Rattle.unlifting.proofs.keep.Statement.{statement}
+use Rattle.unlifting.proofs.keep.Tie as tie
+
+returns : tie.Need-returns
+returns c =
+    let told = c .before .before .before .struct-told .given in
+    let s = c .before .before .before .before in
+    let t = s .args .t in
+    kept-sets (s .args .lines .now) (s .args .room) (s .args .j) t _ _ _ _ (s .pre .0) (s .pre .1)
+    (again (t .g2) (told .0 .1)) (again (t .u2) (told .1 .0 .1)) (again (t .p2) (told .1 .1 .0 .1)) (again (t .u1) (told .1 .1 .1 .0 .1))
+
+pub keep-spec : {M : Type 1} → statement M
+keep-spec =
+    tie.close
+    (tie.spec
+    (λ c. omega arith)
+    (λ c. omega arith)
+    (λ c. omega arith)
+    (λ c. omega arith)
+    (λ c. simp length-set (omega arith))
+    (λ c. omega arith)
+    (λ c. omega arith)
+    (λ c. omega arith)
+    (λ c. simp length-set (omega arith))
+    (λ c. omega arith)
+    (λ c. omega arith)
+    (λ c. omega arith)
+    (λ c. simp length-set (omega arith))
+    (λ c. simp length-set)
+    returns)

@@ -1,0 +1,142 @@
+-- Strips of a plane: where their columns come from, where they go, and what the turns leave of them in memory.
+-- Assumes nothing.
+use mathlib.Core.Path.{_≡_, refl, sym, ap, subst, _∙_, fun-ext}
+use mathlib.Core.Bool.{Bool, true, false}
+use mathlib.Core.List.{List}
+use Prim.Native.Nat.{ℕ, _+_, _*_, _-_, _^_, _<_, _≤_, min}
+use native.Mathlib.Omega.{arith}
+use lib.Dec.{ltb}
+use lib.IntN.{ℤ, pos}
+use lib.ListN.{length}
+use Rattle.lines.specs.Lines.{lows, highs, Liftable}
+use Rattle.numbers.specs.Tests.{ltb-true, ltb-false}
+use Rattle.lifting.specs.Patch.{at, patch, patch-in, patch-below}
+use Rattle.lifting.specs.PatchLines.{lineAt, patchLines, lines-out}
+use Rattle.lifting.specs.Strips.{value-as-was, strips-more}
+use Rattle.unlifting.specs.declared.Turn.{Turn}
+use Rattle.unlifting.specs.declared.Strip.{Strip}
+use Rattle.unlifting.specs.declared.Site.{Site}
+use Rattle.unlifting.specs.Fixed.{nodeBits, fixedBack}
+use Rattle.unlifting.specs.Planes.{Safe}
+use Rattle.unlifting.specs.Turns.{Line, Held, Turned}
+use Rattle.unlifting.specs.Columns.{turnIn, columnLine, ColumnReady, TurnedAt}
+
+-- Column j of n values, the lows first. The highs are stored: value k stands on line k of the plane. So do the lows where they are stored;
+-- else a coarser level left them in the work area, low k on line 2 k.
+unfoldable pub source : Site → ℕ → (ℕ → ℤ) → (ℕ → ℤ) → ℕ → ℕ → ℤ
+source a n plane work j k =
+    elim (ltb k (lows n)) [
+      | true ↦ elim (a .stored) [ true ↦ plane (lineAt (a .from) (a .width) k + j) | false ↦ work (lineAt (a .from) (a .stride) (2 * k) + j) ]
+      | false ↦ plane (lineAt (a .from) (a .width) k + j)
+    ]
+
+-- w columns undone: they go to n lines of the work area
+abbrev pub undone : Site → ℕ → ℕ → ℕ → ℕ → (ℕ → ℤ) → (ℕ → ℤ) → ℕ → ℤ
+undone a fl fh w n plane work = patchLines (lineAt (a .from) (a .stride)) w n (λ r j. fixedBack fl fh n (source a n plane work j) r) work
+
+-- w columns of n lines lie in a plane and in a work area of so many values
+pub record Lies (plane work : ℕ) (a : Site) (w n : ℕ) : Type 0 where
+  pub two : Liftable n
+  pub few : n < 2 ^ 31
+  pub narrow : a .from + w ≤ a .stride
+  pub inPlane : (k : ℕ) → k < n → lineAt (a .from) (a .width) k + w ≤ plane
+  pub inWork : (k : ℕ) → k < n → lineAt (a .from) (a .stride) k + w ≤ work
+
+-- a strip lies there, and what is held of it has room
+pub record Placed (plane work lines line : ℕ) (a : Site) (b : Strip) : Type 0 where
+  pub lies : Lies plane work a (b .columns) (b .lines)
+  pub narrow : b .columns ≤ b .room
+  pub room : 5 * b .room ≤ lines
+  pub spare : 2 * b .room ≤ line
+  pub lowbits : b .lowbits ≤ nodeBits
+  pub highbits : b .highbits ≤ nodeBits
+
+-- ---- low i is held
+
+pub record Fed (plane work lines lines′ : List ℤ) (a : Site) (b : Strip) (i : ℕ) : Type 0 where
+  pub low : (j : ℕ) → j < b .columns → i < lows (b .lines) → at lines′ (4 * b .room + j) ≡ source a (b .lines) (at plane) (at work) j i
+  pub past : (j : ℕ) → lows (b .lines) ≤ i → at lines′ (4 * b .room + j) ≡ at lines (4 * b .room + j)
+  pub others : (p : ℕ) → p < 4 * b .room → at lines′ p ≡ at lines p
+
+-- ---- turn i of a strip
+
+-- where its high, or the last one, stands in the plane, and where its first line goes
+abbrev pub highPlace : Site → Strip → ℕ → ℕ
+highPlace a b i = lineAt (a .from) (a .width) (lows (b .lines) + min i (highs (b .lines) - 1))
+
+abbrev pub evenPlace : Site → ℕ → ℕ
+evenPlace a i = lineAt (a .from) (a .stride) (2 * (i - 2))
+
+pub record PlaneTurn (plane work lines : List ℤ) (line : ℕ) (a : Site) (b : Strip) (i : ℕ) : Type 0 where
+  pub placed : Placed (length plane) (length work) (length lines) line a b
+  pub within : i < lows (b .lines) + 2
+  pub y : ℕ → ℕ → ℤ
+  pub ready : (j : ℕ) → j < b .columns → ColumnReady b i (turnIn (b .room) (at lines) j) (at lines (4 * b .room + j)) (at plane (highPlace a b i + j)) (y j)
+
+pub record PlaneTurned (plane work work′ lines lines′ : List ℤ) (a : Site) (b : Strip) (i : ℕ) : Type 0 where
+  pub turned : (j : ℕ) → j < b .columns → TurnedAt (at plane) (highPlace a b i) (at lines) (at lines′) (at work′) (evenPlace a i) (a .stride) b i j
+  pub lows : (j : ℕ) → j < b .columns → at lines′ (4 * b .room + j) ≡ at lines (4 * b .room + j)
+  pub kept : (p : ℕ) → (2 ≤ i → (j : ℕ) → j < b .columns → p ≡ evenPlace a i + j → ⊥)
+      → (2 ≤ i → i - 2 < highs (b .lines) → (j : ℕ) → j < b .columns → p ≡ evenPlace a i + a .stride + j → ⊥) → at work′ p ≡ at work p
+
+-- ---- a strip
+
+pub record StripReady (plane work : List ℤ) (lines line : ℕ) (a : Site) (b : Strip) : Type 0 where
+  pub placed : Placed (length plane) (length work) lines line a b
+  pub safe : (j : ℕ) → j < b .columns → Safe (b .lowbits) (b .highbits) (b .lines) (source a (b .lines) (at plane) (at work) j)
+
+-- ---- proved of them
+
+abbrev pub pick : {A : Type 0} → A → A → Bool → A
+pick x y t = elim t [ true ↦ x | false ↦ y ]
+
+-- where a value of a column stands
+module _ (a : Site) (n : ℕ) (plane work : ℕ → ℤ) (j k : ℕ) where
+  pub source-low : k < lows n → source a n plane work j k ≡ pick (plane (lineAt (a .from) (a .width) k + j)) (work (lineAt (a .from) (a .stride) (2 * k) + j)) (a .stored)
+  unfolding source
+  source-low h = ap (pick (pick (plane (lineAt (a .from) (a .width) k + j)) (work (lineAt (a .from) (a .stride) (2 * k) + j)) (a .stored)) (plane (lineAt (a .from) (a .width) k + j))) (ltb-true k (lows n) h)
+
+  pub source-stored : k < lows n → a .stored ≡ true → source a n plane work j k ≡ plane (lineAt (a .from) (a .width) k + j)
+  source-stored h e = source-low h ∙ ap (pick (plane (lineAt (a .from) (a .width) k + j)) (work (lineAt (a .from) (a .stride) (2 * k) + j))) e
+
+  pub source-left : k < lows n → a .stored ≡ false → source a n plane work j k ≡ work (lineAt (a .from) (a .stride) (2 * k) + j)
+  source-left h e = source-low h ∙ ap (pick (plane (lineAt (a .from) (a .width) k + j)) (work (lineAt (a .from) (a .stride) (2 * k) + j))) e
+
+  pub source-high : lows n ≤ k → source a n plane work j k ≡ plane (lineAt (a .from) (a .width) k + j)
+  unfolding source
+  source-high h = ap (pick (pick (plane (lineAt (a .from) (a .width) k + j)) (work (lineAt (a .from) (a .stride) (2 * k) + j)) (a .stored)) (plane (lineAt (a .from) (a .width) k + j))) (ltb-false k (lows n) h)
+
+-- low i is held: from the plane or from the work area
+module _ (plane work lines lines′ : List ℤ) (a : Site) (b : Strip) (i : ℕ) (among : i < lows (b .lines)) (new : ℕ → ℤ) (is : at lines′ ≡ patch (4 * b .room) (b .columns) new (at lines)) where
+  fed : ((j : ℕ) → j < b .columns → new j ≡ source a (b .lines) (at plane) (at work) j i) → Fed plane work lines lines′ a b i
+  fed same = record {
+    low = λ j h g. ap (λ (f : ℕ → ℤ). f (4 * b .room + j)) is ∙ patch-in (4 * b .room) (b .columns) new (at lines) j h ∙ same j h;
+    past = λ j h. absurd (omega arith);
+    others = λ p h. ap (λ (f : ℕ → ℤ). f p) is ∙ patch-below (4 * b .room) (b .columns) new (at lines) p h;
+  }
+
+  pub fed-stored : a .stored ≡ true → ((j : ℕ) → new j ≡ at plane (lineAt (a .from) (a .width) i + j)) → Fed plane work lines lines′ a b i
+  fed-stored e same = fed (λ j h. same j ∙ sym (source-stored a (b .lines) (at plane) (at work) j i among e))
+
+  pub fed-left : a .stored ≡ false → ((j : ℕ) → new j ≡ at work (lineAt (a .from) (a .stride) (2 * i) + j)) → Fed plane work lines lines′ a b i
+  fed-left e same = fed (λ j h. same j ∙ sym (source-left a (b .lines) (at plane) (at work) j i among e))
+
+-- ---- strip by strip: the first d columns are undone
+
+-- s columns after them
+abbrev pub after : Site → ℕ → Site
+after a d = record { width = a .width; stride = a .stride; from = a .from + d; stored = a .stored }
+
+module _ (a : Site) (fl fh d s h : ℕ) (narrow : a .from + (d + s) ≤ a .stride) (plane x y : ℕ → ℤ) (is : y ≡ undone a fl fh d h plane x) where
+  pub source-as-was : (j : ℕ) → j < s → source (after a d) h plane y j ≡ source a h plane x (d + j)
+  unfolding source
+  source-as-was j g = fun-ext λ k. λ u. pick (pick (plane (line k u)) (value-as-was (a .stride) (a .from) d s h narrow _ x y is (2 * k) j g u) (a .stored)) (plane (line k u)) (ltb k (lows h))
+    where
+      line : (k : ℕ) → lineAt (a .from + d) (a .width) k + j ≡ lineAt (a .from) (a .width) k + (d + j)
+      line k = omega arith
+
+  pub undone-more : (z : ℕ → ℤ) → z ≡ undone (after a d) fl fh s h plane y → z ≡ undone a fl fh (d + s) h plane x
+  undone-more z e = strips-more (a .stride) (a .from) d s h narrow _ x y is _ z e (λ i j p g. ap (λ (c : ℕ → ℤ). fixedBack fl fh h c i) (source-as-was j g))
+
+pub undone-none : (a : Site) (fl fh h : ℕ) (plane x : ℕ → ℤ) → x ≡ undone a fl fh 0 h plane x
+undone-none a fl fh h plane x = fun-ext λ p. sym (lines-out (lineAt (a .from) (a .stride)) 0 _ x h p (λ i j l m e. omega arith))

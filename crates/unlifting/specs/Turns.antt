@@ -1,0 +1,318 @@
+-- A line undone turn by turn, from its first places on (document 02, job 1). Turn i takes low i and high i and undoes U2 at low i, P2 at
+-- high i - 1, U1 at low i - 1 and P1 at high i - 2, which gives places 2 (i - 2) and 2 (i - 2) + 1. Past the last low and the last high
+-- the last one is taken again (document 01: edges), so that lows n + 2 turns undo a line of n values.
+-- Assumes nothing.
+use mathlib.Core.Path.{_≡_, refl, sym, ap, subst, _∙_}
+use Prim.Native.Nat.{ℕ, _+_, _*_, _-_, _<_, _≤_, min}
+use native.Mathlib.Omega.{arith}
+use native.Mathlib.Decide.{decLt}
+use lib.IntN.{ℤ, natAbs}
+use Rattle.exact.specs.Exact.{alpha, beta, gamma, delta}
+use Rattle.lines.specs.Lines.{lows, highs, Liftable, lowAfter, highBefore, highAfter, onHighs, onLows}
+use mir.Syntax.{w64}
+use mir.Val.{SFits}
+use mir.Facts.{toZ-ofZ}
+use Rattle.lifting.specs.Runs.{as-type}
+use Rattle.lifting.specs.Turns.{back}
+use Rattle.unlifting.specs.declared.Turn.{Turn}
+use Rattle.unlifting.specs.Fixed.{unstep, atG1, atG2, atU2, atP2, atU1, atP1, Small, limit}
+use Rattle.unlifting.specs.Stages.{Inside, read, inside-read}
+
+-- ---- one stage in a turn
+
+-- Low k of L lows, undone by f: the first has the high after it on both sides. Past the last one, what was kept stays.
+pub record LowTurned (f : ℤ → ℤ → ℤ → ℤ) (k L : ℕ) (kept own before after r : ℤ) : Type 0 where
+  pub first : k ≡ 0 → k < L → r ≡ f own after after
+  pub inner : 0 < k → k < L → r ≡ f own before after
+  pub past : L ≤ k → r ≡ kept
+
+-- what it asks
+pub record LowAsks (k L : ℕ) (own before after : ℤ) : Type 0 where
+  pub first : k ≡ 0 → k < L → Inside own after after
+  pub inner : 0 < k → k < L → Inside own before after
+
+-- high k of H highs
+pub record HighTurned (f : ℤ → ℤ → ℤ → ℤ) (k H : ℕ) (kept own before after r : ℤ) : Type 0 where
+  pub inner : k < H → r ≡ f own before after
+  pub past : H ≤ k → r ≡ kept
+
+-- of numbers that were read back from their bits
+pub low-asks-read : {k L : ℕ} {own before after : ℤ} → LowAsks k L own before after → LowAsks k L (back w64 own) (back w64 before) (back w64 after)
+low-asks-read a = record { first = λ e h. inside-read (a .first e h); inner = λ e h. inside-read (a .inner e h) }
+
+pub low-read : {k L : ℕ} {kept own before after r : ℤ} {f g : ℤ → ℤ → ℤ → ℤ} → f ≡ g → LowAsks k L own before after → (L ≤ k → natAbs kept ≤ limit)
+    → LowTurned f k L (back w64 kept) (back w64 own) (back w64 before) (back w64 after) r → LowTurned g k L kept own before after r
+low-read {k} {L} {kept} {own} {before} {after} f asks size d = record {
+  first = λ e h. let a = asks .first e h in d .first e h ∙ (λ u. f u (read own (a .middle) u) (read after (a .right) u) (read after (a .right) u));
+  inner = λ e h. let a = asks .inner e h in d .inner e h ∙ (λ u. f u (read own (a .middle) u) (read before (a .left) u) (read after (a .right) u));
+  past = λ h. d .past h ∙ read kept (size h);
+}
+
+pub high-read : {k H : ℕ} {kept own before after r : ℤ} {f g : ℤ → ℤ → ℤ → ℤ} → f ≡ g → (k < H → Inside own before after) → (H ≤ k → natAbs kept ≤ limit)
+    → HighTurned f k H (back w64 kept) (back w64 own) (back w64 before) (back w64 after) r → HighTurned g k H kept own before after r
+high-read {k} {H} {kept} {own} {before} {after} f asks size d = record {
+  inner = λ h. let a = asks h in d .inner h ∙ (λ u. f u (read own (a .middle) u) (read before (a .left) u) (read after (a .right) u));
+  past = λ h. d .past h ∙ read kept (size h);
+}
+
+-- what it is of a line of n values
+module _ (f : ℤ → ℤ → ℤ → ℤ) (n : ℕ) (low high : ℕ → ℤ) where
+  low-in : (k : ℕ) → k < lows n → min k (lows n - 1) ≡ k
+  low-in k h = omega arith
+
+  high-in : (k : ℕ) → k < highs n → min k (highs n - 1) ≡ k
+  high-in k h = omega arith
+
+  low-turned : (k L : ℕ) (kept own before after r : ℤ) → LowTurned f k L kept own before after r → L ≡ lows n → 1 ≤ highs n
+      → own ≡ low (min k (lows n - 1)) → (1 ≤ k → before ≡ high (min (k - 1) (highs n - 1))) → after ≡ high (min k (highs n - 1))
+      → (L ≤ k → kept ≡ onLows f n low high (min k (lows n - 1)))
+      → r ≡ onLows f n low high (min k (lows n - 1))
+  unfolding onLows highBefore highAfter
+  low-turned k L kept own before after r d e some own-is before-is after-is past = go (decLt k L) (decLt 0 k)
+    where
+      go : Dec (k < L) → Dec (0 < k) → r ≡ onLows f n low high (min k (lows n - 1))
+      go (no h) c = d .past (omega arith) ∙ past (omega arith)
+      go (yes h) (yes g) =
+          let i : min k (lows n - 1) ≡ k = low-in k (omega arith) in
+          d .inner g h ∙ (λ u. f (own-is u) ((before-is g ∙ ap high (high-in (k - 1) (omega arith) ∙ ap (λ (j : ℕ). j - 1) (sym i))) u) ((after-is ∙ ap (λ (j : ℕ). high (min j (highs n - 1))) (sym i)) u))
+      go (yes h) (no z) =
+          let o : k ≡ 0 = omega arith in
+          let i : min k (lows n - 1) ≡ k = low-in k (omega arith) in
+          d .first o h ∙ (λ u. f (own-is u) ((after-is ∙ ap high (high-in k (omega arith) ∙ (let e : k ≡ k - 1 = omega arith in e) ∙ ap (λ (j : ℕ). j - 1) (sym i))) u) ((after-is ∙ ap (λ (j : ℕ). high (min j (highs n - 1))) (sym i)) u))
+
+  high-turned : (k H : ℕ) (kept own before after r : ℤ) → HighTurned f k H kept own before after r → H ≡ highs n
+      → own ≡ high (min k (highs n - 1)) → before ≡ low (min k (lows n - 1)) → after ≡ low (min (k + 1) (lows n - 1))
+      → (H ≤ k → kept ≡ onHighs f n low high (min k (highs n - 1)))
+      → r ≡ onHighs f n low high (min k (highs n - 1))
+  unfolding onHighs lowAfter
+  high-turned k H kept own before after r d e own-is before-is after-is past = go (decLt k H)
+    where
+      go : Dec (k < H) → r ≡ onHighs f n low high (min k (highs n - 1))
+      go (no h) = d .past (omega arith) ∙ past (omega arith)
+      go (yes h) =
+          let i : min k (highs n - 1) ≡ k = high-in k (omega arith) in
+          d .inner h ∙ (λ u. f (own-is u) ((before-is ∙ ap low (low-in k (omega arith) ∙ sym i)) u) ((after-is ∙ ap (λ (j : ℕ). low (min (j + 1) (lows n - 1))) (sym i)) u))
+
+-- ---- a turn
+
+-- turn i of a line of L lows and H highs, which takes the scaled values low and high: t was held before it, r is left
+pub record Turned (i L H : ℕ) (t : Turn) (low high : ℤ) (r : Turn) : Type 0 where
+  pub g2 : r .g2 ≡ high
+  pub u2 : LowTurned (unstep delta) i L (t .u2) low (t .g2) high (r .u2)
+  pub p2 : 1 ≤ i → HighTurned (unstep gamma) (i - 1) H (t .p2) (t .g2) (t .u2) (r .u2) (r .p2)
+  pub u1 : 1 ≤ i → LowTurned (unstep beta) (i - 1) L (t .u1) (t .u2) (t .p2) (r .p2) (r .u1)
+  pub even : 2 ≤ i → r .even ≡ t .u1
+  pub odd : 2 ≤ i → i - 2 < H → r .odd ≡ unstep alpha (t .p2) (t .u1) (r .u1)
+
+-- s has the numbers of r, as far as they count in turn i of a line of H highs
+pub record SameTurn (i H : ℕ) (s r : Turn) : Type 0 where
+  pub g2 : s .g2 ≡ r .g2
+  pub u2 : s .u2 ≡ r .u2
+  pub p2 : s .p2 ≡ r .p2
+  pub u1 : s .u1 ≡ r .u1
+  pub even : 2 ≤ i → s .even ≡ r .even
+  pub odd : 2 ≤ i → i - 2 < H → s .odd ≡ r .odd
+
+pub turned-as : {i L H : ℕ} {t r : Turn} {low high : ℤ} → Turned i L H t low high r → {s : Turn} → SameTurn i H s r → Turned i L H t low high s
+turned-as {i} {L} {H} {t} {r} {low} {high} d {s} e = record {
+  g2 = e .g2 ∙ d .g2;
+  u2 = as-type (λ u. LowTurned (unstep delta) i L (t .u2) low (t .g2) high (sym (e .u2) u)) (d .u2);
+  p2 = λ h. as-type (λ u. HighTurned (unstep gamma) (i - 1) H (t .p2) (t .g2) (t .u2) (sym (e .u2) u) (sym (e .p2) u)) (d .p2 h);
+  u1 = λ h. as-type (λ u. LowTurned (unstep beta) (i - 1) L (t .u1) (t .u2) (t .p2) (sym (e .p2) u) (sym (e .u1) u)) (d .u1 h);
+  even = λ h. e .even h ∙ d .even h;
+  odd = λ h g. e .odd h g ∙ d .odd h g ∙ ap (unstep alpha (t .p2) (t .u1)) (sym (e .u1));
+}
+
+-- n values, the lows first, whose lows have fl bits and whose highs have fh
+pub record Line : Type 0 where
+  pub fl : ℕ
+  pub fh : ℕ
+  pub n : ℕ
+  pub y : ℕ → ℤ
+
+-- it can be undone: no value on the way is large
+pub record Undoable (l : Line) : Type 0 where
+  pub two : Liftable (l .n)
+  pub small : Small (l .fl) (l .fh) (l .n) (l .y)
+
+module _ (l : Line) where
+  -- place i, or the last one
+  abbrev pub upToLow : ℕ → ℕ
+  upToLow i = min i (lows (l .n) - 1)
+
+  abbrev pub upToHigh : ℕ → ℕ
+  upToHigh i = min i (highs (l .n) - 1)
+
+  abbrev pub lineG1 : ℕ → ℤ
+  lineG1 = atG1 (l .fl) (l .fh) (l .n) (l .y)
+
+  abbrev pub lineG2 : ℕ → ℤ
+  lineG2 = atG2 (l .fl) (l .fh) (l .n) (l .y)
+
+  abbrev pub lineU2 : ℕ → ℤ
+  lineU2 = atU2 (l .fl) (l .fh) (l .n) (l .y)
+
+  abbrev pub lineP2 : ℕ → ℤ
+  lineP2 = atP2 (l .fl) (l .fh) (l .n) (l .y)
+
+  abbrev pub lineU1 : ℕ → ℤ
+  lineU1 = atU1 (l .fl) (l .fh) (l .n) (l .y)
+
+  abbrev pub lineP1 : ℕ → ℤ
+  lineP1 = atP1 (l .fl) (l .fh) (l .n) (l .y)
+
+  -- what is held after turn i
+  pub record Held (i : ℕ) (t : Turn) : Type 0 where
+    pub g2 : t .g2 ≡ lineG2 (upToHigh i)
+    pub u2 : t .u2 ≡ lineU2 (upToLow i)
+    pub p2 : 1 ≤ i → t .p2 ≡ lineP2 (upToHigh (i - 1))
+    pub u1 : 1 ≤ i → t .u1 ≡ lineU1 (upToLow (i - 1))
+
+  -- what it gives
+  pub record Gives (i : ℕ) (t : Turn) : Type 0 where
+    pub even : 2 ≤ i → t .even ≡ lineU1 (i - 2)
+    pub odd : 2 ≤ i → i - 2 < highs (l .n) → t .odd ≡ lineP1 (i - 2)
+
+-- turn i of a line, ready to be taken
+pub record Ready (l : Line) (i L H : ℕ) (t : Turn) (low high : ℤ) : Type 0 where
+  pub undoable : Undoable l
+  pub lowsAre : L ≡ lows (l .n)
+  pub highsAre : H ≡ highs (l .n)
+  pub within : i < L + 2
+  pub held : 1 ≤ i → Held l (i - 1) t
+  pub lowIs : low ≡ lineG1 l (upToLow l i)
+  pub highIs : high ≡ lineG2 l (upToHigh l i)
+
+-- turn i of some line
+pub record SomeReady (i L H : ℕ) (t : Turn) (low high : ℤ) : Type 0 where
+  pub line : Line
+  pub ready : Ready line i L H t low high
+
+-- the same of numbers read back from their bits
+module _ {i L H : ℕ} {t : Turn} {low high : ℤ} (fl : SFits w64 low) (fh : SFits w64 high) where
+  pub ready-read : SomeReady i L H t low high → SomeReady i L H t (back w64 low) (back w64 high)
+  ready-read q = as-type (λ u. SomeReady i L H t (sym (toZ-ofZ fl) u) (sym (toZ-ofZ fh) u)) q
+
+  pub turned-read : {r : Turn} → Turned i L H t (back w64 low) (back w64 high) r → Turned i L H t low high r
+  turned-read {r} d = as-type (λ u. Turned i L H t (toZ-ofZ fl u) (toZ-ofZ fh u) r) d
+
+last-again : {m k : ℕ} → m ≤ k → min (k - 1) (m - 1) ≡ min k (m - 1)
+last-again h = omega arith
+
+same-size : {x z : ℤ} → x ≡ z → natAbs z ≤ limit → natAbs x ≤ limit
+same-size e h = subst (λ (v : ℤ). natAbs v ≤ limit) (sym e) h
+
+module _ {l : Line} {i L H : ℕ} {t : Turn} {low high : ℤ} (q : Ready l i L H t low high) where
+  pub some-low : 1 ≤ L
+  some-low = let e = q .lowsAre in omega (arith, q .undoable .two)
+
+  pub some-high : 1 ≤ H
+  some-high = let e = q .highsAre in omega (arith, q .undoable .two)
+
+  pub low-size : natAbs low ≤ limit
+  low-size = same-size (q .lowIs) (q .undoable .small .g1 (upToLow l i) (omega (arith, some-low, q .lowsAre)))
+
+  pub high-size : natAbs high ≤ limit
+  high-size = same-size (q .highIs) (q .undoable .small .g2 (upToHigh l i) (omega (arith, some-high, q .highsAre)))
+
+  module _ (more : 1 ≤ i) where
+    pub g2-size : natAbs (t .g2) ≤ limit
+    g2-size = same-size (q .held more .g2) (q .undoable .small .g2 _ (omega (arith, some-high, q .highsAre)))
+
+    pub u2-size : natAbs (t .u2) ≤ limit
+    u2-size = same-size (q .held more .u2) (q .undoable .small .u2 _ (omega (arith, some-low, q .lowsAre)))
+
+  module _ (more : 2 ≤ i) where
+    pub p2-size : natAbs (t .p2) ≤ limit
+    p2-size = same-size (q .held (omega arith) .p2 (omega arith)) (q .undoable .small .p2 _ (omega (arith, some-high, q .highsAre)))
+
+    pub u1-size : natAbs (t .u1) ≤ limit
+    u1-size = same-size (q .held (omega arith) .u1 (omega arith)) (q .undoable .small .u1 _ (omega (arith, some-low, q .lowsAre)))
+
+  -- past the last one
+  past-low : {k : ℕ} → L ≤ k → upToLow l (k - 1) ≡ upToLow l k
+  past-low h = let e = q .lowsAre in last-again (omega arith)
+
+  past-high : {k : ℕ} → H ≤ k → upToHigh l (k - 1) ≡ upToHigh l k
+  past-high h = let e = q .highsAre in last-again (omega arith)
+
+  -- ---- U2 at low i
+
+  pub asks-u2 : LowAsks i L low (t .g2) high
+  asks-u2 = record {
+    first = λ e h. record { middle = low-size; left = high-size; right = high-size };
+    inner = λ h g. record { middle = low-size; left = g2-size h; right = high-size };
+  }
+
+  pub u2-is : (u2 : ℤ) → LowTurned (unstep delta) i L (t .u2) low (t .g2) high u2 → u2 ≡ lineU2 l (upToLow l i)
+  unfolding atU2
+  u2-is u2 d = low-turned (unstep delta) (l .n) (lineG1 l) (lineG2 l) i L _ _ _ _ u2 d (q .lowsAre) (omega (arith, some-high, q .highsAre))
+      (q .lowIs) (λ h. q .held h .g2) (q .highIs)
+      (λ h. q .held (omega (arith, some-low)) .u2 ∙ ap (lineU2 l) (past-low (omega arith)))
+
+  -- ---- P2 at high i - 1, U1 at low i - 1
+
+  module _ (more : 1 ≤ i) (u2 : ℤ) (done : u2 ≡ lineU2 l (upToLow l i)) where
+    pub asks-p2 : Inside (t .g2) (t .u2) u2
+    asks-p2 = record { middle = g2-size more; left = u2-size more; right = same-size done (q .undoable .small .u2 _ (omega (arith, some-low, q .lowsAre))) }
+
+    pub p2-is : (p2 : ℤ) → HighTurned (unstep gamma) (i - 1) H (t .p2) (t .g2) (t .u2) u2 p2 → p2 ≡ lineP2 l (upToHigh l (i - 1))
+    unfolding atP2
+    p2-is p2 d = high-turned (unstep gamma) (l .n) (lineU2 l) (lineG2 l) (i - 1) H _ _ _ _ p2 d (q .highsAre)
+        (q .held more .g2) (q .held more .u2) (done ∙ ap (λ (k : ℕ). lineU2 l (upToLow l k)) (let e : i ≡ i - 1 + 1 = omega arith in e))
+        (λ h. q .held more .p2 (omega (arith, some-high)) ∙ ap (lineP2 l) (past-high (omega arith)))
+
+  module _ (more : 1 ≤ i) (p2 : ℤ) (done : p2 ≡ lineP2 l (upToHigh l (i - 1))) where
+    p2-new-size : natAbs p2 ≤ limit
+    p2-new-size = same-size done (q .undoable .small .p2 _ (omega (arith, some-high, q .highsAre)))
+
+    pub asks-u1 : LowAsks (i - 1) L (t .u2) (t .p2) p2
+    asks-u1 = record {
+      first = λ e h. record { middle = u2-size more; left = p2-new-size; right = p2-new-size };
+      inner = λ h g. record { middle = u2-size more; left = p2-size (omega arith); right = p2-new-size };
+    }
+
+    pub u1-is : (u1 : ℤ) → LowTurned (unstep beta) (i - 1) L (t .u1) (t .u2) (t .p2) p2 u1 → u1 ≡ lineU1 l (upToLow l (i - 1))
+    unfolding atU1
+    u1-is u1 d = low-turned (unstep beta) (l .n) (lineU2 l) (lineP2 l) (i - 1) L _ _ _ _ u1 d (q .lowsAre) (omega (arith, some-high, q .highsAre))
+        (q .held more .u2) (λ h. q .held more .p2 h) done
+        (λ h. q .held more .u1 (omega (arith, some-low)) ∙ ap (lineU1 l) (past-low (omega arith)))
+
+  -- ---- P1 at high i - 2
+
+  module _ (more : 2 ≤ i) (u1 : ℤ) (done : u1 ≡ lineU1 l (upToLow l (i - 1))) where
+    pub asks-p1 : Inside (t .p2) (t .u1) u1
+    asks-p1 = record { middle = p2-size more; left = u1-size more; right = same-size done (q .undoable .small .u1 _ (omega (arith, some-low, q .lowsAre))) }
+
+    before-two : i - 1 - 1 ≡ i - 2
+    before-two = omega arith
+
+    pub p1-is : (p1 : ℤ) → i - 2 < H → p1 ≡ unstep alpha (t .p2) (t .u1) u1 → p1 ≡ lineP1 l (i - 2)
+    unfolding atP1
+    p1-is p1 h d = high-turned (unstep alpha) (l .n) (lineU1 l) (lineP2 l) (i - 2) H p1 _ _ _ p1 (record { inner = λ g. d; past = λ g. refl }) (q .highsAre)
+        (q .held (omega arith) .p2 (omega arith) ∙ ap (λ (k : ℕ). lineP2 l (upToHigh l k)) before-two)
+        (q .held (omega arith) .u1 (omega arith) ∙ ap (λ (k : ℕ). lineU1 l (upToLow l k)) before-two)
+        (done ∙ ap (λ (k : ℕ). lineU1 l (upToLow l k)) (let e : i - 1 ≡ i - 2 + 1 = omega arith in e))
+        (λ g. absurd (omega arith))
+        ∙ ap (lineP1 l) (high-in (unstep alpha) (l .n) (lineU1 l) (lineP2 l) (i - 2) (omega (arith, q .highsAre)))
+
+  -- ---- after the turn
+
+  module _ {r : Turn} (d : Turned i L H t low high r) where
+    u2-done : r .u2 ≡ lineU2 l (upToLow l i)
+    u2-done = u2-is (r .u2) (d .u2)
+
+    p2-done : 1 ≤ i → r .p2 ≡ lineP2 l (upToHigh l (i - 1))
+    p2-done h = p2-is h (r .u2) u2-done (r .p2) (d .p2 h)
+
+    u1-done : 1 ≤ i → r .u1 ≡ lineU1 l (upToLow l (i - 1))
+    u1-done h = u1-is h (r .p2) (p2-done h) (r .u1) (d .u1 h)
+
+    pub turn-held : Held l i r
+    turn-held = record { g2 = d .g2 ∙ q .highIs; u2 = u2-done; p2 = p2-done; u1 = u1-done }
+
+    pub turn-gives : Gives l i r
+    turn-gives = record {
+      even = λ h. d .even h ∙ q .held (omega arith) .u1 (omega arith) ∙ ap (lineU1 l) (low-in (unstep beta) (l .n) (lineU2 l) (lineP2 l) (i - 1 - 1) (omega (arith, q .within, q .lowsAre)) ∙ (let e : i - 1 - 1 ≡ i - 2 = omega arith in e));
+      odd = λ h g. p1-is h (r .u1) (u1-done (omega arith)) (r .odd) (omega (arith, q .highsAre)) (d .odd h (omega (arith, q .highsAre)));
+    }

@@ -156,6 +156,16 @@ impl Buffers {
     }
 }
 
+/// A plain program for viewing: table, plane, sides, pixels, work area.
+type View = fn(&[u8], &[i32], (usize, usize), &mut [u16], &mut [i64]) -> bool;
+
+/// The plain programs for viewing, by the passes that they make.
+const VIEWS: [(&str, View); 3] = [
+    ("turn by turn", plain::view97_by_turns),
+    ("stage by stage", plain::view97_in_place),
+    ("stage by stage from the plane", plain::view97),
+];
+
 /// A call on lent memory; it says whether it was done.
 type Call<'a> = &'a dyn Fn(&mut Buffers) -> bool;
 
@@ -261,38 +271,26 @@ fn measure(side: usize, tables: &[(&str, WidthTable)], view_table: &WidthTable) 
         );
     }
     let table = view_table.as_bytes();
-    row(
-        &format!("9/7 view, {VIEW_LEVELS} levels"),
-        &mut buffers,
-        &|Buffers {
-              stored,
-              back,
-              view_work,
-              ..
-          }| { suzdrepa::view97(table, stored, side, side, back, view_work).is_ok() },
-        &|Buffers {
-              stored,
-              back,
-              view_work,
-              ..
-          }| { plain::view97_in_place(table, stored, size, back, view_work) },
-    );
-    row(
-        &format!("9/7 view, {VIEW_LEVELS} levels, plain straight from the plane"),
-        &mut buffers,
-        &|Buffers {
-              stored,
-              back,
-              view_work,
-              ..
-          }| { suzdrepa::view97(table, stored, side, side, back, view_work).is_ok() },
-        &|Buffers {
-              stored,
-              back,
-              view_work,
-              ..
-          }| { plain::view97(table, stored, size, back, view_work) },
-    );
+    for (name, plain) in VIEWS {
+        row(
+            &format!("9/7 view, {VIEW_LEVELS} levels, {name}"),
+            &mut buffers,
+            &|Buffers {
+                  stored,
+                  back,
+                  view_work,
+                  ..
+              }| {
+                suzdrepa::view97(table, stored, side, side, back, view_work).is_ok()
+            },
+            &|Buffers {
+                  stored,
+                  back,
+                  view_work,
+                  ..
+              }| { plain(table, stored, size, back, view_work) },
+        );
+    }
 }
 
 fn main() -> ExitCode {
@@ -452,26 +450,25 @@ mod tests {
             let mut stored = chance.stored(&table, width, height);
             let bytes = table.bytes().unwrap();
             let due = suzdrepa::view97_to_vec(&bytes, &stored, width, height).unwrap();
-            let mut pixels = chance.sixteen_bits(count);
-            let mut work = chance.sixty_four_bits(count);
             let size = (width, height);
-            let mut other = (pixels.clone(), work.clone());
-            assert!(plain::view97(&bytes, &stored, size, &mut pixels, &mut work));
-            assert_eq!((&pixels, &work), (&due, &vec![0; count]));
-            let (shown, area) = (&mut other.0, &mut other.1);
-            assert!(plain::view97_in_place(&bytes, &stored, size, shown, area));
-            assert_eq!(other, (due, vec![0; count]));
+            for (name, view) in VIEWS {
+                let mut pixels = chance.sixteen_bits(count);
+                let mut work = chance.sixty_four_bits(count);
+                assert!(view(&bytes, &stored, size, &mut pixels, &mut work));
+                assert_eq!((&pixels, &work), (&due, &vec![0; count]), "{name}");
+            }
             stored[chance.below(count)] = chance.bits() as i32 >> chance.below(32);
             let due = suzdrepa::view97_to_vec(&bytes, &stored, width, height);
-            let work_before = chance.sixty_four_bits(count);
-            let mut work = work_before.clone();
-            let before = pixels.clone();
-            let done = plain::view97(&bytes, &stored, size, &mut pixels, &mut work);
-            assert_eq!(done, due.is_ok());
-            refused += usize::from(!done);
-            match due {
-                Ok(due) => assert_eq!((pixels, work), (due, vec![0; count])),
-                Err(_) => assert_eq!((pixels, work), (before, work_before)),
+            refused += usize::from(due.is_err());
+            let (pixels, work) = (chance.sixteen_bits(count), chance.sixty_four_bits(count));
+            for (name, view) in VIEWS {
+                let (mut shown, mut area) = (pixels.clone(), work.clone());
+                let done = view(&bytes, &stored, size, &mut shown, &mut area);
+                assert_eq!(done, due.is_ok(), "{name}");
+                match &due {
+                    Ok(due) => assert_eq!((&shown, area), (due, vec![0; count]), "{name}"),
+                    Err(_) => assert_eq!((&shown, &area), (&pixels, &work), "{name}"),
+                }
             }
         }
         assert!((100..400).contains(&refused), "{refused}");

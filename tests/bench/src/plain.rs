@@ -781,3 +781,228 @@ pub fn view97_in_place(
     }
     true
 }
+
+/// The most columns that are undone side by side, turn by turn.
+const TURN_STRIP: usize = 512;
+
+/// A stage undone at one value.
+#[inline(always)]
+fn undone(own: i64, a: i64, b: i64, constant: i64) -> i64 {
+    own + ((-constant * (a + b)) >> 24)
+}
+
+/// What is held of a line that is undone turn by turn. Turn `i` takes low `i`
+/// and high `i`, or the last ones, and gives places `2 (i - 2)` and
+/// `2 (i - 2) + 1`.
+#[derive(Clone, Copy, Default)]
+struct Turn {
+    g2: i64,
+    u2: i64,
+    p2: i64,
+    u1: i64,
+    even: i64,
+    odd: i64,
+}
+
+impl Turn {
+    /// A turn away from the ends.
+    #[inline(always)]
+    fn inner(self, low: i64, high: i64) -> Turn {
+        let u2 = undone(low, self.g2, high, DELTA);
+        let p2 = undone(self.g2, self.u2, u2, GAMMA);
+        let u1 = undone(self.u2, self.p2, p2, BETA);
+        let odd = undone(self.p2, self.u1, u1, ALPHA);
+        Turn {
+            g2: high,
+            u2,
+            p2,
+            u1,
+            even: self.u1,
+            odd,
+        }
+    }
+
+    /// Turn `i` of a line of so many lows and highs.
+    fn any(self, low: i64, high: i64, i: usize, lows: usize, highs: usize) -> Turn {
+        let on_low = |k: usize, kept, own, before, after, constant| match k {
+            _ if k >= lows => kept,
+            0 => undone(own, after, after, constant),
+            _ => undone(own, before, after, constant),
+        };
+        let on_high = |k: usize, kept, own, before, after, constant| match k < highs {
+            true => undone(own, before, after, constant),
+            false => kept,
+        };
+        let mut next = Turn {
+            g2: high,
+            even: self.u1,
+            ..Turn::default()
+        };
+        next.u2 = on_low(i, self.u2, low, self.g2, high, DELTA);
+        if i > 0 {
+            next.p2 = on_high(i - 1, self.p2, self.g2, self.u2, next.u2, GAMMA);
+            next.u1 = on_low(i - 1, self.u1, self.u2, self.p2, next.p2, BETA);
+        }
+        if i > 1 {
+            next.odd = on_high(i - 2, 0, self.p2, self.u1, next.u1, ALPHA);
+        }
+        next
+    }
+}
+
+/// A coefficient with `f` fractional bits, scaled into one with 20.
+#[inline(always)]
+fn scaled_one(value: i64, constant: i64, f: u8) -> i64 {
+    (constant * value) >> (4 + f)
+}
+
+/// Undoes `n` columns from column `x` on, of `h` lines that go to rows of the
+/// work area `stride` apart. The lows stand in the plane, or on the even rows
+/// of the work area.
+#[allow(clippy::too_many_arguments)]
+fn turn_columns(
+    plane: &[i32],
+    work: &mut [i64],
+    (width, stride): (usize, usize),
+    x: usize,
+    h: usize,
+    held: &mut [Turn],
+    fed: &mut [i64],
+    stored: Stored,
+) {
+    let (lows, highs) = (h.div_ceil(2), h / 2);
+    let n = held.len();
+    let low_bits = stored.lows.unwrap_or(20);
+    for i in 0..lows + 2 {
+        if i < lows {
+            match stored.lows {
+                Some(_) => {
+                    for (to, &from) in fed.iter_mut().zip(&plane[i * width + x..]) {
+                        *to = from.into();
+                    }
+                }
+                None => fed.copy_from_slice(&work[2 * i * stride + x..][..n]),
+            }
+        }
+        let high = &plane[(lows + i.min(highs - 1)) * width + x..][..n];
+        let scaled = |low: i64, high: i32| {
+            (
+                scaled_one(low, ONE_OVER_ZETA, low_bits),
+                scaled_one(high.into(), ZETA, stored.highs),
+            )
+        };
+        if (2..highs).contains(&i) {
+            let to = 2 * (i - 2) * stride + x;
+            let (even, odd) = work.split_at_mut(to + stride);
+            let rows = even[to..][..n].iter_mut().zip(&mut odd[..n]);
+            let next = fed.iter().zip(high);
+            for ((held, (even, odd)), (&low, &high)) in held.iter_mut().zip(rows).zip(next) {
+                let (low, high) = scaled(low, high);
+                *held = held.inner(low, high);
+                (*even, *odd) = (held.even, held.odd);
+            }
+        } else {
+            for (held, (&low, &high)) in held.iter_mut().zip(fed.iter().zip(high)) {
+                let (low, high) = scaled(low, high);
+                *held = held.any(low, high, i, lows, highs);
+            }
+            for (row, odd) in [(2 * i, false), (2 * i + 1, true)] {
+                if row >= 4 && row < h + 4 {
+                    let to = &mut work[(row - 4) * stride + x..][..n];
+                    for (to, held) in to.iter_mut().zip(held.iter()) {
+                        *to = if odd { held.odd } else { held.even };
+                    }
+                }
+            }
+        }
+    }
+}
+
+/// Undoes a row into `line`, turn by turn.
+fn turn_row(row: &[i64], line: &mut [i64]) {
+    let (low, high) = row.split_at(row.len().div_ceil(2));
+    let scaled = |low: i64, high: i64| {
+        (
+            scaled_one(low, ONE_OVER_ZETA, 20),
+            scaled_one(high, ZETA, 20),
+        )
+    };
+    let mut held = Turn::default();
+    let end = |held: &mut Turn, i: usize, line: &mut [i64]| {
+        let (a, b) = scaled(low[i.min(low.len() - 1)], high[i.min(high.len() - 1)]);
+        *held = held.any(a, b, i, low.len(), high.len());
+        for (k, value) in [(2 * i, held.even), (2 * i + 1, held.odd)] {
+            if k >= 4 && k < row.len() + 4 {
+                line[k - 4] = value;
+            }
+        }
+    };
+    let first = high.len().min(2);
+    for i in 0..first {
+        end(&mut held, i, line);
+    }
+    let inner = low.iter().zip(high).skip(2);
+    for ((&low, &high), pair) in inner.zip(line.chunks_exact_mut(2)) {
+        let (low, high) = scaled(low, high);
+        held = held.inner(low, high);
+        (pair[0], pair[1]) = (held.even, held.odd);
+    }
+    for i in high.len()..low.len() + 2 {
+        end(&mut held, i, line);
+    }
+}
+
+/// The same by the passes of the engine now: the four stages of a line are
+/// undone together, turn by turn, the coefficients straight from the plane.
+pub fn view97_by_turns(
+    table: &[u8],
+    plane: &[i32],
+    size: (usize, usize),
+    pixels: &mut [u16],
+    work: &mut [i64],
+) -> bool {
+    let (depth, levels) = (table[3], table[7]);
+    let width = size.0;
+    let last = usize::from(levels) - 1;
+    let parts = parts(size, levels);
+    if !all_held(table, plane, width, &parts) {
+        return false;
+    }
+    let mut held = [Turn::default(); TURN_STRIP];
+    let mut fed = [0; TURN_STRIP];
+    let mut line = vec![0; width];
+    for (level, &(w, h)) in parts.iter().enumerate().rev() {
+        let stride = width << level;
+        let bits = |pass, at| node(table, level, pass, at)[1];
+        let left = Stored {
+            lows: Some(bits(1, 4)).filter(|_| level == last),
+            highs: bits(1, 5),
+        };
+        let right = Stored {
+            lows: Some(bits(2, 4)),
+            highs: bits(2, 5),
+        };
+        let middle = w.div_ceil(2);
+        for (from, to, stored) in [(0, middle, left), (middle, w, right)] {
+            for x in (from..to).step_by(TURN_STRIP) {
+                let n = TURN_STRIP.min(to - x);
+                let (held, fed) = (&mut held[..n], &mut fed[..n]);
+                turn_columns(plane, work, (width, stride), x, h, held, fed, stored);
+            }
+        }
+        let line = &mut line[..w];
+        for y in 0..h {
+            let row = &mut work[y * stride..][..w];
+            turn_row(row, line);
+            if level > 0 {
+                row.copy_from_slice(line);
+                continue;
+            }
+            for (to, &value) in pixels[y * width..].iter_mut().zip(line.iter()) {
+                *to = shown(value, depth);
+            }
+            row.fill(0);
+        }
+    }
+    true
+}

@@ -14,7 +14,6 @@ use Rattle.lines.specs.Lines.{lows, highs, Liftable}
 use Rattle.lifting.specs.Patch.{at, patch}
 use Rattle.lifting.specs.Runs.{as-type}
 use Rattle.lifting.specs.PatchLines.{lineAt, patchLines}
-use Rattle.lifting.specs.Strips.{same-line}
 use Rattle.unlifting.specs.declared.Turn.{Turn}
 use Rattle.unlifting.specs.declared.Strip.{Strip}
 use Rattle.unlifting.specs.Fixed.{nodeBits, atG1, atG2, fixedBack, limit}
@@ -22,27 +21,27 @@ use Rattle.unlifting.specs.Planes.{Safe}
 use Rattle.unlifting.specs.Stages.{scaledBy, cutBits, atInverse, atZeta, scaled-inverse, scaled-zeta}
 use Rattle.unlifting.specs.Turns.{Line, Held, Turned, turned-as, Ready}
 
--- ---- what is held of a column, in five lines of so many values
+-- ---- what is held of a strip: four values of each column, and then, of so many columns at most, the low that comes next
 
 -- g2, u2, p2 and u1 of column j
-abbrev pub turnIn : ℕ → (ℕ → ℤ) → ℕ → Turn
-turnIn room x j = record { g2 = x j; u2 = x (room + j); p2 = x (2 * room + j); u1 = x (3 * room + j); even = pos 0; odd = pos 0 }
+abbrev pub turnIn : (ℕ → ℤ) → ℕ → Turn
+turnIn x j = record { g2 = x (4 * j); u2 = x (4 * j + 1); p2 = x (4 * j + 2); u1 = x (4 * j + 3); even = pos 0; odd = pos 0 }
 
 -- with the two values that a turn gave
-abbrev pub turnOut : ℕ → (ℕ → ℤ) → ℤ → ℤ → ℕ → Turn
-turnOut room x even odd j = record { g2 = x j; u2 = x (room + j); p2 = x (2 * room + j); u1 = x (3 * room + j); even = even; odd = odd }
+abbrev pub turnOut : (ℕ → ℤ) → ℤ → ℤ → ℕ → Turn
+turnOut x even odd j = record { g2 = x (4 * j); u2 = x (4 * j + 1); p2 = x (4 * j + 2); u1 = x (4 * j + 3); even = even; odd = odd }
 
 -- none of the four places of column j
-abbrev pub OffColumn : ℕ → ℕ → ℕ → Type 0
-OffColumn room j p = (q : ℕ) → q < 4 → p ≡ q * room + j → ⊥
+abbrev pub OffColumn : ℕ → ℕ → Type 0
+OffColumn j p = (q : ℕ) → q < 4 → p ≡ 4 * j + q → ⊥
 
 -- x with a turn kept at column j is z
-pub record Kept (room j : ℕ) (t : Turn) (x z : ℕ → ℤ) : Type 0 where
-  pub g2 : z j ≡ t .g2
-  pub u2 : z (room + j) ≡ t .u2
-  pub p2 : z (2 * room + j) ≡ t .p2
-  pub u1 : z (3 * room + j) ≡ t .u1
-  pub others : (p : ℕ) → OffColumn room j p → z p ≡ x p
+pub record Kept (j : ℕ) (t : Turn) (x z : ℕ → ℤ) : Type 0 where
+  pub g2 : z (4 * j) ≡ t .g2
+  pub u2 : z (4 * j + 1) ≡ t .u2
+  pub p2 : z (4 * j + 2) ≡ t .p2
+  pub u1 : z (4 * j + 3) ≡ t .u1
+  pub others : (p : ℕ) → OffColumn j p → z p ≡ x p
 
 -- ---- one column in one turn
 
@@ -75,18 +74,18 @@ pub record ColumnTurn (plane : List ℤ) (high : ℕ) (lines : List ℤ) (out to
   pub sized : Sized plane lines out high to gap b i inner
   pub among : j < b .columns
   pub y : ℕ → ℤ
-  pub ready : ColumnReady b i (turnIn (b .room) (at lines) j) (at lines (4 * b .room + j)) (at plane (high + j)) y
+  pub ready : ColumnReady b i (turnIn (at lines) j) (at lines (4 * b .room + j)) (at plane (high + j)) y
 
 -- a turn of column j: lines x become x′, and z becomes z′
 abbrev pub TurnedAt : (ℕ → ℤ) → ℕ → (ℕ → ℤ) → (ℕ → ℤ) → (ℕ → ℤ) → ℕ → ℕ → Strip → ℕ → ℕ → Type 0
 TurnedAt plane high x x′ z′ to gap b i j =
-    Turned i (lows (b .lines)) (highs (b .lines)) (turnIn (b .room) x j)
+    Turned i (lows (b .lines)) (highs (b .lines)) (turnIn x j)
     (scaledBy atInverse (cutBits (b .lowbits)) (x (4 * b .room + j))) (scaledBy atZeta (cutBits (b .highbits)) (plane (high + j)))
-    (turnOut (b .room) x′ (z′ (to + j)) (z′ (to + gap + j)) j)
+    (turnOut x′ (z′ (to + j)) (z′ (to + gap + j)) j)
 
 pub record ColumnTurned (plane : List ℤ) (high : ℕ) (lines lines′ out out′ : List ℤ) (to gap : ℕ) (b : Strip) (i j : ℕ) : Type 0 where
   pub turned : TurnedAt (at plane) high (at lines) (at lines′) (at out′) to gap b i j
-  pub others : (p : ℕ) → OffColumn (b .room) j p → at lines′ p ≡ at lines p
+  pub others : (p : ℕ) → OffColumn j p → at lines′ p ≡ at lines p
   pub kept : (p : ℕ) → (p ≡ to + j → ⊥) → (p ≡ to + gap + j → ⊥) → at out′ p ≡ at out p
 
 -- ---- all columns of a strip in one turn
@@ -94,7 +93,7 @@ pub record ColumnTurned (plane : List ℤ) (high : ℕ) (lines lines′ out out�
 pub record StripTurn (plane : List ℤ) (high : ℕ) (lines : List ℤ) (out to gap : ℕ) (b : Strip) (i : ℕ) (inner : Bool) : Type 0 where
   pub sized : Sized plane lines out high to gap b i inner
   pub y : ℕ → ℕ → ℤ
-  pub ready : (j : ℕ) → j < b .columns → ColumnReady b i (turnIn (b .room) (at lines) j) (at lines (4 * b .room + j)) (at plane (high + j)) (y j)
+  pub ready : (j : ℕ) → j < b .columns → ColumnReady b i (turnIn (at lines) j) (at lines (4 * b .room + j)) (at plane (high + j)) (y j)
 
 pub record StripTurned (plane : List ℤ) (high : ℕ) (lines lines′ out out′ : List ℤ) (to gap : ℕ) (b : Strip) (i : ℕ) : Type 0 where
   pub turned : (j : ℕ) → j < b .columns → TurnedAt (at plane) high (at lines) (at lines′) (at out′) to gap b i j
@@ -104,28 +103,28 @@ pub record StripTurned (plane : List ℤ) (high : ℕ) (lines lines′ out out�
 -- ---- proved of them
 
 -- four stores keep a turn
-module _ (l : List ℤ) (room j : ℕ) (t : Turn) (a b c d : ℤ) (in-room : j < room) (fits : 5 * room ≤ length l) where
+module _ (l : List ℤ) (j : ℕ) (t : Turn) (a b c d : ℤ) (fits : 4 * j + 3 < length l) where
   abbrev l1 : List ℤ
-  l1 = set l j a
+  l1 = set l (4 * j) a
 
   abbrev l2 : List ℤ
-  l2 = set l1 (room + j) b
+  l2 = set l1 (4 * j + 1) b
 
   abbrev l3 : List ℤ
-  l3 = set l2 (2 * room + j) c
+  l3 = set l2 (4 * j + 2) c
 
   abbrev l4 : List ℤ
-  l4 = set l3 (3 * room + j) d
+  l4 = set l3 (4 * j + 3) d
 
-  pub kept-sets : a ≡ t .g2 → b ≡ t .u2 → c ≡ t .p2 → d ≡ t .u1 → Kept room j t (at l) (at l4)
+  pub kept-sets : a ≡ t .g2 → b ≡ t .u2 → c ≡ t .p2 → d ≡ t .u1 → Kept j t (at l) (at l4)
   kept-sets ea eb ec ed = record {
-    g2 = getD-set-other l3 (3 * room + j) j d (pos 0) (omega arith) ∙ getD-set-other l2 (2 * room + j) j c (pos 0) (omega arith) ∙ getD-set-other l1 (room + j) j b (pos 0) (omega arith) ∙ getD-set-same l j a (pos 0) (omega arith) ∙ ea;
-    u2 = getD-set-other l3 (3 * room + j) (room + j) d (pos 0) (omega arith) ∙ getD-set-other l2 (2 * room + j) (room + j) c (pos 0) (omega arith) ∙ getD-set-same l1 (room + j) b (pos 0) (simp length-set (omega arith)) ∙ eb;
-    p2 = getD-set-other l3 (3 * room + j) (2 * room + j) d (pos 0) (omega arith) ∙ getD-set-same l2 (2 * room + j) c (pos 0) (simp length-set (omega arith)) ∙ ec;
-    u1 = getD-set-same l3 (3 * room + j) d (pos 0) (simp length-set (omega arith)) ∙ ed;
+    g2 = getD-set-other l3 (4 * j + 3) (4 * j) d (pos 0) (omega arith) ∙ getD-set-other l2 (4 * j + 2) (4 * j) c (pos 0) (omega arith) ∙ getD-set-other l1 (4 * j + 1) (4 * j) b (pos 0) (omega arith) ∙ getD-set-same l (4 * j) a (pos 0) (omega arith) ∙ ea;
+    u2 = getD-set-other l3 (4 * j + 3) (4 * j + 1) d (pos 0) (omega arith) ∙ getD-set-other l2 (4 * j + 2) (4 * j + 1) c (pos 0) (omega arith) ∙ getD-set-same l1 (4 * j + 1) b (pos 0) (simp length-set (omega arith)) ∙ eb;
+    p2 = getD-set-other l3 (4 * j + 3) (4 * j + 2) d (pos 0) (omega arith) ∙ getD-set-same l2 (4 * j + 2) c (pos 0) (simp length-set (omega arith)) ∙ ec;
+    u1 = getD-set-same l3 (4 * j + 3) d (pos 0) (simp length-set (omega arith)) ∙ ed;
     others = λ p off.
-        getD-set-other l3 (3 * room + j) p d (pos 0) (λ e. off 3 (lit< tt) e) ∙ getD-set-other l2 (2 * room + j) p c (pos 0) (λ e. off 2 (lit< tt) e)
-        ∙ getD-set-other l1 (room + j) p b (pos 0) (λ e. off 1 (lit< tt) (omega arith)) ∙ getD-set-other l j p a (pos 0) (λ e. off 0 (lit< tt) (omega arith));
+        getD-set-other l3 (4 * j + 3) p d (pos 0) (off 3 (lit< tt)) ∙ getD-set-other l2 (4 * j + 2) p c (pos 0) (off 2 (lit< tt))
+        ∙ getD-set-other l1 (4 * j + 1) p b (pos 0) (off 1 (lit< tt)) ∙ getD-set-other l (4 * j) p a (pos 0) (λ e. off 0 (lit< tt) (omega arith));
   }
 
 -- a column that is ready can take its turn
@@ -150,9 +149,9 @@ module _ {b : Strip} {i : ℕ} {t : Turn} {low high : ℤ} {y : ℕ → ℤ} (q 
 
 -- what is left of it
 module _ (plane : List ℤ) (high : ℕ) (lines lines′ out : List ℤ) (to gap : ℕ) (b : Strip) (i j : ℕ) (r : Turn) (e o : ℤ) (among : j < b .columns) (apart : b .columns ≤ gap) (fits : to + gap + b .columns ≤ length out) where
-  pub column-done : Turned i (lows (b .lines)) (highs (b .lines)) (turnIn (b .room) (at lines) j)
+  pub column-done : Turned i (lows (b .lines)) (highs (b .lines)) (turnIn (at lines) j)
       (scaledBy atInverse (cutBits (b .lowbits)) (at lines (4 * b .room + j))) (scaledBy atZeta (cutBits (b .highbits)) (at plane (high + j))) r
-      → Kept (b .room) j r (at lines) (at lines′) → e ≡ r .even → o ≡ r .odd
+      → Kept j r (at lines) (at lines′) → e ≡ r .even → o ≡ r .odd
       → ColumnTurned plane high lines lines′ out (set (set out (to + j) e) (to + gap + j) o) to gap b i j
   column-done d k is-even is-odd = record {
     turned = turned-as d (record {
@@ -171,48 +170,48 @@ module _ (plane : List ℤ) (high : ℕ) (lines lines′ out : List ℤ) (to gap
 
 pub record TurnsDone (plane : List ℤ) (high : ℕ) (lines lines′ out out′ : List ℤ) (to gap : ℕ) (b : Strip) (i c : ℕ) : Type 0 where
   pub turned : (j : ℕ) → j < c → TurnedAt (at plane) high (at lines) (at lines′) (at out′) to gap b i j
-  pub ahead : (p : ℕ) → ((j : ℕ) → j < c → OffColumn (b .room) j p) → at lines′ p ≡ at lines p
+  pub ahead : (p : ℕ) → ((j : ℕ) → j < c → OffColumn j p) → at lines′ p ≡ at lines p
   pub kept : (p : ℕ) → ((j : ℕ) → j < c → p ≡ to + j → ⊥) → ((j : ℕ) → j < c → p ≡ to + gap + j → ⊥) → at out′ p ≡ at out p
 
 pub none-done : (plane : List ℤ) (high : ℕ) (lines out : List ℤ) (to gap : ℕ) (b : Strip) (i : ℕ) → TurnsDone plane high lines lines out out to gap b i 0
 none-done plane high lines out to gap b i = record { turned = λ j h. absurd (omega arith); ahead = λ p off. refl; kept = λ p f g. refl }
 
 -- places of one column are none of another's
-off-other : (room j k q : ℕ) → j < room → k < room → (j ≡ k → ⊥) → OffColumn room j (q * room + k)
-off-other room j k q hj hk ne r h e = ne (sym (same-line 0 room q r k j hk hj (omega arith) .1))
+off-other : (j k q : ℕ) → q < 4 → (j ≡ k → ⊥) → OffColumn j (4 * k + q)
+off-other j k q h ne r g e = ne (omega arith)
 
-off-lows : (room j k : ℕ) → j < room → k < room → OffColumn room j (4 * room + k)
-off-lows room j k hj hk r h e = let z : 4 ≡ r = same-line 0 room 4 r k j hk hj (omega arith) .0 in omega arith
+off-lows : (room j k : ℕ) → j < room → OffColumn j (4 * room + k)
+off-lows room j k h r g e = omega arith
 
 -- column k stands in z as it stands in x
-pub record SameColumn (room k : ℕ) (z x : ℕ → ℤ) : Type 0 where
-  pub g2 : z k ≡ x k
-  pub u2 : z (room + k) ≡ x (room + k)
-  pub p2 : z (2 * room + k) ≡ x (2 * room + k)
-  pub u1 : z (3 * room + k) ≡ x (3 * room + k)
+pub record SameColumn (k : ℕ) (z x : ℕ → ℤ) : Type 0 where
+  pub g2 : z (4 * k) ≡ x (4 * k)
+  pub u2 : z (4 * k + 1) ≡ x (4 * k + 1)
+  pub p2 : z (4 * k + 2) ≡ x (4 * k + 2)
+  pub u1 : z (4 * k + 3) ≡ x (4 * k + 3)
 
-same-column : (room k : ℕ) (z x : ℕ → ℤ) → ((q : ℕ) → q < 4 → z (q * room + k) ≡ x (q * room + k)) → SameColumn room k z x
-same-column room k z x same = record {
-  g2 = let e : k ≡ 0 * room + k = omega arith in ap z e ∙ same 0 (lit< tt) ∙ ap x (sym e);
-  u2 = let e : room + k ≡ 1 * room + k = omega arith in ap z e ∙ same 1 (lit< tt) ∙ ap x (sym e);
+same-column : (k : ℕ) (z x : ℕ → ℤ) → ((q : ℕ) → q < 4 → z (4 * k + q) ≡ x (4 * k + q)) → SameColumn k z x
+same-column k z x same = record {
+  g2 = let e : 4 * k ≡ 4 * k + 0 = omega arith in ap z e ∙ same 0 (lit< tt) ∙ ap x (sym e);
+  u2 = same 1 (lit< tt);
   p2 = same 2 (lit< tt);
   u1 = same 3 (lit< tt);
 }
 
 module _ {plane : List ℤ} {high : ℕ} {lines lines′ out out′ : List ℤ} {to gap : ℕ} {b : Strip} {i c : ℕ} (done : TurnsDone plane high lines lines′ out out′ to gap b i c) (more : c < b .columns) (narrow : b .columns ≤ b .room) where
   -- column c is as it was
-  column-now : SameColumn (b .room) c (at lines′) (at lines)
-  column-now = same-column (b .room) c (at lines′) (at lines) (λ q h. done .ahead (q * b .room + c) (λ j g. off-other (b .room) j c q (omega arith) (omega arith) (omega arith)))
+  column-now : SameColumn c (at lines′) (at lines)
+  column-now = same-column c (at lines′) (at lines) (λ q h. done .ahead (4 * c + q) (λ j g. off-other j c q h (omega arith)))
 
   low-now : at lines′ (4 * b .room + c) ≡ at lines (4 * b .room + c)
-  low-now = done .ahead (4 * b .room + c) (λ j g. off-lows (b .room) j c (omega arith) (omega arith))
+  low-now = done .ahead (4 * b .room + c) (λ j g. off-lows (b .room) j c (omega arith))
 
-  turn-now : turnIn (b .room) (at lines′) c ≡ turnIn (b .room) (at lines) c
+  turn-now : turnIn (at lines′) c ≡ turnIn (at lines) c
   turn-now = λ u. record { g2 = column-now .g2 u; u2 = column-now .u2 u; p2 = column-now .p2 u; u1 = column-now .u1 u; even = pos 0; odd = pos 0 }
 
   -- it is ready where it was
-  pub ready-now : {y : ℕ → ℤ} → ColumnReady b i (turnIn (b .room) (at lines) c) (at lines (4 * b .room + c)) (at plane (high + c)) y
-      → ColumnReady b i (turnIn (b .room) (at lines′) c) (at lines′ (4 * b .room + c)) (at plane (high + c)) y
+  pub ready-now : {y : ℕ → ℤ} → ColumnReady b i (turnIn (at lines) c) (at lines (4 * b .room + c)) (at plane (high + c)) y
+      → ColumnReady b i (turnIn (at lines′) c) (at lines′ (4 * b .room + c)) (at plane (high + c)) y
   ready-now {y} q = as-type (λ u. ColumnReady b i (sym turn-now u) (sym low-now u) (at plane (high + c)) y) q
 
   -- one column more
@@ -225,7 +224,7 @@ module _ {plane : List ℤ} {high : ℕ} {lines lines′ out out′ : List ℤ} 
     where
       go : (j : ℕ) → j < c + 1 → Dec (j < c) → TurnedAt (at plane) high (at lines) (at lines″) (at out″) to gap b i j
       go j h (yes l) =
-          let s = same-column (b .room) j (at lines″) (at lines′) (λ q k. d .others (q * b .room + j) (off-other (b .room) c j q (omega arith) (omega arith) (omega arith))) in
+          let s = same-column j (at lines″) (at lines′) (λ q k. d .others (4 * j + q) (off-other c j q k (omega arith))) in
           turned-as (done .turned j l) (record {
             g2 = s .g2;
             u2 = s .u2;
@@ -238,12 +237,12 @@ module _ {plane : List ℤ} {high : ℕ} {lines lines′ out out′ : List ℤ} 
           let e : c ≡ j = omega arith in
           subst (λ (k : ℕ). TurnedAt (at plane) high (at lines) (at lines″) (at out″) to gap b i k) e
           (as-type (λ u. Turned i (lows (b .lines)) (highs (b .lines)) (turn-now u) (scaledBy atInverse (cutBits (b .lowbits)) (low-now u)) (scaledBy atZeta (cutBits (b .highbits)) (at plane (high + c)))
-          (turnOut (b .room) (at lines″) (at out″ (to + c)) (at out″ (to + gap + c)) c)) (d .turned))
+          (turnOut (at lines″) (at out″ (to + c)) (at out″ (to + gap + c)) c)) (d .turned))
 
 -- all columns have
 pub turns-all : {plane : List ℤ} {high : ℕ} {lines lines′ out out′ : List ℤ} {to gap : ℕ} {b : Strip} {i : ℕ} → b .columns ≤ b .room → TurnsDone plane high lines lines′ out out′ to gap b i (b .columns)
     → StripTurned plane high lines lines′ out out′ to gap b i
-turns-all {b = b} narrow done = record { turned = done .turned; lows = λ j h. done .ahead (4 * b .room + j) (λ k g. off-lows (b .room) k j (omega arith) (omega arith)); kept = done .kept }
+turns-all {b = b} narrow done = record { turned = done .turned; lows = λ j h. done .ahead (4 * b .room + j) (λ k g. off-lows (b .room) k j (omega arith)); kept = done .kept }
 
 -- the sizes, of slices as long
 pub sized-as : {plane lines : List ℤ} {out high to gap : ℕ} {b : Strip} {i : ℕ} {inner : Bool} → Sized plane lines out high to gap b i inner → (l : List ℤ) (o : ℕ) → length l ≡ length lines → o ≡ out → Sized plane l o high to gap b i inner

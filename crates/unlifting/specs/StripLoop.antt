@@ -25,7 +25,7 @@ use Rattle.unlifting.specs.Strips.{source, undone, Placed, Fed, highPlac
 
 -- the turns before turn i are taken
 pub record StripDone (plane work work′ lines : List ℤ) (a : Site) (b : Strip) (i : ℕ) : Type 0 where
-  pub held : (j : ℕ) → j < b .columns → 1 ≤ i → Held (columnLine b (source a (b .lines) (at plane) (at work) j)) (i - 1) (turnIn (b .room) (at lines) j)
+  pub held : (j : ℕ) → j < b .columns → 1 ≤ i → Held (columnLine b (source a (b .lines) (at plane) (at work) j)) (i - 1) (turnIn (at lines) j)
   pub low : (j : ℕ) → j < b .columns → 1 ≤ i → at lines (4 * b .room + j) ≡ source a (b .lines) (at plane) (at work) j (min (i - 1) (lows (b .lines) - 1))
   pub even : (k j : ℕ) → k < i - 2 → j < b .columns → at work′ (lineAt (a .from) (a .stride) (2 * k) + j) ≡ lineU1 (columnLine b (source a (b .lines) (at plane) (at work) j)) k
   pub odd : (k j : ℕ) → k < i - 2 → k < highs (b .lines) → j < b .columns → at work′ (lineAt (a .from) (a .stride) (2 * k + 1) + j) ≡ lineP1 (columnLine b (source a (b .lines) (at plane) (at work) j)) k
@@ -78,21 +78,21 @@ module _ {plane work work′ lines : List ℤ} {a : Site} {b : Strip} {i : ℕ} 
         go (no f) =
             fed .past j (omega arith) ∙ done .low j h (omega (arith, two)) ∙ ap (source a (b .lines) (at plane) (at work) j) (last-low i (lows (b .lines)) (omega arith) (omega (arith, two)))
 
-    turn-same : (j : ℕ) → j < b .columns → turnIn (b .room) (at lines) j ≡ turnIn (b .room) (at lines′) j
+    turn-same : (j : ℕ) → j < b .columns → turnIn (at lines) j ≡ turnIn (at lines′) j
     turn-same j h =
         let n = ready .placed .narrow in
         λ u. record {
-          g2 = sym (fed .others j (omega arith)) u;
-          u2 = sym (fed .others (b .room + j) (omega arith)) u;
-          p2 = sym (fed .others (2 * b .room + j) (omega arith)) u;
-          u1 = sym (fed .others (3 * b .room + j) (omega arith)) u;
+          g2 = sym (fed .others (4 * j) (omega arith)) u;
+          u2 = sym (fed .others (4 * j + 1) (omega arith)) u;
+          p2 = sym (fed .others (4 * j + 2) (omega arith)) u;
+          u1 = sym (fed .others (4 * j + 3) (omega arith)) u;
           even = pos 0;
           odd = pos 0;
         }
 
     -- every column can take its turn
     pub column-ready : (j : ℕ) → j < b .columns
-        → ColumnReady b i (turnIn (b .room) (at lines′) j) (at lines′ (4 * b .room + j)) (at plane (highPlace a b i + j)) (source a (b .lines) (at plane) (at work) j)
+        → ColumnReady b i (turnIn (at lines′) j) (at lines′ (4 * b .room + j)) (at plane (highPlace a b i + j)) (source a (b .lines) (at plane) (at work) j)
     column-ready j h = record {
       safe = ready .safe j h;
       held = λ g. subst (Held _ (i - 1)) (turn-same j h) (done .held j h g);
@@ -103,7 +103,7 @@ module _ {plane work work′ lines : List ℤ} {a : Site} {b : Strip} {i : ℕ} 
     -- one turn more
     module _ {work″ lines″ : List ℤ} (turned : PlaneTurned plane work′ work″ lines′ lines″ a b i) where
       gives : (j : ℕ) → (h : j < b .columns)
-          → Gives (columnLine b (source a (b .lines) (at plane) (at work) j)) i (turnOut (b .room) (at lines″) (at work″ (evenPlace a i + j)) (at work″ (evenPlace a i + a .stride + j)) j)
+          → Gives (columnLine b (source a (b .lines) (at plane) (at work) j)) i (turnOut (at lines″) (at work″ (evenPlace a i + j)) (at work″ (evenPlace a i + a .stride + j)) j)
       gives j h = turn-gives (column-line (column-ready j h) two within) (turned .turned j h)
 
       old-even : (k j : ℕ) → k < i - 2 → j < b .columns → at work″ (lineAt (a .from) (a .stride) (2 * k) + j) ≡ at work′ (lineAt (a .from) (a .stride) (2 * k) + j)
@@ -117,7 +117,7 @@ module _ {plane work work′ lines : List ℤ} {a : Site} {b : Strip} {i : ℕ} 
         held = λ j h g.
             let t = turn-held (column-line (column-ready j h) two within) (turned .turned j h) in
             let e : i ≡ i + 1 - 1 = omega arith in
-            subst (λ (k : ℕ). Held (columnLine b (source a (b .lines) (at plane) (at work) j)) k (turnIn (b .room) (at lines″) j)) e (record { g2 = t .g2; u2 = t .u2; p2 = t .p2; u1 = t .u1 });
+            subst (λ (k : ℕ). Held (columnLine b (source a (b .lines) (at plane) (at work) j)) k (turnIn (at lines″) j)) e (record { g2 = t .g2; u2 = t .u2; p2 = t .p2; u1 = t .u1 });
         low = λ j h g. let e : i ≡ i + 1 - 1 = omega arith in turned .lows j h ∙ low-now j h ∙ ap (λ (k : ℕ). source a (b .lines) (at plane) (at work) j (min k (lows (b .lines) - 1))) e;
         even = λ k j h g. evens k j h g (decLt k (i - 2));
         odd = λ k j h q g. odds k j h q g (decLt k (i - 2));

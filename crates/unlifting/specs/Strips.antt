@@ -71,7 +71,7 @@ pub record PlaneTurn (plane work lines : List ℤ) (line : ℕ) (a : Site) (b : 
   pub placed : Placed (length plane) (length work) (length lines) line a b
   pub within : i < lows (b .lines) + 2
   pub y : ℕ → ℕ → ℤ
-  pub ready : (j : ℕ) → j < b .columns → ColumnReady b i (turnIn (b .room) (at lines) j) (at lines (4 * b .room + j)) (at plane (highPlace a b i + j)) (y j)
+  pub ready : (j : ℕ) → j < b .columns → ColumnReady b i (turnIn (at lines) j) (at lines (4 * b .room + j)) (at plane (highPlace a b i + j)) (y j)
 
 pub record PlaneTurned (plane work work′ lines lines′ : List ℤ) (a : Site) (b : Strip) (i : ℕ) : Type 0 where
   pub turned : (j : ℕ) → j < b .columns → TurnedAt (at plane) (highPlace a b i) (at lines) (at lines′) (at work′) (evenPlace a i) (a .stride) b i j

@@ -269,7 +269,8 @@ pub fn rows(work: &mut [i64], line: &mut [i64], stride: usize, w: usize, h: usiz
 
 // ---- a strip: neighbouring columns, undone turn by turn side by side
 
-// A strip of so many lines and columns, of which `room` at most are held; the lows have lowbits bits, the highs highbits.
+// A strip of so many lines and columns; the lows have lowbits bits, the highs highbits. What is held of its columns, `room` at most, are
+// four values of each, and then the low of each that comes next.
 pub struct Strip {
     pub lines: usize,
     pub columns: usize,
@@ -278,34 +279,34 @@ pub struct Strip {
     pub highbits: u32,
 }
 
-// What is held of column j: five lines of `room` values, g2, u2, p2, u1 and the low that comes next.
-fn held(lines: &[i64], room: usize, j: usize) -> Turn
-    requires { ⌜ (j < room) × (5 * room ≤ length (now lines)) ⌝ }
-    ensures { λ r. ⌜ r ≡ turnIn room (at (now (lines .entry))) j ⌝ }
+// What is held of column j.
+fn held(lines: &[i64], j: usize) -> Turn
+    requires { ⌜ 4 * j + 3 < length (now lines) ⌝ }
+    ensures { λ r. ⌜ r ≡ turnIn (at (now (lines .entry))) j ⌝ }
 {
     Turn {
-        g2: lines[j],
-        u2: lines[room + j],
-        p2: lines[2 * room + j],
-        u1: lines[3 * room + j],
+        g2: lines[4 * j],
+        u2: lines[4 * j + 1],
+        p2: lines[4 * j + 2],
+        u1: lines[4 * j + 3],
         even: 0,
         odd: 0,
     }
 }
 
 // A turn is held of column j.
-fn keep(lines: &mut [i64], room: usize, j: usize, t: Turn)
-    requires { ⌜ (j < room) × (5 * room ≤ length (now lines)) ⌝ }
-    ensures { λ _. ⌜ Kept room j t (at (now (lines .entry))) (at (now (lines .exit))) ⌝ }
+fn keep(lines: &mut [i64], j: usize, t: Turn)
+    requires { ⌜ 4 * j + 3 < length (now lines) ⌝ }
+    ensures { λ _. ⌜ Kept j t (at (now (lines .entry))) (at (now (lines .exit))) ⌝ }
 {
     let g2 = t.g2;
-    lines[j] = g2;
+    lines[4 * j] = g2;
     let u2 = t.u2;
-    lines[room + j] = u2;
+    lines[4 * j + 1] = u2;
     let p2 = t.p2;
-    lines[2 * room + j] = p2;
+    lines[4 * j + 2] = p2;
     let u1 = t.u1;
-    lines[3 * room + j] = u1;
+    lines[4 * j + 3] = u1;
 }
 
 // Turn i of column j of a strip, whose high stands at a place of the plane: its two values go to places to + j and to + gap + j.
@@ -329,7 +330,7 @@ fn column_turn(
     let lowbits = b.lowbits;
     let highbits = b.highbits;
     let t = turned(
-        held(lines, room, j),
+        held(lines, j),
         scaled(
             lines[4 * room + j],
             ZETA_INVERSE,
@@ -345,7 +346,7 @@ fn column_turn(
         n / 2,
         inner,
     );
-    keep(lines, room, j, t);
+    keep(lines, j, t);
     let even = t.even;
     out[to + j] = even;
     let odd = t.odd;

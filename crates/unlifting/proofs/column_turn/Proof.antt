@@ -17,7 +17,7 @@ use Rattle.lifting.specs.Runs.{as-type}
 use Rattle.unlifting.specs.Fixed.{limit}
 use Rattle.unlifting.specs.Stages.{read, size-read, again, scaledBy, cutBits, atInverse, atZeta}
 use Rattle.unlifting.specs.Turns.{SomeReady, Turned}
-use Rattle.unlifting.specs.Columns.{turnIn, low-size, high-size, column-line, column-done}
+use Rattle.unlifting.specs.Columns.{low-size, high-size, column-line, column-done}
 use Rattle.unlifting.proofs.column_turn.Statement.{statement}
 use Rattle.unlifting.proofs.column_turn.Tie as tie
 
@@ -84,7 +84,7 @@ pub column-turn-spec : {M : Type 1} → statement M
 column-turn-spec =
     tie.close
     (tie.spec
-    (λ c κs. (omega (arith, c .before .pre .sized .narrow), c .before .pre .sized .room))
+    (λ c κs. omega (arith, c .before .pre .among, c .before .pre .sized .narrow, c .before .pre .sized .room))
     (λ c. omega (arith, c .before .before .pre .sized .room))
     (λ c. omega (arith, c .before .before .pre .sized .room, c .before .before .pre .sized .narrow))
     (λ c. omega (arith, c .before .before .pre .sized .room, c .before .before .pre .sized .narrow))
@@ -101,7 +101,7 @@ column-turn-spec =
     scaled-requires-2
     (λ c. omega (arith, c .before .before .before .before .before .before .pre .sized .few))
     turned-requires
-    (λ c κs. let s = c .before .before .before .before .before .before .before .before in (omega (arith, s .pre .sized .narrow), s .pre .sized .room))
+    (λ c κs. let s = c .before .before .before .before .before .before .before .before in omega (arith, s .pre .among, s .pre .sized .narrow, s .pre .sized .room))
     (λ c. omega (arith, c .before .before .before .before .before .before .before .before .before .before .before .pre .sized .fits, c .before .before .before .before .before .before .before .before .before .before .before .pre .among, c .before .before .before .before .before .before .before .before .before .before .before .good))
     (λ c. omega (arith, c .before .before .before .before .before .before .before .before .before .before .before .pre .sized .fits, c .before .before .before .before .before .before .before .before .before .before .before .pre .among, c .before .before .before .before .before .before .before .before .before .before .before .good))
     (λ c. omega (arith, c .before .before .before .before .before .before .before .before .before .before .before .pre .sized .fits, c .before .before .before .before .before .before .before .before .before .before .before .pre .among, c .before .before .before .before .before .before .before .before .before .before .before .good))

@@ -12,13 +12,15 @@ returns c =
     let told = c .before .before .before .struct-told .given in
     let s = c .before .before .before .before in
     let t = s .args .t in
-    kept-sets (s .args .lines .now) (s .args .room) (s .args .j) t _ _ _ _ (s .pre .0) (s .pre .1)
+    kept-sets (s .args .lines .now) (s .args .j) t _ _ _ _ (s .pre)
     (again (t .g2) (told .0 .1)) (again (t .u2) (told .1 .0 .1)) (again (t .p2) (told .1 .1 .0 .1)) (again (t .u1) (told .1 .1 .1 .0 .1))
 
 pub keep-spec : {M : Type 1} → statement M
 keep-spec =
     tie.close
     (tie.spec
+    (λ c. omega arith)
+    (λ c. omega arith)
     (λ c. omega arith)
     (λ c. omega arith)
     (λ c. omega arith)

@@ -13,7 +13,7 @@ use Rattle.lines.specs.LineLaws.{some-lows, some-highs, first-low, first-high, 
 use Rattle.lines.specs.Neighbours.{low-after-in, high-before-in, high-after-in, low-after-next, high-before-next, high-after-next, low-after-last, high-before-first, high-after-last}
 use Rattle.lifting.specs.Patch.{patch, patch-in, patch-below, patch-above}
 use Rattle.lifting.specs.Runs.{as-type}
-use Rattle.lifting.specs.PatchLines.{lineAt, patchLines, lines-apart, lines-in, lines-out}
+use Rattle.lifting.specs.PatchLines.{lineAt, patchLines, lines-apart, lines-in}
 use Rattle.lifting.specs.declared.Pair.{Pair}
 use Rattle.lifting.specs.Steps.{applied, Safe}
 use Rattle.lifting.specs.Passes.{liftedHighs, liftedLows, SafePair}
@@ -284,16 +284,3 @@ whole-held {A} s n r t z e = record {
   where
     is : (i j : ℕ) → i < n → j < s → z (lineAt 0 s i + j) ≡ r j i
     is i j p g = ap (λ (q : ℕ → A). q (lineAt 0 s i + j)) e ∙ lines-in (lineAt 0 s) s _ t (λ u v a. lines-apart 0 s s u v (omega arith) (omega arith)) n i j p g
-
--- the lines of the lows, then those of the highs
-pub halves-held : {A : Type 0} (s n : ℕ) (l h : ℕ → ℕ → A) (t y z : ℕ → A) → y ≡ patchLines (lineAt 0 s) s (lows n) (λ i j. l j i) t → z ≡ patchLines (lineAt (lows n * s) s) s (highs n) (λ i j. h j i) y → Held s n l h z
-halves-held {A} s n l h t y z e f = record {
-  low = λ i j p g. ap (λ (q : ℕ → A). q (i * s + j)) f
-      ∙ lines-out (lineAt (lows n * s) s) s _ y (highs n) _ (λ u v a b q. omega (arith, mul-le-mul-right {m = suc i} {n = lows n} s (omega arith)))
-      ∙ ap (λ (q : ℕ → A). q (i * s + j)) e ∙ ap (patchLines (lineAt 0 s) s (lows n) (λ i j. l j i) t) (let w : i * s + j ≡ lineAt 0 s i + j = omega arith in w) ∙ lines-in (lineAt 0 s) s _ t (apart 0) (lows n) i j p g;
-  high = λ i j p g. ap (λ (q : ℕ → A). q (lows n * s + (i * s + j))) f ∙ ap (patchLines (lineAt (lows n * s) s) s (highs n) (λ i j. h j i) y) (let w : lows n * s + (i * s + j) ≡ lineAt (lows n * s) s i + j = omega arith in w)
-      ∙ lines-in (lineAt (lows n * s) s) s _ y (apart (lows n * s)) (highs n) i j p g;
-}
-  where
-    apart : (base u v : ℕ) → u < v → (p q : ℕ) → p < s → q < s → lineAt base s u + p ≡ lineAt base s v + q → ⊥
-    apart base u v a = lines-apart base s s u v (omega arith) (omega arith)

@@ -1,22 +1,21 @@
 -- A strip of columns undone turn by turn side by side: what the turns ask of memory, and what they leave there.
 -- Assumes nothing.
 use mathlib.Core.Path.{_≡_, refl, sym, ap, subst, _∙_}
-use mathlib.Core.Bool.{Bool, true, false}
+use mathlib.Core.Bool.{Bool, true}
 use mathlib.Core.List.{List}
 use Prim.Native.Nat.{ℕ, _+_, _*_, _-_, _^_, _<_, _≤_, min}
 use native.Mathlib.Omega.{arith}
 use native.Mathlib.Decide.{decLt}
-use lib.Dec.{ltb, lit<}
+use lib.Dec.{lit<}
 use lib.IntN.{ℤ, pos, natAbs}
 use lib.ListN.{length, set, length-set}
 use lib.Seq.{getD-set-same, getD-set-other}
 use Rattle.lines.specs.Lines.{lows, highs, Liftable}
-use Rattle.lifting.specs.Patch.{at, patch}
+use Rattle.lifting.specs.Patch.{at}
 use Rattle.lifting.specs.Runs.{as-type}
-use Rattle.lifting.specs.PatchLines.{lineAt, patchLines}
 use Rattle.unlifting.specs.declared.Turn.{Turn}
 use Rattle.unlifting.specs.declared.Strip.{Strip}
-use Rattle.unlifting.specs.Fixed.{nodeBits, atG1, atG2, fixedBack, limit}
+use Rattle.unlifting.specs.Fixed.{nodeBits, atG1, atG2, limit}
 use Rattle.unlifting.specs.Planes.{Safe}
 use Rattle.unlifting.specs.Stages.{scaledBy, cutBits, atInverse, atZeta, scaled-inverse, scaled-zeta}
 use Rattle.unlifting.specs.Turns.{Line, Held, Turned, turned-as, Ready}

@@ -1,9 +1,13 @@
--- The 9/7 lifting undone in fixed point (document 02, job 1), on tiles of 64-bit values.
+-- The 9/7 lifting undone in fixed point (document 02, job 1), in 64-bit values.
 --   Fixed      the fixed-point inverse of one line
---   Planes     rows and columns of a plane in memory, and what keeps the machine's numbers in 64 bits
+--   Planes     the rows of a plane in memory, and what keeps the machine's numbers in 64 bits
+--   Strips     where the columns of a plane come from and go to (`source`, `undone`); what a strip's turns ask and leave
 -- Proved of them:
 --   Stages     a stage as it is worked with 64-bit numbers, and the constants
---   Tiles      the stages on a tile
+--   Turns      a line undone turn by turn, its four stages together
+--   Rows       a row's turns
+--   Columns    a turn of the columns of a strip, side by side
+--   StripTurns, StripLoop   a strip's turns on the plane and the work area, one after the other
 --   Examples   worked lines
 pub mod Fixed
 pub mod Planes

@@ -1,7 +1,7 @@
--- Rows and columns of a plane in memory with the lifting undone (document 02, job 1).
-use Prim.Native.Nat.{ℕ, _*_, _^_, _<_, _≤_}
+-- Rows of a plane in memory with the lifting undone (document 02, job 1), and what keeps the machine's numbers in 64 bits.
+use Prim.Native.Nat.{ℕ, _<_, _≤_}
 use lib.IntN.{ℤ, natAbs}
-use Rattle.lifting.specs.Kernels.{rowsBy, columnsBy}
+use Rattle.lifting.specs.Kernels.{rowsBy}
 use Rattle.unlifting.specs.Fixed.{nodeBits, fixedBack, Small, limit}
 
 -- what enters a line of n values, and every value on the way, is at most 2^15 in magnitude at the bits of a node
@@ -12,7 +12,3 @@ pub record Safe (fl fh n : ℕ) (y : ℕ → ℤ) : Type 0 where
 -- the first w values of h rows; lows and highs have the bits of a node
 abbrev pub rowsBack : ℕ → ℕ → ℕ → (ℕ → ℤ) → ℕ → ℤ
 rowsBack = rowsBy (fixedBack nodeBits nodeBits)
-
--- w columns of h rows, from column `from` on; the lows have fl bits, the highs fh
-abbrev pub columnsBack : ℕ → ℕ → ℕ → ℕ → ℕ → ℕ → (ℕ → ℤ) → ℕ → ℤ
-columnsBack fl fh = columnsBy (fixedBack fl fh)

@@ -17,7 +17,7 @@ use Rattle.lifting.specs.Turns.{back}
 use Rattle.unlifting.specs.declared.Turn.{Turn}
 use Rattle.unlifting.specs.Fixed.{nodeBits, inverseBits, atG1, atG2, fixedBack, limit}
 use Rattle.unlifting.specs.Planes.{Safe}
-use Rattle.unlifting.specs.Stages.{scaledBy, limit-fits, read, atInverse, atZeta, scaled-inverse, scaled-zeta}
+use Rattle.unlifting.specs.Stages.{scaledBy, limit-fits, read, size-read, atInverse, atZeta, scaled-inverse, scaled-zeta}
 use Rattle.unlifting.specs.Turns.{Line, Held, Gives, Turned, Ready, SomeReady, low-size, high-size, ready-read, turned-read, lineG1, lineG2, lineU1, lineP1}
 
 -- the w values from a place on; lows and highs have the bits of a node
@@ -72,9 +72,6 @@ low-place i w h = omega arith
 high-place : (i w : ℕ) → 2 ≤ w → lows w + min i (highs w - 1) < w
 high-place i w h = omega arith
 
-small-read : (z : ℤ) → natAbs z ≤ limit → natAbs (back w64 z) ≤ limit
-small-read z h = subst (λ (v : ℤ). natAbs v ≤ limit) (sym (read z h)) h
-
 -- low i and high i of the row, or the last ones, are small
 module _ {work : List ℤ} {line from w : ℕ} (q : RowReady work line from w) (i a b : ℕ) (low-at : a ≡ min i (lows w - 1)) (high-at : b ≡ min i (highs w - 1)) where
   low-in : natAbs (at work (from + a)) ≤ limit
@@ -86,10 +83,10 @@ module _ {work : List ℤ} {line from w : ℕ} (q : RowReady work line from w) (
 
   -- read back from their bits too
   pub low-small : natAbs (back w64 (at work (from + a))) ≤ limit
-  low-small = small-read (at work (from + a)) low-in
+  low-small = size-read (at work (from + a)) low-in
 
   pub high-small : natAbs (back w64 (at work (from + lows w + b))) ≤ limit
-  high-small = small-read (at work (from + lows w + b)) high-in
+  high-small = size-read (at work (from + lows w + b)) high-in
 
   -- scaled, they make the turn ready
   pub turn-ready : (t : Turn) (low high : ℤ) → i < lows w + 2 → (1 ≤ i → Held (rowLine (at work) from w) (i - 1) t)

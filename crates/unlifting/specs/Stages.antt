@@ -43,12 +43,6 @@ scaledBy c b x = floorDiv (c *ℤ x) (2 ^ b)
 pub constant-back : {c : ℤ} → SFits w64 c → Constant c → Constant (back w64 c)
 constant-back fits h = subst Constant (sym (toZ-ofZ fits)) h
 
-pub moved-back : {c : ℤ} → SFits w64 c → movedBy (back w64 c) ≡ movedBy c
-moved-back fits = ap movedBy (toZ-ofZ fits)
-
-pub scaled-back : {c : ℤ} → SFits w64 c → scaledBy (back w64 c) ≡ scaledBy c
-scaled-back fits = ap scaledBy (toZ-ofZ fits)
-
 -- numbers in the limit, read back from their bits
 pub limit-fits : {z : ℤ} → natAbs z ≤ limit → SFits w64 z
 limit-fits {z} h = record { sfits = mag-of-abs z (lt-of-le-of-lt h (lit< tt)) }

@@ -1,27 +1,22 @@
 -- A strip undone: turn after turn, each after its low was held.
 -- Assumes nothing.
 use mathlib.Core.Path.{_≡_, refl, sym, ap, subst, _∙_}
-use mathlib.Core.Bool.{Bool, true, false}
 use mathlib.Core.List.{List}
 use Prim.Native.Nat.{ℕ, _+_, _*_, _-_, _<_, _≤_, min}
 use native.Mathlib.Omega.{arith}
 use native.Mathlib.Decide.{decLt}
 use lib.IntN.{ℤ, pos}
-use lib.ListN.{length}
 use Rattle.lines.specs.Lines.{lows, highs, Liftable}
 use Rattle.lines.specs.LineLaws.{even-place, odd-place, by-parity}
 use Rattle.lifting.specs.Patch.{at}
-use Rattle.lifting.specs.Runs.{as-type}
-use Rattle.lifting.specs.PatchLines.{lineAt, patchLines, lines-apart, lines-is, Off}
+use Rattle.lifting.specs.PatchLines.{lineAt, lines-is}
 use Rattle.lifting.specs.Strips.{same-line}
-use Rattle.unlifting.specs.declared.Turn.{Turn}
 use Rattle.unlifting.specs.declared.Strip.{Strip}
 use Rattle.unlifting.specs.declared.Site.{Site}
 use Rattle.unlifting.specs.Fixed.{fixedBack}
-use Rattle.unlifting.specs.Planes.{Safe}
-use Rattle.unlifting.specs.Turns.{Line, Held, Gives, turn-held, turn-gives, lineU1, lineP1}
+use Rattle.unlifting.specs.Turns.{Held, Gives, turn-held, turn-gives, lineU1, lineP1}
 use Rattle.unlifting.specs.Columns.{turnIn, turnOut, columnLine, ColumnReady, column-line}
-use Rattle.unlifting.specs.Strips.{source, undone, Placed, Fed, highPlace, evenPlace, PlaneTurn, PlaneTurned, StripReady, source-low, source-high, pick}
+use Rattle.unlifting.specs.Strips.{source, undone, Placed, Fed, highPlace, evenPlace, PlaneTurned, StripReady, source-low, source-high, pick}
 
 -- the turns before turn i are taken
 pub record StripDone (plane work work′ lines : List ℤ) (a : Site) (b : Strip) (i : ℕ) : Type 0 where

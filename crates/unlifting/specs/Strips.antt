@@ -1,25 +1,23 @@
 -- Strips of a plane: where their columns come from, where they go, and what the turns leave of them in memory.
 -- Assumes nothing.
-use mathlib.Core.Path.{_≡_, refl, sym, ap, subst, _∙_, fun-ext}
+use mathlib.Core.Path.{_≡_, sym, ap, _∙_, fun-ext}
 use mathlib.Core.Bool.{Bool, true, false}
 use mathlib.Core.List.{List}
 use Prim.Native.Nat.{ℕ, _+_, _*_, _-_, _^_, _<_, _≤_, min}
 use native.Mathlib.Omega.{arith}
 use lib.Dec.{ltb}
-use lib.IntN.{ℤ, pos}
+use lib.IntN.{ℤ}
 use lib.ListN.{length}
 use Rattle.lines.specs.Lines.{lows, highs, Liftable}
 use Rattle.numbers.specs.Tests.{ltb-true, ltb-false}
 use Rattle.lifting.specs.Patch.{at, patch, patch-in, patch-below}
 use Rattle.lifting.specs.PatchLines.{lineAt, patchLines, lines-out}
 use Rattle.lifting.specs.Strips.{value-as-was, strips-more}
-use Rattle.unlifting.specs.declared.Turn.{Turn}
 use Rattle.unlifting.specs.declared.Strip.{Strip}
 use Rattle.unlifting.specs.declared.Site.{Site}
 use Rattle.unlifting.specs.Fixed.{nodeBits, fixedBack}
 use Rattle.unlifting.specs.Planes.{Safe}
-use Rattle.unlifting.specs.Turns.{Line, Held, Turned}
-use Rattle.unlifting.specs.Columns.{turnIn, columnLine, ColumnReady, TurnedAt}
+use Rattle.unlifting.specs.Columns.{turnIn, ColumnReady, TurnedAt}
 
 -- Column j of n values, the lows first. The highs are stored: value k stands on line k of the plane. So do the lows where they are stored;
 -- else a coarser level left them in the work area, low k on line 2 k.

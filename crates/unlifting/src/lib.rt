@@ -57,7 +57,9 @@ fn scaled(x: i64, c: i64, cut: u32) -> i64
 
 // ---- a turn of a line
 
-// What is held of a line that is undone turn by turn (specs/Turns.antt), and the two values that the last turn gave.
+// Turn i of a line takes low i and high i, scaled, or the last ones, and undoes U2 at low i, P2 at high i - 1, U1 at low i - 1 and P1 at
+// high i - 2. Held after it are g2 and u2 of place i, p2 and u1 of place i - 1; `even` and `odd` are what it gives: the line's values at
+// places 2 (i - 2) and 2 (i - 2) + 1.
 pub struct Turn {
     pub g2: i64,
     pub u2: i64,
@@ -111,7 +113,7 @@ fn inner_turn(t: Turn, low: i64, high: i64, i: usize, lows: usize, highs: usize)
     }
 }
 
-// Any turn.
+// Any turn: each stage as far as its place is one of the line's.
 fn end_turn(t: Turn, low: i64, high: i64, i: usize, lows: usize, highs: usize) -> Turn
     requires { ⌜ SomeReady i lows highs t low high ⌝ }
     ensures { λ r. ⌜ Turned i lows highs t low high r ⌝ }
@@ -161,7 +163,7 @@ fn turned(t: Turn, low: i64, high: i64, i: usize, lows: usize, highs: usize, inn
     end_turn(t, low, high, i, lows, highs)
 }
 
-// ---- one run
+// ---- places
 
 // The n values of src from place `from` on go to dst from place `to` on.
 fn copy_run(src: &[i64], from: usize, dst: &mut [i64], to: usize, n: usize)
@@ -235,10 +237,12 @@ fn larger(a: usize, b: usize) -> usize
     if a < b { b } else { a }
 }
 
-// The row of w values from place `from` on, undone: it stands in the line from place LEAD on. Lows and highs have the bits of a node.
+// The row of w values from place `from` on, undone: it stands in the line from place LEAD on, and all else there is free.
+// Lows and highs have the bits of a node.
 pub fn row(work: &[i64], line: &mut [i64], from: usize, w: usize)
     requires { ⌜ RowReady (now work) (length (now line)) from w ⌝ }
-    ensures { λ _. ⌜ RowUndone (now (work .entry)) (now (line .exit)) from w ⌝ }
+    ensures row { λ _. ⌜ RowUndone (now (work .entry)) (now (line .exit)) from w ⌝ }
+    ensures line { λ _. ⌜ Free (now (line .entry)) (now (line .exit)) ⌝ }
 {
     let none = Turn {
         g2: 0,

@@ -19,7 +19,7 @@
 --   Words      every value that a level takes or leaves is at most 2^15; 64 bits hold the numbers that a pixel forms
 --   WidthLaws  refusal 12, subband by subband
 --   PixelSteps a pixel below the depth, above it or inside
---   LevelSteps a level in memory: level-stands, level-safe
+--   LevelSteps a level in memory: level-at, level-safe
 --   RowSteps   the rows of the first level, each taken back, shown and cleared
 --   CallSteps  what the steps of the call ask of each other, and what they leave
 pub mod View

@@ -1,5 +1,5 @@
 -- The rows of the first level: each is taken back, shown and cleared, one after the other.
-use Prim.Native.Nat.{ℕ, _+_, _*_, _^_, _<_, _≤_}
+use Prim.Native.Nat.{ℕ, _+_, _*_, _<_, _≤_}
 use mathlib.Core.List.{List}
 use mathlib.Core.Path.{_≡_, refl, sym, _∙_, ap, fun-ext, subst}
 use native.Mathlib.Omega.{arith}
@@ -9,7 +9,7 @@ use lib.ListN.{length, getD}
 use Rattle.numbers.specs.Lists.{over}
 use Rattle.lines.specs.Lines.{Liftable}
 use Rattle.lines.specs.Planes.{Plane, rowByRow}
-use Rattle.lifting.specs.Patch.{at, patch, patch-in, patch-below, patch-above, patch-is}
+use Rattle.lifting.specs.Patch.{at, patch, patch-in, patch-above, patch-is}
 use Rattle.lifting.specs.PatchLines.{lineAt, patchLines, lines-apart, lines-out, lines-in, lines-more, packed-lines}
 use Rattle.lifting.specs.Kernels.{Part, rowOf}
 use Rattle.pictures.specs.Pictures.{zeroed}

@@ -6,7 +6,7 @@ use native.Mathlib.Omega.{arith}
 use lib.Dec.{lit≤}
 use lib.IntN.{pos}
 use mir.Facts.{toZ-ofZ}
-use Rattle.exact.specs.Exact.{alpha, beta, gamma, delta}
+use Rattle.exact.specs.Exact.{beta, gamma, delta}
 use Rattle.unlifting.specs.Fixed.{unstep}
 use Rattle.unlifting.specs.Stages.{read, again, inside-read, moved-alpha, moved-beta, moved-gamma, moved-delta}
 use Rattle.unlifting.specs.Turns.{LowTurned, HighTurned, low-asks-read, low-read, high-read, turned-as, some-low, some-high, u2-size, p2-size, u1-size, asks-u2, u2-is, asks-p2, p2-is, asks-u1, u1-is, asks-p1, lineU2, lineP2, lineU1, upToLow, upToHigh}

@@ -1,9 +1,8 @@
 -- `unlifting::feed` meets its contract: past the last low nothing is done; else the low comes from the plane or from the work area.
 -- Assumes nothing.
-use mathlib.Core.Path.{_≡_, refl}
-use Prim.Native.Nat.{_+_, _*_, _≤_}
+use mathlib.Core.Path.{refl}
+use Prim.Native.Nat.{_*_}
 use native.Mathlib.Omega.{arith}
-use lib.ListN.{length}
 use Rattle.unlifting.specs.Strips.{fed-stored, fed-left}
 use Rattle.unlifting.proofs.feed.Statement.{statement}
 use Rattle.unlifting.proofs.feed.Tie as tie

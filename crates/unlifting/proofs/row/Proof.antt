@@ -21,7 +21,7 @@ row-turns-requires-3 c κs =
     turns-last (g .before .before .before .before .pre) _ (omega arith) _ _ (g .larger .ensures) (t .row-turns2 .ensures)
 
 returns : tie.Need-returns
-returns c = row-undone (c .before .row-turns3 .ensures)
+returns c = (row-undone (c .before .row-turns3 .ensures), omega arith)
 
 pub row-spec : {M : Type 1} → statement M
 row-spec =

@@ -48,7 +48,7 @@ loop-again c =
       omega arith,
       omega arith,
       row-next (fixedBack nodeBits nodeBits) (a .args .stride) (a .args .w) (t .loop .r) (t .loop .r * a .args .stride) (omega (arith, a .pre .0 .0 .narrow)) (at (a .args .work .now)) _ _ (t .loop .inv .3) (omega arith)
-          (c .before .copy-run .ensures ∙ patch-ext _ _ _ _ _ (n .row .ensures)),
+          (c .before .copy-run .ensures ∙ patch-ext _ _ _ _ _ (n .row .ensures .0)),
     )
 
 returns : tie.Need-returns Inv-loop μ-loop

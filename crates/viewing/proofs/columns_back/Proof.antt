@@ -2,7 +2,6 @@
 -- Assumes nothing.
 use mathlib.Core.Path.{_≡_, sym, _∙_}
 use native.Mathlib.Omega.{arith}
-use lib.ListN.{length}
 use Rattle.lines.specs.Lines.{lows, highs}
 use Rattle.lifting.specs.Patch.{at}
 use Rattle.lifting.specs.Runs.{as-type}

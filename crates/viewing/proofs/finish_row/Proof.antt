@@ -13,14 +13,14 @@ show-row-requires : tie.Need-show-row-requires
 show-row-requires c κs =
     let o = c .before .before .before in
     let s = o .before .before .before .before in
-    ((s .pre .depth .0, s .pre .depth .1, omega (arith, s .pre .row .room), s .pre .room), taken-small (s .pre) (o .row .last .1 .0) (o .row .ensures))
+    ((s .pre .depth .0, s .pre .depth .1, omega (arith, s .pre .row .room), s .pre .room), taken-small (s .pre) (o .row .last .1 .0) (o .row .ensures .0))
 
 returns : tie.Need-returns
 returns c =
     let q = c .before .before .before .before .before in
     let o = q .before .before .before .before in
     let a = o .before .before .before .before .args in
-    (q .show-row .ensures ∙ patch-ext (a .from) (a .w) _ _ (λ k. getD (a .pixels .now) k 0) (λ j h. ap (pixel (a .depth)) (o .row .ensures j h)), c .before .clear-row .ensures)
+    (q .show-row .ensures ∙ patch-ext (a .from) (a .w) _ _ (λ k. getD (a .pixels .now) k 0) (λ j h. ap (pixel (a .depth)) (o .row .ensures .0 j h)), c .before .clear-row .ensures)
 
 pub finish-row-spec : {M : Type 1} → statement M
 finish-row-spec =

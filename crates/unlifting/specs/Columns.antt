@@ -56,11 +56,11 @@ pub record ColumnReady (b : Strip) (i : ℕ) (t : Turn) (low high : ℤ) (y : �
   pub highIs : high ≡ y (lows (b .lines) + min i (highs (b .lines) - 1))
 
 -- the sizes that a turn of a strip asks for
-pub record Sized (plane lines : List ℤ) (out high to gap : ℕ) (b : Strip) (i : ℕ) (inner : Bool) : Type 0 where
+pub record Sized (plane state : List ℤ) (out high to gap : ℕ) (b : Strip) (i : ℕ) (inner : Bool) : Type 0 where
   pub two : Liftable (b .lines)
   pub few : b .lines < 2 ^ 31
   pub narrow : b .columns ≤ b .room
-  pub room : 5 * b .room ≤ length lines
+  pub room : 5 * b .room ≤ length state
   pub lowbits : b .lowbits ≤ nodeBits
   pub highbits : b .highbits ≤ nodeBits
   pub there : high + b .columns ≤ length plane
@@ -69,34 +69,34 @@ pub record Sized (plane lines : List ℤ) (out high to gap : ℕ) (b : Strip) (i
   pub within : i < lows (b .lines) + 2
   pub middle : inner ≡ true → (2 ≤ i) × (i < highs (b .lines))
 
-pub record ColumnTurn (plane : List ℤ) (high : ℕ) (lines : List ℤ) (out to gap : ℕ) (b : Strip) (i : ℕ) (inner : Bool) (j : ℕ) : Type 0 where
-  pub sized : Sized plane lines out high to gap b i inner
+pub record ColumnTurn (plane : List ℤ) (high : ℕ) (state : List ℤ) (out to gap : ℕ) (b : Strip) (i : ℕ) (inner : Bool) (j : ℕ) : Type 0 where
+  pub sized : Sized plane state out high to gap b i inner
   pub among : j < b .columns
   pub y : ℕ → ℤ
-  pub ready : ColumnReady b i (turnIn (at lines) j) (at lines (4 * b .room + j)) (at plane (high + j)) y
+  pub ready : ColumnReady b i (turnIn (at state) j) (at state (4 * b .room + j)) (at plane (high + j)) y
 
--- a turn of column j: lines x become x′, and z becomes z′
+-- a turn of column j: what is held, x, becomes x′; its two values stand in z′
 abbrev pub TurnedAt : (ℕ → ℤ) → ℕ → (ℕ → ℤ) → (ℕ → ℤ) → (ℕ → ℤ) → ℕ → ℕ → Strip → ℕ → ℕ → Type 0
 TurnedAt plane high x x′ z′ to gap b i j =
     Turned i (lows (b .lines)) (highs (b .lines)) (turnIn x j)
     (scaledBy atInverse (cutBits (b .lowbits)) (x (4 * b .room + j))) (scaledBy atZeta (cutBits (b .highbits)) (plane (high + j)))
     (turnOut x′ (z′ (to + j)) (z′ (to + gap + j)) j)
 
-pub record ColumnTurned (plane : List ℤ) (high : ℕ) (lines lines′ out out′ : List ℤ) (to gap : ℕ) (b : Strip) (i j : ℕ) : Type 0 where
-  pub turned : TurnedAt (at plane) high (at lines) (at lines′) (at out′) to gap b i j
-  pub others : (p : ℕ) → OffColumn j p → at lines′ p ≡ at lines p
+pub record ColumnTurned (plane : List ℤ) (high : ℕ) (state state′ out out′ : List ℤ) (to gap : ℕ) (b : Strip) (i j : ℕ) : Type 0 where
+  pub turned : TurnedAt (at plane) high (at state) (at state′) (at out′) to gap b i j
+  pub others : (p : ℕ) → OffColumn j p → at state′ p ≡ at state p
   pub kept : (p : ℕ) → (p ≡ to + j → ⊥) → (p ≡ to + gap + j → ⊥) → at out′ p ≡ at out p
 
 -- ---- all columns of a strip in one turn
 
-pub record StripTurn (plane : List ℤ) (high : ℕ) (lines : List ℤ) (out to gap : ℕ) (b : Strip) (i : ℕ) (inner : Bool) : Type 0 where
-  pub sized : Sized plane lines out high to gap b i inner
+pub record StripTurn (plane : List ℤ) (high : ℕ) (state : List ℤ) (out to gap : ℕ) (b : Strip) (i : ℕ) (inner : Bool) : Type 0 where
+  pub sized : Sized plane state out high to gap b i inner
   pub y : ℕ → ℕ → ℤ
-  pub ready : (j : ℕ) → j < b .columns → ColumnReady b i (turnIn (at lines) j) (at lines (4 * b .room + j)) (at plane (high + j)) (y j)
+  pub ready : (j : ℕ) → j < b .columns → ColumnReady b i (turnIn (at state) j) (at state (4 * b .room + j)) (at plane (high + j)) (y j)
 
-pub record StripTurned (plane : List ℤ) (high : ℕ) (lines lines′ out out′ : List ℤ) (to gap : ℕ) (b : Strip) (i : ℕ) : Type 0 where
-  pub turned : (j : ℕ) → j < b .columns → TurnedAt (at plane) high (at lines) (at lines′) (at out′) to gap b i j
-  pub lows : (j : ℕ) → j < b .columns → at lines′ (4 * b .room + j) ≡ at lines (4 * b .room + j)
+pub record StripTurned (plane : List ℤ) (high : ℕ) (state state′ out out′ : List ℤ) (to gap : ℕ) (b : Strip) (i : ℕ) : Type 0 where
+  pub turned : (j : ℕ) → j < b .columns → TurnedAt (at plane) high (at state) (at state′) (at out′) to gap b i j
+  pub lows : (j : ℕ) → j < b .columns → at state′ (4 * b .room + j) ≡ at state (4 * b .room + j)
   pub kept : (p : ℕ) → ((j : ℕ) → j < b .columns → p ≡ to + j → ⊥) → ((j : ℕ) → j < b .columns → p ≡ to + gap + j → ⊥) → at out′ p ≡ at out p
 
 -- ---- proved of them
@@ -147,11 +147,11 @@ module _ {b : Strip} {i : ℕ} {t : Turn} {low high : ℤ} {y : ℕ → ℤ} (q 
   }
 
 -- what is left of it
-module _ (plane : List ℤ) (high : ℕ) (lines lines′ out : List ℤ) (to gap : ℕ) (b : Strip) (i j : ℕ) (r : Turn) (e o : ℤ) (among : j < b .columns) (apart : b .columns ≤ gap) (fits : to + gap + b .columns ≤ length out) where
-  pub column-done : Turned i (lows (b .lines)) (highs (b .lines)) (turnIn (at lines) j)
-      (scaledBy atInverse (cutBits (b .lowbits)) (at lines (4 * b .room + j))) (scaledBy atZeta (cutBits (b .highbits)) (at plane (high + j))) r
-      → Kept j r (at lines) (at lines′) → e ≡ r .even → o ≡ r .odd
-      → ColumnTurned plane high lines lines′ out (set (set out (to + j) e) (to + gap + j) o) to gap b i j
+module _ (plane : List ℤ) (high : ℕ) (state state′ out : List ℤ) (to gap : ℕ) (b : Strip) (i j : ℕ) (r : Turn) (e o : ℤ) (among : j < b .columns) (apart : b .columns ≤ gap) (fits : to + gap + b .columns ≤ length out) where
+  pub column-done : Turned i (lows (b .lines)) (highs (b .lines)) (turnIn (at state) j)
+      (scaledBy atInverse (cutBits (b .lowbits)) (at state (4 * b .room + j))) (scaledBy atZeta (cutBits (b .highbits)) (at plane (high + j))) r
+      → Kept j r (at state) (at state′) → e ≡ r .even → o ≡ r .odd
+      → ColumnTurned plane high state state′ out (set (set out (to + j) e) (to + gap + j) o) to gap b i j
   column-done d k is-even is-odd = record {
     turned = turned-as d (record {
       g2 = k .g2;
@@ -167,13 +167,13 @@ module _ (plane : List ℤ) (high : ℕ) (lines lines′ out : List ℤ) (to gap
 
 -- ---- column by column: the first c columns have taken their turn
 
-pub record TurnsDone (plane : List ℤ) (high : ℕ) (lines lines′ out out′ : List ℤ) (to gap : ℕ) (b : Strip) (i c : ℕ) : Type 0 where
-  pub turned : (j : ℕ) → j < c → TurnedAt (at plane) high (at lines) (at lines′) (at out′) to gap b i j
-  pub ahead : (p : ℕ) → ((j : ℕ) → j < c → OffColumn j p) → at lines′ p ≡ at lines p
+pub record TurnsDone (plane : List ℤ) (high : ℕ) (state state′ out out′ : List ℤ) (to gap : ℕ) (b : Strip) (i c : ℕ) : Type 0 where
+  pub turned : (j : ℕ) → j < c → TurnedAt (at plane) high (at state) (at state′) (at out′) to gap b i j
+  pub ahead : (p : ℕ) → ((j : ℕ) → j < c → OffColumn j p) → at state′ p ≡ at state p
   pub kept : (p : ℕ) → ((j : ℕ) → j < c → p ≡ to + j → ⊥) → ((j : ℕ) → j < c → p ≡ to + gap + j → ⊥) → at out′ p ≡ at out p
 
-pub none-done : (plane : List ℤ) (high : ℕ) (lines out : List ℤ) (to gap : ℕ) (b : Strip) (i : ℕ) → TurnsDone plane high lines lines out out to gap b i 0
-none-done plane high lines out to gap b i = record { turned = λ j h. absurd (omega arith); ahead = λ p off. refl; kept = λ p f g. refl }
+pub none-done : (plane : List ℤ) (high : ℕ) (state out : List ℤ) (to gap : ℕ) (b : Strip) (i : ℕ) → TurnsDone plane high state state out out to gap b i 0
+none-done plane high state out to gap b i = record { turned = λ j h. absurd (omega arith); ahead = λ p off. refl; kept = λ p f g. refl }
 
 -- places of one column are none of another's
 off-other : (j k q : ℕ) → q < 4 → (j ≡ k → ⊥) → OffColumn j (4 * k + q)
@@ -197,33 +197,33 @@ same-column k z x same = record {
   u1 = same 3 (lit< tt);
 }
 
-module _ {plane : List ℤ} {high : ℕ} {lines lines′ out out′ : List ℤ} {to gap : ℕ} {b : Strip} {i c : ℕ} (done : TurnsDone plane high lines lines′ out out′ to gap b i c) (more : c < b .columns) (narrow : b .columns ≤ b .room) where
+module _ {plane : List ℤ} {high : ℕ} {state state′ out out′ : List ℤ} {to gap : ℕ} {b : Strip} {i c : ℕ} (done : TurnsDone plane high state state′ out out′ to gap b i c) (more : c < b .columns) (narrow : b .columns ≤ b .room) where
   -- column c is as it was
-  column-now : SameColumn c (at lines′) (at lines)
-  column-now = same-column c (at lines′) (at lines) (λ q h. done .ahead (4 * c + q) (λ j g. off-other j c q h (omega arith)))
+  column-now : SameColumn c (at state′) (at state)
+  column-now = same-column c (at state′) (at state) (λ q h. done .ahead (4 * c + q) (λ j g. off-other j c q h (omega arith)))
 
-  low-now : at lines′ (4 * b .room + c) ≡ at lines (4 * b .room + c)
+  low-now : at state′ (4 * b .room + c) ≡ at state (4 * b .room + c)
   low-now = done .ahead (4 * b .room + c) (λ j g. off-lows (b .room) j c (omega arith))
 
-  turn-now : turnIn (at lines′) c ≡ turnIn (at lines) c
+  turn-now : turnIn (at state′) c ≡ turnIn (at state) c
   turn-now = λ u. record { g2 = column-now .g2 u; u2 = column-now .u2 u; p2 = column-now .p2 u; u1 = column-now .u1 u; even = pos 0; odd = pos 0 }
 
   -- it is ready where it was
-  pub ready-now : {y : ℕ → ℤ} → ColumnReady b i (turnIn (at lines) c) (at lines (4 * b .room + c)) (at plane (high + c)) y
-      → ColumnReady b i (turnIn (at lines′) c) (at lines′ (4 * b .room + c)) (at plane (high + c)) y
+  pub ready-now : {y : ℕ → ℤ} → ColumnReady b i (turnIn (at state) c) (at state (4 * b .room + c)) (at plane (high + c)) y
+      → ColumnReady b i (turnIn (at state′) c) (at state′ (4 * b .room + c)) (at plane (high + c)) y
   ready-now {y} q = as-type (λ u. ColumnReady b i (sym turn-now u) (sym low-now u) (at plane (high + c)) y) q
 
   -- one column more
-  pub turns-more : (lines″ out″ : List ℤ) → b .columns ≤ gap → ColumnTurned plane high lines′ lines″ out′ out″ to gap b i c → TurnsDone plane high lines lines″ out out″ to gap b i (c + 1)
-  turns-more lines″ out″ apart d = record {
+  pub turns-more : (state″ out″ : List ℤ) → b .columns ≤ gap → ColumnTurned plane high state′ state″ out′ out″ to gap b i c → TurnsDone plane high state state″ out out″ to gap b i (c + 1)
+  turns-more state″ out″ apart d = record {
     turned = λ j h. go j h (decLt j c);
     ahead = λ p off. d .others p (off c (omega arith)) ∙ done .ahead p (λ j h. off j (omega arith));
     kept = λ p f g. d .kept p (f c (omega arith)) (g c (omega arith)) ∙ done .kept p (λ j h. f j (omega arith)) (λ j h. g j (omega arith));
   }
     where
-      go : (j : ℕ) → j < c + 1 → Dec (j < c) → TurnedAt (at plane) high (at lines) (at lines″) (at out″) to gap b i j
+      go : (j : ℕ) → j < c + 1 → Dec (j < c) → TurnedAt (at plane) high (at state) (at state″) (at out″) to gap b i j
       go j h (yes l) =
-          let s = same-column j (at lines″) (at lines′) (λ q k. d .others (4 * j + q) (off-other c j q k (omega arith))) in
+          let s = same-column j (at state″) (at state′) (λ q k. d .others (4 * j + q) (off-other c j q k (omega arith))) in
           turned-as (done .turned j l) (record {
             g2 = s .g2;
             u2 = s .u2;
@@ -234,17 +234,17 @@ module _ {plane : List ℤ} {high : ℕ} {lines lines′ out out′ : List ℤ} 
           })
       go j h (no f) =
           let e : c ≡ j = omega arith in
-          subst (λ (k : ℕ). TurnedAt (at plane) high (at lines) (at lines″) (at out″) to gap b i k) e
+          subst (λ (k : ℕ). TurnedAt (at plane) high (at state) (at state″) (at out″) to gap b i k) e
           (as-type (λ u. Turned i (lows (b .lines)) (highs (b .lines)) (turn-now u) (scaledBy atInverse (cutBits (b .lowbits)) (low-now u)) (scaledBy atZeta (cutBits (b .highbits)) (at plane (high + c)))
-          (turnOut (at lines″) (at out″ (to + c)) (at out″ (to + gap + c)) c)) (d .turned))
+          (turnOut (at state″) (at out″ (to + c)) (at out″ (to + gap + c)) c)) (d .turned))
 
 -- all columns have
-pub turns-all : {plane : List ℤ} {high : ℕ} {lines lines′ out out′ : List ℤ} {to gap : ℕ} {b : Strip} {i : ℕ} → b .columns ≤ b .room → TurnsDone plane high lines lines′ out out′ to gap b i (b .columns)
-    → StripTurned plane high lines lines′ out out′ to gap b i
+pub turns-all : {plane : List ℤ} {high : ℕ} {state state′ out out′ : List ℤ} {to gap : ℕ} {b : Strip} {i : ℕ} → b .columns ≤ b .room → TurnsDone plane high state state′ out out′ to gap b i (b .columns)
+    → StripTurned plane high state state′ out out′ to gap b i
 turns-all {b = b} narrow done = record { turned = done .turned; lows = λ j h. done .ahead (4 * b .room + j) (λ k g. off-lows (b .room) k j (omega arith)); kept = done .kept }
 
 -- the sizes, of slices as long
-pub sized-as : {plane lines : List ℤ} {out high to gap : ℕ} {b : Strip} {i : ℕ} {inner : Bool} → Sized plane lines out high to gap b i inner → (l : List ℤ) (o : ℕ) → length l ≡ length lines → o ≡ out → Sized plane l o high to gap b i inner
+pub sized-as : {plane state : List ℤ} {out high to gap : ℕ} {b : Strip} {i : ℕ} {inner : Bool} → Sized plane state out high to gap b i inner → (l : List ℤ) (o : ℕ) → length l ≡ length state → o ≡ out → Sized plane l o high to gap b i inner
 sized-as s l o el eo = record {
   two = s .two;
   few = s .few;

@@ -19,16 +19,16 @@ use Rattle.unlifting.specs.Columns.{turnIn, turnOut, columnLine, ColumnR
 use Rattle.unlifting.specs.Strips.{source, undone, Placed, Fed, highPlace, evenPlace, PlaneTurned, StripReady, source-low, source-high, pick}
 
 -- the turns before turn i are taken
-pub record StripDone (plane work work′ lines : List ℤ) (a : Site) (b : Strip) (i : ℕ) : Type 0 where
-  pub held : (j : ℕ) → j < b .columns → 1 ≤ i → Held (columnLine b (source a (b .lines) (at plane) (at work) j)) (i - 1) (turnIn (at lines) j)
-  pub low : (j : ℕ) → j < b .columns → 1 ≤ i → at lines (4 * b .room + j) ≡ source a (b .lines) (at plane) (at work) j (min (i - 1) (lows (b .lines) - 1))
+pub record StripDone (plane work work′ state : List ℤ) (a : Site) (b : Strip) (i : ℕ) : Type 0 where
+  pub held : (j : ℕ) → j < b .columns → 1 ≤ i → Held (columnLine b (source a (b .lines) (at plane) (at work) j)) (i - 1) (turnIn (at state) j)
+  pub low : (j : ℕ) → j < b .columns → 1 ≤ i → at state (4 * b .room + j) ≡ source a (b .lines) (at plane) (at work) j (min (i - 1) (lows (b .lines) - 1))
   pub even : (k j : ℕ) → k < i - 2 → j < b .columns → at work′ (lineAt (a .from) (a .stride) (2 * k) + j) ≡ lineU1 (columnLine b (source a (b .lines) (at plane) (at work) j)) k
   pub odd : (k j : ℕ) → k < i - 2 → k < highs (b .lines) → j < b .columns → at work′ (lineAt (a .from) (a .stride) (2 * k + 1) + j) ≡ lineP1 (columnLine b (source a (b .lines) (at plane) (at work) j)) k
   pub kept : (p : ℕ) → ((k j : ℕ) → k < i - 2 → j < b .columns → p ≡ lineAt (a .from) (a .stride) (2 * k) + j → ⊥)
       → ((k j : ℕ) → k < i - 2 → k < highs (b .lines) → j < b .columns → p ≡ lineAt (a .from) (a .stride) (2 * k + 1) + j → ⊥) → at work′ p ≡ at work p
 
-pub none-taken : (plane work lines : List ℤ) (a : Site) (b : Strip) → StripDone plane work work lines a b 0
-none-taken plane work lines a b = record {
+pub none-taken : (plane work state : List ℤ) (a : Site) (b : Strip) → StripDone plane work work state a b 0
+none-taken plane work state a b = record {
   held = λ j h g. absurd (omega arith);
   low = λ j h g. absurd (omega arith);
   even = λ k j h g. absurd (omega arith);
@@ -47,7 +47,7 @@ module _ (a : Site) (w : ℕ) (narrow : w ≤ a .stride) where
   other-line : (r k j v : ℕ) → j < w → v < w → (r ≡ k → ⊥) → lineAt (a .from) (a .stride) r + j ≡ lineAt (a .from) (a .stride) k + v → ⊥
   other-line r k j v hj hv ne e = ne (same-line (a .from) (a .stride) r k j v (omega arith) (omega arith) e .0)
 
-module _ {plane work work′ lines : List ℤ} {a : Site} {b : Strip} {i : ℕ} {lines₀ line₀ : ℕ} (ready : StripReady plane work lines₀ line₀ a b) (done : StripDone plane work work′ lines a b i) (within : i < lows (b .lines) + 2) where
+module _ {plane work work′ state : List ℤ} {a : Site} {b : Strip} {i : ℕ} {state₀ line₀ : ℕ} (ready : StripReady plane work state₀ line₀ a b) (done : StripDone plane work work′ state a b i) (within : i < lows (b .lines) + 2) where
   two : Liftable (b .lines)
   two = ready .placed .lies .two
 
@@ -62,18 +62,18 @@ module _ {plane work work′ lines : List ℤ} {a : Site} {b : Strip} {i : ℕ} 
       (done .kept _ (λ k v l m e. apart (2 * i) (2 * k) j v h m (omega arith) e) (λ k v l q m e. apart (2 * i) (2 * k + 1) j v h m (omega arith) e))
       ∙ sym (source-low a (b .lines) (at plane) (at work) j i g)
 
-  module _ {lines′ : List ℤ} (fed : Fed plane work′ lines lines′ a b i) where
-    low-now : (j : ℕ) → j < b .columns → at lines′ (4 * b .room + j) ≡ source a (b .lines) (at plane) (at work) j (min i (lows (b .lines) - 1))
+  module _ {state′ : List ℤ} (fed : Fed plane work′ state state′ a b i) where
+    low-now : (j : ℕ) → j < b .columns → at state′ (4 * b .room + j) ≡ source a (b .lines) (at plane) (at work) j (min i (lows (b .lines) - 1))
     low-now j h = go (decLt i (lows (b .lines)))
       where
-        go : Dec (i < lows (b .lines)) → at lines′ (4 * b .room + j) ≡ source a (b .lines) (at plane) (at work) j (min i (lows (b .lines) - 1))
+        go : Dec (i < lows (b .lines)) → at state′ (4 * b .room + j) ≡ source a (b .lines) (at plane) (at work) j (min i (lows (b .lines) - 1))
         go (yes l) =
             let e : i ≡ min i (lows (b .lines) - 1) = omega arith in
             fed .low j h l ∙ source-now j h l ∙ ap (source a (b .lines) (at plane) (at work) j) e
         go (no f) =
             fed .past j (omega arith) ∙ done .low j h (omega (arith, two)) ∙ ap (source a (b .lines) (at plane) (at work) j) (last-low i (lows (b .lines)) (omega arith) (omega (arith, two)))
 
-    turn-same : (j : ℕ) → j < b .columns → turnIn (at lines) j ≡ turnIn (at lines′) j
+    turn-same : (j : ℕ) → j < b .columns → turnIn (at state) j ≡ turnIn (at state′) j
     turn-same j h =
         let n = ready .placed .narrow in
         λ u. record {
@@ -87,7 +87,7 @@ module _ {plane work work′ lines : List ℤ} {a : Site} {b : Strip} {i : ℕ} 
 
     -- every column can take its turn
     pub column-ready : (j : ℕ) → j < b .columns
-        → ColumnReady b i (turnIn (at lines′) j) (at lines′ (4 * b .room + j)) (at plane (highPlace a b i + j)) (source a (b .lines) (at plane) (at work) j)
+        → ColumnReady b i (turnIn (at state′) j) (at state′ (4 * b .room + j)) (at plane (highPlace a b i + j)) (source a (b .lines) (at plane) (at work) j)
     column-ready j h = record {
       safe = ready .safe j h;
       held = λ g. subst (Held _ (i - 1)) (turn-same j h) (done .held j h g);
@@ -96,9 +96,9 @@ module _ {plane work work′ lines : List ℤ} {a : Site} {b : Strip} {i : ℕ} 
     }
 
     -- one turn more
-    module _ {work″ lines″ : List ℤ} (turned : PlaneTurned plane work′ work″ lines′ lines″ a b i) where
+    module _ {work″ state″ : List ℤ} (turned : PlaneTurned plane work′ work″ state′ state″ a b i) where
       gives : (j : ℕ) → (h : j < b .columns)
-          → Gives (columnLine b (source a (b .lines) (at plane) (at work) j)) i (turnOut (at lines″) (at work″ (evenPlace a i + j)) (at work″ (evenPlace a i + a .stride + j)) j)
+          → Gives (columnLine b (source a (b .lines) (at plane) (at work) j)) i (turnOut (at state″) (at work″ (evenPlace a i + j)) (at work″ (evenPlace a i + a .stride + j)) j)
       gives j h = turn-gives (column-line (column-ready j h) two within) (turned .turned j h)
 
       old-even : (k j : ℕ) → k < i - 2 → j < b .columns → at work″ (lineAt (a .from) (a .stride) (2 * k) + j) ≡ at work′ (lineAt (a .from) (a .stride) (2 * k) + j)
@@ -107,12 +107,12 @@ module _ {plane work work′ lines : List ℤ} {a : Site} {b : Strip} {i : ℕ} 
       old-odd : (k j : ℕ) → k < i - 2 → j < b .columns → at work″ (lineAt (a .from) (a .stride) (2 * k + 1) + j) ≡ at work′ (lineAt (a .from) (a .stride) (2 * k + 1) + j)
       old-odd k j h g = turned .kept _ (λ l v m e. apart (2 * k + 1) (2 * (i - 2)) j v g m (omega arith) e) (λ l q v m e. apart (2 * k + 1) (2 * (i - 2) + 1) j v g m (omega arith) (omega arith))
 
-      pub strip-more : StripDone plane work work″ lines″ a b (i + 1)
+      pub strip-more : StripDone plane work work″ state″ a b (i + 1)
       strip-more = record {
         held = λ j h g.
             let t = turn-held (column-line (column-ready j h) two within) (turned .turned j h) in
             let e : i ≡ i + 1 - 1 = omega arith in
-            subst (λ (k : ℕ). Held (columnLine b (source a (b .lines) (at plane) (at work) j)) k (turnIn (at lines″) j)) e (record { g2 = t .g2; u2 = t .u2; p2 = t .p2; u1 = t .u1 });
+            subst (λ (k : ℕ). Held (columnLine b (source a (b .lines) (at plane) (at work) j)) k (turnIn (at state″) j)) e (record { g2 = t .g2; u2 = t .u2; p2 = t .p2; u1 = t .u1 });
         low = λ j h g. let e : i ≡ i + 1 - 1 = omega arith in turned .lows j h ∙ low-now j h ∙ ap (λ (k : ℕ). source a (b .lines) (at plane) (at work) j (min k (lows (b .lines) - 1))) e;
         even = λ k j h g. evens k j h g (decLt k (i - 2));
         odd = λ k j h q g. odds k j h q g (decLt k (i - 2));
@@ -135,7 +135,7 @@ module _ {plane work work′ lines : List ℤ} {a : Site} {b : Strip} {i : ℕ} 
               subst (λ (m : ℕ). at work″ (lineAt (a .from) (a .stride) (2 * m + 1) + j) ≡ lineP1 (columnLine b (source a (b .lines) (at plane) (at work) j)) m) e (ap (at work″) o ∙ gives j g .odd (omega arith) (omega arith))
 
 -- all turns are taken
-module _ {plane work work′ lines : List ℤ} {a : Site} {b : Strip} {lines₀ line₀ : ℕ} (ready : StripReady plane work lines₀ line₀ a b) (done : StripDone plane work work′ lines a b (lows (b .lines) + 2)) where
+module _ {plane work work′ state : List ℤ} {a : Site} {b : Strip} {state₀ line₀ : ℕ} (ready : StripReady plane work state₀ line₀ a b) (done : StripDone plane work work′ state a b (lows (b .lines) + 2)) where
   new : ℕ → ℕ → ℤ
   new r j = fixedBack (b .lowbits) (b .highbits) (b .lines) (source a (b .lines) (at plane) (at work) j) r
 
@@ -148,7 +148,7 @@ module _ {plane work work′ lines : List ℤ} {a : Site} {b : Strip} {lines₀ 
       (λ p off. done .kept p (λ k j h g e. off (2 * k) j (omega arith) g (sym e)) (λ k j h q g e. off (2 * k + 1) j (omega arith) g (sym e)))
 
 -- the same, of slices as long
-pub placed-as : {plane work lines line : ℕ} {a : Site} {b : Strip} → Placed plane work lines line a b → (w l m : ℕ) → w ≡ work → l ≡ lines → m ≡ line → Placed plane w l m a b
+pub placed-as : {plane work state line : ℕ} {a : Site} {b : Strip} → Placed plane work state line a b → (w l m : ℕ) → w ≡ work → l ≡ state → m ≡ line → Placed plane w l m a b
 placed-as q w l m ew el em = record {
   lies = record { two = q .lies .two; few = q .lies .few; narrow = q .lies .narrow; inPlane = q .lies .inPlane; inWork = λ k h. omega (arith, q .lies .inWork k h) };
   narrow = q .narrow;

@@ -28,7 +28,7 @@ odd-line n i h = omega arith
 
 -- ---- they lie in the plane and in the work area
 
-module _ {plane work lines line : ℕ} {a : Site} {b : Strip} (s : Placed plane work lines line a b) (i : ℕ) where
+module _ {plane work state line : ℕ} {a : Site} {b : Strip} (s : Placed plane work state line a b) (i : ℕ) where
   pub high-fits : highPlace a b i + b .columns ≤ plane
   high-fits = s .lies .inPlane _ (high-line (b .lines) i (s .lies .two .least))
 
@@ -38,9 +38,9 @@ module _ {plane work lines line : ℕ} {a : Site} {b : Strip} (s : Placed plane 
   pub odd-fits : i - 2 < highs (b .lines) → evenPlace a i + a .stride + b .columns ≤ work
   odd-fits h = omega (arith, s .lies .inWork (2 * (i - 2) + 1) (odd-line (b .lines) i h))
 
-module _ {plane lines : List ℤ} {work line : ℕ} {a : Site} {b : Strip} {i : ℕ} (s : Placed (length plane) work (length lines) line a b) (within : i < lows (b .lines) + 2) where
+module _ {plane state : List ℤ} {work line : ℕ} {a : Site} {b : Strip} {i : ℕ} (s : Placed (length plane) work (length state) line a b) (within : i < lows (b .lines) + 2) where
   -- written at once
-  pub sized-inner : 2 ≤ i → i < highs (b .lines) → Sized plane lines work (highPlace a b i) (evenPlace a i) (a .stride) b i true
+  pub sized-inner : 2 ≤ i → i < highs (b .lines) → Sized plane state work (highPlace a b i) (evenPlace a i) (a .stride) b i true
   sized-inner two h = record {
     two = s .lies .two;
     few = s .lies .few;
@@ -56,7 +56,7 @@ module _ {plane lines : List ℤ} {work line : ℕ} {a : Site} {b : Strip} {i : 
   }
 
   -- by way of a line
-  pub sized-outer : Sized plane lines line (highPlace a b i) 0 (b .room) b i false
+  pub sized-outer : Sized plane state line (highPlace a b i) 0 (b .room) b i false
   sized-outer = record {
     two = s .lies .two;
     few = s .lies .few;
@@ -73,31 +73,31 @@ module _ {plane lines : List ℤ} {work line : ℕ} {a : Site} {b : Strip} {i : 
 
 -- ---- the turn can be taken, its high at a place that is known to be the right one
 
-module _ {plane work lines : List ℤ} {line : ℕ} {a : Site} {b : Strip} {i : ℕ} (q : PlaneTurn plane work lines line a b i) (high : ℕ) (e : high ≡ highPlace a b i) where
-  pub inner-turn : 2 ≤ i → i < highs (b .lines) → StripTurn plane high lines (length work) (evenPlace a i) (a .stride) b i true
-  inner-turn two h = subst (λ (k : ℕ). StripTurn plane k lines (length work) (evenPlace a i) (a .stride) b i true) (sym e) (record { sized = sized-inner (q .placed) (q .within) two h; y = q .y; ready = q .ready })
+module _ {plane work state : List ℤ} {line : ℕ} {a : Site} {b : Strip} {i : ℕ} (q : PlaneTurn plane work state line a b i) (high : ℕ) (e : high ≡ highPlace a b i) where
+  pub inner-turn : 2 ≤ i → i < highs (b .lines) → StripTurn plane high state (length work) (evenPlace a i) (a .stride) b i true
+  inner-turn two h = subst (λ (k : ℕ). StripTurn plane k state (length work) (evenPlace a i) (a .stride) b i true) (sym e) (record { sized = sized-inner (q .placed) (q .within) two h; y = q .y; ready = q .ready })
 
-  pub outer-turn : StripTurn plane high lines line 0 (b .room) b i false
-  outer-turn = subst (λ (k : ℕ). StripTurn plane k lines line 0 (b .room) b i false) (sym e) (record { sized = sized-outer (q .placed) (q .within); y = q .y; ready = q .ready })
+  pub outer-turn : StripTurn plane high state line 0 (b .room) b i false
+  outer-turn = subst (λ (k : ℕ). StripTurn plane k state line 0 (b .room) b i false) (sym e) (record { sized = sized-outer (q .placed) (q .within); y = q .y; ready = q .ready })
 
 -- ---- what it leaves, written at once
 
-module _ {plane work work′ lines lines′ : List ℤ} {high : ℕ} {a : Site} {b : Strip} {i : ℕ} (e : high ≡ highPlace a b i) where
-  pub inner-turned : StripTurned plane high lines lines′ work work′ (evenPlace a i) (a .stride) b i → 2 ≤ i → i - 2 < highs (b .lines) → PlaneTurned plane work work′ lines lines′ a b i
+module _ {plane work work′ state state′ : List ℤ} {high : ℕ} {a : Site} {b : Strip} {i : ℕ} (e : high ≡ highPlace a b i) where
+  pub inner-turned : StripTurned plane high state state′ work work′ (evenPlace a i) (a .stride) b i → 2 ≤ i → i - 2 < highs (b .lines) → PlaneTurned plane work work′ state state′ a b i
   inner-turned t two h =
-      let d = subst (λ (k : ℕ). StripTurned plane k lines lines′ work work′ (evenPlace a i) (a .stride) b i) e t in
+      let d = subst (λ (k : ℕ). StripTurned plane k state state′ work work′ (evenPlace a i) (a .stride) b i) e t in
       record { turned = d .turned; lows = d .lows; kept = λ p f g. d .kept p (f two) (g two h) }
 
 -- ---- by way of a line
 
-module _ {plane lines lines′ line line′ : List ℤ} {high : ℕ} {a : Site} {b : Strip} {i : ℕ} (e : high ≡ highPlace a b i) (t : StripTurned plane high lines lines′ line line′ 0 (b .room) b i) where
+module _ {plane state state′ line line′ : List ℤ} {high : ℕ} {a : Site} {b : Strip} {i : ℕ} (e : high ≡ highPlace a b i) (t : StripTurned plane high state state′ line line′ 0 (b .room) b i) where
   copied : (work work′ : List ℤ) → (2 ≤ i → (j : ℕ) → j < b .columns → at work′ (evenPlace a i + j) ≡ at line′ (0 + j))
       → (2 ≤ i → i - 2 < highs (b .lines) → (j : ℕ) → j < b .columns → at work′ (evenPlace a i + a .stride + j) ≡ at line′ (b .room + j))
       → ((p : ℕ) → (2 ≤ i → (j : ℕ) → j < b .columns → p ≡ evenPlace a i + j → ⊥)
       → (2 ≤ i → i - 2 < highs (b .lines) → (j : ℕ) → j < b .columns → p ≡ evenPlace a i + a .stride + j → ⊥) → at work′ p ≡ at work p)
-      → PlaneTurned plane work work′ lines lines′ a b i
+      → PlaneTurned plane work work′ state state′ a b i
   copied work work′ even odd kept =
-      let d = subst (λ (k : ℕ). StripTurned plane k lines lines′ line line′ 0 (b .room) b i) e t in
+      let d = subst (λ (k : ℕ). StripTurned plane k state state′ line line′ 0 (b .room) b i) e t in
       record {
         turned = λ j h. turned-as (d .turned j h) (record { g2 = refl; u2 = refl; p2 = refl; u1 = refl; even = λ two. even two j h; odd = λ two k. odd two k j h ∙ ap (at line′) (let z : b .room + j ≡ 0 + b .room + j = omega arith in z) });
         lows = d .lows;
@@ -105,11 +105,11 @@ module _ {plane lines lines′ line line′ : List ℤ} {high : ℕ} {a : Site} 
       }
 
   -- no line
-  pub outer-none : (work : List ℤ) → i < 2 → PlaneTurned plane work work lines lines′ a b i
+  pub outer-none : (work : List ℤ) → i < 2 → PlaneTurned plane work work state state′ a b i
   outer-none work h = copied work work (λ two. absurd (omega arith)) (λ two. absurd (omega arith)) (λ p f g. refl)
 
   -- one line
-  pub outer-one : (work work′ : List ℤ) → 2 ≤ i → highs (b .lines) ≤ i - 2 → at work′ ≡ patch (evenPlace a i) (b .columns) (λ j. at line′ (0 + j)) (at work) → PlaneTurned plane work work′ lines lines′ a b i
+  pub outer-one : (work work′ : List ℤ) → 2 ≤ i → highs (b .lines) ≤ i - 2 → at work′ ≡ patch (evenPlace a i) (b .columns) (λ j. at line′ (0 + j)) (at work) → PlaneTurned plane work work′ state state′ a b i
   outer-one work work′ two past is = copied work work′
       (λ g j h. ap (λ (f : ℕ → ℤ). f (evenPlace a i + j)) is ∙ patch-in (evenPlace a i) (b .columns) _ (at work) j h)
       (λ g k. absurd (omega arith))
@@ -118,7 +118,7 @@ module _ {plane lines lines′ line line′ : List ℤ} {high : ℕ} {a : Site} 
   -- two lines
   pub outer-two : (work work′ : List ℤ) {between : ℕ → ℤ} → b .columns ≤ a .stride → 2 ≤ i → i - 2 < highs (b .lines)
       → between ≡ patch (evenPlace a i) (b .columns) (λ j. at line′ (0 + j)) (at work)
-      → at work′ ≡ patch (evenPlace a i + a .stride) (b .columns) (λ j. at line′ (b .room + j)) between → PlaneTurned plane work work′ lines lines′ a b i
+      → at work′ ≡ patch (evenPlace a i + a .stride) (b .columns) (λ j. at line′ (b .room + j)) between → PlaneTurned plane work work′ state state′ a b i
   outer-two work work′ {between} narrow two among is then = copied work work′
       (λ g j h. ap (λ (f : ℕ → ℤ). f (evenPlace a i + j)) then ∙ patch-below (evenPlace a i + a .stride) (b .columns) _ between (evenPlace a i + j) (omega arith)
       ∙ ap (λ (f : ℕ → ℤ). f (evenPlace a i + j)) is ∙ patch-in (evenPlace a i) (b .columns) _ (at work) j h)

@@ -41,20 +41,20 @@ pub record Lies (plane work : ℕ) (a : Site) (w n : ℕ) : Type 0 where
   pub inWork : (k : ℕ) → k < n → lineAt (a .from) (a .stride) k + w ≤ work
 
 -- a strip lies there, and what is held of it has room
-pub record Placed (plane work lines line : ℕ) (a : Site) (b : Strip) : Type 0 where
+pub record Placed (plane work state line : ℕ) (a : Site) (b : Strip) : Type 0 where
   pub lies : Lies plane work a (b .columns) (b .lines)
   pub narrow : b .columns ≤ b .room
-  pub room : 5 * b .room ≤ lines
+  pub room : 5 * b .room ≤ state
   pub spare : 2 * b .room ≤ line
   pub lowbits : b .lowbits ≤ nodeBits
   pub highbits : b .highbits ≤ nodeBits
 
 -- ---- low i is held
 
-pub record Fed (plane work lines lines′ : List ℤ) (a : Site) (b : Strip) (i : ℕ) : Type 0 where
-  pub low : (j : ℕ) → j < b .columns → i < lows (b .lines) → at lines′ (4 * b .room + j) ≡ source a (b .lines) (at plane) (at work) j i
-  pub past : (j : ℕ) → lows (b .lines) ≤ i → at lines′ (4 * b .room + j) ≡ at lines (4 * b .room + j)
-  pub others : (p : ℕ) → p < 4 * b .room → at lines′ p ≡ at lines p
+pub record Fed (plane work state state′ : List ℤ) (a : Site) (b : Strip) (i : ℕ) : Type 0 where
+  pub low : (j : ℕ) → j < b .columns → i < lows (b .lines) → at state′ (4 * b .room + j) ≡ source a (b .lines) (at plane) (at work) j i
+  pub past : (j : ℕ) → lows (b .lines) ≤ i → at state′ (4 * b .room + j) ≡ at state (4 * b .room + j)
+  pub others : (p : ℕ) → p < 4 * b .room → at state′ p ≡ at state p
 
 -- ---- turn i of a strip
 
@@ -65,22 +65,22 @@ highPlace a b i = lineAt (a .from) (a .width) (lows (b .lines) + min i (highs (b
 abbrev pub evenPlace : Site → ℕ → ℕ
 evenPlace a i = lineAt (a .from) (a .stride) (2 * (i - 2))
 
-pub record PlaneTurn (plane work lines : List ℤ) (line : ℕ) (a : Site) (b : Strip) (i : ℕ) : Type 0 where
-  pub placed : Placed (length plane) (length work) (length lines) line a b
+pub record PlaneTurn (plane work state : List ℤ) (line : ℕ) (a : Site) (b : Strip) (i : ℕ) : Type 0 where
+  pub placed : Placed (length plane) (length work) (length state) line a b
   pub within : i < lows (b .lines) + 2
   pub y : ℕ → ℕ → ℤ
-  pub ready : (j : ℕ) → j < b .columns → ColumnReady b i (turnIn (at lines) j) (at lines (4 * b .room + j)) (at plane (highPlace a b i + j)) (y j)
+  pub ready : (j : ℕ) → j < b .columns → ColumnReady b i (turnIn (at state) j) (at state (4 * b .room + j)) (at plane (highPlace a b i + j)) (y j)
 
-pub record PlaneTurned (plane work work′ lines lines′ : List ℤ) (a : Site) (b : Strip) (i : ℕ) : Type 0 where
-  pub turned : (j : ℕ) → j < b .columns → TurnedAt (at plane) (highPlace a b i) (at lines) (at lines′) (at work′) (evenPlace a i) (a .stride) b i j
-  pub lows : (j : ℕ) → j < b .columns → at lines′ (4 * b .room + j) ≡ at lines (4 * b .room + j)
+pub record PlaneTurned (plane work work′ state state′ : List ℤ) (a : Site) (b : Strip) (i : ℕ) : Type 0 where
+  pub turned : (j : ℕ) → j < b .columns → TurnedAt (at plane) (highPlace a b i) (at state) (at state′) (at work′) (evenPlace a i) (a .stride) b i j
+  pub lows : (j : ℕ) → j < b .columns → at state′ (4 * b .room + j) ≡ at state (4 * b .room + j)
   pub kept : (p : ℕ) → (2 ≤ i → (j : ℕ) → j < b .columns → p ≡ evenPlace a i + j → ⊥)
       → (2 ≤ i → i - 2 < highs (b .lines) → (j : ℕ) → j < b .columns → p ≡ evenPlace a i + a .stride + j → ⊥) → at work′ p ≡ at work p
 
 -- ---- a strip
 
-pub record StripReady (plane work : List ℤ) (lines line : ℕ) (a : Site) (b : Strip) : Type 0 where
-  pub placed : Placed (length plane) (length work) lines line a b
+pub record StripReady (plane work : List ℤ) (state line : ℕ) (a : Site) (b : Strip) : Type 0 where
+  pub placed : Placed (length plane) (length work) state line a b
   pub safe : (j : ℕ) → j < b .columns → Safe (b .lowbits) (b .highbits) (b .lines) (source a (b .lines) (at plane) (at work) j)
 
 -- ---- proved of them
@@ -105,18 +105,18 @@ module _ (a : Site) (n : ℕ) (plane work : ℕ → ℤ) (j k : ℕ) where
   source-high h = ap (pick (pick (plane (lineAt (a .from) (a .width) k + j)) (work (lineAt (a .from) (a .stride) (2 * k) + j)) (a .stored)) (plane (lineAt (a .from) (a .width) k + j))) (ltb-false k (lows n) h)
 
 -- low i is held: from the plane or from the work area
-module _ (plane work lines lines′ : List ℤ) (a : Site) (b : Strip) (i : ℕ) (among : i < lows (b .lines)) (new : ℕ → ℤ) (is : at lines′ ≡ patch (4 * b .room) (b .columns) new (at lines)) where
-  fed : ((j : ℕ) → j < b .columns → new j ≡ source a (b .lines) (at plane) (at work) j i) → Fed plane work lines lines′ a b i
+module _ (plane work state state′ : List ℤ) (a : Site) (b : Strip) (i : ℕ) (among : i < lows (b .lines)) (new : ℕ → ℤ) (is : at state′ ≡ patch (4 * b .room) (b .columns) new (at state)) where
+  fed : ((j : ℕ) → j < b .columns → new j ≡ source a (b .lines) (at plane) (at work) j i) → Fed plane work state state′ a b i
   fed same = record {
-    low = λ j h g. ap (λ (f : ℕ → ℤ). f (4 * b .room + j)) is ∙ patch-in (4 * b .room) (b .columns) new (at lines) j h ∙ same j h;
+    low = λ j h g. ap (λ (f : ℕ → ℤ). f (4 * b .room + j)) is ∙ patch-in (4 * b .room) (b .columns) new (at state) j h ∙ same j h;
     past = λ j h. absurd (omega arith);
-    others = λ p h. ap (λ (f : ℕ → ℤ). f p) is ∙ patch-below (4 * b .room) (b .columns) new (at lines) p h;
+    others = λ p h. ap (λ (f : ℕ → ℤ). f p) is ∙ patch-below (4 * b .room) (b .columns) new (at state) p h;
   }
 
-  pub fed-stored : a .stored ≡ true → ((j : ℕ) → new j ≡ at plane (lineAt (a .from) (a .width) i + j)) → Fed plane work lines lines′ a b i
+  pub fed-stored : a .stored ≡ true → ((j : ℕ) → new j ≡ at plane (lineAt (a .from) (a .width) i + j)) → Fed plane work state state′ a b i
   fed-stored e same = fed (λ j h. same j ∙ sym (source-stored a (b .lines) (at plane) (at work) j i among e))
 
-  pub fed-left : a .stored ≡ false → ((j : ℕ) → new j ≡ at work (lineAt (a .from) (a .stride) (2 * i) + j)) → Fed plane work lines lines′ a b i
+  pub fed-left : a .stored ≡ false → ((j : ℕ) → new j ≡ at work (lineAt (a .from) (a .stride) (2 * i) + j)) → Fed plane work state state′ a b i
   fed-left e same = fed (λ j h. same j ∙ sym (source-left a (b .lines) (at plane) (at work) j i among e))
 
 -- ---- strip by strip: the first d columns are undone

@@ -273,8 +273,8 @@ pub fn rows(work: &mut [i64], line: &mut [i64], stride: usize, w: usize, h: usiz
 
 // ---- a strip: neighbouring columns, undone turn by turn side by side
 
-// A strip of so many lines and columns; the lows have lowbits bits, the highs highbits. What is held of its columns, `room` at most, are
-// four values of each, and then the low of each that comes next.
+// A strip of so many lines and columns; the lows have lowbits bits, the highs highbits. What is held of its columns, `room` at most, stands
+// in `state`: four values of each column, and after those the low of each that comes next.
 pub struct Strip {
     pub lines: usize,
     pub columns: usize,
@@ -284,40 +284,40 @@ pub struct Strip {
 }
 
 // What is held of column j.
-fn held(lines: &[i64], j: usize) -> Turn
-    requires { ⌜ 4 * j + 3 < length (now lines) ⌝ }
-    ensures { λ r. ⌜ r ≡ turnIn (at (now (lines .entry))) j ⌝ }
+fn held(state: &[i64], j: usize) -> Turn
+    requires { ⌜ 4 * j + 3 < length (now state) ⌝ }
+    ensures { λ r. ⌜ r ≡ turnIn (at (now (state .entry))) j ⌝ }
 {
     Turn {
-        g2: lines[4 * j],
-        u2: lines[4 * j + 1],
-        p2: lines[4 * j + 2],
-        u1: lines[4 * j + 3],
+        g2: state[4 * j],
+        u2: state[4 * j + 1],
+        p2: state[4 * j + 2],
+        u1: state[4 * j + 3],
         even: 0,
         odd: 0,
     }
 }
 
 // A turn is held of column j.
-fn keep(lines: &mut [i64], j: usize, t: Turn)
-    requires { ⌜ 4 * j + 3 < length (now lines) ⌝ }
-    ensures { λ _. ⌜ Kept j t (at (now (lines .entry))) (at (now (lines .exit))) ⌝ }
+fn keep(state: &mut [i64], j: usize, t: Turn)
+    requires { ⌜ 4 * j + 3 < length (now state) ⌝ }
+    ensures { λ _. ⌜ Kept j t (at (now (state .entry))) (at (now (state .exit))) ⌝ }
 {
     let g2 = t.g2;
-    lines[4 * j] = g2;
+    state[4 * j] = g2;
     let u2 = t.u2;
-    lines[4 * j + 1] = u2;
+    state[4 * j + 1] = u2;
     let p2 = t.p2;
-    lines[4 * j + 2] = p2;
+    state[4 * j + 2] = p2;
     let u1 = t.u1;
-    lines[4 * j + 3] = u1;
+    state[4 * j + 3] = u1;
 }
 
 // Turn i of column j of a strip, whose high stands at a place of the plane: its two values go to places to + j and to + gap + j.
 fn column_turn(
     plane: &[i32],
     high: usize,
-    lines: &mut [i64],
+    state: &mut [i64],
     out: &mut [i64],
     to: usize,
     gap: usize,
@@ -326,17 +326,17 @@ fn column_turn(
     inner: bool,
     j: usize,
 )
-    requires { ⌜ ColumnTurn (now plane) high (now lines) (length (now out)) to gap b i inner j ⌝ }
-    ensures { λ _. ⌜ ColumnTurned (now (plane .entry)) high (now (lines .entry)) (now (lines .exit)) (now (out .entry)) (now (out .exit)) to gap b i j ⌝ }
+    requires { ⌜ ColumnTurn (now plane) high (now state) (length (now out)) to gap b i inner j ⌝ }
+    ensures { λ _. ⌜ ColumnTurned (now (plane .entry)) high (now (state .entry)) (now (state .exit)) (now (out .entry)) (now (out .exit)) to gap b i j ⌝ }
 {
     let room = b.room;
     let n = b.lines;
     let lowbits = b.lowbits;
     let highbits = b.highbits;
     let t = turned(
-        held(lines, j),
+        held(state, j),
         scaled(
-            lines[4 * room + j],
+            state[4 * room + j],
             ZETA_INVERSE,
             CONSTANT_BITS - NODE_BITS + lowbits,
         ),
@@ -350,7 +350,7 @@ fn column_turn(
         n / 2,
         inner,
     );
-    keep(lines, j, t);
+    keep(state, j, t);
     let even = t.even;
     out[to + j] = even;
     let odd = t.odd;
@@ -361,7 +361,7 @@ fn column_turn(
 fn turns(
     plane: &[i32],
     high: usize,
-    lines: &mut [i64],
+    state: &mut [i64],
     out: &mut [i64],
     to: usize,
     gap: usize,
@@ -369,12 +369,12 @@ fn turns(
     i: usize,
     inner: bool,
 )
-    requires { ⌜ StripTurn (now plane) high (now lines) (length (now out)) to gap b i inner ⌝ }
-    ensures { λ _. ⌜ StripTurned (now (plane .entry)) high (now (lines .entry)) (now (lines .exit)) (now (out .entry)) (now (out .exit)) to gap b i ⌝ }
+    requires { ⌜ StripTurn (now plane) high (now state) (length (now out)) to gap b i inner ⌝ }
+    ensures { λ _. ⌜ StripTurned (now (plane .entry)) high (now (state .entry)) (now (state .exit)) (now (out .entry)) (now (out .exit)) to gap b i ⌝ }
 {
     let n = b.columns;
     for j in 0..n {
-        column_turn(plane, high, lines, out, to, gap, b, i, inner, j);
+        column_turn(plane, high, state, out, to, gap, b, i, inner, j);
     }
 }
 
@@ -400,9 +400,9 @@ fn load(plane: &[i32], from: usize, dst: &mut [i64], to: usize, n: usize)
 }
 
 // Low i of every column of a strip is held, if there is one.
-fn feed(plane: &[i32], work: &[i64], lines: &mut [i64], a: Site, b: Strip, i: usize)
-    requires { ⌜ Lies (length (now plane)) (length (now work)) a (b .columns) (b .lines) × (b .columns ≤ b .room) × (5 * b .room ≤ length (now lines)) ⌝ }
-    ensures { λ _. ⌜ Fed (now (plane .entry)) (now (work .entry)) (now (lines .entry)) (now (lines .exit)) a b i ⌝ }
+fn feed(plane: &[i32], work: &[i64], state: &mut [i64], a: Site, b: Strip, i: usize)
+    requires { ⌜ Lies (length (now plane)) (length (now work)) a (b .columns) (b .lines) × (b .columns ≤ b .room) × (5 * b .room ≤ length (now state)) ⌝ }
+    ensures { λ _. ⌜ Fed (now (plane .entry)) (now (work .entry)) (now (state .entry)) (now (state .exit)) a b i ⌝ }
 {
     let n = b.lines;
     if (n + 1) / 2 <= i {
@@ -414,28 +414,28 @@ fn feed(plane: &[i32], work: &[i64], lines: &mut [i64], a: Site, b: Strip, i: us
     let width = a.width;
     let stride = a.stride;
     if a.stored {
-        load(plane, from + i * width, lines, 4 * room, columns);
+        load(plane, from + i * width, state, 4 * room, columns);
         return;
     }
-    copy_run(work, from + 2 * i * stride, lines, 4 * room, columns);
+    copy_run(work, from + 2 * i * stride, state, 4 * room, columns);
 }
 
 // Turn i of a strip at the ends of its columns: what it gives goes to the work area by way of `line`, as far as there are such lines.
 fn outer_turn(
     plane: &[i32],
     work: &mut [i64],
-    lines: &mut [i64],
+    state: &mut [i64],
     line: &mut [i64],
     high: usize,
     a: Site,
     b: Strip,
     i: usize,
 )
-    requires { ⌜ PlaneTurn (now plane) (now work) (now lines) (length (now line)) a b i × (high ≡ highPlace a b i) ⌝ }
-    ensures { λ _. ⌜ PlaneTurned (now (plane .entry)) (now (work .entry)) (now (work .exit)) (now (lines .entry)) (now (lines .exit)) a b i ⌝ }
+    requires { ⌜ PlaneTurn (now plane) (now work) (now state) (length (now line)) a b i × (high ≡ highPlace a b i) ⌝ }
+    ensures { λ _. ⌜ PlaneTurned (now (plane .entry)) (now (work .entry)) (now (work .exit)) (now (state .entry)) (now (state .exit)) a b i ⌝ }
 {
     let room = b.room;
-    turns(plane, high, lines, line, 0, room, b, i, false);
+    turns(plane, high, state, line, 0, room, b, i, false);
     if i < 2 {
         return;
     }
@@ -454,14 +454,14 @@ fn outer_turn(
 fn strip_turn(
     plane: &[i32],
     work: &mut [i64],
-    lines: &mut [i64],
+    state: &mut [i64],
     line: &mut [i64],
     a: Site,
     b: Strip,
     i: usize,
 )
-    requires { ⌜ PlaneTurn (now plane) (now work) (now lines) (length (now line)) a b i ⌝ }
-    ensures { λ _. ⌜ PlaneTurned (now (plane .entry)) (now (work .entry)) (now (work .exit)) (now (lines .entry)) (now (lines .exit)) a b i ⌝ }
+    requires { ⌜ PlaneTurn (now plane) (now work) (now state) (length (now line)) a b i ⌝ }
+    ensures { λ _. ⌜ PlaneTurned (now (plane .entry)) (now (work .entry)) (now (work .exit)) (now (state .entry)) (now (state .exit)) a b i ⌝ }
 {
     let n = b.lines;
     let from = a.from;
@@ -470,17 +470,17 @@ fn strip_turn(
     let high = n / 2;
     let top = from + ((n + 1) / 2 + lifting::smaller(i, high - 1)) * width;
     if i < 2 {
-        outer_turn(plane, work, lines, line, top, a, b, i);
+        outer_turn(plane, work, state, line, top, a, b, i);
         return;
     }
     if high <= i {
-        outer_turn(plane, work, lines, line, top, a, b, i);
+        outer_turn(plane, work, state, line, top, a, b, i);
         return;
     }
     turns(
         plane,
         top,
-        lines,
+        state,
         work,
         from + 2 * (i - 2) * stride,
         stride,
@@ -494,27 +494,28 @@ fn strip_turn(
 fn undo_strip(
     plane: &[i32],
     work: &mut [i64],
-    lines: &mut [i64],
+    state: &mut [i64],
     line: &mut [i64],
     a: Site,
     b: Strip,
 )
-    requires { ⌜ StripReady (now plane) (now work) (length (now lines)) (length (now line)) a b ⌝ }
+    requires { ⌜ StripReady (now plane) (now work) (length (now state)) (length (now line)) a b ⌝ }
     ensures { λ _. ⌜ at (now (work .exit)) ≡ undone a (b .lowbits) (b .highbits) (b .columns) (b .lines) (at (now (plane .entry))) (at (now (work .entry))) ⌝ }
 {
     let n = b.lines;
     let low = (n + 1) / 2;
     for i in 0..low + 2 {
-        feed(plane, work, lines, a, b, i);
-        strip_turn(plane, work, lines, line, a, b, i);
+        feed(plane, work, state, a, b, i);
+        strip_turn(plane, work, state, line, a, b, i);
     }
 }
 
-// w columns of h lines, undone strip by strip. The lows have lowbits bits, the highs highbits.
+// w columns of h lines, undone strip by strip: a fifth as many columns at once as `state` has elements. The lows have lowbits bits, the
+// highs highbits.
 pub fn columns(
     plane: &[i32],
     work: &mut [i64],
-    lines: &mut [i64],
+    state: &mut [i64],
     line: &mut [i64],
     a: Site,
     w: usize,
@@ -522,13 +523,13 @@ pub fn columns(
     lowbits: u32,
     highbits: u32,
 )
-    requires { ⌜ Lies (length (now plane)) (length (now work)) a w h × (5 ≤ length (now lines)) × (length (now lines) ≤ length (now line)) × (lowbits ≤ nodeBits) × (highbits ≤ nodeBits) ⌝ }
+    requires { ⌜ Lies (length (now plane)) (length (now work)) a w h × (5 ≤ length (now state)) × (length (now state) ≤ length (now line)) × (lowbits ≤ nodeBits) × (highbits ≤ nodeBits) ⌝ }
     requires { ⌜ ((j : ℕ) → j < w → Safe lowbits highbits h (source a h (at (now plane)) (at (now work)) j)) ⌝ }
     ensures work { λ _. ⌜ at (now (work .exit)) ≡ undone a lowbits highbits w h (at (now (plane .entry))) (at (now (work .entry))) ⌝ }
-    ensures lines { λ _. ⌜ Free (now (lines .entry)) (now (lines .exit)) ⌝ }
+    ensures state { λ _. ⌜ Free (now (state .entry)) (now (state .exit)) ⌝ }
     ensures line { λ _. ⌜ Free (now (line .entry)) (now (line .exit)) ⌝ }
 {
-    let room = lines.len() / 5;
+    let room = state.len() / 5;
     let width = a.width;
     let stride = a.stride;
     let from = a.from;
@@ -549,7 +550,7 @@ pub fn columns(
             lowbits: lowbits,
             highbits: highbits,
         };
-        undo_strip(plane, work, lines, line, at, b);
+        undo_strip(plane, work, state, line, at, b);
         done += s;
     }
 }

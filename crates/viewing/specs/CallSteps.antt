@@ -40,15 +40,15 @@ use Rattle.viewing.specs.LevelSteps.{columned, levelBack, SafeLevel, Sta
 use Rattle.viewing.specs.RowSteps.{RowsReady, shownRows, clearedRows, all-shown, all-cleared}
 
 -- a level can be taken back: w columns and h rows, from a plane whose rows are W long to rows of the work area that are S apart
-pub record LevelReady (t : WidthTable) (l : ℕ) (plane work : List ℤ) (lines line W S w h : ℕ) : Type 0 where
+pub record LevelReady (t : WidthTable) (l : ℕ) (plane work : List ℤ) (state line W S w h : ℕ) : Type 0 where
   pub is-level : IsLevel t l
   pub part : Part work S 0 w h
   pub inPlane : (r : ℕ) → r < h → lineAt 0 W r + w ≤ length plane
   pub columns : Liftable w
   pub rows : Liftable h
   pub across : w + 6 ≤ line
-  pub some : 5 ≤ lines
-  pub spare : lines ≤ line
+  pub some : 5 ≤ state
+  pub spare : state ≤ line
   pub safe : SafeLevel t l W S w h (at plane) (at work)
 
 -- the bits of what it takes as low-low
@@ -65,14 +65,14 @@ module _ (t : WidthTable) (l : ℕ) where
   low-left f = ap pick (sym (ne-eqb l (t .levels) f))
 
 -- a stored plane can be viewed, with a work area and arrays of so many elements
-pub record ViewReady (t : WidthTable) (plane : List ℤ) (work lines line w h : ℕ) : Type 0 where
+pub record ViewReady (t : WidthTable) (plane : List ℤ) (work state line w h : ℕ) : Type 0 where
   pub viewable : Viewable t
   pub stored : Stored t w h (planeOf w plane)
   pub second : w * h ≤ length plane
   pub third : w * h ≤ work
   pub across : w + 6 ≤ line
-  pub some : 5 ≤ lines
-  pub spare : lines ≤ line
+  pub some : 5 ≤ state
+  pub spare : state ≤ line
 
 -- In the work area x, which was x₀, levels k to 1 are left to take back. What level k takes is `taken`: what the levels above it left
 -- stands in the work area, in rows 2^k w apart, and all else in the plane.
@@ -103,7 +103,7 @@ spread-in (suc k) r h i =
 twice : (w k r : ℕ) → r * (w * 2 ^ suc k) ≡ 2 * r * (w * 2 ^ k)
 twice w k r = ap (λ (n : ℕ). r * (w * n)) (pow-succ' 2 k) ∙ ap (λ (n : ℕ). r * n) (mul-left-comm w 2 (2 ^ k)) ∙ sym (mul-assoc r 2 (w * 2 ^ k)) ∙ ap (λ (n : ℕ). n * (w * 2 ^ k)) (mul-comm r 2)
 
-module _ {t : WidthTable} {plane : List ℤ} {work₀ lines₀ line₀ w h : ℕ} (ready : ViewReady t plane work₀ lines₀ line₀ w h) where
+module _ {t : WidthTable} {plane : List ℤ} {work₀ state₀ line₀ w h : ℕ} (ready : ViewReady t plane work₀ state₀ line₀ w h) where
   some-columns : 1 ≤ w
   some-columns = omega (arith, ready .stored .width .0)
 
@@ -179,8 +179,8 @@ module _ {t : WidthTable} {plane : List ℤ} {work₀ lines₀ line₀ w h : ℕ
     safe-here : SafeLevel t (suc k) w (w * 2 ^ k) (side k w) (side k h) (at plane) x
     safe-here = level-safe t (suc k) w (w * 2 ^ k) (side k w) (side k h) wide tall apart-here (at plane) x (left .taken) standing (left .small .0) (λ r c i j. left .bounded r c (omega (arith, inH k)) (omega (arith, inW k)))
 
-    pub level-ready : (work : List ℤ) (lines line : ℕ) → length work ≡ work₀ → lines ≡ lines₀ → line ≡ line₀ → x ≡ at work → LevelReady t (suc k) plane work lines line w (w * 2 ^ k) (side k w) (side k h)
-    level-ready work lines line ew el em e = record {
+    pub level-ready : (work : List ℤ) (state line : ℕ) → length work ≡ work₀ → state ≡ state₀ → line ≡ line₀ → x ≡ at work → LevelReady t (suc k) plane work state line w (w * 2 ^ k) (side k w) (side k h)
+    level-ready work state line ew el em e = record {
       is-level = record { accepted = view-accepted t (ready .viewable); least = omega arith; most = within };
       part = part-at k work within ew;
       inPlane = λ r i. omega (arith, inW k, mul-le-mul-right {m = r + 1} {n = h} w (omega (arith, inH k)), mul-comm w h, ready .second);
@@ -220,9 +220,9 @@ module _ {t : WidthTable} {plane : List ℤ} {work₀ lines₀ line₀ w h : ℕ
     once : w * 2 ^ 0 ≡ w
     once = omega arith
 
-    pub first-ready : (work : List ℤ) (lines line : ℕ) → length work ≡ work₀ → lines ≡ lines₀ → line ≡ line₀ → x ≡ at work → LevelReady t 1 plane work lines line w w w h
+    pub first-ready : (work : List ℤ) (state line : ℕ) → length work ≡ work₀ → state ≡ state₀ → line ≡ line₀ → x ≡ at work → LevelReady t 1 plane work state line w w w h
     unfolding side
-    first-ready work lines line ew el em e = subst (λ (s : ℕ). LevelReady t 1 plane work lines line w s w h) once (level-ready 0 one x₀ x left work lines line ew el em e)
+    first-ready work state line ew el em e = subst (λ (s : ℕ). LevelReady t 1 plane work state line w s w h) once (level-ready 0 one x₀ x left work state line ew el em e)
 
     module _ (work : List ℤ) (is : at work ≡ columned t 1 w w w h (at plane) x) where
       columns-here : at work ≡ columned t 1 w (w * 2 ^ 0) w h (at plane) x
@@ -304,8 +304,8 @@ module _ (t : WidthTable) (w h : ℕ) (plane : List ℤ) (pixels : List ℕ) (wo
     work-done = sym (answered-done (zeroed (w * h) work) work e)
 
     -- what it is handed, with arrays for the longest line
-    pub view-ready : (lines line : ℕ) → 5 ≤ lines → lines ≤ line → maxSide + 6 ≤ line → ViewReady t plane (length work) lines line w h
-    view-ready lines line some spare long =
+    pub view-ready : (state line : ℕ) → 5 ≤ state → state ≤ line → maxSide + 6 ≤ line → ViewReady t plane (length work) state line w h
+    view-ready state line some spare long =
         let room = call-room t w h plane pixels work e in
         record {
           viewable = call-viewable t w h plane pixels work e;

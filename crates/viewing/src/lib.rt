@@ -26,8 +26,8 @@ use refusals::Outcome;
 use refusals::Refusal;
 use width_table::WidthTable;
 
-// Elements that are held of a strip of columns: five for each of its 512 at most.
-const LINES: usize = 5 * 512;
+// Elements of what is held of a strip of columns: five for each of 512 columns.
+const STATE: usize = 5 * 512;
 
 // Elements of the line that a row is undone into.
 const LINE: usize = pictures::MAX_SIDE + 6;
@@ -255,14 +255,14 @@ fn columns_back(
     level: u8,
     plane: &[i32],
     work: &mut [i64],
-    lines: &mut [i64],
+    state: &mut [i64],
     line: &mut [i64],
     width: usize,
     stride: usize,
     w: usize,
     h: usize,
 )
-    requires { ⌜ LevelReady table level (now plane) (now work) (length (now lines)) (length (now line)) width stride w h ⌝ }
+    requires { ⌜ LevelReady table level (now plane) (now work) (length (now state)) (length (now line)) width stride w h ⌝ }
     ensures { λ _. ⌜ at (now (work .exit)) ≡ columned table level width stride w h (at (now (plane .entry))) (at (now (work .entry))) ⌝ }
 {
     let low = (w + 1) / 2;
@@ -270,7 +270,7 @@ fn columns_back(
     unlifting::columns(
         plane,
         work,
-        lines,
+        state,
         line,
         unlifting::Site {
             width: width,
@@ -286,7 +286,7 @@ fn columns_back(
     unlifting::columns(
         plane,
         work,
-        lines,
+        state,
         line,
         unlifting::Site {
             width: width,
@@ -307,17 +307,17 @@ fn level_back(
     level: u8,
     plane: &[i32],
     work: &mut [i64],
-    lines: &mut [i64],
+    state: &mut [i64],
     line: &mut [i64],
     width: usize,
     stride: usize,
     w: usize,
     h: usize,
 )
-    requires { ⌜ LevelReady table level (now plane) (now work) (length (now lines)) (length (now line)) width stride w h ⌝ }
+    requires { ⌜ LevelReady table level (now plane) (now work) (length (now state)) (length (now line)) width stride w h ⌝ }
     ensures { λ _. ⌜ at (now (work .exit)) ≡ levelBack table level width stride w h (at (now (plane .entry))) (at (now (work .entry))) ⌝ }
 {
-    columns_back(table, level, plane, work, lines, line, width, stride, w, h);
+    columns_back(table, level, plane, work, state, line, width, stride, w, h);
     unlifting::rows(work, line, stride, w, h);
 }
 
@@ -326,12 +326,12 @@ fn levels_back(
     table: WidthTable,
     plane: &[i32],
     work: &mut [i64],
-    lines: &mut [i64],
+    state: &mut [i64],
     line: &mut [i64],
     w: usize,
     h: usize,
 )
-    requires { ⌜ ViewReady table (now plane) (length (now work)) (length (now lines)) (length (now line)) w h ⌝ }
+    requires { ⌜ ViewReady table (now plane) (length (now work)) (length (now state)) (length (now line)) w h ⌝ }
     ensures { λ _. ⌜ Left table w h 1 (at (now (plane .entry))) (at (now (work .entry))) (at (now (work .exit))) ⌝ }
 {
     let mut k = table.levels;
@@ -344,7 +344,7 @@ fn levels_back(
             k + 1,
             plane,
             work,
-            lines,
+            state,
             line,
             w,
             spread(w, k),
@@ -398,15 +398,15 @@ fn show(
     h: usize,
     pixels: &mut [u16],
     work: &mut [i64],
-    lines: &mut [i64],
+    state: &mut [i64],
     line: &mut [i64],
 )
-    requires { ⌜ ViewReady table (now plane) (length (now work)) (length (now lines)) (length (now line)) w h × (w * h ≤ length (now pixels)) ⌝ }
+    requires { ⌜ ViewReady table (now plane) (length (now work)) (length (now state)) (length (now line)) w h × (w * h ≤ length (now pixels)) ⌝ }
     ensures pixels { λ _. ⌜ now (pixels .exit) ≡ over (rowByRow w h (viewPicture table w h (planeOf w (now (plane .entry))))) (now (pixels .entry)) ⌝ }
     ensures work { λ _. ⌜ now (work .exit) ≡ zeroed (w * h) (now (work .entry)) ⌝ }
 {
-    levels_back(table, plane, work, lines, line, w, h);
-    columns_back(table, 1, plane, work, lines, line, w, w, w, h);
+    levels_back(table, plane, work, state, line, w, h);
+    columns_back(table, 1, plane, work, state, line, w, w, w, h);
     finish_rows(work, line, pixels, w, h, table.depth);
 }
 
@@ -446,12 +446,12 @@ pub fn view(
     ensures pixels { λ _. ⌜ now (pixels .exit) ≡ viewPixels table w h (now (plane .entry)) (now (pixels .entry)) (now (work .entry)) ⌝ }
     ensures work { λ _. ⌜ now (work .exit) ≡ viewWork table w h (now (plane .entry)) (now (pixels .entry)) (now (work .entry)) ⌝ }
 {
-    let mut lines = [0i64; LINES];
+    let mut state = [0i64; STATE];
     let mut line = [0i64; LINE];
     match answer(table, plane, w, h, pixels.len(), work.len()) {
         Outcome::Refused(why) => Outcome::Refused(why),
         Outcome::Done => {
-            show(table, plane, w, h, pixels, work, &mut lines, &mut line);
+            show(table, plane, w, h, pixels, work, &mut state, &mut line);
             Outcome::Done
         }
     }

@@ -24,13 +24,13 @@ use Rattle.unlifting.proofs.column_turn.Tie as tie
 scaled-requires : tie.Need-scaled-requires
 scaled-requires c κs =
     let s = c .before .before .before in
-    (size-read (at (s .args .lines .now) (4 * s .args .b .room + s .args .j)) (low-size (s .pre .ready) (s .pre .sized .two)), lit≤ tt, omega (arith, s .pre .sized .lowbits))
+    (size-read (at (s .args .state .now) (4 * s .args .b .room + s .args .j)) (low-size (s .pre .ready) (s .pre .sized .two)), lit≤ tt, omega (arith, s .pre .sized .lowbits))
 
 -- the low, scaled
-low-is : (c : tie.After-scaled) → let a = c .before .before .before .before .args in rd w64 (c .scaled .result) ≡ scaledBy atInverse (cutBits (a .b .lowbits)) (at (a .lines .now) (4 * a .b .room + a .j))
+low-is : (c : tie.After-scaled) → let a = c .before .before .before .before .args in rd w64 (c .scaled .result) ≡ scaledBy atInverse (cutBits (a .b .lowbits)) (at (a .state .now) (4 * a .b .room + a .j))
 low-is c =
     let s = c .before .before .before .before in
-    again (c .scaled .result) (c .scaled .ok) ∙ c .scaled .ensures ∙ ap (scaledBy atInverse (cutBits (s .args .b .lowbits))) (read (at (s .args .lines .now) (4 * s .args .b .room + s .args .j)) (low-size (s .pre .ready) (s .pre .sized .two)))
+    again (c .scaled .result) (c .scaled .ok) ∙ c .scaled .ensures ∙ ap (scaledBy atInverse (cutBits (s .args .b .lowbits))) (read (at (s .args .state .now) (4 * s .args .b .room + s .args .j)) (low-size (s .pre .ready) (s .pre .sized .two)))
 
 -- a coefficient fits 32 bits, and so 64
 fits : (c : tie.After-scaled-arg2) → let a = c .before .before .before .before .before .args in SFits w32 (at (a .plane .now) (a .high + a .j))
@@ -76,7 +76,7 @@ returns c =
     let a = s .args in
     let n = a .b .lines in
     let r = t .turned .result in
-    column-done (a .plane .now) (a .high) (a .lines .now) (k .keep .last .0) (a .out .now) (a .to) (a .gap) (a .b) (a .i) (a .j) r _ _ (s .pre .among) (s .pre .sized .apart) (s .pre .sized .fits)
+    column-done (a .plane .now) (a .high) (a .state .now) (k .keep .last .0) (a .out .now) (a .to) (a .gap) (a .b) (a .i) (a .j) r _ _ (s .pre .among) (s .pre .sized .apart) (s .pre .sized .fits)
     (as-type (λ u. Turned (a .i) (lows n) (highs n) (h .held .ensures u) (low-is l u) (high-is g u) r) (t .turned .ensures))
     (k .keep .ensures) (again (r .even) (told .1 .1 .1 .1 .0 .1)) (again (r .odd) (told .1 .1 .1 .1 .1 .0 .1))
 

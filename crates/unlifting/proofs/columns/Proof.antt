@@ -16,15 +16,15 @@ abbrev site : ℕ → ℕ → ℕ → Bool → Site
 site width stride from stored = record { width = width; stride = stride; from = from; stored = stored }
 
 abbrev Inv-loop : tie.InvT-loop
-Inv-loop plane work₀ lines₀ line₀ w h lowbits highbits room width stride from stored done₀ work lines line done =
-    (done ≤ w) × (length work ≡ length work₀) × (length lines ≡ length lines₀) × (length line ≡ length line₀)
+Inv-loop plane work₀ state₀ line₀ w h lowbits highbits room width stride from stored done₀ work state line done =
+    (done ≤ w) × (length work ≡ length work₀) × (length state ≡ length state₀) × (length line ≡ length line₀)
     × (at work ≡ undone (site width stride from stored) lowbits highbits done h (at plane) (at work₀))
 
 abbrev μ-loop : tie.MeasureT-loop
-μ-loop plane work₀ lines₀ line₀ w h lowbits highbits room width stride from stored done₀ work lines line done = w - done
+μ-loop plane work₀ state₀ line₀ w h lowbits highbits room width stride from stored done₀ work state line done = w - done
 
 -- the strip's width
-width : (c : tie.After-smaller Inv-loop μ-loop) → let a = c .before .before .before .args in (1 ≤ c .smaller .result) × (c .before .before .loop .done + c .smaller .result ≤ a .w) × (5 * c .smaller .result ≤ length (a .lines .now))
+width : (c : tie.After-smaller Inv-loop μ-loop) → let a = c .before .before .before .args in (1 ≤ c .smaller .result) × (c .before .before .loop .done + c .smaller .result ≤ a .w) × (5 * c .smaller .result ≤ length (a .state .now))
 width c = (omega (arith, c .smaller .ensures), omega (arith, c .smaller .ensures), omega (arith, c .smaller .ensures))
 
 undo-strip-requires : tie.Need-undo-strip-requires Inv-loop μ-loop

@@ -15,14 +15,14 @@ returns-2 c =
     let l = c .before in
     let t = l .before .before in
     let s = t .before .before in
-    fed-stored (s .args .plane .now) (s .args .work .now) (s .args .lines .now) _ (s .args .a) (s .args .b) (s .args .i) (omega arith) _ (l .load .ensures) (t .if2 .taken) (λ j. refl)
+    fed-stored (s .args .plane .now) (s .args .work .now) (s .args .state .now) _ (s .args .a) (s .args .b) (s .args .i) (omega arith) _ (l .load .ensures) (t .if2 .taken) (λ j. refl)
 
 returns-3 : tie.Need-returns-3
 returns-3 c =
     let l = c .before in
     let t = l .before .before in
     let s = t .before .before in
-    fed-left (s .args .plane .now) (s .args .work .now) (s .args .lines .now) _ (s .args .a) (s .args .b) (s .args .i) (omega arith) _ (l .copy-run .ensures) (t .if2 .left) (λ j. refl)
+    fed-left (s .args .plane .now) (s .args .work .now) (s .args .state .now) _ (s .args .a) (s .args .b) (s .args .i) (omega arith) _ (l .copy-run .ensures) (t .if2 .left) (λ j. refl)
 
 pub feed-spec : {M : Type 1} → statement M
 feed-spec =

@@ -12,7 +12,7 @@ returns c =
     let told = c .before .before .before .struct-told .given in
     let s = c .before .before .before .before in
     let t = s .args .t in
-    kept-sets (s .args .lines .now) (s .args .j) t _ _ _ _ (s .pre)
+    kept-sets (s .args .state .now) (s .args .j) t _ _ _ _ (s .pre)
     (again (t .g2) (told .0 .1)) (again (t .u2) (told .1 .0 .1)) (again (t .p2) (told .1 .1 .0 .1)) (again (t .u1) (told .1 .1 .1 .0 .1))
 
 pub keep-spec : {M : Type 1} → statement M

@@ -9,11 +9,11 @@ use Rattle.unlifting.proofs.turns.Statement.{statement}
 use Rattle.unlifting.proofs.turns.Tie as tie
 
 abbrev Inv-loop : tie.InvT-loop
-Inv-loop plane high lines₀ out₀ to gap b i inner n j₀ lines out j =
-    (j ≤ b .columns) × (length lines ≡ length lines₀) × (length out ≡ length out₀) × TurnsDone plane high lines₀ lines out₀ out to gap b i j
+Inv-loop plane high state₀ out₀ to gap b i inner n j₀ state out j =
+    (j ≤ b .columns) × (length state ≡ length state₀) × (length out ≡ length out₀) × TurnsDone plane high state₀ state out₀ out to gap b i j
 
 abbrev μ-loop : tie.MeasureT-loop
-μ-loop plane high lines₀ out₀ to gap b i inner n j₀ lines out j = b .columns - j
+μ-loop plane high state₀ out₀ to gap b i inner n j₀ state out j = b .columns - j
 
 column-turn-requires : tie.Need-column-turn-requires Inv-loop μ-loop
 column-turn-requires c κs =
@@ -22,7 +22,7 @@ column-turn-requires c κs =
     let s = l .before in
     let more = c .before .before .loop-test .taken in
     record {
-      sized = sized-as (s .pre .sized) (t .lines) _ (t .inv .1) (t .inv .2);
+      sized = sized-as (s .pre .sized) (t .state) _ (t .inv .1) (t .inv .2);
       among = more;
       y = s .pre .y (t .j);
       ready = ready-now (t .inv .3) more (s .pre .sized .narrow) (s .pre .ready (t .j) more);
@@ -47,7 +47,7 @@ returns c =
     let s = c .before .before in
     let a = s .args in
     let e : t .j ≡ a .b .columns = omega (arith, t .inv .0) in
-    turns-all (s .pre .sized .narrow) (subst (λ (j : ℕ). TurnsDone (a .plane .now) (a .high) (a .lines .now) (t .lines) (a .out .now) (t .out) (a .to) (a .gap) (a .b) (a .i) j) e (t .inv .3))
+    turns-all (s .pre .sized .narrow) (subst (λ (j : ℕ). TurnsDone (a .plane .now) (a .high) (a .state .now) (t .state) (a .out .now) (t .out) (a .to) (a .gap) (a .b) (a .i) j) e (t .inv .3))
 
 pub turns-spec : {M : Type 1} → statement M
 turns-spec =

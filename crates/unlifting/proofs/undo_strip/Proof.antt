@@ -11,14 +11,14 @@ use Rattle.unlifting.proofs.undo_strip.Statement.{statement}
 use Rattle.unlifting.proofs.undo_strip.Tie as tie
 
 abbrev Inv-loop : tie.InvT-loop
-Inv-loop plane work₀ lines₀ line₀ a b n low i₀ i-end work lines line i =
-    (i ≤ lows (b .lines) + 2) × (length work ≡ length work₀) × (length lines ≡ length lines₀) × (length line ≡ length line₀) × StripDone plane work₀ work lines a b i
+Inv-loop plane work₀ state₀ line₀ a b n low i₀ i-end work state line i =
+    (i ≤ lows (b .lines) + 2) × (length work ≡ length work₀) × (length state ≡ length state₀) × (length line ≡ length line₀) × StripDone plane work₀ work state a b i
 
 abbrev μ-loop : tie.MeasureT-loop
-μ-loop plane work₀ lines₀ line₀ a b n low i₀ i-end work lines line i = lows (b .lines) + 2 - i
+μ-loop plane work₀ state₀ line₀ a b n low i₀ i-end work state line i = lows (b .lines) + 2 - i
 
 -- the strip lies where it did
-placed : (c : tie.At-loop Inv-loop μ-loop) → let t = c .loop in let a = c .before .args in Placed (length (a .plane .now)) (length (t .work)) (length (t .lines)) (length (t .line)) (a .a) (a .b)
+placed : (c : tie.At-loop Inv-loop μ-loop) → let t = c .loop in let a = c .before .args in Placed (length (a .plane .now)) (length (t .work)) (length (t .state)) (length (t .line)) (a .a) (a .b)
 placed c = let t = c .loop in placed-as (c .before .pre .placed) _ _ _ (t .inv .1) (t .inv .2) (t .inv .3)
 
 feed-requires : tie.Need-feed-requires Inv-loop μ-loop
@@ -58,7 +58,7 @@ returns c =
     let s = c .before .before in
     let a = s .args in
     let e : t .i ≡ lows (a .b .lines) + 2 = omega (arith, t .inv .0) in
-    strip-all (s .pre) (subst (λ (i : ℕ). StripDone (a .plane .now) (a .work .now) (t .work) (t .lines) (a .a) (a .b) i) e (t .inv .4))
+    strip-all (s .pre) (subst (λ (i : ℕ). StripDone (a .plane .now) (a .work .now) (t .work) (t .state) (a .a) (a .b) i) e (t .inv .4))
 
 pub undo-strip-spec : {M : Type 1} → statement M
 undo-strip-spec =

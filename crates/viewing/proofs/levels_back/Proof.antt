@@ -14,11 +14,11 @@ use Rattle.viewing.proofs.levels_back.Statement.{statement}
 use Rattle.viewing.proofs.levels_back.Tie as tie
 
 abbrev Inv-loop : tie.InvT-loop
-Inv-loop table plane work₀ lines₀ line₀ w h k₀ work lines line k =
-    (1 ≤ k) × (k ≤ table .levels) × (length work ≡ length work₀) × (length lines ≡ length lines₀) × (length line ≡ length line₀) × Left table w h k (at plane) (at work₀) (at work)
+Inv-loop table plane work₀ state₀ line₀ w h k₀ work state line k =
+    (1 ≤ k) × (k ≤ table .levels) × (length work ≡ length work₀) × (length state ≡ length state₀) × (length line ≡ length line₀) × Left table w h k (at plane) (at work₀) (at work)
 
 abbrev μ-loop : tie.MeasureT-loop
-μ-loop table plane work₀ lines₀ line₀ w h k₀ work lines line k = k
+μ-loop table plane work₀ state₀ line₀ w h k₀ work state line k = k
 
 -- level k of those that are left
 last-left : {t : _} {w h : ℕ} {p x₀ x : ℕ → ℤ} (k : ℕ) → 1 < k → Left t w h k p x₀ x → Left t w h (suc (k - 1)) p x₀ x
@@ -34,7 +34,7 @@ level-back-requires c κs =
     let a = s .args in
     let t = l .loop in
     let j : ℕ = t .k - 1 in
-    as-type (λ u. LevelReady (a .table) (sym (add-one j) u) (a .plane .now) (t .work) (length (t .lines)) (length (t .line)) (a .w) (sym (c .spread .ensures) u) (sym (b .before .side-after .ensures) u) (sym (b .side-after2 .ensures) u))
+    as-type (λ u. LevelReady (a .table) (sym (add-one j) u) (a .plane .now) (t .work) (length (t .state)) (length (t .line)) (a .w) (sym (c .spread .ensures) u) (sym (b .before .side-after .ensures) u) (sym (b .side-after2 .ensures) u))
     (level-ready (s .pre) j (omega (arith, t .inv .1)) _ _ (last-left (t .k) (b .before .before .loop-test .taken) (t .inv .5)) (t .work) _ _ (omega (arith, t .inv .2)) (omega (arith, t .inv .3)) (omega (arith, t .inv .4)) refl)
 
 loop-again : tie.Need-loop-again Inv-loop μ-loop

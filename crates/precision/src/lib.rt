@@ -38,7 +38,7 @@ impl Bound {
 }
 
 // 2^bits.
-fn power(bits: u8) -> u64
+pub fn power(bits: u8) -> u64
     requires { ⌜ bits < 64 ⌝ }
     ensures { λ r. ⌜ r ≡ 2 ^ bits ⌝ }
 {
@@ -46,9 +46,9 @@ fn power(bits: u8) -> u64
 }
 
 // x / 2^bits, rounded up.
-fn up_div(x: u64, bits: u8) -> u64
-    requires { ⌜ (x ≤ mostTotal) × (bits ≤ maxConstantBits + 1) ⌝ }
-    ensures { λ r. ⌜ (r ≡ upDiv x (2 ^ bits)) × (r ≤ 2 ^ 52) ⌝ }
+pub fn up_div(x: u64, bits: u8) -> u64
+    requires { ⌜ (x ≤ 2 ^ 63) × (bits < 64) ⌝ }
+    ensures { λ r. ⌜ (r ≡ upDiv x (2 ^ bits)) × (r ≤ x) ⌝ }
 {
     let divisor = power(bits);
     (x + (divisor - 1)) / divisor

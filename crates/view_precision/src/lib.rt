@@ -4,13 +4,11 @@ use refusals::Outcome;
 use refusals::Refusal;
 use width_table::WidthTable;
 ghost use mathlib.Core.Path.{_≡_};
-ghost use Prim.Native.Nat.{_+_, _*_, _^_, _<_, _≤_, max};
+ghost use Prim.Native.Nat.{_+_, _*_, _<_, _≤_, max};
 ghost use mathlib.Core.Bool.{_&&_};
 ghost use lib.Dec.{T};
 ghost use Rattle.refusals.specs.Answers.{answered};
 ghost use Rattle.refusals.specs.Told.{told};
-ghost use Rattle.exact.specs.Fractions.{upDiv};
-ghost use Rattle.unlifting.specs.Fixed.{inverseBits};
 ghost use Rattle.stages.specs.Rule.{timesGain};
 ghost use Rattle.width_table.specs.Nodes.{Rows, passNumber};
 ghost use Rattle.width_table.specs.Numbered.{nodeOf, passOf, IsNode};
@@ -62,23 +60,6 @@ impl Bound {
     const NO_STEPS: u64 = 0;
 
     const ALLOWED_STEPS: u64 = 2;
-}
-
-// 2^bits.
-fn power(bits: u8) -> u64
-    requires { ⌜ bits < 64 ⌝ }
-    ensures { λ r. ⌜ r ≡ 2 ^ bits ⌝ }
-{
-    1u64 << bits
-}
-
-// x / 2^bits, rounded up.
-fn up_div(x: u64, bits: u8) -> u64
-    requires { ⌜ (x ≤ mostTotal) × (bits ≤ inverseBits + 1) ⌝ }
-    ensures { λ r. ⌜ (r ≡ upDiv x (2 ^ bits)) × (r ≤ 2 * mostTotal) ⌝ }
-{
-    let divisor = power(bits);
-    (x + (divisor - 1)) / divisor
 }
 
 // The larger of two.
@@ -167,9 +148,9 @@ fn own_error(stage: u8, total: u64) -> u64
     ensures { λ r. ⌜ r ≡ ownFrom stage total ⌝ }
 {
     if stage < Bound::SCALING_STAGES {
-        return up_div(total, Bound::CONSTANT_BITS + 1) + Bound::STEP;
+        return precision::up_div(total, Bound::CONSTANT_BITS + 1) + Bound::STEP;
     }
-    up_div(total, Bound::CONSTANT_BITS) + Bound::STEP
+    precision::up_div(total, Bound::CONSTANT_BITS) + Bound::STEP
 }
 
 // What each source has of its own: the lows and the highs their errors, a stage its own error.
@@ -236,8 +217,8 @@ fn stored_bound(table: WidthTable, steps: u64, level: u8, pass: u8, node: u8) ->
     let integer = table.integer_bits(level, pass, node);
     let fraction = table.fraction_bits(level, pass, node);
     Bound {
-        range: power(integer - 1) * Bound::ONE,
-        error: steps * power(32 - fraction),
+        range: precision::power(integer - 1) * Bound::ONE,
+        error: steps * precision::power(32 - fraction),
     }
 }
 
@@ -307,7 +288,7 @@ pub fn judge(table: WidthTable) -> Outcome
         return Outcome::Refused(Refusal::NotViewable);
     }
     let bound = pixels.bound;
-    if bound.error < power(32 - (table.depth + 1)) {
+    if bound.error < precision::power(32 - (table.depth + 1)) {
         Outcome::Done
     } else {
         Outcome::Refused(Refusal::NotViewable)

@@ -52,7 +52,7 @@
  * code):
  *
  *   260   suz_inverse53
- *    60   suz_view97
+ *    80   suz_view97
  *     4   suz_forward53, suz_forward97, suz_table_check, suz_table_bound,
  *         suz_table_view, suz_view_distance
  *     2   suz_table_change, suz_table_change_constant

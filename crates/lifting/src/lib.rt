@@ -1054,7 +1054,7 @@ pub fn rows(plane: &mut [i32], tile: &mut [i32], stride: usize, w: usize, h: usi
 }
 
 // As many columns as a strip has at most.
-pub const STRIP: usize = 64;
+const STRIP: usize = 64;
 
 // The smaller of two numbers.
 pub fn smaller(a: usize, b: usize) -> usize

@@ -523,7 +523,7 @@ pub fn columns(
     lowbits: u32,
     highbits: u32,
 )
-    requires { ⌜ Lies (length (now plane)) (length (now work)) a w h × (5 ≤ length (now state)) × (length (now state) ≤ length (now line)) × (lowbits ≤ nodeBits) × (highbits ≤ nodeBits) ⌝ }
+    requires { ⌜ Lies (length (now plane)) (length (now work)) a w h × (5 ≤ length (now state)) × (2 * length (now state) ≤ 5 * length (now line)) × (lowbits ≤ nodeBits) × (highbits ≤ nodeBits) ⌝ }
     requires { ⌜ ((j : ℕ) → j < w → Safe lowbits highbits h (source a h (at (now plane)) (at (now work)) j)) ⌝ }
     ensures work { λ _. ⌜ at (now (work .exit)) ≡ undone a lowbits highbits w h (at (now (plane .entry))) (at (now (work .entry))) ⌝ }
     ensures state { λ _. ⌜ Free (now (state .entry)) (now (state .exit)) ⌝ }

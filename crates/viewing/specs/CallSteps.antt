@@ -48,7 +48,7 @@ pub record LevelReady (t : WidthTable) (l : ℕ) (plane work : List ℤ) (state 
   pub rows : Liftable h
   pub across : w + 6 ≤ line
   pub some : 5 ≤ state
-  pub spare : state ≤ line
+  pub spare : 2 * state ≤ 5 * line
   pub safe : SafeLevel t l W S w h (at plane) (at work)
 
 -- the bits of what it takes as low-low
@@ -72,7 +72,7 @@ pub record ViewReady (t : WidthTable) (plane : List ℤ) (work state line w h : 
   pub third : w * h ≤ work
   pub across : w + 6 ≤ line
   pub some : 5 ≤ state
-  pub spare : state ≤ line
+  pub spare : 2 * state ≤ 5 * line
 
 -- In the work area x, which was x₀, levels k to 1 are left to take back. What level k takes is `taken`: what the levels above it left
 -- stands in the work area, in rows 2^k w apart, and all else in the plane.
@@ -304,7 +304,7 @@ module _ (t : WidthTable) (w h : ℕ) (plane : List ℤ) (pixels : List ℕ) (wo
     work-done = sym (answered-done (zeroed (w * h) work) work e)
 
     -- what it is handed, with arrays for the longest line
-    pub view-ready : (state line : ℕ) → 5 ≤ state → state ≤ line → maxSide + 6 ≤ line → ViewReady t plane (length work) state line w h
+    pub view-ready : (state line : ℕ) → 5 ≤ state → 2 * state ≤ 5 * line → maxSide + 6 ≤ line → ViewReady t plane (length work) state line w h
     view-ready state line some spare long =
         let room = call-room t w h plane pixels work e in
         record {

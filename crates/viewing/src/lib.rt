@@ -26,8 +26,8 @@ use refusals::Outcome;
 use refusals::Refusal;
 use width_table::WidthTable;
 
-// Elements of what is held of a strip of columns: five for each of 512 columns.
-const STATE: usize = 5 * 512;
+// Elements of what is held of a strip of columns: five for each of 1024 columns.
+const STATE: usize = 5 * 1024;
 
 // Elements of the line that a row is undone into.
 const LINE: usize = pictures::MAX_SIDE + 6;

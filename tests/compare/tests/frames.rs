@@ -33,7 +33,7 @@ const CALLS: [(&str, i64); 13] = [
     ("suz_table_value", 1),
     ("suz_table_view", 4),
     ("suz_table_write", 1),
-    ("suz_view97", 60),
+    ("suz_view97", 80),
     ("suz_view_distance", 4),
 ];
 

@@ -60,13 +60,13 @@ fn scaled(x: i64, c: i64, cut: u32) -> i64
 // Turn i of a line takes low i and high i, scaled, or the last ones, and undoes U2 at low i, P2 at high i - 1, U1 at low i - 1 and P1 at
 // high i - 2. Held after it are g2 and u2 of place i, p2 and u1 of place i - 1; `even` and `odd` are what it gives: the line's values at
 // places 2 (i - 2) and 2 (i - 2) + 1.
-pub struct Turn {
-    pub g2: i64,
-    pub u2: i64,
-    pub p2: i64,
-    pub u1: i64,
-    pub even: i64,
-    pub odd: i64,
+struct Turn {
+    g2: i64,
+    u2: i64,
+    p2: i64,
+    u1: i64,
+    even: i64,
+    odd: i64,
 }
 
 // Low k of so many lows with a stage undone: the first has the high after it on both sides. Past the last one, what was kept.
@@ -275,12 +275,12 @@ pub fn rows(work: &mut [i64], line: &mut [i64], stride: usize, w: usize, h: usiz
 
 // A strip of so many lines and columns; the lows have lowbits bits, the highs highbits. What is held of its columns, `room` at most, stands
 // in `state`: four values of each column, and after those the low of each that comes next.
-pub struct Strip {
-    pub lines: usize,
-    pub columns: usize,
-    pub room: usize,
-    pub lowbits: u32,
-    pub highbits: u32,
+struct Strip {
+    lines: usize,
+    columns: usize,
+    room: usize,
+    lowbits: u32,
+    highbits: u32,
 }
 
 // What is held of column j.

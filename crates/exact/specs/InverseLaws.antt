@@ -10,6 +10,7 @@ use Rattle.lines.specs.Neighbours.{low-after-in, high-before-in, high-after-in}
 use Rattle.lines.specs.Planes.{Plane, OnPart, rowsFirst, columnsFirst, levels}
 use Rattle.lines.specs.PlaneLaws.{Roomy}
 use Rattle.lines.specs.BackLaws.{Same, Undoes, UndoesPart, rows-first-undone, levels-undone, levels-redone}
+use Rattle.lines.specs.CaseLaws.{Respects}
 use Rattle.exact.specs.Fractions.{Frac, _≈_, _⊕_, _⊗_, neg, whole}
 use Rattle.exact.specs.FracLaws.{≈-refl, ≈-sym, ≈-trans, ⊕-cong, ⊗-cong, ⊕-swap, ⊕-neg, neg-cong, ⊕-zero-l, ⊕-zero-r, ⊗-assoc, ⊗-one-l, zeroF, oneF, plus-back}
 use Rattle.exact.specs.Exact.{alpha, beta, gamma, delta, zeta, zetaInverse, lift, low₀, high₀, p1, u1, p2, u2, g1, g2, exactPass}
@@ -19,19 +20,16 @@ use Rattle.exact.specs.Inverse.{unlift, unG1, unG2, unU2, unP2, unU1, un
 pub same-≈ : Same _≈_
 same-≈ = record { same = ≈-refl; back = ≈-sym; next = ≈-trans }
 
-is : {x y : Frac} → x ≡ y → x ≈ y
+pub is : {x y : Frac} → x ≡ y → x ≈ y
 is {x} e = subst (λ (z : Frac). x ≈ z) e (≈-refl x)
 
 -- ---- steps
 
-record Respects (f : Frac → Frac → Frac → Frac) : Type 0 where
-  alike : {o o' x x' y y' : Frac} → o ≈ o' → x ≈ x' → y ≈ y' → f o x y ≈ f o' x' y'
-
-lift-cong : (c : Frac) → Respects (lift c)
+pub lift-cong : (c : Frac) → Respects _≈_ (lift c)
 unfolding lift
 lift-cong c = record { alike = λ h i j. ⊕-cong h (⊗-cong (≈-refl c) (⊕-cong i j)) }
 
-unlift-cong : (c : Frac) → Respects (unlift c)
+pub unlift-cong : (c : Frac) → Respects _≈_ (unlift c)
 unfolding unlift
 unlift-cong c = record { alike = λ h i j. ⊕-cong h (neg-cong (⊗-cong (≈-refl c) (⊕-cong i j))) }
 
@@ -65,12 +63,12 @@ zeta-in = times-out zeta zetaInverse (record { eq = refl })
 -- ---- a line
 
 -- alike at the places below m
-abbrev Likewise : ℕ → (ℕ → Frac) → (ℕ → Frac) → Type 0
+abbrev pub Likewise : ℕ → (ℕ → Frac) → (ℕ → Frac) → Type 0
 Likewise m x y = (i : ℕ) → i < m → x i ≈ y i
 
 module _ (n : ℕ) (works : Liftable n) where
   -- a stage reads the line's own values
-  module _ {l m h g : ℕ → Frac} (at-lows : Likewise (lows n) l m) (at-highs : Likewise (highs n) h g) (f : Frac → Frac → Frac → Frac) (ok : Respects f) where
+  module _ {l m h g : ℕ → Frac} (at-lows : Likewise (lows n) l m) (at-highs : Likewise (highs n) h g) (f : Frac → Frac → Frac → Frac) (ok : Respects _≈_ f) where
     highs-alike : Likewise (highs n) (onHighs f n l h) (onHighs f n m g)
     unfolding onHighs
     highs-alike i p = ok .alike (at-highs i p) (at-lows i (omega arith)) (at-lows (lowAfter n i) (low-after-in n i p))

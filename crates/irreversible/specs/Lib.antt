@@ -2,6 +2,7 @@
 --
 -- Definitions (with those of numbers, refusals, lines, exact, stages, width_table, pictures and precision, all that demand 3 rests on):
 --   Fixed        the fixed-point 9/7 lifting of one line: nearest constants, one cut towards minus infinity
+--   Cases        the same by cases, ends apart from the middle (source document 003, equations 2 to 4)
 --   Transforms   the plane of a picture under a table
 --   Claims       demand 3 as two statements: TwoSteps and Widths
 --   Calls        the 9/7 call: the answer, and each lent slice afterwards
@@ -9,6 +10,7 @@
 -- Proved of them:
 --   Demand3      two-steps : TwoSteps, widths : Widths
 --   CallLaws     call-near, call-widths: demand 3 of every call that is not refused
+--   CaseLaws     pass-is: the pass by cases is the pass
 --   Constants    no-tie, is-nearest: a constant at F bits is the nearest multiple, for F from 1 to 24
 --   Subbands     kept-LL, kept-HL, kept-LH, kept-HH: the kept node of each subband of each level
 --   Sizes        sum-size, product-size: 64 bits hold the sum of a stage
@@ -25,6 +27,7 @@
 --   LevelsLaws   all levels under an accepted table: after-none, after-more, safe-next, after-all
 --   CallSteps    what the steps of the call ask of each other, and what they leave
 pub mod Fixed
+pub mod Cases
 pub mod Transforms
 pub mod Claims
 pub mod Calls
@@ -38,6 +41,7 @@ pub mod Sizes
 pub mod Narrow
 pub mod SizedLaws
 pub mod CallLaws
+pub mod CaseLaws
 pub mod StepLaws
 pub mod KernelLaws
 pub mod SafeLaws

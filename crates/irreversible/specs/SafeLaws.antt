@@ -76,8 +76,11 @@ pub constant-fits : (n : Node) (F : ℕ) → ConstantBits F → SFits w64 (neare
 constant-fits n F ok = fits-64 (13 + F) _ (omega (arith, ok .1)) (constant-small n F ok)
 
 -- and so it is at the bits of a stage
+constant-size : (n : Node) (F fm top : ℕ) → ConstantBits F → F + fm ≤ top → top ≤ 44 → natAbs (nearest (constantOf n) F *ℤ pos (2 ^ (top - (F + fm)))) ≤ 2 ^ 57
+constant-size n F fm top ok a b = times-size (13 + F) (top - (F + fm)) 57 (nearest (constantOf n) F) (pos (2 ^ (top - (F + fm)))) (constant-small n F ok) (le-refl _) (omega (arith, ok .1))
+
 pub constant-raised : (n : Node) (F fm top : ℕ) → ConstantBits F → F + fm ≤ top → top ≤ 44 → SFits w64 (nearest (constantOf n) F *ℤ pos (2 ^ (top - (F + fm))))
-constant-raised n F fm top ok a b = fits-64 57 _ (omega arith) (times-size (13 + F) (top - (F + fm)) 57 (nearest (constantOf n) F) (pos (2 ^ (top - (F + fm)))) (constant-small n F ok) (le-refl _) (omega (arith, ok .1)))
+constant-raised n F fm top ok a b = fits-64 57 _ (omega arith) (constant-size n F fm top ok a b)
 
 module _ (n : Node) (F fm : ℕ) (const : ConstantBits F) (small : fm ≤ maxFractionBits) where
   -- a constant times a sum, at top bits
@@ -113,6 +116,7 @@ module _ (n : Node) (F fm : ℕ) (const : ConstantBits F) (small : fm ≤ maxFra
           left = fits-64 55 A (omega arith) a;
           right = fits-64 57 B (omega arith) b;
           both = fits-64 58 (A +ℤ B) (omega arith) (le-trans (abs-add-≤ A B a b) (omega arith));
+          doubled = fits-64 58 _ (omega arith) (times-size 1 57 58 (pos 2) (nearest (constantOf n) F *ℤ pos (2 ^ (top - (F + fm)))) (omega arith) (constant-size n F fm top const (omega arith) (omega arith)) (omega arith));
           risen = λ r e. risen-fits r (omega arith);
           result = subst (λ (z : ℤ). SFits w32 z) (sym (step-applied (constantOf n) F fm fo f own x y)) (sized-fits f _ less h);
         }

@@ -11,7 +11,7 @@ use Rattle.lifting.specs.declared.Step.{Step}
 use Rattle.lifting.specs.declared.Step.the-variants.{Scaled}
 use Rattle.lifting.specs.declared.Factor.{Factor}
 use Rattle.lifting.specs.declared.Factor.the-variants.{Plain}
-use Rattle.lifting.specs.Steps.{applied, Safe}
+use Rattle.lifting.specs.Steps.{applied, ended, Safe}
 use Rattle.lifting.specs.Turns.{back, got}
 
 module _ (w : Width) {s s′ : Step} {own x y : ℤ} (fo : SFits w own) (fx : SFits w x) (fy : SFits w y) (same : s ≡ s′) where
@@ -24,9 +24,17 @@ module _ (w : Width) {s s′ : Step} {own x y : ℤ} (fo : SFits w own) (fx : SF
   pub applied-back : {r : ℤ} → mag r < 2 ^ hbits w → r ≡ applied s′ (back w own) (back w x) (back w y) → back w r ≡ applied s own x y
   applied-back fr e = got w fr (e ∙ sym path)
 
+-- the same at an end
+pub ended-back : (w : Width) {s s′ : Step} {own x : ℤ} → SFits w own → SFits w x → s ≡ s′ → {r : ℤ} → mag r < 2 ^ hbits w → r ≡ ended s′ (back w own) (back w x) → back w r ≡ ended s own x
+ended-back w fo fx same fr e = got w fr (e ∙ (λ k. ended (sym same k) (toZ-ofZ fo k) (toZ-ofZ fx k)))
+
+-- a step by another name of its constant
+pub scaled-as : {s : Step} {k : ℕ} {c c′ : ℤ} {cut : ℕ} → c′ ≡ c → s ≡ Scaled k c cut → s ≡ Scaled k c′ cut
+scaled-as {k} {cut} same e = e ∙ (λ u. Scaled k (sym same u) cut)
+
 -- a step or a scaling whose constant was read back
 pub scaled-back : {s : Step} {k : ℕ} {c : ℤ} {cut : ℕ} → SFits w64 c → s ≡ Scaled k c cut → s ≡ Scaled k (back w64 c) cut
-scaled-back {k} {cut} fc e = e ∙ (λ u. Scaled k (sym (toZ-ofZ fc) u) cut)
+scaled-back fc e = scaled-as (toZ-ofZ fc) e
 
 pub plain-back : {g : Factor} {c : ℤ} {cut : ℕ} → SFits w64 c → g ≡ Plain c cut → g ≡ Plain (back w64 c) cut
 plain-back {cut} fc e = e ∙ (λ u. Plain (sym (toZ-ofZ fc) u) cut)

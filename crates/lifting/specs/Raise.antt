@@ -84,7 +84,7 @@ pub turned-fits : (down : Bool) (x y : ℤ) → SumSafe x y → SFits w32 (turne
 turned-fits true x y h = h .turned
 turned-fits false x y h = h .sum
 
-power-out : (P R own : ℤ) → P *ℤ R *ℤ own ≡ P *ℤ (own *ℤ R)
+pub power-out : (P R own : ℤ) → P *ℤ R *ℤ own ≡ P *ℤ (own *ℤ R)
 power-out P R own = let ρ : List ℤ = P ∷ R ∷ own ∷ [] in ring ρ (search (terms, vars ρ) depth 30) (search (terms, vars ρ) depth 30) tt
 
 pub near-is : (down : Bool) (rise c base cut : ℕ) → c * 2147483648 ≡ base * 2 ^ cut → (own x y : ℤ) → SumSafe x y
@@ -194,7 +194,7 @@ near-same down rise c base cut some short steep room tied = record {
 pub far-same : (down : Bool) (k c pad base cut : ℕ) → 1 ≤ cut → cut < 64 → k ≤ 30 → c < 2147483648 → pad ≤ 4611686018427387904 → (2 ^ k + c) * 2147483648 + pad ≡ base * 2 ^ cut → Same (Scaled k (signed down c) cut) (Far down k c pad base cut)
 far-same down k c pad base cut some short few room more tied = record {
   same = λ own x y. refl;
-  safe = λ own x y s. record { some = some; short = short; few = few; room = room; more = more; tied = tied; sides = s .sides; result = s .result };
+  safe = λ own x y s. record { some = some; short = short; few = few; room = room; more = more; tied = tied; sides = s .sides; risen = s .risen; result = s .result };
 }
 
 pub raised-same : (c pad base cut : ℕ) → 1 ≤ cut → cut < 64 → c < 2147483648 → pad ≤ 4611686018427387904 → c * 2147483648 + pad ≡ base * 2 ^ cut → SameFactor (Plain (pos c) cut) (Raised c pad base cut)

@@ -39,6 +39,21 @@ applied (Scaled k c cut) own x y = scaled k c cut own x y
 applied (Near down rise c base cut) own x y = scaled (cut + rise) (signed down c) cut own x y
 applied (Far down k c pad base cut) own x y = scaled k (signed down c) cut own x y
 
+-- ⌊(2 ^ k own + 2 c x) / 2 ^ cut⌋
+abbrev pub scaledEnd : ℕ → ℤ → ℕ → ℤ → ℤ → ℤ
+scaledEnd k c cut own x = shrZ (pos (2 ^ k) *ℤ own +ℤ pos 2 *ℤ c *ℤ x) (2 ^ cut)
+
+-- A step at an end of its line, where both neighbours are x, by the reduced equations: source document 003, equations 3 and 4 (the constant is
+-- doubled), source document 004, equations 4 to 6. `ended-is` of Ends: it is the step of x and x.
+abbrev pub ended : Step → ℤ → ℤ → ℤ
+ended Predict own x = own -ℤ x
+ended Update own x = own +ℤ half (x +ℤ pos 1)
+ended Unpredict own x = own +ℤ x
+ended Unupdate own x = own -ℤ half (x +ℤ pos 1)
+ended (Scaled k c cut) own x = scaledEnd k c cut own x
+ended (Near down rise c base cut) own x = scaledEnd (cut + rise) (signed down c) cut own x
+ended (Far down k c pad base cut) own x = scaledEnd k (signed down c) cut own x
+
 -- a step that is not in a raised form
 abbrev pub plain : Step → Bool
 plain Predict = true
@@ -78,7 +93,7 @@ pub record QuarterSafe (x y r : ℤ) : Type 0 where
   pub more : SFits w32 (x +ℤ y +ℤ pos 2)
   pub result : SFits w32 r
 
--- products in i64; the own value at the result's bits, where these are no fewer than its own, fits an i32
+-- products in i64, and twice the constant; the own value at the result's bits, where these are no fewer than its own, fits an i32
 pub record ScaledSafe (k : ℕ) (c : ℤ) (cut : ℕ) (own x y : ℤ) : Type 0 where
   pub few : k ≤ 62
   pub short : cut < 64
@@ -86,6 +101,7 @@ pub record ScaledSafe (k : ℕ) (c : ℤ) (cut : ℕ) (own x y : ℤ) : Type 0 w
   pub left : SFits w64 (pos (2 ^ k) *ℤ own)
   pub right : SFits w64 (c *ℤ (x +ℤ y))
   pub both : SFits w64 (pos (2 ^ k) *ℤ own +ℤ c *ℤ (x +ℤ y))
+  pub doubled : SFits w64 (pos 2 *ℤ c)
   pub risen : (r : ℕ) → k ≡ cut + r → SFits w32 (own *ℤ pos (2 ^ r))
   pub result : SFits w32 (scaled k c cut own x y)
 
@@ -100,7 +116,8 @@ pub record NearSafe (down : Bool) (rise c base cut : ℕ) (own x y : ℤ) : Type
   pub risen : SFits w32 (own *ℤ pos (2 ^ rise))
   pub result : SFits w32 (scaled (cut + rise) (signed down c) cut own x y)
 
--- The own value is raised too. `pad` more makes what the sum is too large by a multiple of 2 ^ cut.
+-- The own value is raised too. `pad` more makes what the sum is too large by a multiple of 2 ^ cut. `risen` as in `ScaledSafe`: an end takes the
+-- step in that form.
 pub record FarSafe (down : Bool) (k c pad base cut : ℕ) (own x y : ℤ) : Type 0 where
   pub some : 1 ≤ cut
   pub short : cut < 64
@@ -109,6 +126,7 @@ pub record FarSafe (down : Bool) (k c pad base cut : ℕ) (own x y : ℤ) : Type
   pub more : pad ≤ 4611686018427387904
   pub tied : (2 ^ k + c) * 2147483648 + pad ≡ base * 2 ^ cut
   pub sides : SumSafe x y
+  pub risen : (r : ℕ) → k ≡ cut + r → SFits w32 (own *ℤ pos (2 ^ r))
   pub result : SFits w32 (scaled k (signed down c) cut own x y)
 
 abbrev pub Safe : Step → ℤ → ℤ → ℤ → Type 0

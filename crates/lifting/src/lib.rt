@@ -7,7 +7,7 @@ ghost use lib.IntN.{pos, natAbs, _+ℤ_, _-ℤ_, _*ℤ_};
 ghost use mir.Syntax.{w32, w64};
 ghost use mir.Val.{SFits};
 ghost use Rattle.lines.specs.Lines.{interleaved};
-ghost use Rattle.lifting.specs.Steps.{applied, PlainStep, Safe, Same, SumSafe, turnedSum, signed, raisedStep, scaledBy, FactorSafe, SameFactor};
+ghost use Rattle.lifting.specs.Steps.{applied, ended, PlainStep, Safe, Same, SumSafe, turnedSum, signed, raisedStep, scaledBy, FactorSafe, SameFactor};
 ghost use Rattle.lifting.specs.Raise.{raised};
 ghost use Rattle.lifting.specs.Patch.{at, Free, patch};
 ghost use Rattle.lifting.specs.Runs.{ran, Runs, SafeRun};
@@ -295,6 +295,88 @@ fn apply(step: Step, own: i32, x: i32, y: i32) -> i32
     }
 }
 
+// ---- one value at an end of its line, where both neighbours are one: the papers' reduced equations
+
+// The last high of an even length: source document 004, equation 5.
+fn predicted_end(own: i32, x: i32) -> i32
+    requires { ⌜ Safe Step.Predict own x x ⌝ }
+    ensures { λ r. ⌜ r ≡ ended Step.Predict own x ⌝ }
+{
+    own - x
+}
+
+// The first low: source document 004, equation 4. The last low of an odd length: equation 6.
+fn updated_end(own: i32, x: i32) -> i32
+    requires { ⌜ Safe Step.Update own x x ⌝ }
+    ensures { λ r. ⌜ r ≡ ended Step.Update own x ⌝ }
+{
+    own + ((x + 1) >> 1)
+}
+
+// What undoes `predicted_end`.
+fn unpredicted_end(own: i32, x: i32) -> i32
+    requires { ⌜ Safe Step.Unpredict own x x ⌝ }
+    ensures { λ r. ⌜ r ≡ ended Step.Unpredict own x ⌝ }
+{
+    own + x
+}
+
+// What undoes `updated_end`.
+fn unupdated_end(own: i32, x: i32) -> i32
+    requires { ⌜ Safe Step.Unupdate own x x ⌝ }
+    ensures { λ r. ⌜ r ≡ ended Step.Unupdate own x ⌝ }
+{
+    own - ((x + 1) >> 1)
+}
+
+// The step `Scaled`: source document 003, equation 3 at the first low, equation 4 at the last high of an even length; in the same style at
+// the last low of an odd length. The rounded constant is doubled.
+fn scaled_end(k: u32, c: i64, cut: u32, own: i32, x: i32) -> i32
+    requires { ⌜ Safe (Step.Scaled k c cut) own x x ⌝ }
+    ensures { λ r. ⌜ r ≡ ended (Step.Scaled k c cut) own x ⌝ }
+{
+    let left = times(power(k) as i64, wide(own));
+    let right = times(times(2, c), wide(x));
+    narrowed(plus(left, right), cut)
+}
+
+// A constant by its sign and its size.
+fn signed_of(down: bool, c: u32) -> i64
+    ensures { λ r. ⌜ r ≡ signed down c ⌝ }
+{
+    if down { 0 - (c as i64) } else { c as i64 }
+}
+
+// One step of one value at an end.
+fn apply_end(step: Step, own: i32, x: i32) -> i32
+    requires { ⌜ Safe step own x x ⌝ }
+    ensures { λ r. ⌜ r ≡ ended step own x ⌝ }
+{
+    match step {
+        Step::Predict => predicted_end(own, x),
+        Step::Update => updated_end(own, x),
+        Step::Unpredict => unpredicted_end(own, x),
+        Step::Unupdate => unupdated_end(own, x),
+        Step::Scaled { k, c, cut } => scaled_end(k, c, cut, own, x),
+        Step::Near {
+            down,
+            rise,
+            c,
+            cut,
+            ..
+        } => scaled_end(cut + rise, signed_of(down, c), cut, own, x),
+        Step::Far {
+            down,
+            k,
+            c,
+            cut,
+            ..
+        } => scaled_end(k, signed_of(down, c), cut, own, x),
+    }
+}
+
+// ---- scalings
+
 // A value times a constant.
 fn scaled_by(c: i64, cut: u32, x: i32) -> i32
     requires { ⌜ FactorSafe (Factor.Plain c cut) x ⌝ }
@@ -443,6 +525,18 @@ pub fn lift_run(buf: &mut [i32], t: usize, a: usize, b: usize, n: usize, step: S
             base,
             cut,
         } => far_run(buf, t, a, b, n, down, k, c, pad, base, cut),
+    }
+}
+
+// A step at each of n places from t on that stand at an end of their lines, each with the place as far from a on both sides.
+fn end_run(buf: &mut [i32], t: usize, a: usize, n: usize, step: Step)
+    requires { ⌜ Runs (now buf) t a a n ⌝ }
+    requires { ⌜ SafeRun step t a a n (at (now buf)) ⌝ }
+    ensures { λ _. ⌜ at (now (buf .exit)) ≡ ran (applied step) t a a n (at (now (buf .entry))) ⌝ }
+{
+    for j in 0..n {
+        let v = apply_end(step, buf[t + j], buf[a + j]);
+        buf[t + j] = v;
     }
 }
 
@@ -683,8 +777,9 @@ fn on_highs(tile: &mut [i32], s: usize, n: usize, step: Step)
     let top = low * s;
     let most = (low - 1) * s;
     lift_run(tile, top, 0, s, most, step);
+    // the last high of an even length
     if low - 1 < n / 2 {
-        lift_run(tile, top + most, most, most, s, step);
+        end_run(tile, top + most, most, s, step);
     }
 }
 
@@ -698,10 +793,12 @@ fn on_lows(tile: &mut [i32], s: usize, n: usize, step: Step)
     let high = n / 2;
     let top = low * s;
     let most = (high - 1) * s;
-    lift_run(tile, 0, top, top, s, step);
+    // the first low
+    end_run(tile, 0, top, s, step);
     lift_run(tile, s, top, top + s, most, step);
+    // the last low of an odd length
     if high < low {
-        lift_run(tile, high * s, top + most, top + most, s, step);
+        end_run(tile, high * s, top + most, s, step);
     }
 }
 

@@ -5,6 +5,7 @@ use mathlib.Core.Bool.{true, false}
 use mathlib.Core.Path.{_≡_, refl}
 use native.Mathlib.Omega.{arith}
 use lib.Dec.{ltb}
+use lib.IntN.{ℤ, pos, negsuc}
 use Rattle.lines.specs.Lines.{lows, highs, lowAfter, highBefore, highAfter}
 use Rattle.numbers.specs.Tests.{by-ltb}
 
@@ -29,3 +30,8 @@ high-before-first = refl
 pub high-before : (i : ℕ) → 2 * highBefore (suc i) + 1 ≡ 2 * suc i - 1
 unfolding highBefore
 high-before i = omega arith
+
+-- the place of the sample that stands at place z: mirrored about the first sample, too (document 01: edges)
+abbrev pub mirror : ℕ → ℤ → ℕ
+mirror n (pos j) = mirrored n j
+mirror n (negsuc j) = suc j

@@ -3,7 +3,7 @@ use Prim.Native.Nat.{ℕ, _<_, _≤_}
 use mathlib.Core.Bool.{Bool, true, false, _&&_, not}
 use mathlib.Core.List.{List, [], _∷_}
 use mathlib.Core.Path.{_≡_, refl, sym, _∙_, ap, subst}
-use lib.Dec.{leb, leb→le, le→leb, nleb→lt, T, ltb, ltb→lt, nltb→le, lt→ltb}
+use lib.Dec.{leb, leb→le, le→leb, nleb→lt, T, ltb, ltb→lt, nltb→le, lt→ltb, eqb, eqb→eq, eqb-refl}
 use lib.Arith.{le→nltb}
 use borrow.Author.Tests.{lt-leb}
 
@@ -82,6 +82,13 @@ by-leb P a b yes′ no′ = go (leb a b) (leb→le a b) (nleb→lt a b)
     go : (t : Bool) → (T t → a ≤ b) → (T (not t) → b < a) → P t
     go true h k = yes′ (h tt)
     go false h k = no′ (k tt)
+
+pub by-eqb : (P : Bool → Type 0) (a b : ℕ) → (a ≡ b → P true) → ((a ≡ b → ⊥) → P false) → P (eqb a b)
+by-eqb P a b yes′ no′ = go (eqb a b) (eqb→eq a b) (λ e. subst (λ (k : ℕ). T (eqb a k)) e (eqb-refl a))
+  where
+    go : (t : Bool) → (T t → a ≡ b) → (a ≡ b → T t) → P t
+    go true h k = yes′ (h tt)
+    go false h k = no′ k
 
 pub and-intro : (a b : Bool) → T a → T b → T (a && b)
 and-intro true b h k = k

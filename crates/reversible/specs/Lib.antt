@@ -1,7 +1,9 @@
 -- The reversible 5/3 transform (document 01: the lifting; the exact copy).
 --   Reversible       the transform of a plane, and its way back
+--   Cases            the same by cases, ends apart from the middle (source document 004, equations 1, 2 and 4 to 6)
 --   Calls            the forward call and the back call: the answer, and each lent slice afterwards
 -- Proved of them:
+--   CaseLaws         pass-is, back-is: the 5/3 by cases is the 5/3
 --   ReversibleLaws   forward-back, back-forward: each undoes the other
 --   PictureLaws      has-picture: refusal 11 comes exactly where no picture has the plane
 --   CallLaws         there-and-back, back-and-there
@@ -16,7 +18,9 @@
 --   FoundLaws        its end: whether pixels came out, and what is written
 --   AnswerLaws       the order of refusals, step by step
 pub mod Reversible
+pub mod Cases
 pub mod Calls
+pub mod CaseLaws
 pub mod ReversibleLaws
 pub mod PictureLaws
 pub mod CallLaws

@@ -24,6 +24,13 @@ step c F fm fo f own x y =
     let full = max fo (F + fm) in
     cut full f (own *ℤ pos (2 ^ (full - fo)) +ℤ nearest c F *ℤ (x +ℤ y) *ℤ pos (2 ^ (full - (F + fm))))
 
+-- The same at an end of a line, where both neighbours are x (document 02, job 2): twice the rounded constant times x (source document 003,
+-- equations 3 and 4). Ends: it is the step of x and x.
+unfoldable pub stepEnd : Frac → ℕ → ℕ → ℕ → ℕ → ℤ → ℤ → ℤ
+stepEnd c F fm fo f own x =
+    let full = max fo (F + fm) in
+    cut full f (own *ℤ pos (2 ^ (full - fo)) +ℤ pos 2 *ℤ nearest c F *ℤ x *ℤ pos (2 ^ (full - (F + fm))))
+
 -- A stage that scales: the product has F + fm bits.
 unfoldable pub scale : Frac → ℕ → ℕ → ℕ → ℤ → ℤ
 scale c F fm f x = cut (F + fm) f (nearest c F *ℤ x)

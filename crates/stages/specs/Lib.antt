@@ -4,11 +4,12 @@
 --   Stages     stages, and the two passes as data: forward, inverse
 --   Gains      the gain from one node to another on an endless line
 --   Rule       range, own error and error of each node
---   Fixed      one fixed-point stage: nearest constants, one cut towards minus infinity
+--   Fixed      one fixed-point stage, in the middle of a line and at its ends: nearest constants, one cut towards minus infinity
 -- Proved of them, for any list of stages:
 --   Sound      good: on a line with mirrored edges each exact value lies within the range, each fixed-point value within the error of it
 --   Endless    the finite sum in a gain is the endless one
 --   RuleLaws   the error as a sum; a side that a stage does not work keeps its bound; bound-grows: the bounds grow with what enters
+--   Ends       a fixed-point stage at an end of a line is the stage of its one neighbour twice
 -- Of the two passes:
 --   GainTable  the gains as numbers
 --   Examples   worked bounds
@@ -17,6 +18,7 @@ pub mod Stages
 pub mod Gains
 pub mod Rule
 pub mod Fixed
+pub mod Ends
 pub mod OnLine
 pub mod GainTable
 pub mod Examples

@@ -12,6 +12,7 @@ use lib.Signed.{mag}
 use mir.Val.{SFits, hbits}
 use mir.Facts.{toZ-ofZ}
 use Rattle.numbers.specs.Floor.{floorDiv, floor-add-mul}
+use Rattle.numbers.specs.Laws.{twice-times}
 use Rattle.numbers.specs.Quote.{terms, vars, ring}
 use Rattle.exact.specs.Fractions.{Frac}
 use Rattle.exact.specs.Exact.{alpha, beta, gamma, delta, zeta, zetaInverse}
@@ -20,6 +21,7 @@ use Rattle.lifting.specs.Runs.{as-type}
 use Rattle.lifting.specs.Turns.{back, got}
 use Rattle.stages.specs.Fixed.{nearest, cut, scale}
 use Rattle.unlifting.specs.Fixed.{nodeBits, inverseBits, unstep, limit}
+use Rattle.unlifting.specs.Cases.{unstepEnd}
 
 -- a value and its neighbours are in the limit
 pub record Inside (own x y : ℤ) : Type 0 where
@@ -34,6 +36,10 @@ Constant c = natAbs c ≤ 2 * 2 ^ inverseBits
 -- own + ⌊(0 - c) (x + y) / 2^24⌋
 abbrev pub movedBy : ℤ → ℤ → ℤ → ℤ → ℤ
 movedBy c own x y = own +ℤ floorDiv ((pos 0 -ℤ c) *ℤ (x +ℤ y)) (2 ^ inverseBits)
+
+-- at an end, where both neighbours are one: own + ⌊(0 - 2 c) x / 2^24⌋
+abbrev pub endedBy : ℤ → ℤ → ℤ → ℤ
+endedBy c own x = own +ℤ floorDiv ((pos 0 -ℤ pos 2 *ℤ c) *ℤ x) (2 ^ inverseBits)
 
 -- ⌊c x / 2^b⌋
 abbrev pub scaledBy : ℤ → ℕ → ℤ → ℤ
@@ -60,12 +66,19 @@ again r ok = got w64 ok refl
 pub inside-read : {own x y : ℤ} → Inside own x y → Inside (back w64 own) (back w64 x) (back w64 y)
 inside-read {own} {x} {y} h = as-type (λ u. Inside (sym (read own (h .middle)) u) (sym (read x (h .left)) u) (sym (read y (h .right)) u)) h
 
--- what `moved` gives of them
-pub moved-raw : {c own x y r : ℤ} → SFits w64 c → Inside own x y → r ≡ movedBy (back w64 c) (back w64 own) (back w64 x) (back w64 y) → r ≡ movedBy c own x y
-moved-raw {c} {own} {x} {y} {r} fits h e = e ∙ (λ u. movedBy (toZ-ofZ fits u) (read own (h .middle) u) (read x (h .left) u) (read y (h .right) u))
+-- what a step gives of them, between two neighbours and at an end
+pub step-read : {own x y r : ℤ} {f g : ℤ → ℤ → ℤ → ℤ} → f ≡ g → Inside own x y → r ≡ f (back w64 own) (back w64 x) (back w64 y) → r ≡ g own x y
+step-read {own} {x} {y} same h e = e ∙ (λ u. same u (read own (h .middle) u) (read x (h .left) u) (read y (h .right) u))
 
+pub end-read : {own x r : ℤ} {f g : ℤ → ℤ → ℤ} → f ≡ g → Inside own x x → r ≡ f (back w64 own) (back w64 x) → r ≡ g own x
+end-read {own} {x} same h e = e ∙ (λ u. same u (read own (h .middle) u) (read x (h .left) u))
+
+-- what `moved` and `moved_end` give
 pub moved-got : {c own x y r : ℤ} → SFits w64 c → Inside own x y → mag r < 2 ^ hbits w64 → r ≡ movedBy (back w64 c) (back w64 own) (back w64 x) (back w64 y) → back w64 r ≡ movedBy c own x y
-moved-got fits h ok e = got w64 ok (moved-raw fits h e)
+moved-got fits h ok e = got w64 ok (step-read (λ u. movedBy (toZ-ofZ fits u)) h e)
+
+pub ended-got : {c own x r : ℤ} → SFits w64 c → Inside own x x → mag r < 2 ^ hbits w64 → r ≡ endedBy (back w64 c) (back w64 own) (back w64 x) → back w64 r ≡ endedBy c own x
+ended-got fits h ok e = got w64 ok (end-read (λ u. endedBy (toZ-ofZ fits u)) h e)
 
 -- the bits that a scaling of a value of f bits cuts
 abbrev pub cutBits : ℕ → ℕ
@@ -80,12 +93,28 @@ flip a b = let ρ : List ℤ = a ∷ b ∷ [] in ring ρ (search (terms, vars ρ
 once : (z : ℤ) → z *ℤ pos 1 ≡ z
 once z = let ρ : List ℤ = z ∷ [] in ring ρ (search (terms, vars ρ) depth 30) (search (terms, vars ρ) depth 30) tt
 
+-- own less a product, which has 24 bits more, cut once
+abbrev less : ℤ → ℤ → ℤ
+less own z = cut (inverseBits + nodeBits) nodeBits (own *ℤ pos (2 ^ inverseBits) -ℤ z)
+
 -- own times 2^24 is a multiple of 2^24, so the cut leaves own as it is
+less-is : (own k s : ℤ) → own +ℤ floorDiv ((pos 0 -ℤ k) *ℤ s) (2 ^ inverseBits) ≡ less own (k *ℤ s)
+unfolding cut
+less-is own k s =
+    flip own _ ∙ sym (ap (λ (z : ℤ). floorDiv z (2 ^ inverseBits)) (sum-law own k s (pos (2 ^ inverseBits))) ∙ floor-add-mul ((pos 0 -ℤ k) *ℤ s) own (2 ^ inverseBits) (lit< tt))
+
 moved-is : (f : Frac) (c : ℤ) → c ≡ nearest f inverseBits → movedBy c ≡ unstep f
-unfolding unstep cut
-moved-is f c e = fun-ext λ own. fun-ext λ x. fun-ext λ y.
-    flip own _ ∙ sym (ap (λ (z : ℤ). floorDiv z (2 ^ inverseBits)) (ap (λ (k : ℤ). (own *ℤ pos (2 ^ inverseBits) -ℤ k *ℤ (x +ℤ y)) *ℤ pos 1) (sym e) ∙ sum-law own c (x +ℤ y) (pos (2 ^ inverseBits)))
-    ∙ floor-add-mul ((pos 0 -ℤ c) *ℤ (x +ℤ y)) own (2 ^ inverseBits) (lit< tt))
+unfolding unstep
+moved-is f c e = fun-ext λ own. fun-ext λ x. fun-ext λ y. less-is own c (x +ℤ y) ∙ ap (λ (k : ℤ). less own (k *ℤ (x +ℤ y))) e
+
+ended-is : (f : Frac) (c : ℤ) → c ≡ nearest f inverseBits → endedBy c ≡ unstepEnd f
+unfolding unstepEnd
+ended-is f c e = fun-ext λ own. fun-ext λ x. less-is own (pos 2 *ℤ c) x ∙ ap (λ (k : ℤ). less own (pos 2 *ℤ k *ℤ x)) e
+
+-- a stage undone at an end is the stage undone with the one neighbour on both sides
+pub unstep-end : (c : Frac) (own x : ℤ) → unstepEnd c own x ≡ unstep c own x x
+unfolding unstep unstepEnd
+unstep-end c own x = ap (less own) (twice-times (nearest c inverseBits) x)
 
 scaled-is : (g : Frac) (c : ℤ) (f : ℕ) → c ≡ nearest g inverseBits → scaledBy c (cutBits f) ≡ scale g inverseBits f nodeBits
 unfolding scale cut
@@ -114,34 +143,37 @@ atZeta = pos 19287161
 abbrev pub atInverse : ℤ
 atInverse = pos 14593904
 
--- they fit 64 bits
-pub fits-alpha : SFits w64 atAlpha
-fits-alpha = record { sfits = lit< tt }
-
-pub fits-beta : SFits w64 atBeta
-fits-beta = record { sfits = lit< tt }
-
-pub fits-gamma : SFits w64 atGamma
-fits-gamma = record { sfits = lit< tt }
-
-pub fits-delta : SFits w64 atDelta
-fits-delta = record { sfits = lit< tt }
-
 pub moved-alpha : movedBy atAlpha ≡ unstep alpha
 unfolding nearest
 moved-alpha = moved-is alpha _ refl
+
+pub ended-alpha : endedBy atAlpha ≡ unstepEnd alpha
+unfolding nearest
+ended-alpha = ended-is alpha _ refl
 
 pub moved-beta : movedBy atBeta ≡ unstep beta
 unfolding nearest
 moved-beta = moved-is beta _ refl
 
+pub ended-beta : endedBy atBeta ≡ unstepEnd beta
+unfolding nearest
+ended-beta = ended-is beta _ refl
+
 pub moved-gamma : movedBy atGamma ≡ unstep gamma
 unfolding nearest
 moved-gamma = moved-is gamma _ refl
 
+pub ended-gamma : endedBy atGamma ≡ unstepEnd gamma
+unfolding nearest
+ended-gamma = ended-is gamma _ refl
+
 pub moved-delta : movedBy atDelta ≡ unstep delta
 unfolding nearest
 moved-delta = moved-is delta _ refl
+
+pub ended-delta : endedBy atDelta ≡ unstepEnd delta
+unfolding nearest
+ended-delta = ended-is delta _ refl
 
 pub scaled-zeta : (f : ℕ) → scaledBy atZeta (cutBits f) ≡ scale zeta inverseBits f nodeBits
 unfolding nearest

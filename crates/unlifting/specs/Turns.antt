@@ -1,6 +1,7 @@
 -- A line undone turn by turn, from its first places on (document 02, job 1). Turn i takes low i and high i and undoes U2 at low i, P2 at
--- high i - 1, U1 at low i - 1 and P1 at high i - 2, which gives places 2 (i - 2) and 2 (i - 2) + 1. Past the last low and the last high
--- the last one is taken again (document 01: edges), so that lows n + 2 turns undo a line of n values.
+-- high i - 1, U1 at low i - 1 and P1 at high i - 2, which gives places 2 (i - 2) and 2 (i - 2) + 1. The ends are by cases (document 02,
+-- job 2). Past the last low and the last high a turn keeps what it has, and what it reads there (the last one again) is not used; so
+-- lows n + 2 turns undo a line of n values.
 -- Assumes nothing.
 use mathlib.Core.Path.{_≡_, refl, sym, ap, subst, _∙_}
 use Prim.Native.Nat.{ℕ, _+_, _-_, _<_, _≤_, min}
@@ -16,93 +17,123 @@ use Rattle.lifting.specs.Runs.{as-type}
 use Rattle.lifting.specs.Turns.{back}
 use Rattle.unlifting.specs.declared.Turn.{Turn}
 use Rattle.unlifting.specs.Fixed.{unstep, atG1, atG2, atU2, atP2, atU1, atP1, Small, limit}
-use Rattle.unlifting.specs.Stages.{Inside, read, inside-read}
+use Rattle.unlifting.specs.Cases.{unstepEnd}
+use Rattle.unlifting.specs.Stages.{Inside, read, inside-read, step-read, end-read, unstep-end}
 
 -- ---- one stage in a turn
 
--- Low k of L lows, undone by f: the first has the high after it on both sides. Past the last one, what was kept stays.
-pub record LowTurned (f : ℤ → ℤ → ℤ → ℤ) (k L : ℕ) (kept own before after r : ℤ) : Type 0 where
-  pub first : k ≡ 0 → k < L → r ≡ f own after after
-  pub inner : 0 < k → k < L → r ≡ f own before after
+-- Low k of a line of L lows and H highs: undone by f between two highs, by e beside one (the first low, and the last low of an odd length).
+-- Past the last one, what was kept stays.
+pub record LowTurned (f : ℤ → ℤ → ℤ → ℤ) (e : ℤ → ℤ → ℤ) (k L H : ℕ) (kept own before after r : ℤ) : Type 0 where
+  pub first : k ≡ 0 → k < L → r ≡ e own after
+  pub inner : 0 < k → k < H → k < L → r ≡ f own before after
+  pub last : 0 < k → H ≤ k → k < L → r ≡ e own before
   pub past : L ≤ k → r ≡ kept
 
 -- what it asks
-pub record LowAsks (k L : ℕ) (own before after : ℤ) : Type 0 where
+pub record LowAsks (k L H : ℕ) (own before after : ℤ) : Type 0 where
   pub first : k ≡ 0 → k < L → Inside own after after
-  pub inner : 0 < k → k < L → Inside own before after
+  pub inner : 0 < k → k < H → k < L → Inside own before after
+  pub last : 0 < k → H ≤ k → k < L → Inside own before before
 
--- high k of H highs
-pub record HighTurned (f : ℤ → ℤ → ℤ → ℤ) (k H : ℕ) (kept own before after r : ℤ) : Type 0 where
-  pub inner : k < H → r ≡ f own before after
+-- High k: undone by f between two lows, by e beside one (the last high of an even length).
+pub record HighTurned (f : ℤ → ℤ → ℤ → ℤ) (e : ℤ → ℤ → ℤ) (k L H : ℕ) (kept own before after r : ℤ) : Type 0 where
+  pub inner : k < H → k + 1 < L → r ≡ f own before after
+  pub last : k < H → L ≤ k + 1 → r ≡ e own before
   pub past : H ≤ k → r ≡ kept
 
+pub record HighAsks (k L H : ℕ) (own before after : ℤ) : Type 0 where
+  pub inner : k < H → k + 1 < L → Inside own before after
+  pub last : k < H → L ≤ k + 1 → Inside own before before
+
 -- of numbers that were read back from their bits
-pub low-asks-read : {k L : ℕ} {own before after : ℤ} → LowAsks k L own before after → LowAsks k L (back w64 own) (back w64 before) (back w64 after)
-low-asks-read a = record { first = λ e h. inside-read (a .first e h); inner = λ e h. inside-read (a .inner e h) }
+pub low-asks-read : {k L H : ℕ} {own before after : ℤ} → LowAsks k L H own before after → LowAsks k L H (back w64 own) (back w64 before) (back w64 after)
+low-asks-read a = record { first = λ z h. inside-read (a .first z h); inner = λ z g h. inside-read (a .inner z g h); last = λ z g h. inside-read (a .last z g h) }
 
-pub low-read : {k L : ℕ} {kept own before after r : ℤ} {f g : ℤ → ℤ → ℤ → ℤ} → f ≡ g → LowAsks k L own before after → (L ≤ k → natAbs kept ≤ limit)
-    → LowTurned f k L (back w64 kept) (back w64 own) (back w64 before) (back w64 after) r → LowTurned g k L kept own before after r
-low-read {k} {L} {kept} {own} {before} {after} f asks size d = record {
-  first = λ e h. let a = asks .first e h in d .first e h ∙ (λ u. f u (read own (a .middle) u) (read after (a .right) u) (read after (a .right) u));
-  inner = λ e h. let a = asks .inner e h in d .inner e h ∙ (λ u. f u (read own (a .middle) u) (read before (a .left) u) (read after (a .right) u));
-  past = λ h. d .past h ∙ read kept (size h);
-}
+pub high-asks-read : {k L H : ℕ} {own before after : ℤ} → HighAsks k L H own before after → HighAsks k L H (back w64 own) (back w64 before) (back w64 after)
+high-asks-read a = record { inner = λ g h. inside-read (a .inner g h); last = λ g h. inside-read (a .last g h) }
 
-pub high-read : {k H : ℕ} {kept own before after r : ℤ} {f g : ℤ → ℤ → ℤ → ℤ} → f ≡ g → (k < H → Inside own before after) → (H ≤ k → natAbs kept ≤ limit)
-    → HighTurned f k H (back w64 kept) (back w64 own) (back w64 before) (back w64 after) r → HighTurned g k H kept own before after r
-high-read {k} {H} {kept} {own} {before} {after} f asks size d = record {
-  inner = λ h. let a = asks h in d .inner h ∙ (λ u. f u (read own (a .middle) u) (read before (a .left) u) (read after (a .right) u));
-  past = λ h. d .past h ∙ read kept (size h);
-}
+module _ {k L H : ℕ} {kept own before after r : ℤ} {f g : ℤ → ℤ → ℤ → ℤ} {e d : ℤ → ℤ → ℤ} (step : f ≡ g) (end : e ≡ d) where
+  pub low-read : LowAsks k L H own before after → (L ≤ k → natAbs kept ≤ limit)
+      → LowTurned f e k L H (back w64 kept) (back w64 own) (back w64 before) (back w64 after) r → LowTurned g d k L H kept own before after r
+  low-read asks size t = record {
+    first = λ z h. end-read end (asks .first z h) (t .first z h);
+    inner = λ z i h. step-read step (asks .inner z i h) (t .inner z i h);
+    last = λ z i h. end-read end (asks .last z i h) (t .last z i h);
+    past = λ h. t .past h ∙ read kept (size h);
+  }
 
--- what it is of a line of n values
-module _ (f : ℤ → ℤ → ℤ → ℤ) (n : ℕ) (low high : ℕ → ℤ) where
-  low-in : (k : ℕ) → k < lows n → min k (lows n - 1) ≡ k
-  low-in k h = omega arith
+  pub high-read : HighAsks k L H own before after → (H ≤ k → natAbs kept ≤ limit)
+      → HighTurned f e k L H (back w64 kept) (back w64 own) (back w64 before) (back w64 after) r → HighTurned g d k L H kept own before after r
+  high-read asks size t = record {
+    inner = λ i h. step-read step (asks .inner i h) (t .inner i h);
+    last = λ i h. end-read end (asks .last i h) (t .last i h);
+    past = λ h. t .past h ∙ read kept (size h);
+  }
 
-  high-in : (k : ℕ) → k < highs n → min k (highs n - 1) ≡ k
-  high-in k h = omega arith
+low-in : (n k : ℕ) → k < lows n → min k (lows n - 1) ≡ k
+low-in n k h = omega arith
 
-  low-turned : (k L : ℕ) (kept own before after r : ℤ) → LowTurned f k L kept own before after r → L ≡ lows n → 1 ≤ highs n
+high-in : (n k : ℕ) → k < highs n → min k (highs n - 1) ≡ k
+high-in n k h = omega arith
+
+-- what it is of a line of n values, where e is f with the one neighbour on both sides
+module _ {f : ℤ → ℤ → ℤ → ℤ} {e : ℤ → ℤ → ℤ} {k L H : ℕ} {kept own before after r : ℤ} (same : (own x : ℤ) → e own x ≡ f own x x) (n : ℕ) (low high : ℕ → ℤ) (lowsAre : L ≡ lows n) (highsAre : H ≡ highs n) where
+  low-turned : LowTurned f e k L H kept own before after r → 1 ≤ highs n
       → own ≡ low (min k (lows n - 1)) → (1 ≤ k → before ≡ high (min (k - 1) (highs n - 1))) → after ≡ high (min k (highs n - 1))
       → (L ≤ k → kept ≡ onLows f n low high (min k (lows n - 1)))
       → r ≡ onLows f n low high (min k (lows n - 1))
   unfolding onLows highBefore highAfter
-  low-turned k L kept own before after r d e some own-is before-is after-is past = go (decLt k L) (decLt 0 k)
+  low-turned d some own-is before-is after-is past = go (decLt k L) (decLt 0 k) (decLt k H)
     where
-      go : Dec (k < L) → Dec (0 < k) → r ≡ onLows f n low high (min k (lows n - 1))
-      go (no h) c = d .past (omega arith) ∙ past (omega arith)
-      go (yes h) (yes g) =
-          let i : min k (lows n - 1) ≡ k = low-in k (omega arith) in
-          d .inner g h ∙ (λ u. f (own-is u) ((before-is g ∙ ap high (high-in (k - 1) (omega arith) ∙ ap (λ (j : ℕ). j - 1) (sym i))) u) ((after-is ∙ ap (λ (j : ℕ). high (min j (highs n - 1))) (sym i)) u))
-      go (yes h) (no z) =
-          let o : k ≡ 0 = omega arith in
-          let i : min k (lows n - 1) ≡ k = low-in k (omega arith) in
-          d .first o h ∙ (λ u. f (own-is u) ((after-is ∙ ap high (high-in k (omega arith) ∙ (let e : k ≡ k - 1 = omega arith in e) ∙ ap (λ (j : ℕ). j - 1) (sym i))) u) ((after-is ∙ ap (λ (j : ℕ). high (min j (highs n - 1))) (sym i)) u))
+      -- between highs b and a
+      step : k < L → {b a : ℤ} → b ≡ high (k - 1) → a ≡ high (min k (highs n - 1)) → f own b a ≡ onLows f n low high (min k (lows n - 1))
+      step h b-is a-is =
+          let i : k ≡ min k (lows n - 1) = sym (low-in n k (omega arith)) in
+          λ u. f (own-is u) ((b-is ∙ ap (λ (j : ℕ). high (j - 1)) i) u) ((a-is ∙ ap (λ (j : ℕ). high (min j (highs n - 1))) i) u)
 
-  high-turned : (k H : ℕ) (kept own before after r : ℤ) → HighTurned f k H kept own before after r → H ≡ highs n
+      go : Dec (k < L) → Dec (0 < k) → Dec (k < H) → r ≡ onLows f n low high (min k (lows n - 1))
+      go (no h) c b = d .past (omega arith) ∙ past (omega arith)
+      go (yes h) (no z) b =
+          let i : min k (highs n - 1) ≡ k - 1 = omega arith in
+          d .first (omega arith) h ∙ same own after ∙ step h (after-is ∙ ap high i) after-is
+      go (yes h) (yes z) (yes g) = d .inner z g h ∙ step h (before-is z ∙ ap high (high-in n (k - 1) (omega arith))) after-is
+      go (yes h) (yes z) (no g) =
+          let i : min (k - 1) (highs n - 1) ≡ k - 1 = omega arith in
+          let j : min (k - 1) (highs n - 1) ≡ min k (highs n - 1) = omega arith in
+          d .last z (omega arith) h ∙ same own before ∙ step h (before-is z ∙ ap high i) (before-is z ∙ ap high j)
+
+  high-turned : HighTurned f e k L H kept own before after r
       → own ≡ high (min k (highs n - 1)) → before ≡ low (min k (lows n - 1)) → after ≡ low (min (k + 1) (lows n - 1))
       → (H ≤ k → kept ≡ onHighs f n low high (min k (highs n - 1)))
       → r ≡ onHighs f n low high (min k (highs n - 1))
   unfolding onHighs lowAfter
-  high-turned k H kept own before after r d e own-is before-is after-is past = go (decLt k H)
+  high-turned d own-is before-is after-is past = go (decLt k H) (decLt (k + 1) L)
     where
-      go : Dec (k < H) → r ≡ onHighs f n low high (min k (highs n - 1))
-      go (no h) = d .past (omega arith) ∙ past (omega arith)
-      go (yes h) =
-          let i : min k (highs n - 1) ≡ k = high-in k (omega arith) in
-          d .inner h ∙ (λ u. f (own-is u) ((before-is ∙ ap low (low-in k (omega arith) ∙ sym i)) u) ((after-is ∙ ap (λ (j : ℕ). low (min (j + 1) (lows n - 1))) (sym i)) u))
+      -- between the low before it and low a
+      step : k < H → {a : ℤ} → a ≡ low (min (k + 1) (lows n - 1)) → f own before a ≡ onHighs f n low high (min k (highs n - 1))
+      step h a-is =
+          let i : k ≡ min k (highs n - 1) = sym (high-in n k (omega arith)) in
+          λ u. f (own-is u) ((before-is ∙ ap low (low-in n k (omega arith) ∙ i)) u) ((a-is ∙ ap (λ (j : ℕ). low (min (j + 1) (lows n - 1))) i) u)
+
+      go : Dec (k < H) → Dec (k + 1 < L) → r ≡ onHighs f n low high (min k (highs n - 1))
+      go (no h) c = d .past (omega arith) ∙ past (omega arith)
+      go (yes h) (yes g) = d .inner h g ∙ step h after-is
+      go (yes h) (no g) =
+          let i : min k (lows n - 1) ≡ min (k + 1) (lows n - 1) = omega arith in
+          d .last h (omega arith) ∙ same own before ∙ step h (before-is ∙ ap low i)
 
 -- ---- a turn
 
 -- turn i of a line of L lows and H highs, which takes the scaled values low and high: t was held before it, r is left
 pub record Turned (i L H : ℕ) (t : Turn) (low high : ℤ) (r : Turn) : Type 0 where
   pub g2 : r .g2 ≡ high
-  pub u2 : LowTurned (unstep delta) i L (t .u2) low (t .g2) high (r .u2)
-  pub p2 : 1 ≤ i → HighTurned (unstep gamma) (i - 1) H (t .p2) (t .g2) (t .u2) (r .u2) (r .p2)
-  pub u1 : 1 ≤ i → LowTurned (unstep beta) (i - 1) L (t .u1) (t .u2) (t .p2) (r .p2) (r .u1)
+  pub u2 : LowTurned (unstep delta) (unstepEnd delta) i L H (t .u2) low (t .g2) high (r .u2)
+  pub p2 : 1 ≤ i → HighTurned (unstep gamma) (unstepEnd gamma) (i - 1) L H (t .p2) (t .g2) (t .u2) (r .u2) (r .p2)
+  pub u1 : 1 ≤ i → LowTurned (unstep beta) (unstepEnd beta) (i - 1) L H (t .u1) (t .u2) (t .p2) (r .p2) (r .u1)
   pub even : 2 ≤ i → r .even ≡ t .u1
-  pub odd : 2 ≤ i → i - 2 < H → r .odd ≡ unstep alpha (t .p2) (t .u1) (r .u1)
+  -- past the last high nothing is said of it
+  pub odd : 2 ≤ i → HighTurned (unstep alpha) (unstepEnd alpha) (i - 2) L H (r .odd) (t .p2) (t .u1) (r .u1) (r .odd)
 
 -- s has the numbers of r, as far as they count in turn i of a line of H highs
 pub record SameTurn (i H : ℕ) (s r : Turn) : Type 0 where
@@ -116,11 +147,15 @@ pub record SameTurn (i H : ℕ) (s r : Turn) : Type 0 where
 pub turned-as : {i L H : ℕ} {t r : Turn} {low high : ℤ} → Turned i L H t low high r → {s : Turn} → SameTurn i H s r → Turned i L H t low high s
 turned-as {i} {L} {H} {t} {r} {low} {high} d {s} e = record {
   g2 = e .g2 ∙ d .g2;
-  u2 = as-type (λ u. LowTurned (unstep delta) i L (t .u2) low (t .g2) high (sym (e .u2) u)) (d .u2);
-  p2 = λ h. as-type (λ u. HighTurned (unstep gamma) (i - 1) H (t .p2) (t .g2) (t .u2) (sym (e .u2) u) (sym (e .p2) u)) (d .p2 h);
-  u1 = λ h. as-type (λ u. LowTurned (unstep beta) (i - 1) L (t .u1) (t .u2) (t .p2) (sym (e .p2) u) (sym (e .u1) u)) (d .u1 h);
+  u2 = as-type (λ u. LowTurned (unstep delta) (unstepEnd delta) i L H (t .u2) low (t .g2) high (sym (e .u2) u)) (d .u2);
+  p2 = λ h. as-type (λ u. HighTurned (unstep gamma) (unstepEnd gamma) (i - 1) L H (t .p2) (t .g2) (t .u2) (sym (e .u2) u) (sym (e .p2) u)) (d .p2 h);
+  u1 = λ h. as-type (λ u. LowTurned (unstep beta) (unstepEnd beta) (i - 1) L H (t .u1) (t .u2) (t .p2) (sym (e .p2) u) (sym (e .u1) u)) (d .u1 h);
   even = λ h. e .even h ∙ d .even h;
-  odd = λ h g. e .odd h g ∙ d .odd h g ∙ ap (unstep alpha (t .p2) (t .u1)) (sym (e .u1));
+  odd = λ h. record {
+    inner = λ g m. e .odd h g ∙ d .odd h .inner g m ∙ ap (unstep alpha (t .p2) (t .u1)) (sym (e .u1));
+    last = λ g m. e .odd h g ∙ d .odd h .last g m;
+    past = λ g. refl;
+  };
 }
 
 -- n values, the lows first, whose lows have fl bits and whose highs have fh
@@ -238,27 +273,31 @@ module _ {l : Line} {i L H : ℕ} {t : Turn} {low high : ℤ} (q : Ready l i L H
 
   -- ---- U2 at low i
 
-  pub asks-u2 : LowAsks i L low (t .g2) high
+  pub asks-u2 : LowAsks i L H low (t .g2) high
   asks-u2 = record {
-    first = λ e h. record { middle = low-size; left = high-size; right = high-size };
-    inner = λ h g. record { middle = low-size; left = g2-size h; right = high-size };
+    first = λ z h. record { middle = low-size; left = high-size; right = high-size };
+    inner = λ z g h. record { middle = low-size; left = g2-size z; right = high-size };
+    last = λ z g h. record { middle = low-size; left = g2-size z; right = g2-size z };
   }
 
-  pub u2-is : (u2 : ℤ) → LowTurned (unstep delta) i L (t .u2) low (t .g2) high u2 → u2 ≡ lineU2 l (upToLow l i)
+  pub u2-is : (u2 : ℤ) → LowTurned (unstep delta) (unstepEnd delta) i L H (t .u2) low (t .g2) high u2 → u2 ≡ lineU2 l (upToLow l i)
   unfolding atU2
-  u2-is u2 d = low-turned (unstep delta) (l .n) (lineG1 l) (lineG2 l) i L _ _ _ _ u2 d (q .lowsAre) (omega (arith, some-high, q .highsAre))
+  u2-is u2 d = low-turned (unstep-end delta) (l .n) (lineG1 l) (lineG2 l) (q .lowsAre) (q .highsAre) d (omega (arith, some-high, q .highsAre))
       (q .lowIs) (λ h. q .held h .g2) (q .highIs)
       (λ h. q .held (omega (arith, some-low)) .u2 ∙ ap (lineU2 l) (past-low (omega arith)))
 
   -- ---- P2 at high i - 1, U1 at low i - 1
 
   module _ (more : 1 ≤ i) (u2 : ℤ) (done : u2 ≡ lineU2 l (upToLow l i)) where
-    pub asks-p2 : Inside (t .g2) (t .u2) u2
-    asks-p2 = record { middle = g2-size more; left = u2-size more; right = same-size done (q .undoable .small .u2 _ (omega (arith, some-low, q .lowsAre))) }
+    pub asks-p2 : HighAsks (i - 1) L H (t .g2) (t .u2) u2
+    asks-p2 = record {
+      inner = λ g h. record { middle = g2-size more; left = u2-size more; right = same-size done (q .undoable .small .u2 _ (omega (arith, some-low, q .lowsAre))) };
+      last = λ g h. record { middle = g2-size more; left = u2-size more; right = u2-size more };
+    }
 
-    pub p2-is : (p2 : ℤ) → HighTurned (unstep gamma) (i - 1) H (t .p2) (t .g2) (t .u2) u2 p2 → p2 ≡ lineP2 l (upToHigh l (i - 1))
+    pub p2-is : (p2 : ℤ) → HighTurned (unstep gamma) (unstepEnd gamma) (i - 1) L H (t .p2) (t .g2) (t .u2) u2 p2 → p2 ≡ lineP2 l (upToHigh l (i - 1))
     unfolding atP2
-    p2-is p2 d = high-turned (unstep gamma) (l .n) (lineU2 l) (lineG2 l) (i - 1) H _ _ _ _ p2 d (q .highsAre)
+    p2-is p2 d = high-turned (unstep-end gamma) (l .n) (lineU2 l) (lineG2 l) (q .lowsAre) (q .highsAre) d
         (q .held more .g2) (q .held more .u2) (done ∙ ap (λ (k : ℕ). lineU2 l (upToLow l k)) (let e : i ≡ i - 1 + 1 = omega arith in e))
         (λ h. q .held more .p2 (omega (arith, some-high)) ∙ ap (lineP2 l) (past-high (omega arith)))
 
@@ -266,35 +305,39 @@ module _ {l : Line} {i L H : ℕ} {t : Turn} {low high : ℤ} (q : Ready l i L H
     p2-new-size : natAbs p2 ≤ limit
     p2-new-size = same-size done (q .undoable .small .p2 _ (omega (arith, some-high, q .highsAre)))
 
-    pub asks-u1 : LowAsks (i - 1) L (t .u2) (t .p2) p2
+    pub asks-u1 : LowAsks (i - 1) L H (t .u2) (t .p2) p2
     asks-u1 = record {
-      first = λ e h. record { middle = u2-size more; left = p2-new-size; right = p2-new-size };
-      inner = λ h g. record { middle = u2-size more; left = p2-size (omega arith); right = p2-new-size };
+      first = λ z h. record { middle = u2-size more; left = p2-new-size; right = p2-new-size };
+      inner = λ z g h. record { middle = u2-size more; left = p2-size (omega arith); right = p2-new-size };
+      last = λ z g h. record { middle = u2-size more; left = p2-size (omega arith); right = p2-size (omega arith) };
     }
 
-    pub u1-is : (u1 : ℤ) → LowTurned (unstep beta) (i - 1) L (t .u1) (t .u2) (t .p2) p2 u1 → u1 ≡ lineU1 l (upToLow l (i - 1))
+    pub u1-is : (u1 : ℤ) → LowTurned (unstep beta) (unstepEnd beta) (i - 1) L H (t .u1) (t .u2) (t .p2) p2 u1 → u1 ≡ lineU1 l (upToLow l (i - 1))
     unfolding atU1
-    u1-is u1 d = low-turned (unstep beta) (l .n) (lineU2 l) (lineP2 l) (i - 1) L _ _ _ _ u1 d (q .lowsAre) (omega (arith, some-high, q .highsAre))
+    u1-is u1 d = low-turned (unstep-end beta) (l .n) (lineU2 l) (lineP2 l) (q .lowsAre) (q .highsAre) d (omega (arith, some-high, q .highsAre))
         (q .held more .u2) (λ h. q .held more .p2 h) done
         (λ h. q .held more .u1 (omega (arith, some-low)) ∙ ap (lineU1 l) (past-low (omega arith)))
 
   -- ---- P1 at high i - 2
 
   module _ (more : 2 ≤ i) (u1 : ℤ) (done : u1 ≡ lineU1 l (upToLow l (i - 1))) where
-    pub asks-p1 : Inside (t .p2) (t .u1) u1
-    asks-p1 = record { middle = p2-size more; left = u1-size more; right = same-size done (q .undoable .small .u1 _ (omega (arith, some-low, q .lowsAre))) }
+    pub asks-p1 : HighAsks (i - 2) L H (t .p2) (t .u1) u1
+    asks-p1 = record {
+      inner = λ g h. record { middle = p2-size more; left = u1-size more; right = same-size done (q .undoable .small .u1 _ (omega (arith, some-low, q .lowsAre))) };
+      last = λ g h. record { middle = p2-size more; left = u1-size more; right = u1-size more };
+    }
 
     before-two : i - 1 - 1 ≡ i - 2
     before-two = omega arith
 
-    pub p1-is : (p1 : ℤ) → i - 2 < H → p1 ≡ unstep alpha (t .p2) (t .u1) u1 → p1 ≡ lineP1 l (i - 2)
+    pub p1-is : (p1 : ℤ) → i - 2 < H → HighTurned (unstep alpha) (unstepEnd alpha) (i - 2) L H p1 (t .p2) (t .u1) u1 p1 → p1 ≡ lineP1 l (i - 2)
     unfolding atP1
-    p1-is p1 h d = high-turned (unstep alpha) (l .n) (lineU1 l) (lineP2 l) (i - 2) H p1 _ _ _ p1 (record { inner = λ g. d; past = λ g. refl }) (q .highsAre)
+    p1-is p1 h d = high-turned (unstep-end alpha) (l .n) (lineU1 l) (lineP2 l) (q .lowsAre) (q .highsAre) d
         (q .held (omega arith) .p2 (omega arith) ∙ ap (λ (k : ℕ). lineP2 l (upToHigh l k)) before-two)
         (q .held (omega arith) .u1 (omega arith) ∙ ap (λ (k : ℕ). lineU1 l (upToLow l k)) before-two)
         (done ∙ ap (λ (k : ℕ). lineU1 l (upToLow l k)) (let e : i - 1 ≡ i - 2 + 1 = omega arith in e))
         (λ g. absurd (omega arith))
-        ∙ ap (lineP1 l) (high-in (unstep alpha) (l .n) (lineU1 l) (lineP2 l) (i - 2) (omega (arith, q .highsAre)))
+        ∙ ap (lineP1 l) (high-in (l .n) (i - 2) (omega (arith, q .highsAre)))
 
   -- ---- after the turn
 
@@ -313,6 +356,6 @@ module _ {l : Line} {i L H : ℕ} {t : Turn} {low high : ℤ} (q : Ready l i L H
 
     pub turn-gives : Gives l i r
     turn-gives = record {
-      even = λ h. d .even h ∙ q .held (omega arith) .u1 (omega arith) ∙ ap (lineU1 l) (low-in (unstep beta) (l .n) (lineU2 l) (lineP2 l) (i - 1 - 1) (omega (arith, q .within, q .lowsAre)) ∙ (let e : i - 1 - 1 ≡ i - 2 = omega arith in e));
-      odd = λ h g. p1-is h (r .u1) (u1-done (omega arith)) (r .odd) (omega (arith, q .highsAre)) (d .odd h (omega (arith, q .highsAre)));
+      even = λ h. d .even h ∙ q .held (omega arith) .u1 (omega arith) ∙ ap (lineU1 l) (low-in (l .n) (i - 1 - 1) (omega (arith, q .within, q .lowsAre)) ∙ (let e : i - 1 - 1 ≡ i - 2 = omega arith in e));
+      odd = λ h g. p1-is h (r .u1) (u1-done (omega arith)) (r .odd) (omega (arith, q .highsAre)) (d .odd h);
     }

@@ -10,8 +10,8 @@ ghost use Rattle.lifting.specs.Patch.{at, Free, patch};
 ghost use Rattle.lifting.specs.Kernels.{Part, rowOf};
 ghost use Rattle.unlifting.specs.Fixed.{nodeBits, limit};
 ghost use Rattle.unlifting.specs.Planes.{Safe, rowsBack};
-ghost use Rattle.unlifting.specs.Stages.{Inside, Constant, movedBy, scaledBy};
-ghost use Rattle.unlifting.specs.Turns.{LowAsks, LowTurned, HighTurned, SomeReady, Turned};
+ghost use Rattle.unlifting.specs.Stages.{Inside, Constant, movedBy, endedBy, scaledBy};
+ghost use Rattle.unlifting.specs.Turns.{LowAsks, LowTurned, HighAsks, HighTurned, SomeReady, Turned};
 ghost use Rattle.unlifting.specs.Rows.{RowReady, RowTurns, RowTurned, RowUndone};
 ghost use Rattle.unlifting.specs.Columns.{turnIn, Kept, ColumnTurn, ColumnTurned, StripTurn, StripTurned};
 ghost use Rattle.unlifting.specs.Strips.{source, undone, Lies, Fed, highPlace, PlaneTurn, PlaneTurned, StripReady};
@@ -47,6 +47,15 @@ fn moved(own: i64, x: i64, y: i64, c: i64) -> i64
     own + (((0 - c) * (x + y)) >> CONSTANT_BITS)
 }
 
+// The same at an end of its line, where both neighbours are one: source document 003, equations 3 and 4, undone. The rounded constant is
+// doubled.
+fn moved_end(own: i64, x: i64, c: i64) -> i64
+    requires { ⌜ Inside own x x × Constant c ⌝ }
+    ensures { λ r. ⌜ r ≡ endedBy c own x ⌝ }
+{
+    own + (((0 - 2 * c) * x) >> CONSTANT_BITS)
+}
+
 // A value times a constant.
 fn scaled(x: i64, c: i64, cut: u32) -> i64
     requires { ⌜ (natAbs x ≤ limit) × Constant c × (cut < 64) ⌝ }
@@ -57,9 +66,9 @@ fn scaled(x: i64, c: i64, cut: u32) -> i64
 
 // ---- a turn of a line
 
-// Turn i of a line takes low i and high i, scaled, or the last ones, and undoes U2 at low i, P2 at high i - 1, U1 at low i - 1 and P1 at
-// high i - 2. Held after it are g2 and u2 of place i, p2 and u1 of place i - 1; `even` and `odd` are what it gives: the line's values at
-// places 2 (i - 2) and 2 (i - 2) + 1.
+// Turn i of a line takes low i and high i, scaled, and undoes U2 at low i, P2 at high i - 1, U1 at low i - 1 and P1 at high i - 2. Past the
+// last low and the last high it takes that one again, and does not use it. Held after it are g2 and u2 of place i, p2 and u1 of place i - 1;
+// `even` and `odd` are what it gives: the line's values at places 2 (i - 2) and 2 (i - 2) + 1.
 struct Turn {
     g2: i64,
     u2: i64,
@@ -69,27 +78,54 @@ struct Turn {
     odd: i64,
 }
 
-// Low k of so many lows with a stage undone: the first has the high after it on both sides. Past the last one, what was kept.
-fn on_low(k: usize, lows: usize, kept: i64, own: i64, before: i64, after: i64, c: i64) -> i64
-    requires { ⌜ LowAsks k lows own before after × Constant c ⌝ }
-    ensures { λ r. ⌜ LowTurned (movedBy c) k lows kept own before after r ⌝ }
+// Low k of a line with a stage undone, by cases. Past the last one, what was kept.
+fn on_low(
+    k: usize,
+    lows: usize,
+    highs: usize,
+    kept: i64,
+    own: i64,
+    before: i64,
+    after: i64,
+    c: i64,
+) -> i64
+    requires { ⌜ LowAsks k lows highs own before after × Constant c ⌝ }
+    ensures { λ r. ⌜ LowTurned (movedBy c) (endedBy c) k lows highs kept own before after r ⌝ }
 {
     if lows <= k {
         return kept;
     }
+    // the first low
     if k == 0 {
-        return moved(own, after, after, c);
+        return moved_end(own, after, c);
+    }
+    // the last low of an odd length
+    if highs <= k {
+        return moved_end(own, before, c);
     }
     moved(own, before, after, c)
 }
 
-// High k of so many highs with a stage undone. Past the last one, what was kept.
-fn on_high(k: usize, highs: usize, kept: i64, own: i64, before: i64, after: i64, c: i64) -> i64
-    requires { ⌜ (k < highs → Inside own before after) × Constant c ⌝ }
-    ensures { λ r. ⌜ HighTurned (movedBy c) k highs kept own before after r ⌝ }
+// High k of a line with a stage undone, by cases. Past the last one, what was kept.
+fn on_high(
+    k: usize,
+    lows: usize,
+    highs: usize,
+    kept: i64,
+    own: i64,
+    before: i64,
+    after: i64,
+    c: i64,
+) -> i64
+    requires { ⌜ HighAsks k lows highs own before after × Constant c ⌝ }
+    ensures { λ r. ⌜ HighTurned (movedBy c) (endedBy c) k lows highs kept own before after r ⌝ }
 {
     if highs <= k {
         return kept;
+    }
+    // the last high of an even length
+    if lows <= k + 1 {
+        return moved_end(own, before, c);
     }
     moved(own, before, after, c)
 }
@@ -118,7 +154,7 @@ fn end_turn(t: Turn, low: i64, high: i64, i: usize, lows: usize, highs: usize) -
     requires { ⌜ SomeReady i lows highs t low high ⌝ }
     ensures { λ r. ⌜ Turned i lows highs t low high r ⌝ }
 {
-    let u2 = on_low(i, lows, t.u2, low, t.g2, high, DELTA);
+    let u2 = on_low(i, lows, highs, t.u2, low, t.g2, high, DELTA);
     if i == 0 {
         return Turn {
             g2: high,
@@ -129,8 +165,8 @@ fn end_turn(t: Turn, low: i64, high: i64, i: usize, lows: usize, highs: usize) -
             odd: 0,
         };
     }
-    let p2 = on_high(i - 1, highs, t.p2, t.g2, t.u2, u2, GAMMA);
-    let u1 = on_low(i - 1, lows, t.u1, t.u2, t.p2, p2, BETA);
+    let p2 = on_high(i - 1, lows, highs, t.p2, t.g2, t.u2, u2, GAMMA);
+    let u1 = on_low(i - 1, lows, highs, t.u1, t.u2, t.p2, p2, BETA);
     if i == 1 {
         return Turn {
             g2: high,
@@ -141,7 +177,7 @@ fn end_turn(t: Turn, low: i64, high: i64, i: usize, lows: usize, highs: usize) -
             odd: 0,
         };
     }
-    let p1 = on_high(i - 2, highs, 0, t.p2, t.u1, u1, ALPHA);
+    let p1 = on_high(i - 2, lows, highs, 0, t.p2, t.u1, u1, ALPHA);
     Turn {
         g2: high,
         u2: u2,
@@ -176,7 +212,8 @@ fn copy_run(src: &[i64], from: usize, dst: &mut [i64], to: usize, n: usize)
     }
 }
 
-// Place i, or the last one where i is past it. Where i is known not to be, `inner` may be set.
+// The place that turn i reads: i, or the last one where i is past it (what stands there is then not used). Where i is known not to be past
+// it, `inner` may be set.
 fn place(i: usize, last: usize, inner: bool) -> usize
     requires { ⌜ (inner ≡ true → i ≤ last) ⌝ }
     ensures { λ r. ⌜ r ≡ min i last ⌝ }

@@ -32,8 +32,8 @@ first : (c : tie.After-lift-run) → let a = c .before .before in
     at (c .lift-run .last .0) ≡ someHighs (f a) (a .pre .0) ((lows (a .args .n) - 1) * a .args .s)
 first c = let a = c .before .before in middle-highs (f a) (P a) (a .pre .0) _ (c .lift-run .ensures)
 
-lift-run-requires-2 : tie.Need-lift-run-requires-2
-lift-run-requires-2 c κs =
+end-run-requires : tie.Need-end-run-requires
+end-run-requires c κs =
     let g = c .before .before .before in
     let a = g .before .before in
     let even = c .before .if1 .taken in
@@ -43,7 +43,7 @@ returns : tie.Need-returns
 returns c =
     let g = c .before .before .before .before .before in
     let a = g .before .before in
-    all-highs (f a) (P a) (a .pre .0) _ (first g) (c .before .before .before .if1 .taken) _ (c .before .lift-run2 .ensures)
+    all-highs (f a) (P a) (a .pre .0) _ (first g) (c .before .before .before .if1 .taken) _ (c .before .end-run .ensures)
 
 returns-2 : tie.Need-returns-2
 returns-2 c =
@@ -62,7 +62,7 @@ on-highs-spec =
     lift-run-requires
     (λ c. omega arith)
     (λ c. let z = counts (c .before .before .before .before .before) in omega arith)
-    lift-run-requires-2
+    end-run-requires
     (λ c. omega arith)
     returns
     (λ c. omega arith)

@@ -22,29 +22,29 @@ P a = Safe (a .args .step)
 counts : (a : tie.Start) → Sizes (a .args .s) (a .args .n)
 counts a = sizes (a .args .s) (a .args .n) (a .pre .0 .two)
 
-lift-run-requires : tie.Need-lift-run-requires
-lift-run-requires c κs =
+end-run-requires : tie.Need-end-run-requires
+end-run-requires c κs =
     let a = c .before in
     (first-low-runs (a .pre .0) _ refl, first-low-asks (f a) (P a) (a .pre .0) (a .pre .1))
 
-one : (c : tie.After-lift-run) → let a = c .before .before in at (c .lift-run .last .0) ≡ someLows (f a) (a .pre .0) (a .args .s)
-one c = let a = c .before .before in first-lows (f a) (P a) (a .pre .0) _ (c .lift-run .ensures)
+one : (c : tie.After-end-run) → let a = c .before .before in at (c .end-run .last .0) ≡ someLows (f a) (a .pre .0) (a .args .s)
+one c = let a = c .before .before in first-lows (f a) (P a) (a .pre .0) _ (c .end-run .ensures)
 
-lift-run-requires-2 : tie.Need-lift-run-requires-2
-lift-run-requires-2 c κs =
+lift-run-requires : tie.Need-lift-run-requires
+lift-run-requires c κs =
     let g = c .before .before in
     let a = g .before .before in
     (middle-low-runs (a .pre .0) _ (omega arith), middle-low-asks (f a) (P a) (a .pre .0) _ (one g) (a .pre .1))
 
-most : (c : tie.After-lift-run2) → let a = c .before .before .before .before .before in
-    at (c .lift-run2 .last .0) ≡ someLows (f a) (a .pre .0) (highs (a .args .n) * a .args .s)
+most : (c : tie.After-lift-run) → let a = c .before .before .before .before .before in
+    at (c .lift-run .last .0) ≡ someLows (f a) (a .pre .0) (highs (a .args .n) * a .args .s)
 most c =
     let g = c .before .before .before in
     let a = g .before .before in
-    middle-lows (f a) (P a) (a .pre .0) _ (one g) _ (c .lift-run2 .ensures)
+    middle-lows (f a) (P a) (a .pre .0) _ (one g) _ (c .lift-run .ensures)
 
-lift-run-requires-3 : tie.Need-lift-run-requires-3
-lift-run-requires-3 c κs =
+end-run-requires-2 : tie.Need-end-run-requires-2
+end-run-requires-2 c κs =
     let g = c .before .before .before in
     let a = g .before .before .before .before .before in
     let odd = c .before .if1 .taken in
@@ -54,7 +54,7 @@ returns : tie.Need-returns
 returns c =
     let g = c .before .before .before .before .before in
     let a = g .before .before .before .before .before in
-    all-lows (f a) (P a) (a .pre .0) _ (most g) (c .before .before .before .if1 .taken) _ (c .before .lift-run3 .ensures)
+    all-lows (f a) (P a) (a .pre .0) _ (most g) (c .before .before .before .if1 .taken) _ (c .before .end-run2 .ensures)
 
 returns-2 : tie.Need-returns-2
 returns-2 c =
@@ -70,13 +70,12 @@ on-lows-spec =
     (λ c. let z = counts c in omega arith)
     (λ c. omega (arith, c .pre .0 .few, c .pre .0 .two))
     (λ c. let z = counts c in omega arith)
-    lift-run-requires
+    end-run-requires
     (λ c. let z = counts (c .before .before .before .before) in omega arith)
-    lift-run-requires-2
+    lift-run-requires
     (λ c. let z = counts (c .before .before .before .before .before .before .before .before) in omega arith)
     (λ c. let z = counts (c .before .before .before .before .before .before .before .before) in omega arith)
-    (λ c. let z = counts (c .before .before .before .before .before .before .before .before) in omega arith)
-    lift-run-requires-3
+    end-run-requires-2
     (λ c. omega arith)
     returns
     (λ c. omega arith)

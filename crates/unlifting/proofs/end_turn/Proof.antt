@@ -8,8 +8,9 @@ use lib.IntN.{pos}
 use mir.Facts.{toZ-ofZ}
 use Rattle.exact.specs.Exact.{beta, gamma, delta}
 use Rattle.unlifting.specs.Fixed.{unstep}
-use Rattle.unlifting.specs.Stages.{read, again, inside-read, moved-alpha, moved-beta, moved-gamma, moved-delta}
-use Rattle.unlifting.specs.Turns.{LowTurned, HighTurned, low-asks-read, low-read, high-read, turned-as, some-low, some-high, u2-size, p2-size, u1-size, asks-u2, u2-is, asks-p2, p2-is, asks-u1, u1-is, asks-p1, lineU2, lineP2, lineU1, upToLow, upToHigh}
+use Rattle.unlifting.specs.Cases.{unstepEnd}
+use Rattle.unlifting.specs.Stages.{read, again, moved-alpha, moved-beta, moved-gamma, moved-delta, ended-alpha, ended-beta, ended-gamma, ended-delta}
+use Rattle.unlifting.specs.Turns.{LowTurned, HighTurned, low-asks-read, high-asks-read, low-read, high-read, turned-as, some-low, some-high, u2-size, p2-size, u1-size, asks-u2, u2-is, asks-p2, p2-is, asks-u1, u1-is, asks-p1, lineU2, lineP2, lineU1, upToLow, upToHigh}
 use Rattle.unlifting.proofs.end_turn.Statement.{statement}
 use Rattle.unlifting.proofs.end_turn.Tie as tie
 
@@ -18,12 +19,12 @@ on-low-requires c κs = let s = c .before .before in (low-asks-read (asks-u2 (s 
 
 -- ---- U2
 
-u2-raw : (c : tie.After-on-low) → let a = c .before .before .before .args in LowTurned (unstep delta) (a .i) (a .lows) (a .t .u2) (a .low) (a .t .g2) (a .high) (c .on-low .result)
+u2-raw : (c : tie.After-on-low) → let a = c .before .before .before .args in LowTurned (unstep delta) (unstepEnd delta) (a .i) (a .lows) (a .highs) (a .t .u2) (a .low) (a .t .g2) (a .high) (c .on-low .result)
 u2-raw c =
     let s = c .before .before .before in
     let a = s .args in
     let q = s .pre .ready in
-    low-read moved-delta (asks-u2 q) (λ h. u2-size q (omega (arith, some-low q))) (c .on-low .ensures)
+    low-read moved-delta ended-delta (asks-u2 q) (λ h. u2-size q (omega (arith, some-low q))) (c .on-low .ensures)
 
 u2-line : (c : tie.After-on-low) → let s = c .before .before .before in let l = s .pre .line in c .on-low .result ≡ lineU2 l (upToLow l (s .args .i))
 u2-line c = u2-is (c .before .before .before .pre .ready) (c .on-low .result) (u2-raw c)
@@ -43,16 +44,16 @@ on-high-requires : tie.Need-on-high-requires
 on-high-requires c κs =
     let o = c .before .before .before .before in
     let s = o .before .before .before in
-    (λ h. inside-read (asks-p2 (s .pre .ready) (omega arith) (o .on-low .result) (u2-line o)), lit≤ tt)
+    (high-asks-read (asks-p2 (s .pre .ready) (omega arith) (o .on-low .result) (u2-line o)), lit≤ tt)
 
 p2-raw : (c : tie.After-on-high) → let o = c .before .before .before .before .before in let a = o .before .before .before .args in
-    HighTurned (unstep gamma) (a .i - 1) (a .highs) (a .t .p2) (a .t .g2) (a .t .u2) (o .on-low .result) (c .on-high .result)
+    HighTurned (unstep gamma) (unstepEnd gamma) (a .i - 1) (a .lows) (a .highs) (a .t .p2) (a .t .g2) (a .t .u2) (o .on-low .result) (c .on-high .result)
 p2-raw c =
     let o = c .before .before .before .before .before in
     let s = o .before .before .before in
     let a = s .args in
     let q = s .pre .ready in
-    high-read moved-gamma (λ h. asks-p2 q (omega arith) (o .on-low .result) (u2-line o)) (λ h. p2-size q (omega (arith, some-high q))) (c .on-high .ensures)
+    high-read moved-gamma ended-gamma (asks-p2 q (omega arith) (o .on-low .result) (u2-line o)) (λ h. p2-size q (omega (arith, some-high q))) (c .on-high .ensures)
 
 p2-line : (c : tie.After-on-high) → let s = c .before .before .before .before .before .before .before .before in let l = s .pre .line in c .on-high .result ≡ lineP2 l (upToHigh l (s .args .i - 1))
 p2-line c =
@@ -68,13 +69,13 @@ on-low-requires-2 c κs =
     (low-asks-read (asks-u1 (s .pre .ready) (omega arith) (p .on-high .result) (p2-line p)), lit≤ tt)
 
 u1-raw : (c : tie.After-on-low2) → let p = c .before .before .before .before in let a = p .before .before .before .before .before .before .before .before .args in
-    LowTurned (unstep beta) (a .i - 1) (a .lows) (a .t .u1) (a .t .u2) (a .t .p2) (p .on-high .result) (c .on-low2 .result)
+    LowTurned (unstep beta) (unstepEnd beta) (a .i - 1) (a .lows) (a .highs) (a .t .u1) (a .t .u2) (a .t .p2) (p .on-high .result) (c .on-low2 .result)
 u1-raw c =
     let p = c .before .before .before .before in
     let s = p .before .before .before .before .before .before .before .before in
     let a = s .args in
     let q = s .pre .ready in
-    low-read moved-beta (asks-u1 q (omega arith) (p .on-high .result) (p2-line p)) (λ h. u1-size q (omega (arith, some-low q))) (c .on-low2 .ensures)
+    low-read moved-beta ended-beta (asks-u1 q (omega arith) (p .on-high .result) (p2-line p)) (λ h. u1-size q (omega (arith, some-low q))) (c .on-low2 .ensures)
 
 u1-line : (c : tie.After-on-low2) → let s = c .before .before .before .before .before .before .before .before .before .before .before .before in let l = s .pre .line in c .on-low2 .result ≡ lineU1 l (upToLow l (s .args .i - 1))
 u1-line c =
@@ -106,7 +107,7 @@ on-high-requires-2 c κs =
     let m = c .before .before .before in
     let s = m .before .before .before .before .before .before .before .before .before .before .before .before in
     let two : 2 ≤ s .args .i = omega (arith, c .before .before .if2 .left, m .before .before .before .before .before .before .before .before .if1 .left) in
-    (λ h. inside-read (asks-p1 (s .pre .ready) two (m .on-low2 .result) (u1-line m)), lit≤ tt)
+    (high-asks-read (asks-p1 (s .pre .ready) two (m .on-low2 .result) (u1-line m)), lit≤ tt)
 
 returns-3 : tie.Need-returns-3
 returns-3 c =
@@ -119,10 +120,10 @@ returns-3 c =
     let q = s .pre .ready in
     let two : 2 ≤ a .i = omega (arith, r .before .before .before .if2 .left, m .before .before .before .before .before .before .before .before .if1 .left) in
     let asks = asks-p1 q two (m .on-low2 .result) (u1-line m) in
-    let odd = high-read {kept = pos 0} moved-alpha (λ h. asks) (λ h. lit≤ tt) (r .on-high2 .ensures) in
+    let odd = high-read {kept = pos 0} moved-alpha ended-alpha asks (λ h. lit≤ tt) (r .on-high2 .ensures) in
     turned-as
     {r = record { g2 = a .high; u2 = o .on-low .result; p2 = p .on-high .result; u1 = m .on-low2 .result; even = a .t .u1; odd = r .on-high2 .result }}
-    (record { g2 = refl; u2 = u2-raw o; p2 = λ h. p2-raw p; u1 = λ h. u1-raw m; even = λ h. refl; odd = λ h g. odd .inner g })
+    (record { g2 = refl; u2 = u2-raw o; p2 = λ h. p2-raw p; u1 = λ h. u1-raw m; even = λ h. refl; odd = λ h. record { inner = odd .inner; last = odd .last; past = λ g. refl } })
     (record {
       g2 = toZ-ofZ (s .fits .high);
       u2 = again (o .on-low .result) (o .on-low .ok);

@@ -1,78 +1,77 @@
 -- `unlifting::inner_turn` meets its contract: each stage in turn.
 -- Assumes nothing.
-use mathlib.Core.Path.{_≡_, refl, _∙_}
+use mathlib.Core.Path.{_≡_, refl}
 use Prim.Native.Nat.{_-_}
 use native.Mathlib.Omega.{arith}
 use lib.Dec.{lit≤}
 use mir.Facts.{toZ-ofZ}
 use Rattle.exact.specs.Exact.{alpha, beta, gamma, delta}
 use Rattle.unlifting.specs.Fixed.{unstep}
-use Rattle.unlifting.specs.Stages.{read, again, inside-read, moved-raw, atAlpha, atBeta, atGamma, atDelta, fits-alpha, fits-beta, fits-gamma, fits-delta, moved-alpha, moved-beta, moved-gamma, moved-delta}
+use Rattle.unlifting.specs.Stages.{read, again, inside-read, step-read, moved-alpha, moved-beta, moved-gamma, moved-delta}
 use Rattle.unlifting.specs.Turns.{asks-u2, u2-is, asks-p2, p2-is, asks-u1, u1-is, asks-p1, u1-size, turned-as, lineU2, lineP2, lineU1, upToLow, upToHigh}
 use Rattle.unlifting.proofs.inner_turn.Statement.{statement}
 use Rattle.unlifting.proofs.inner_turn.Tie as tie
 
 moved-requires : tie.Need-moved-requires
-moved-requires c κs = let s = c .before in (inside-read (asks-u2 (s .pre .0 .ready) .inner (omega arith) (omega arith)), lit≤ tt)
+moved-requires c κs = let s = c .before in (inside-read (asks-u2 (s .pre .0 .ready) .inner (omega arith) (omega arith) (omega arith)), lit≤ tt)
 
 u2-raw : (c : tie.After-moved) → let a = c .before .before .args in c .moved .result ≡ unstep delta (a .low) (a .t .g2) (a .high)
 u2-raw c =
     let s = c .before .before in
-    moved-raw {c = atDelta} fits-delta (asks-u2 (s .pre .0 .ready) .inner (omega arith) (omega arith)) (c .moved .ensures) ∙ (λ u. moved-delta u (s .args .low) (s .args .t .g2) (s .args .high))
+    step-read moved-delta (asks-u2 (s .pre .0 .ready) .inner (omega arith) (omega arith) (omega arith)) (c .moved .ensures)
 
 u2-line : (c : tie.After-moved) → let l = c .before .before .pre .0 .line in c .moved .result ≡ lineU2 l (upToLow l (c .before .before .args .i))
 u2-line c =
     let s = c .before .before in
-    u2-is (s .pre .0 .ready) (c .moved .result) (record { first = λ e h. absurd (omega arith); inner = λ e h. u2-raw c; past = λ h. absurd (omega arith) })
+    u2-is (s .pre .0 .ready) (c .moved .result) (record { first = λ z h. absurd (omega arith); inner = λ z g h. u2-raw c; last = λ z g h. absurd (omega arith); past = λ h. absurd (omega arith) })
 
 moved-requires-2 : tie.Need-moved-requires-2
 moved-requires-2 c κs =
     let m = c .before .before in
     let s = m .before .before in
-    (inside-read (asks-p2 (s .pre .0 .ready) (omega arith) (m .moved .result) (u2-line m)), lit≤ tt)
+    (inside-read (asks-p2 (s .pre .0 .ready) (omega arith) (m .moved .result) (u2-line m) .inner (omega arith) (omega arith)), lit≤ tt)
 
 p2-raw : (c : tie.After-moved2) → let m = c .before .before .before in let a = m .before .before .args in c .moved2 .result ≡ unstep gamma (a .t .g2) (a .t .u2) (m .moved .result)
 p2-raw c =
     let m = c .before .before .before in
     let s = m .before .before in
-    moved-raw {c = atGamma} fits-gamma (asks-p2 (s .pre .0 .ready) (omega arith) (m .moved .result) (u2-line m)) (c .moved2 .ensures) ∙ (λ u. moved-gamma u (s .args .t .g2) (s .args .t .u2) (m .moved .result))
+    step-read moved-gamma (asks-p2 (s .pre .0 .ready) (omega arith) (m .moved .result) (u2-line m) .inner (omega arith) (omega arith)) (c .moved2 .ensures)
 
 p2-line : (c : tie.After-moved2) → let s = c .before .before .before .before .before in let l = s .pre .0 .line in c .moved2 .result ≡ lineP2 l (upToHigh l (s .args .i - 1))
 p2-line c =
     let m = c .before .before .before in
     let s = m .before .before in
-    p2-is (s .pre .0 .ready) (omega arith) (m .moved .result) (u2-line m) (c .moved2 .result) (record { inner = λ h. p2-raw c; past = λ h. absurd (omega arith) })
+    p2-is (s .pre .0 .ready) (omega arith) (m .moved .result) (u2-line m) (c .moved2 .result) (record { inner = λ g h. p2-raw c; last = λ g h. absurd (omega arith); past = λ h. absurd (omega arith) })
 
 moved-requires-3 : tie.Need-moved-requires-3
 moved-requires-3 c κs =
     let m = c .before .before in
     let s = m .before .before .before .before .before in
-    (inside-read (asks-u1 (s .pre .0 .ready) (omega arith) (m .moved2 .result) (p2-line m) .inner (omega arith) (omega (arith, s .pre .1))), lit≤ tt)
+    (inside-read (asks-u1 (s .pre .0 .ready) (omega arith) (m .moved2 .result) (p2-line m) .inner (omega arith) (omega (arith, s .pre .1)) (omega (arith, s .pre .1))), lit≤ tt)
 
 u1-raw : (c : tie.After-moved3) → let m = c .before .before .before in let a = m .before .before .before .before .before .args in c .moved3 .result ≡ unstep beta (a .t .u2) (a .t .p2) (m .moved2 .result)
 u1-raw c =
     let m = c .before .before .before in
     let s = m .before .before .before .before .before in
-    moved-raw {c = atBeta} fits-beta (asks-u1 (s .pre .0 .ready) (omega arith) (m .moved2 .result) (p2-line m) .inner (omega arith) (omega (arith, s .pre .1))) (c .moved3 .ensures)
-    ∙ (λ u. moved-beta u (s .args .t .u2) (s .args .t .p2) (m .moved2 .result))
+    step-read moved-beta (asks-u1 (s .pre .0 .ready) (omega arith) (m .moved2 .result) (p2-line m) .inner (omega arith) (omega (arith, s .pre .1)) (omega (arith, s .pre .1))) (c .moved3 .ensures)
 
 u1-line : (c : tie.After-moved3) → let s = c .before .before .before .before .before .before .before .before in let l = s .pre .0 .line in c .moved3 .result ≡ lineU1 l (upToLow l (s .args .i - 1))
 u1-line c =
     let m = c .before .before .before in
     let s = m .before .before .before .before .before in
-    u1-is (s .pre .0 .ready) (omega arith) (m .moved2 .result) (p2-line m) (c .moved3 .result) (record { first = λ e h. absurd (omega arith); inner = λ e h. u1-raw c; past = λ h. absurd (omega arith) })
+    u1-is (s .pre .0 .ready) (omega arith) (m .moved2 .result) (p2-line m) (c .moved3 .result) (record { first = λ z h. absurd (omega arith); inner = λ z g h. u1-raw c; last = λ z g h. absurd (omega arith); past = λ h. absurd (omega arith) })
 
 moved-requires-4 : tie.Need-moved-requires-4
 moved-requires-4 c κs =
     let m = c .before .before in
     let s = m .before .before .before .before .before .before .before .before in
-    (inside-read (asks-p1 (s .pre .0 .ready) (omega arith) (m .moved3 .result) (u1-line m)), lit≤ tt)
+    (inside-read (asks-p1 (s .pre .0 .ready) (omega arith) (m .moved3 .result) (u1-line m) .inner (omega arith) (omega arith)), lit≤ tt)
 
 p1-raw : (c : tie.After-moved4) → let m = c .before .before .before in let a = m .before .before .before .before .before .before .before .before .args in c .moved4 .result ≡ unstep alpha (a .t .p2) (a .t .u1) (m .moved3 .result)
 p1-raw c =
     let m = c .before .before .before in
     let s = m .before .before .before .before .before .before .before .before in
-    moved-raw {c = atAlpha} fits-alpha (asks-p1 (s .pre .0 .ready) (omega arith) (m .moved3 .result) (u1-line m)) (c .moved4 .ensures) ∙ (λ u. moved-alpha u (s .args .t .p2) (s .args .t .u1) (m .moved3 .result))
+    step-read moved-alpha (asks-p1 (s .pre .0 .ready) (omega arith) (m .moved3 .result) (u1-line m) .inner (omega arith) (omega arith)) (c .moved4 .ensures)
 
 returns : tie.Need-returns
 returns c =
@@ -86,11 +85,11 @@ returns c =
     {r = record { g2 = a .high; u2 = m1 .moved .result; p2 = m2 .moved2 .result; u1 = m3 .moved3 .result; even = a .t .u1; odd = m4 .moved4 .result }}
     (record {
       g2 = refl;
-      u2 = record { first = λ e h. absurd (omega arith); inner = λ e h. u2-raw m1; past = λ h. absurd (omega arith) };
-      p2 = λ e. record { inner = λ h. p2-raw m2; past = λ h. absurd (omega arith) };
-      u1 = λ e. record { first = λ e h. absurd (omega arith); inner = λ e h. u1-raw m3; past = λ h. absurd (omega arith) };
+      u2 = record { first = λ z h. absurd (omega arith); inner = λ z g h. u2-raw m1; last = λ z g h. absurd (omega arith); past = λ h. absurd (omega arith) };
+      p2 = λ e. record { inner = λ g h. p2-raw m2; last = λ g h. absurd (omega arith); past = λ h. absurd (omega arith) };
+      u1 = λ e. record { first = λ z h. absurd (omega arith); inner = λ z g h. u1-raw m3; last = λ z g h. absurd (omega arith); past = λ h. absurd (omega arith) };
       even = λ h. refl;
-      odd = λ h g. p1-raw m4;
+      odd = λ e. record { inner = λ g h. p1-raw m4; last = λ g h. absurd (omega arith); past = λ h. absurd (omega arith) };
     })
     (record {
       g2 = toZ-ofZ (s .fits .high);

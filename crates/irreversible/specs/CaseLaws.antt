@@ -1,0 +1,35 @@
+-- The fixed-point 9/7 by cases is the fixed-point 9/7, at every place of every length from 2 (`pass-is`).
+use Prim.Native.Nat.{ℕ}
+use mathlib.Core.Path.{refl, ap}
+use lib.IntN.{ℤ}
+use Rattle.lines.specs.Lines.{lows, highs, Liftable}
+use Rattle.lines.specs.LineLaws.{Equal, first-equal}
+use Rattle.lines.specs.BackLaws.{equal}
+use Rattle.lines.specs.CaseLaws.{respects-equal, highs-are, lows-are}
+use Rattle.width_table.specs.Nodes.{Node, P1, U1, P2, U2, G1, G2}
+use Rattle.exact.specs.Exact.{alpha, beta, gamma, delta, zeta, zetaInverse}
+use Rattle.stages.specs.Fixed.{step, scale}
+use Rattle.stages.specs.Ends.{step-end}
+use Rattle.irreversible.specs.Fixed.{atP1, atU1, atP2, atU2, atG1, atG2, fixedPass}
+use Rattle.irreversible.specs.Cases.{atP1ByCases, atU1ByCases, atP2ByCases, atU2ByCases, fixedPassByCases}
+
+module _ (F : Node → ℕ) (fi : ℕ) (f : Node → ℕ) (n : ℕ) (works : Liftable n) (x : ℕ → ℤ) where
+  p1-is : Equal (highs n) (atP1ByCases F fi f n x) (atP1 F fi f n x)
+  unfolding atP1ByCases atP1
+  p1-is = highs-are equal (respects-equal (step alpha (F P1) fi fi (f P1))) (step-end alpha (F P1) fi fi (f P1)) n works (λ i p. refl) (λ i p. refl)
+
+  u1-is : Equal (lows n) (atU1ByCases F fi f n x) (atU1 F fi f n x)
+  unfolding atU1ByCases atU1
+  u1-is = lows-are equal (respects-equal (step beta (F U1) (f P1) fi (f U1))) (step-end beta (F U1) (f P1) fi (f U1)) n works (λ i p. refl) p1-is
+
+  p2-is : Equal (highs n) (atP2ByCases F fi f n x) (atP2 F fi f n x)
+  unfolding atP2ByCases atP2
+  p2-is = highs-are equal (respects-equal (step gamma (F P2) (f U1) (f P1) (f P2))) (step-end gamma (F P2) (f U1) (f P1) (f P2)) n works u1-is p1-is
+
+  u2-is : Equal (lows n) (atU2ByCases F fi f n x) (atU2 F fi f n x)
+  unfolding atU2ByCases atU2
+  u2-is = lows-are equal (respects-equal (step delta (F U2) (f P2) (f U1) (f U2))) (step-end delta (F U2) (f P2) (f U1) (f U2)) n works u1-is p2-is
+
+  pub pass-is : Equal n (fixedPassByCases F fi f n x) (fixedPass F fi f n x)
+  unfolding fixedPassByCases fixedPass atG1 atG2
+  pass-is = first-equal n (λ i h. ap (scale zeta (F G1) (f U2) (f G1)) (u2-is i h)) (λ i h. ap (scale zetaInverse (F G2) (f P2) (f G2)) (p2-is i h))

@@ -1,0 +1,27 @@
+-- The fixed-point 9/7 lifting of one line by cases (document 02, job 2): the ends apart from the middle, as source document 003 has them.
+-- Equation 2 is `step` of the crate stages, equations 3 (the first low) and 4 (the last high of an even length) are `stepEnd`; the last low of an
+-- odd length, which the paper does not print, goes by `stepEnd`, too. CaseLaws proves the pass that of Fixed.
+use Prim.Native.Nat.{ℕ, _+_, _*_}
+use lib.IntN.{ℤ}
+use Rattle.stages.specs.Fixed.{step, stepEnd, scale}
+use Rattle.width_table.specs.Nodes.{Node, P1, U1, P2, U2, G1, G2}
+use Rattle.exact.specs.Exact.{alpha, beta, gamma, delta, zeta, zetaInverse}
+use Rattle.lines.specs.Lines.{lowsFirst}
+use Rattle.lines.specs.Cases.{highsByCases, lowsByCases}
+
+-- One pass over n samples x at fi bits: F the bits of the constants, f the fractional bits of the nodes.
+module _ (F : Node → ℕ) (fi : ℕ) (f : Node → ℕ) (n : ℕ) (x : ℕ → ℤ) where
+  unfoldable pub atP1ByCases : ℕ → ℤ
+  atP1ByCases = highsByCases (step alpha (F P1) fi fi (f P1)) (stepEnd alpha (F P1) fi fi (f P1)) n (λ i. x (2 * i)) (λ i. x (2 * i + 1))
+
+  unfoldable pub atU1ByCases : ℕ → ℤ
+  atU1ByCases = lowsByCases (step beta (F U1) (f P1) fi (f U1)) (stepEnd beta (F U1) (f P1) fi (f U1)) n (λ i. x (2 * i)) atP1ByCases
+
+  unfoldable pub atP2ByCases : ℕ → ℤ
+  atP2ByCases = highsByCases (step gamma (F P2) (f U1) (f P1) (f P2)) (stepEnd gamma (F P2) (f U1) (f P1) (f P2)) n atU1ByCases atP1ByCases
+
+  unfoldable pub atU2ByCases : ℕ → ℤ
+  atU2ByCases = lowsByCases (step delta (F U2) (f P2) (f U1) (f U2)) (stepEnd delta (F U2) (f P2) (f U1) (f U2)) n atU1ByCases atP2ByCases
+
+  unfoldable pub fixedPassByCases : ℕ → ℤ
+  fixedPassByCases = lowsFirst n (λ i. scale zeta (F G1) (f U2) (f G1) (atU2ByCases i)) (λ i. scale zetaInverse (F G2) (f P2) (f G2) (atP2ByCases i))

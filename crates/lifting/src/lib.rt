@@ -777,7 +777,7 @@ fn on_highs(tile: &mut [i32], s: usize, n: usize, step: Step)
     let top = low * s;
     let most = (low - 1) * s;
     lift_run(tile, top, 0, s, most, step);
-    // the last high of an even length
+    // the last high of an even length: source document 003, equation 4; 004, equation 5
     if low - 1 < n / 2 {
         end_run(tile, top + most, most, s, step);
     }
@@ -793,10 +793,10 @@ fn on_lows(tile: &mut [i32], s: usize, n: usize, step: Step)
     let high = n / 2;
     let top = low * s;
     let most = (high - 1) * s;
-    // the first low
+    // the first low: source document 003, equation 3; 004, equation 4
     end_run(tile, 0, top, s, step);
     lift_run(tile, s, top, top + s, most, step);
-    // the last low of an odd length
+    // the last low of an odd length: source document 004, equation 6
     if high < low {
         end_run(tile, high * s, top + most, s, step);
     }

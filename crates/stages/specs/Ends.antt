@@ -1,10 +1,11 @@
 -- A fixed-point stage at an end of a line is the stage of the one neighbour twice.
 use Prim.Native.Nat.{ℕ, _+_, _-_, _^_, max}
-use mathlib.Core.Path.{_≡_, ap}
-use lib.IntN.{ℤ, pos, _+ℤ_, _*ℤ_}
+use mathlib.Core.Path.{_≡_, refl, ap}
+use lib.IntN.{ℤ, pos, negℤ, _+ℤ_, _*ℤ_}
 use Rattle.numbers.specs.Laws.{twice-times}
 use Rattle.lines.specs.CaseLaws.{Reduced}
-use Rattle.exact.specs.Fractions.{Frac}
+use Rattle.exact.specs.Fractions.{Frac, whole, _⊗_}
+use Rattle.exact.specs.Exact.{alpha}
 use Rattle.stages.specs.Fixed.{nearest, cut, step, stepEnd}
 
 pub step-end : (c : Frac) (F fm fo f : ℕ) → Reduced _≡_ (step c F fm fo f) (stepEnd c F fm fo f)
@@ -12,3 +13,8 @@ unfolding step stepEnd
 step-end c F fm fo f own x =
     let full : ℕ = max fo (F + fm) in
     ap (λ (z : ℤ). cut full f (own *ℤ pos (2 ^ (full - fo)) +ℤ z *ℤ pos (2 ^ (full - (F + fm))))) (twice-times (nearest c F) x)
+
+-- The order matters: alpha at 24 bits, doubled after it was rounded and before.
+pub rounded-doubled : (pos 2 *ℤ nearest alpha 24 ≡ negℤ (pos 53221836)) × (nearest (whole (pos 2) ⊗ alpha) 24 ≡ negℤ (pos 53221837))
+unfolding nearest whole _⊗_
+rounded-doubled = (refl, refl)

@@ -95,11 +95,11 @@ fn on_low(
     if lows <= k {
         return kept;
     }
-    // the first low
+    // the first low: source document 003, equation 3, undone
     if k == 0 {
         return moved_end(own, after, c);
     }
-    // the last low of an odd length
+    // the last low of an odd length, in the same style
     if highs <= k {
         return moved_end(own, before, c);
     }
@@ -123,7 +123,7 @@ fn on_high(
     if highs <= k {
         return kept;
     }
-    // the last high of an even length
+    // the last high of an even length: source document 003, equation 4, undone
     if lows <= k + 1 {
         return moved_end(own, before, c);
     }

@@ -13,6 +13,8 @@
 //! * [`fixed_inverse97`], [`exact_inverse97`], [`viewing`]: the same undone, and
 //!   the bound between the two
 //! * [`reversible53`]: the 5/3 transform forward and back
+//! * [`papers`]: a third reading, the passes as source documents 003 and 004
+//!   print them, the ends of a line apart from its middle
 //! * [`places`]: sides, low and high parts, kept nodes
 //! * [`calls`]: every call with its order of refusals and what it leaves in
 //!   lent memory
@@ -30,6 +32,7 @@ pub mod fixed97;
 pub mod fixed_inverse97;
 pub mod fraction;
 pub mod gains;
+pub mod papers;
 pub mod places;
 pub mod precision;
 pub mod refusal;

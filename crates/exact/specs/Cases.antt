@@ -1,6 +1,6 @@
 -- The exact 9/7 by cases (document 02, job 2), there and back: the ends apart from the middle, as source document 003 has them. Equation 2 is
 -- `lift` of Exact. CaseLaws proves the passes those of Exact and Inverse.
-use Prim.Native.Nat.{ℕ, _*_}
+use Prim.Native.Nat.{ℕ}
 use lib.IntN.{pos}
 use Rattle.lines.specs.Lines.{lowsFirst, interleaved}
 use Rattle.lines.specs.Cases.{highsByCases, lowsByCases}

@@ -1,9 +1,9 @@
 -- The neighbours by cases are document 01's mirrored ones, at every place of every length from 2 (`high-mirrored`, `low-mirrored`), and those of
 -- Lines (`high-sides`, `low-sides`); so a filter by cases is the filter (`highs-are`, `lows-are`). Lengths 2 and 3, where the ends meet, are
 -- stated by themselves (`length-two`, `length-three`).
-use Prim.Native.Nat.{ℕ, zero, suc, _+_, _*_, _-_, _<_, _≤_}
-use mathlib.Core.Bool.{Bool, true, false, not}
-use mathlib.Core.Path.{_≡_, refl, sym, _∙_, ap, ap₂, subst}
+use Prim.Native.Nat.{ℕ, zero, suc, _+_, _*_, _-_, _<_}
+use mathlib.Core.Bool.{true, false}
+use mathlib.Core.Path.{_≡_, refl, sym, _∙_, ap, subst}
 use native.Mathlib.Omega.{arith}
 use Rattle.numbers.specs.Tests.{by-ltb, by-eqb}
 use lib.IntN.{pos, _+ℤ_, _-ℤ_, +ℤ-negℤ-cancel}

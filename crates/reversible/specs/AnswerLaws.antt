@@ -4,7 +4,7 @@ use lib.IntN.{ℤ}
 use lib.ListN.{length}
 use Prim.Native.Nat.{ℕ, _*_, _-_, _≤_}
 use mathlib.Core.Bool.{Bool, true, false, not, _&&_}
-use mathlib.Core.Path.{_≡_, refl, sym, _∙_, ap, subst}
+use mathlib.Core.Path.{_≡_, sym, _∙_, ap, subst}
 use lib.Dec.{T}
 use Rattle.numbers.specs.Tests.{both, between-≤}
 use Rattle.refusals.specs.Answers.{Reason, Answer, refused, passed, asks, _then_}

@@ -24,7 +24,7 @@ module _ (n : ℕ) (x : ℕ → Frac) where
   unfoldable pub p1ByCases : ℕ → Frac
   p1ByCases = highsByCases (lift alpha) (liftEnd alpha) n (low₀ n x) (high₀ n x)
 
-  -- equation 2, U1; at the first low equation 3
+  -- equation 2, U1; at the first low equation 3, at the last low of an odd length ours
   unfoldable pub u1ByCases : ℕ → Frac
   u1ByCases = lowsByCases (lift beta) (liftEnd beta) n (low₀ n x) p1ByCases
 
@@ -32,30 +32,37 @@ module _ (n : ℕ) (x : ℕ → Frac) where
   unfoldable pub p2ByCases : ℕ → Frac
   p2ByCases = highsByCases (lift gamma) (liftEnd gamma) n u1ByCases p1ByCases
 
-  -- equation 2, U2; at the first low equation 3
+  -- equation 2, U2; at the first low equation 3, at the last low of an odd length ours
   unfoldable pub u2ByCases : ℕ → Frac
   u2ByCases = lowsByCases (lift delta) (liftEnd delta) n u1ByCases p2ByCases
 
+  -- equation 2, G1 and G2, which have no neighbours
   unfoldable pub passByCases : ℕ → Frac
   passByCases = lowsFirst n (λ i. zeta ⊗ u2ByCases i) (λ i. zetaInverse ⊗ p2ByCases i)
 
 -- ---- back, which the paper does not print: the same equations taken back are ours
 
+-- equations 3 and 4 taken back: own value less twice a constant times the one neighbour
 unfoldable pub unliftEnd : Frac → Frac → Frac → Frac
 unliftEnd c own x = own ⊖ twice c ⊗ x
 
 module _ (n : ℕ) (y : ℕ → Frac) where
+  -- U2 taken back; at the first low and at the last low of an odd length by equation 3
   unfoldable pub unU2ByCases : ℕ → Frac
   unU2ByCases = lowsByCases (unlift delta) (unliftEnd delta) n (unG1 n y) (unG2 n y)
 
+  -- P2 taken back; at the last high of an even length by equation 4
   unfoldable pub unP2ByCases : ℕ → Frac
   unP2ByCases = highsByCases (unlift gamma) (unliftEnd gamma) n unU2ByCases (unG2 n y)
 
+  -- U1 taken back, as U2
   unfoldable pub unU1ByCases : ℕ → Frac
   unU1ByCases = lowsByCases (unlift beta) (unliftEnd beta) n unU2ByCases unP2ByCases
 
+  -- P1 taken back, as P2
   unfoldable pub unP1ByCases : ℕ → Frac
   unP1ByCases = highsByCases (unlift alpha) (unliftEnd alpha) n unU1ByCases unP2ByCases
 
+  -- each value to its place
   unfoldable pub backByCases : ℕ → Frac
   backByCases = interleaved unU1ByCases unP1ByCases

@@ -11,17 +11,22 @@ use Rattle.lines.specs.Cases.{highsByCases, lowsByCases}
 
 -- One pass over n samples x at fi bits: F the bits of the constants, f the fractional bits of the nodes.
 module _ (F : Node → ℕ) (fi : ℕ) (f : Node → ℕ) (n : ℕ) (x : ℕ → ℤ) where
+  -- equation 2, P1; at the last high of an even length equation 4
   unfoldable pub atP1ByCases : ℕ → ℤ
   atP1ByCases = highsByCases (step alpha (F P1) fi fi (f P1)) (stepEnd alpha (F P1) fi fi (f P1)) n (λ i. x (2 * i)) (λ i. x (2 * i + 1))
 
+  -- equation 2, U1; at the first low equation 3, at the last low of an odd length ours
   unfoldable pub atU1ByCases : ℕ → ℤ
   atU1ByCases = lowsByCases (step beta (F U1) (f P1) fi (f U1)) (stepEnd beta (F U1) (f P1) fi (f U1)) n (λ i. x (2 * i)) atP1ByCases
 
+  -- equation 2, P2; at the last high of an even length equation 4
   unfoldable pub atP2ByCases : ℕ → ℤ
   atP2ByCases = highsByCases (step gamma (F P2) (f U1) (f P1) (f P2)) (stepEnd gamma (F P2) (f U1) (f P1) (f P2)) n atU1ByCases atP1ByCases
 
+  -- equation 2, U2; at the first low equation 3, at the last low of an odd length ours
   unfoldable pub atU2ByCases : ℕ → ℤ
   atU2ByCases = lowsByCases (step delta (F U2) (f P2) (f U1) (f U2)) (stepEnd delta (F U2) (f P2) (f U1) (f U2)) n atU1ByCases atP2ByCases
 
+  -- equation 2, G1 and G2, which have no neighbours
   unfoldable pub fixedPassByCases : ℕ → ℤ
   fixedPassByCases = lowsFirst n (λ i. scale zeta (F G1) (f U2) (f G1) (atU2ByCases i)) (λ i. scale zetaInverse (F G2) (f P2) (f G2) (atP2ByCases i))

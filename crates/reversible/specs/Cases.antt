@@ -26,6 +26,7 @@ module _ (n : ℕ) (x : ℕ → ℤ) where
   unfoldable pub lowByCases : ℕ → ℤ
   lowByCases = lowsByCases update updateEnd n (λ i. x (2 * i)) highByCases
 
+  -- what the pass leaves: the lows first, then the highs
   unfoldable pub passByCases : ℕ → ℤ
   passByCases = lowsFirst n lowByCases highByCases
 
@@ -40,11 +41,14 @@ unfoldable pub unupdateEnd : ℤ → ℤ → ℤ
 unupdateEnd own y = own -ℤ floorDiv (y +ℤ pos 1) 2
 
 module _ (n : ℕ) (y : ℕ → ℤ) where
+  -- equations 2, 4 and 6 taken back
   unfoldable pub lowBackByCases : ℕ → ℤ
   lowBackByCases = lowsByCases unupdate unupdateEnd n y (λ i. y (lows n + i))
 
+  -- equations 1 and 5 taken back
   unfoldable pub highBackByCases : ℕ → ℤ
   highBackByCases = highsByCases unpredict unpredictEnd n lowBackByCases (λ i. y (lows n + i))
 
+  -- each value to its place
   unfoldable pub backByCases : ℕ → ℤ
   backByCases = interleaved lowBackByCases highBackByCases

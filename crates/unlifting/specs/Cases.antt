@@ -15,19 +15,22 @@ unstepEnd c own x = cut (inverseBits + nodeBits) nodeBits (own *ℤ pos (2 ^ inv
 
 -- One line of n values y, the lows first: the lows have fl bits, the highs fh.
 module _ (fl fh : ℕ) (n : ℕ) (y : ℕ → ℤ) where
-  -- first low, last low of an odd length: own less twice delta times the one high
+  -- U2 taken back; at the first low and at the last low of an odd length by equation 3
   unfoldable pub atU2ByCases : ℕ → ℤ
   atU2ByCases = lowsByCases (unstep delta) (unstepEnd delta) n (atG1 fl fh n y) (atG2 fl fh n y)
 
-  -- last high of an even length: own less twice gamma times the low before it
+  -- P2 taken back; at the last high of an even length by equation 4
   unfoldable pub atP2ByCases : ℕ → ℤ
   atP2ByCases = highsByCases (unstep gamma) (unstepEnd gamma) n atU2ByCases (atG2 fl fh n y)
 
+  -- U1 taken back, as U2
   unfoldable pub atU1ByCases : ℕ → ℤ
   atU1ByCases = lowsByCases (unstep beta) (unstepEnd beta) n atU2ByCases atP2ByCases
 
+  -- P1 taken back, as P2
   unfoldable pub atP1ByCases : ℕ → ℤ
   atP1ByCases = highsByCases (unstep alpha) (unstepEnd alpha) n atU1ByCases atP2ByCases
 
+  -- each value to its place
   unfoldable pub fixedBackByCases : ℕ → ℤ
   fixedBackByCases = interleaved atU1ByCases atP1ByCases

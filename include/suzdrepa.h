@@ -93,6 +93,11 @@
  *   4    36 * L  per level the six nodes of pass 1, of pass 2, of pass 3, each
  *                integer bits (1 to 12), then fractional bits f (0 to 20)
  *
+ * They are read field by field. In each the first of these that applies is the
+ * answer: tag or length is not whole (1), the tag is not the one due (2), the
+ * length is not that tag's (3), the value is not whole (1), a number is outside
+ * its limits (4). After a right fourth field, bytes that follow it are 5.
+ *
  * A node holds an integer v that means v / 2^f, with v from -2^(IB+f-1) to
  * 2^(IB+f-1) - 1. A coefficient of the 9/7 plane has the f of the node that
  * gave it: pass 2 left of the middle, pass 3 right of it, G1 above, G2 below,
@@ -181,7 +186,7 @@ static inline const char *suz_refusal_text(uint32_t answer)
 uint32_t suz_table_check(const uint8_t *table, size_t table_len);
 
 /*
- * Reads a width table and does not judge it: 0 or 1 to 5.
+ * Reads a width table and does not judge it: 0 or 1 to 5, field by field.
  * Reads the table, writes nothing.
  */
 uint32_t suz_table_form(const uint8_t *table, size_t table_len);

@@ -34,9 +34,9 @@ headed-from-one : (tag len : ℕ) (bytes : List ℕ) → FromOne (headed tag len
 unfolding headed
 headed-from-one tag len bytes =
     asks-from-one (leb headBytes (length bytes)) (1, []) _ (omega arith)
-    (asks-from-one (leb (announced bytes) (length bytes - headBytes)) (1, []) _ (omega arith)
     (asks-from-one (eqb (getD bytes 0 0) tag) (2, []) _ (omega arith)
-    (last-from-one (eqb (announced bytes) len) 3 (omega arith))))
+    (asks-from-one (eqb (announced bytes) len) (3, []) _ (omega arith)
+    (last-from-one (leb (announced bytes) (length bytes - headBytes)) 1 (omega arith))))
 
 formed-from-one : (fs : List Field) (bytes : List ℕ) → FromOne (formBy fs bytes)
 unfolding formBy field

@@ -16,14 +16,14 @@ use Rattle.width_table.specs.Fields.{depthTag, levelsTag, constantsTag, 
 abbrev pub announced : List ℕ → ℕ
 announced bytes = getD bytes 1 0 * 256 + getD bytes 2 0
 
--- The head of a field at the front of the bytes: tag, length and announced value are whole (1), the tag is the next one due (2),
--- the length is that tag's (3).
+-- The head of a field at the front of the bytes, in the order of document 02, job 3: tag and length are whole (1), the tag is the
+-- next one due (2), the length is that tag's (3), and the announced value is whole (1).
 unfoldable pub headed : ℕ → ℕ → List ℕ → Answer Unit
 headed tag len bytes =
     asks (leb headBytes (length bytes)) 1
-    (asks (leb (announced bytes) (length bytes - headBytes)) 1
     (asks (eqb (getD bytes 0 0) tag) 2
     (asks (eqb (announced bytes) len) 3
+    (asks (leb (announced bytes) (length bytes - headBytes)) 1
     passed)))
 
 -- One field: its head, and what is right for its value (4).

@@ -35,15 +35,15 @@ field-done f n bytes e =
     let b = drop n bytes in
     let g = then-done (headed (f .tag) (f .size) b) _ e in
     let h = asks-done (leb headBytes (length b)) _ _ (g .0) in
-    let i = asks-done (leb (announced b) (length b - headBytes)) _ _ (h .1) in
-    let j = asks-done (eqb (getD b 0 0) (f .tag)) _ _ (i .1) in
-    let k = asks-done (eqb (announced b) (f .size)) _ _ (j .1) in
+    let i = asks-done (eqb (getD b 0 0) (f .tag)) _ _ (h .1) in
+    let j = asks-done (eqb (announced b) (f .size)) _ _ (i .1) in
+    let k = asks-done (leb (announced b) (length b - headBytes)) _ _ (j .1) in
     let v = asks-done (f .right (take (f .size) (drop headBytes b))) _ _ (g .1) in
     let front : n + 0 ≡ n = omega arith in
-    let says : announced b ≡ f .size = eqb→eq (announced b) (f .size) (k .0) in
+    let says : announced b ≡ f .size = eqb→eq (announced b) (f .size) (j .0) in
     record {
-      whole = omega (arith, leb→le headBytes (length b) (h .0), leb→le (announced b) (length b - headBytes) (i .0), says, length-drop n bytes);
-      its = ap (λ (m : ℕ). getD bytes m 0) (sym front) ∙ sym (getD-drop n bytes 0 0) ∙ eqb→eq (getD b 0 0) (f .tag) (j .0);
+      whole = omega (arith, leb→le headBytes (length b) (h .0), leb→le (announced b) (length b - headBytes) (k .0), says, length-drop n bytes);
+      its = ap (λ (m : ℕ). getD bytes m 0) (sym front) ∙ sym (getD-drop n bytes 0 0) ∙ eqb→eq (getD b 0 0) (f .tag) (i .0);
       says = ap₂ (λ (x y : ℕ). x * 256 + y) (sym (getD-drop n bytes 1 0)) (sym (getD-drop n bytes 2 0)) ∙ says;
       value = subst (λ (l : List ℕ). T (f .right (take (f .size) l))) (drop-drop headBytes n bytes) (v .0);
     }
@@ -60,9 +60,9 @@ field-right f bytes r =
     head : headed (f .tag) (f .size) bytes ≡ passed
     head =
         asks-right (leb headBytes (length bytes)) _ _ (le→leb headBytes (length bytes) (omega (arith, r .whole)))
-        ∙ asks-right (leb (announced bytes) (length bytes - headBytes)) _ _ (le→leb (announced bytes) (length bytes - headBytes) (omega (arith, r .says, r .whole)))
         ∙ asks-right (eqb (getD bytes 0 0) (f .tag)) _ _ (same (r .its))
         ∙ asks-right (eqb (announced bytes) (f .size)) _ _ (same (r .says))
+        ∙ asks-right (leb (announced bytes) (length bytes - headBytes)) _ _ (le→leb (announced bytes) (length bytes - headBytes) (omega (arith, r .says, r .whole)))
 
 -- its bytes, and what follows
 field-bytes : (f : Field) (n : ℕ) (bytes : List ℕ) → f .size < 256 → FieldAt f n bytes

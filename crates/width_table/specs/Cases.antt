@@ -13,6 +13,7 @@ use Rattle.width_table.specs.Fields.{nodeBytes, widthsRight}
 use Rattle.width_table.specs.Bytes.{tableBytes, headed, field, formBy, form, tableIn, tableRead, emptyTable, writable, writing, bytesAfter}
 use Rattle.width_table.specs.Changes.{changeable, tableAfterWidth, constantChangeable, tableAfterConstant}
 use Rattle.width_table.specs.Names.{nameable, naming, valueOf}
+use Rattle.width_table.specs.EarlierOrder.{earlierHeaded, earlierField, earlierFormBy, earlierForm, wrongTagCut, wrongLengthCut, comesTo, happens}
 use Rattle.width_table.specs.Readers.{constantBitsAt, integerBitsAt, fractionBitsAt, inputBitsAt}
 
 -- ---- tables
@@ -42,18 +43,34 @@ pub readings :
     map (λ b. code (form b)) (
     good ∷ [] ∷ take 2 good ∷ set good 0 9 ∷ set good 2 0 ∷ set good 3 0 ∷ take 4 (set good 3 13) ∷ set good 7 2 ∷ set good 7 6 ∷ set good 11 25 ∷ set good 20 0 ∷ set good 21 21
     ∷ take 55 good ∷ (good ++ (0 ∷ [])) ∷ take 20 (set good 17 5) ∷ [])
-    ≡ 0 ∷ 1 ∷ 1 ∷ 2 ∷ 3 ∷ 4 ∷ 4 ∷ 3 ∷ 4 ∷ 4 ∷ 4 ∷ 4 ∷ 1 ∷ 5 ∷ 1 ∷ []
+    ≡ 0 ∷ 1 ∷ 1 ∷ 2 ∷ 3 ∷ 4 ∷ 4 ∷ 3 ∷ 4 ∷ 4 ∷ 4 ∷ 4 ∷ 1 ∷ 5 ∷ 2 ∷ []
 unfolding form formBy field headed every widthsRight tableBytes
 readings = refl
 
--- A head whose announced value is cut short is 1, whatever its tag and length; a whole one of another tag is 2; length 0 is
--- always whole; a cut value of another length is 1, a whole one 3; a depth of 0 is 4 though all else is missing.
-pub heads :
-    map (λ b. code (form b)) (
-    (9 ∷ 0 ∷ 5 ∷ []) ∷ (9 ∷ 0 ∷ 0 ∷ []) ∷ (1 ∷ 0 ∷ 0 ∷ []) ∷ (1 ∷ 0 ∷ 2 ∷ 8 ∷ []) ∷ (1 ∷ 0 ∷ 2 ∷ 8 ∷ 8 ∷ []) ∷ (1 ∷ 1 ∷ 1 ∷ 8 ∷ []) ∷ (1 ∷ 0 ∷ 1 ∷ 0 ∷ []) ∷ (1 ∷ 0 ∷ 1 ∷ 8 ∷ []) ∷ [])
-    ≡ 1 ∷ 2 ∷ 3 ∷ 1 ∷ 3 ∷ 1 ∷ 4 ∷ 1 ∷ []
+-- Heads with values that are cut short or whole: a tag of 9 is 2 however many bytes follow; so is a length other than 1 after tag 1,
+-- by 3; a right head alone is 1; a depth of 0 is 4 though all else is missing; two bytes of a head are 1, whatever they are.
+abbrev headed-bytes : List (List ℕ)
+headed-bytes =
+    (9 ∷ 0 ∷ 5 ∷ []) ∷ (9 ∷ 0 ∷ 0 ∷ []) ∷ (9 ∷ 0 ∷ 1 ∷ []) ∷ (9 ∷ 0 ∷ 1 ∷ 8 ∷ [])
+    ∷ (1 ∷ 0 ∷ 0 ∷ []) ∷ (1 ∷ 0 ∷ 2 ∷ 8 ∷ []) ∷ (1 ∷ 0 ∷ 2 ∷ 8 ∷ 8 ∷ []) ∷ (1 ∷ 1 ∷ 1 ∷ 8 ∷ [])
+    ∷ (1 ∷ 0 ∷ 1 ∷ []) ∷ (1 ∷ 0 ∷ 1 ∷ 0 ∷ []) ∷ (1 ∷ 0 ∷ 1 ∷ 8 ∷ []) ∷ (9 ∷ 1 ∷ [])
+    ∷ (1 ∷ 0 ∷ 1 ∷ 8 ∷ 9 ∷ 0 ∷ 5 ∷ []) ∷ (1 ∷ 0 ∷ 1 ∷ 8 ∷ 2 ∷ 0 ∷ 5 ∷ []) ∷ (1 ∷ 0 ∷ 1 ∷ 0 ∷ 9 ∷ 0 ∷ 5 ∷ []) ∷ []
+
+pub heads : map (λ b. code (form b)) headed-bytes ≡ 2 ∷ 2 ∷ 2 ∷ 2 ∷ 3 ∷ 3 ∷ 3 ∷ 3 ∷ 1 ∷ 4 ∷ 1 ∷ 1 ∷ 2 ∷ 3 ∷ 4 ∷ []
 unfolding form formBy field headed every widthsRight
 heads = refl
+
+-- in the earlier order
+pub earlier-heads : map (λ b. code (earlierForm b)) headed-bytes ≡ 1 ∷ 2 ∷ 1 ∷ 2 ∷ 3 ∷ 1 ∷ 3 ∷ 1 ∷ 1 ∷ 4 ∷ 1 ∷ 1 ∷ 1 ∷ 1 ∷ 4 ∷ []
+unfolding earlierForm earlierFormBy earlierField earlierHeaded every widthsRight
+earlier-heads = refl
+
+-- and the two cases in which an answer changes
+pub changed-heads :
+    (map (happens wrongTagCut) headed-bytes ≡ true ∷ false ∷ true ∷ false ∷ false ∷ false ∷ false ∷ false ∷ false ∷ false ∷ false ∷ false ∷ true ∷ false ∷ false ∷ [])
+    × (map (happens wrongLengthCut) headed-bytes ≡ false ∷ false ∷ false ∷ false ∷ false ∷ true ∷ false ∷ true ∷ false ∷ false ∷ false ∷ false ∷ false ∷ true ∷ false ∷ [])
+unfolding happens comesTo field headed every
+changed-heads = (refl, refl)
 
 -- 5 comes after a right fourth field alone; fractional bits 0 are right
 pub ends : map (λ b. code (form b)) ((set good 20 0 ++ (0 ∷ [])) ∷ (take 55 good ++ []) ∷ set good 21 0 ∷ []) ≡ 4 ∷ 1 ∷ 0 ∷ []

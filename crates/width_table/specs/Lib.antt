@@ -9,6 +9,7 @@
 --   Told       what the code's answers of writing and naming say
 --   Readers    widths by the numbers of level, pass and node
 --   Limits     the limits of a table of right form, by node and by number
+--   EarlierOrder  the order of 1, 2 and 3 before document 02, job 3, and exactly which answers the job changed
 --   FormLists  the form by lists
 --   BytesLaws  fields and the whole form taken apart, and the values of tags
 --   ReadLaws, FormLaws, NameLaws, WriteLaws   the rules one by one, as the code goes through them
@@ -33,4 +34,5 @@ pub mod NameLaws
 pub mod WriteLaws
 pub mod RoundTrip
 pub mod ChangeLaws
+pub mod EarlierOrder
 pub mod Cases

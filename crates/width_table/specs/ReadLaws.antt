@@ -8,7 +8,7 @@ use borrow.Author.Tests.{lt-leb, eq-eqb, ne-eqb}
 use lib.Dec.{leb, eqb, leb→le, le→leb, eqb→eq}
 use lib.ListN.{length, getD, take, drop, drop-of-length-le}
 use lib.Seq.{drop-cons}
-use Rattle.refusals.specs.Answers.{Reason, refused, passed, asks}
+use Rattle.refusals.specs.Answers.{Reason, Answer, refused, passed, asks}
 use Rattle.refusals.specs.AnswerLaws.{asks-done, asks-right, asks-wrong, then-right, then-refused, answered-done, answered-refused}
 use Rattle.numbers.specs.Lists.{next-two}
 use Rattle.width_table.specs.Nodes.{nodesPerPass}
@@ -43,26 +43,37 @@ module _ (tag len : ℕ) (bytes : List ℕ) where
   unfolding headed
   no-head h = asks-wrong (leb headBytes (length bytes)) _ _ (lt-leb _ _ h)
 
+  -- the value is whole, which is judged last
+  abbrev valueWhole : Answer Unit
+  valueWhole = asks (leb (announced bytes) (length bytes - headBytes)) 1 passed
+
   -- after a whole head
   module _ (h : headBytes ≤ length bytes) where
-    pub cut-value : length bytes - headBytes < announced bytes → headed tag len bytes ≡ refused (1, [])
+    tag-next : headed tag len bytes ≡ asks (eqb (getD bytes 0 0) tag) 2 (asks (eqb (announced bytes) len) 3 valueWhole)
     unfolding headed
-    cut-value k = asks-right (leb headBytes (length bytes)) _ _ (le→leb _ _ h) ∙ asks-wrong (leb (announced bytes) (length bytes - headBytes)) _ _ (lt-leb _ _ k)
+    tag-next = asks-right (leb headBytes (length bytes)) _ _ (le→leb _ _ h)
 
-    -- and a whole value
-    module _ (k : announced bytes ≤ length bytes - headBytes) where
-      tag-next : headed tag len bytes ≡ asks (eqb (getD bytes 0 0) tag) 2 (asks (eqb (announced bytes) len) 3 passed)
-      unfolding headed
-      tag-next = asks-right (leb headBytes (length bytes)) _ _ (le→leb _ _ h) ∙ asks-right (leb (announced bytes) (length bytes - headBytes)) _ _ (le→leb _ _ k)
+    pub other-tag : (getD bytes 0 0 ≡ tag → ⊥) → headed tag len bytes ≡ refused (2, [])
+    other-tag e = tag-next ∙ asks-wrong (eqb (getD bytes 0 0) tag) _ _ (ne-eqb _ _ e)
 
-      pub other-tag : (getD bytes 0 0 ≡ tag → ⊥) → headed tag len bytes ≡ refused (2, [])
-      other-tag e = tag-next ∙ asks-wrong (eqb (getD bytes 0 0) tag) _ _ (ne-eqb _ _ e)
+    -- with the tag that is due
+    module _ (e : getD bytes 0 0 ≡ tag) where
+      length-next : headed tag len bytes ≡ asks (eqb (announced bytes) len) 3 valueWhole
+      length-next = tag-next ∙ ap (λ (t : Bool). asks t 2 (asks (eqb (announced bytes) len) 3 valueWhole)) (eq-eqb _ _ e)
 
-      pub other-length : getD bytes 0 0 ≡ tag → (announced bytes ≡ len → ⊥) → headed tag len bytes ≡ refused (3, [])
-      other-length e f = tag-next ∙ ap (λ (t : Bool). asks t 2 (asks (eqb (announced bytes) len) 3 passed)) (eq-eqb _ _ e) ∙ asks-wrong (eqb (announced bytes) len) _ _ (ne-eqb _ _ f)
+      pub other-length : (announced bytes ≡ len → ⊥) → headed tag len bytes ≡ refused (3, [])
+      other-length f = length-next ∙ asks-wrong (eqb (announced bytes) len) _ _ (ne-eqb _ _ f)
 
-      pub whole-head : getD bytes 0 0 ≡ tag → announced bytes ≡ len → headed tag len bytes ≡ passed
-      whole-head e f = tag-next ∙ (λ u. asks (eq-eqb _ _ e u) 2 (asks (eq-eqb _ _ f u) 3 passed))
+      -- and its length
+      module _ (f : announced bytes ≡ len) where
+        value-next : headed tag len bytes ≡ valueWhole
+        value-next = length-next ∙ ap (λ (t : Bool). asks t 3 valueWhole) (eq-eqb _ _ f)
+
+        pub cut-value : length bytes - headBytes < announced bytes → headed tag len bytes ≡ refused (1, [])
+        cut-value k = value-next ∙ asks-wrong (leb (announced bytes) (length bytes - headBytes)) _ _ (lt-leb _ _ k)
+
+        pub whole-head : announced bytes ≤ length bytes - headBytes → headed tag len bytes ≡ passed
+        whole-head k = value-next ∙ asks-right (leb (announced bytes) (length bytes - headBytes)) _ _ (le→leb _ _ k)
 
 -- ---- one field, and the next
 
@@ -77,10 +88,10 @@ module _ (f : Field) (bytes : List ℕ) where
     unfolding headed
     head-holds =
         let a = asks-done (leb headBytes (length bytes)) _ _ e in
-        let b = asks-done (leb (announced bytes) (length bytes - headBytes)) _ _ (a .1) in
-        let c = asks-done (eqb (getD bytes 0 0) (f .tag)) _ _ (b .1) in
-        let d = asks-done (eqb (announced bytes) (f .size)) _ _ (c .1) in
-        omega (arith, leb→le headBytes (length bytes) (a .0), leb→le (announced bytes) (length bytes - headBytes) (b .0), eqb→eq (announced bytes) (f .size) (d .0))
+        let b = asks-done (eqb (getD bytes 0 0) (f .tag)) _ _ (a .1) in
+        let c = asks-done (eqb (announced bytes) (f .size)) _ _ (b .1) in
+        let d = asks-done (leb (announced bytes) (length bytes - headBytes)) _ _ (c .1) in
+        omega (arith, leb→le headBytes (length bytes) (a .0), eqb→eq (announced bytes) (f .size) (c .0), leb→le (announced bytes) (length bytes - headBytes) (d .0))
 
     pub field-judged : (t : Bool) → f .right (take (f .size) (drop headBytes bytes)) ≡ t → field f bytes ≡ asks t 4 passed
     unfolding field

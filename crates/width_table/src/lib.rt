@@ -124,24 +124,27 @@ fn two(high: u8, low: u8) -> usize
     (high as usize) * 256 + (low as usize)
 }
 
-// The head of a field: refusals 1, 2, 3.
+// The head of a field: once its three bytes are there (1), the tag (2), the length (3), and that the value is whole (1).
 fn head(bytes: &[u8], tag: u8, len: usize) -> Outcome
     ensures { λ r. ⌜ told r ≡ headed tag len (now (bytes .entry)) ⌝ }
 {
     if bytes.len() < WidthTable::HEAD_BYTES {
         return Outcome::Refused(Refusal::CutShort);
     }
+    let found = bytes[0];
     let announced = two(bytes[1], bytes[2]);
-    if bytes.len() - WidthTable::HEAD_BYTES < announced {
-        return Outcome::Refused(Refusal::CutShort);
-    }
-    if bytes[0] != tag {
+    let there = bytes.len() - WidthTable::HEAD_BYTES;
+    if found != tag {
         return Outcome::Refused(Refusal::WrongTag);
     }
     if announced != len {
         return Outcome::Refused(Refusal::WrongLength);
     }
-    Outcome::Done
+    if there < announced {
+        Outcome::Refused(Refusal::CutShort)
+    } else {
+        Outcome::Done
+    }
 }
 
 // A number lies between least and most.

@@ -229,6 +229,13 @@ fn tables() {
         fails(&["check", &cut], 1, "refused 1: the bytes end");
         fails(&["show", &cut], 1, "refused 1: the bytes end");
     }
+    // What is no table, such as a picture, is told by its first byte.
+    let picture = folder.file("scan.pgm", b"P5\n2 2\n255\n\0\x01\x02\x03");
+    fails(
+        &["check", &picture],
+        1,
+        "refused 2: the tag is not the next one due",
+    );
 }
 
 #[test]

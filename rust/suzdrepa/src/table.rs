@@ -21,6 +21,12 @@ pub fn check_table(table: &[u8]) -> Result<(), Refusal> {
 
 /// Reads a width table without judging it: refused 1 to 5 where the bytes are
 /// malformed.
+///
+/// Fields are read one by one. In each, the first of these that applies is the
+/// answer: tag or length is not whole (1), the tag is not the one due (2), the
+/// length is not that tag's (3), the value is not whole (1), a number is
+/// outside its limits (4). After a right fourth field, bytes that follow it are
+/// refused 5.
 pub fn table_form(table: &[u8]) -> Result<(), Refusal> {
     // SAFETY: pointer and length are those of a slice.
     Refusal::from_answer(unsafe { sys::suz_table_form(table.as_ptr(), table.len()) })
@@ -296,7 +302,7 @@ impl WidthTable {
         sys::SUZ_TABLE_HEAD + sys::SUZ_TABLE_LEVEL * levels as usize
     }
 
-    /// Reads a table; refused 1 to 5.
+    /// Reads a table; refused 1 to 5, in the order of [`table_form`].
     pub fn from_bytes(bytes: &[u8]) -> Result<WidthTable, Refusal> {
         table_form(bytes)?;
         let bytes = bytes.to_vec();

@@ -148,8 +148,12 @@ impl WidthTable {
         }
     }
 
-    /// Reads a table from bytes: field by field 1, 2, 3, 4; then 5.
+    /// Reads a table from bytes: field by field 1, 2, 3, 1, 4; then 5.
     pub fn read(bytes: &[u8]) -> Result<WidthTable, Refusal> {
+        WidthTable::read_by(bytes, field)
+    }
+
+    fn read_by(bytes: &[u8], field: HeadRule) -> Result<WidthTable, Refusal> {
         let (value, bytes) = field(bytes, 1, 1)?;
         let depth = value[0];
         if !depth_allowed(depth) {
@@ -284,8 +288,28 @@ fn constant_allowed(bits: u8) -> bool {
     (1..=MAX_CONSTANT_BITS).contains(&bits)
 }
 
-/// The value of the field at the start and what follows the field.
+/// Gives the value of the field at the start, of the tag that is due and its
+/// length, and what follows the field; refused 1, 2, 3.
+type HeadRule = for<'a> fn(&'a [u8], u8, usize) -> Result<(&'a [u8], &'a [u8]), Refusal>;
+
+/// Tag, then length, are judged once the three head bytes are there, and
+/// missing value bytes after that (document 02, job 3).
 fn field(bytes: &[u8], due: u8, length: usize) -> Result<(&[u8], &[u8]), Refusal> {
+    let Some((&[tag, high, low], rest)) = bytes.split_first_chunk() else {
+        return Err(Refusal::plain(1));
+    };
+    if tag != due {
+        return Err(Refusal::plain(2));
+    }
+    if usize::from(u16::from_be_bytes([high, low])) != length {
+        return Err(Refusal::plain(3));
+    }
+    rest.split_at_checked(length).ok_or(Refusal::plain(1))
+}
+
+/// The order before job 3: a value that is cut short comes before tag and
+/// length.
+fn earlier_field(bytes: &[u8], due: u8, length: usize) -> Result<(&[u8], &[u8]), Refusal> {
     if bytes.len() < 3 {
         return Err(Refusal::plain(1));
     }
@@ -300,6 +324,11 @@ fn field(bytes: &[u8], due: u8, length: usize) -> Result<(&[u8], &[u8]), Refusal
         return Err(Refusal::plain(3));
     }
     Ok(bytes[3..].split_at(announced))
+}
+
+/// What reading gave before document 02, job 3.
+pub fn earlier_read(bytes: &[u8]) -> Result<WidthTable, Refusal> {
+    WidthTable::read_by(bytes, earlier_field)
 }
 
 /// Where the value of a tag stands in the bytes: the name is judged, then the
@@ -353,14 +382,20 @@ mod tests {
         let read = |bytes: &[u8]| number(WidthTable::read(bytes));
         assert_eq!(read(&[]), 1);
         assert_eq!(read(&[9, 9]), 1);
-        // A whole head whose announced value runs past the end is 1, whatever
-        // tag and length say.
-        assert_eq!(read(&[9, 0, 2, 1]), 1);
+        // Tag, then length, are judged once the head is whole, and a value
+        // that is cut short after that.
+        assert_eq!(read(&[9, 0, 2, 1]), 2);
+        assert_eq!(read(&[9, 0, 1]), 2);
         assert_eq!(read(&[9, 0, 1, 1]), 2);
         assert_eq!(read(&[9, 0, 2, 1, 1]), 2);
-        // An announced length 0 is always whole.
         assert_eq!(read(&[1, 0, 0]), 3);
+        assert_eq!(read(&[1, 0, 2, 8]), 3);
         assert_eq!(read(&[1, 0, 2, 8, 8]), 3);
+        assert_eq!(read(&[1, 0, 1]), 1);
+        assert_eq!(read(&[1, 0, 1, 8, 2, 1]), 1);
+        assert_eq!(read(&[1, 0, 1, 8, 3, 0, 6]), 2);
+        assert_eq!(read(&[1, 0, 1, 8, 2, 1, 1]), 3);
+        assert_eq!(read(&[1, 0, 1, 8, 2, 0, 1]), 1);
         // Depth 0 is 4 even if the rest is missing.
         assert_eq!(read(&[1, 0, 1, 0]), 4);
         assert_eq!(read(&[1, 0, 1, 13]), 4);

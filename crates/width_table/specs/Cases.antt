@@ -47,28 +47,28 @@ pub readings :
 unfolding form formBy field headed every widthsRight tableBytes
 readings = refl
 
--- Heads with values that are cut short or whole: a tag of 9 is 2 however many bytes follow; so is a length other than 1 after tag 1,
--- by 3; a right head alone is 1; a depth of 0 is 4 though all else is missing; two bytes of a head are 1, whatever they are.
-abbrev headed-bytes : List (List ℕ)
-headed-bytes =
+-- Heads with values that are cut short or whole: a tag of 9 is 2 and, after tag 1, a length other than 1 is 3, however many bytes
+-- follow; a right head alone is 1; a depth of 0 is 4 though all else is missing; two bytes of a head are 1, whatever they are.
+abbrev someHeads : List (List ℕ)
+someHeads =
     (9 ∷ 0 ∷ 5 ∷ []) ∷ (9 ∷ 0 ∷ 0 ∷ []) ∷ (9 ∷ 0 ∷ 1 ∷ []) ∷ (9 ∷ 0 ∷ 1 ∷ 8 ∷ [])
     ∷ (1 ∷ 0 ∷ 0 ∷ []) ∷ (1 ∷ 0 ∷ 2 ∷ 8 ∷ []) ∷ (1 ∷ 0 ∷ 2 ∷ 8 ∷ 8 ∷ []) ∷ (1 ∷ 1 ∷ 1 ∷ 8 ∷ [])
     ∷ (1 ∷ 0 ∷ 1 ∷ []) ∷ (1 ∷ 0 ∷ 1 ∷ 0 ∷ []) ∷ (1 ∷ 0 ∷ 1 ∷ 8 ∷ []) ∷ (9 ∷ 1 ∷ [])
     ∷ (1 ∷ 0 ∷ 1 ∷ 8 ∷ 9 ∷ 0 ∷ 5 ∷ []) ∷ (1 ∷ 0 ∷ 1 ∷ 8 ∷ 2 ∷ 0 ∷ 5 ∷ []) ∷ (1 ∷ 0 ∷ 1 ∷ 0 ∷ 9 ∷ 0 ∷ 5 ∷ []) ∷ []
 
-pub heads : map (λ b. code (form b)) headed-bytes ≡ 2 ∷ 2 ∷ 2 ∷ 2 ∷ 3 ∷ 3 ∷ 3 ∷ 3 ∷ 1 ∷ 4 ∷ 1 ∷ 1 ∷ 2 ∷ 3 ∷ 4 ∷ []
+pub heads : map (λ b. code (form b)) someHeads ≡ 2 ∷ 2 ∷ 2 ∷ 2 ∷ 3 ∷ 3 ∷ 3 ∷ 3 ∷ 1 ∷ 4 ∷ 1 ∷ 1 ∷ 2 ∷ 3 ∷ 4 ∷ []
 unfolding form formBy field headed every widthsRight
 heads = refl
 
 -- in the earlier order
-pub earlier-heads : map (λ b. code (earlierForm b)) headed-bytes ≡ 1 ∷ 2 ∷ 1 ∷ 2 ∷ 3 ∷ 1 ∷ 3 ∷ 1 ∷ 1 ∷ 4 ∷ 1 ∷ 1 ∷ 1 ∷ 1 ∷ 4 ∷ []
+pub earlier-heads : map (λ b. code (earlierForm b)) someHeads ≡ 1 ∷ 2 ∷ 1 ∷ 2 ∷ 3 ∷ 1 ∷ 3 ∷ 1 ∷ 1 ∷ 4 ∷ 1 ∷ 1 ∷ 1 ∷ 1 ∷ 4 ∷ []
 unfolding earlierForm earlierFormBy earlierField earlierHeaded every widthsRight
 earlier-heads = refl
 
 -- and the two cases in which an answer changes
 pub changed-heads :
-    (map (happens wrongTagCut) headed-bytes ≡ true ∷ false ∷ true ∷ false ∷ false ∷ false ∷ false ∷ false ∷ false ∷ false ∷ false ∷ false ∷ true ∷ false ∷ false ∷ [])
-    × (map (happens wrongLengthCut) headed-bytes ≡ false ∷ false ∷ false ∷ false ∷ false ∷ true ∷ false ∷ true ∷ false ∷ false ∷ false ∷ false ∷ false ∷ true ∷ false ∷ [])
+    (map (happens wrongTagCut) someHeads ≡ true ∷ false ∷ true ∷ false ∷ false ∷ false ∷ false ∷ false ∷ false ∷ false ∷ false ∷ false ∷ true ∷ false ∷ false ∷ [])
+    × (map (happens wrongLengthCut) someHeads ≡ false ∷ false ∷ false ∷ false ∷ false ∷ true ∷ false ∷ true ∷ false ∷ false ∷ false ∷ false ∷ false ∷ true ∷ false ∷ [])
 unfolding happens comesTo field headed every
 changed-heads = (refl, refl)
 

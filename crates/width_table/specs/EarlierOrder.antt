@@ -3,11 +3,11 @@
 use Prim.Native.Nat.{ℕ, _+_, _*_, _-_, _≤_}
 use mathlib.Core.Bool.{Bool, true, false, _&&_, _||_, not}
 use mathlib.Core.List.{List, [], _∷_}
-use mathlib.Core.Path.{_≡_, refl, sym, _∙_, ap, ap₂, subst}
+use mathlib.Core.Path.{_≡_, refl, sym, _∙_, ap, subst}
 use native.Mathlib.Omega.{arith}
 use lib.Dec.{T, leb, eqb}
 use lib.ListN.{length, getD, take, drop}
-use Rattle.refusals.specs.Answers.{Reason, Answer, done, refused, passed, asks, _then_, answered, code}
+use Rattle.refusals.specs.Answers.{Answer, done, refused, passed, asks, _then_, answered, code}
 use Rattle.refusals.specs.AnswerLaws.{asks-right, asks-wrong, then-right, then-refused, answered-refused}
 use Rattle.width_table.specs.declared.WidthTable.{WidthTable}
 use Rattle.width_table.specs.Fields.{tagRight, headBytes, Field, fields}
@@ -45,16 +45,16 @@ earlierNameable bytes tag = asks (tagRight tag) 2 (earlierForm bytes)
 -- ---- the two cases of document 02, job 3
 
 -- a whole head whose value is cut short
-abbrev pub headOnly : List ℕ → Bool
-headOnly bytes = leb headBytes (length bytes) && not (leb (announced bytes) (length bytes - headBytes))
+abbrev pub valueCut : List ℕ → Bool
+valueCut bytes = leb headBytes (length bytes) && not (leb (announced bytes) (length bytes - headBytes))
 
 -- "a whole head with a wrong tag whose value is cut short"
 abbrev pub wrongTagCut : Field → List ℕ → Bool
-wrongTagCut f bytes = headOnly bytes && not (eqb (getD bytes 0 0) (f .tag))
+wrongTagCut f bytes = valueCut bytes && not (eqb (getD bytes 0 0) (f .tag))
 
 -- "a due tag with a wrong length and a value cut short"
 abbrev pub wrongLengthCut : Field → List ℕ → Bool
-wrongLengthCut f bytes = headOnly bytes && eqb (getD bytes 0 0) (f .tag) && not (eqb (announced bytes) (f .size))
+wrongLengthCut f bytes = valueCut bytes && eqb (getD bytes 0 0) (f .tag) && not (eqb (announced bytes) (f .size))
 
 -- it is so of a field that reading comes to: every field before it is right
 unfoldable pub comesTo : (Field → List ℕ → Bool) → List Field → List ℕ → Bool

@@ -55,11 +55,13 @@ impl Due {
     }
 }
 
-/// Every tag and every length, with no byte after the head, and with one.
+/// Every tag and every length, with no byte after the head, with one, with a
+/// whole value and with one byte less and more than that.
 fn every_head_of(tag: u8) {
     let due = Due::new(&generous(8, 1), tag);
-    let mut changed = [0; 4];
-    for there in [0, 1] {
+    let size = due.value.len();
+    for there in [0, 1, size - 1, size, size + 1] {
+        let mut changed = [0; 4];
         let mut bytes = due.bytes(0, 0, there);
         let head = due.before.len();
         for tag in 0..=255 {
@@ -68,20 +70,21 @@ fn every_head_of(tag: u8) {
                 bytes[head..head + 3].copy_from_slice(&[tag, high, low]);
                 let now = number(both::table_form(&bytes));
                 let before = number(earlier_read(&bytes).map(|_| ()));
-                // After a right head and value the next field is missing.
-                let says = due.says(tag, length, there).unwrap_or((1, 1));
-                assert_eq!((before, now), says, "{bytes:?}");
+                match due.says(tag, length, there) {
+                    Some(says) => assert_eq!((before, now), says, "{bytes:?}"),
+                    None => assert_eq!(before, now, "{bytes:?}"),
+                }
                 if before != now {
                     changed[usize::from(now)] += 1;
                 }
             }
         }
+        // Every length above what is there, but for the tag that is due its
+        // own.
+        let too_long = 65535 - there;
+        let own = usize::from(there < size);
+        assert_eq!(changed, [0, 0, 255 * too_long, too_long - own]);
     }
-    // Every length above what is there; of the tag that is due, every one but
-    // its own.
-    let too_long = 65535 + 65534;
-    let own = 2 - usize::from(due.value.len() == 1);
-    assert_eq!(changed, [0, 0, 255 * too_long, too_long - own]);
 }
 
 #[test]

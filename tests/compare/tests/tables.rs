@@ -74,8 +74,12 @@ fn every_byte_of_a_table_set_to_every_value() {
                 seen[number(both::table_check(&bytes)) as usize] += 1;
             }
         }
-        assert!(seen[0] > 0 && seen[1] > 0 && seen[2] > 0 && seen[3] > 0);
-        assert!(seen[4] > 0 && seen[6] > 0 && seen[7] > 0);
+        // No byte is missing: where a head says otherwise, its tag or length is
+        // wrong.
+        assert_eq!((seen[1], seen[5]), (0, 0));
+        for number in [0, 2, 3, 4, 6, 7] {
+            assert!(seen[number] > 0, "{seen:?}");
+        }
     }
 }
 

@@ -5,6 +5,7 @@ use compare::both::{self, Answer, Lent};
 use compare::tables::generous;
 use reference::table::earlier_read;
 use reference::{Width, WidthTable};
+use std::collections::BTreeSet;
 
 fn number(answer: Answer) -> u8 {
     answer.err().map_or(0, |refusal| refusal.number)
@@ -60,7 +61,7 @@ impl Due {
 fn every_head_of(tag: u8) {
     let due = Due::new(&generous(8, 1), tag);
     let size = due.value.len();
-    for there in [0, 1, size - 1, size, size + 1] {
+    for there in BTreeSet::from([0, 1, size - 1, size, size + 1]) {
         let mut changed = [0; 4];
         let mut bytes = due.bytes(0, 0, there);
         let head = due.before.len();

@@ -2,8 +2,10 @@
 --   Answers      the calls: answers as numbers, and each lent slice afterwards
 --   Promises     what an answer of 0 promises, at the bytes: demand 3, viewing
 --   Zero         an answer of 0 says that the call was done
+--   EarlierOrder what document 02, job 3, changed of each call
 --   AnswerLaws   what the answers of the calls below say of them
 pub mod Answers
 pub mod Zero
 pub mod Promises
 pub mod AnswerLaws
+pub mod EarlierOrder

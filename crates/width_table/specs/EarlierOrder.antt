@@ -16,7 +16,7 @@ use Rattle.width_table.specs.Names.{nameable, valueOf}
 
 -- ---- the earlier order
 
--- a value that is cut short (1) came before a wrong tag (2) and a wrong length (3)
+-- document 01, refusals 1 to 3, in rising order: a value that is cut short (1) came before a wrong tag (2) and a wrong length (3)
 unfoldable pub earlierHeaded : ℕ → ℕ → List ℕ → Answer Unit
 earlierHeaded tag len bytes =
     asks (leb headBytes (length bytes)) 1
@@ -25,26 +25,30 @@ earlierHeaded tag len bytes =
     (asks (eqb (announced bytes) len) 3
     passed)))
 
--- the rest was as it is
+-- one field, 4 last, as in `field`
 unfoldable pub earlierField : Field → List ℕ → Answer Unit
 earlierField f bytes = earlierHeaded (f .tag) (f .size) bytes then asks (f .right (take (f .size) (drop headBytes bytes))) 4 passed
 
+-- fields one by one, then 5, as in `formBy`
 unfoldable pub earlierFormBy : List Field → List ℕ → Answer Unit
 earlierFormBy [] bytes = asks (eqb (length bytes) 0) 5 passed
 earlierFormBy (f ∷ fs) bytes = earlierField f bytes then earlierFormBy fs (drop (headBytes + f .size) bytes)
 
+-- the fields of a table of as many levels as the second field has, as in `form`
 unfoldable pub earlierForm : List ℕ → Answer Unit
 earlierForm bytes = earlierFormBy (fields (levelsIn bytes)) bytes
 
+-- the table that reading gave, as in `tableRead`
 unfoldable pub earlierTableRead : List ℕ → WidthTable
 earlierTableRead bytes = answered (earlierForm bytes) (tableIn bytes) emptyTable
 
+-- naming a tag: the name (2), then the form, as in `nameable`
 unfoldable pub earlierNameable : List ℕ → ℕ → Answer Unit
 earlierNameable bytes tag = asks (tagRight tag) 2 (earlierForm bytes)
 
 -- ---- the two cases of document 02, job 3
 
--- a whole head whose value is cut short
+-- the three head bytes are there, and fewer value bytes than they announce
 abbrev pub valueCut : List ℕ → Bool
 valueCut bytes = leb headBytes (length bytes) && not (leb (announced bytes) (length bytes - headBytes))
 
@@ -61,6 +65,7 @@ unfoldable pub comesTo : (Field → List ℕ → Bool) → List Field → List �
 comesTo test [] bytes = false
 comesTo test (f ∷ fs) bytes = test f bytes || answered (field f bytes) (comesTo test fs (drop (headBytes + f .size) bytes)) false
 
+-- the same of a whole table's bytes: in whichever field
 unfoldable pub happens : (Field → List ℕ → Bool) → List ℕ → Bool
 happens test bytes = comesTo test (fields (levelsIn bytes)) bytes
 
@@ -189,52 +194,51 @@ form-stays (f ∷ fs) bytes g h =
 
 -- ---- every list of bytes
 
+-- An answer in the earlier order, and as it is: 1 becomes 2 or 3 in the two cases, and no other answer differs.
+pub record Changes (bytes : List ℕ) {A : Type 0} (earlier present : Answer A) : Type 0 where
+  pub two : T (happens wrongTagCut bytes) → (earlier ≡ refused (1, [])) × (present ≡ refused (2, []))
+  pub three : T (happens wrongLengthCut bytes) → (earlier ≡ refused (1, [])) × (present ≡ refused (3, []))
+  pub no-other : happens wrongTagCut bytes ≡ false → happens wrongLengthCut bytes ≡ false → present ≡ earlier
+
 module _ (bytes : List ℕ) where
-  -- a whole head with a wrong tag whose value is cut short, 1 to 2
-  pub one-to-two : T (happens wrongTagCut bytes) → (earlierForm bytes ≡ refused (1, [])) × (form bytes ≡ refused (2, []))
+  pub form-changes : Changes bytes (earlierForm bytes) (form bytes)
   unfolding happens form earlierForm
-  one-to-two = comes wrongTagCut 2 field-two (fields (levelsIn bytes)) bytes
-
-  -- a due tag with a wrong length and a value cut short, 1 to 3
-  pub one-to-three : T (happens wrongLengthCut bytes) → (earlierForm bytes ≡ refused (1, [])) × (form bytes ≡ refused (3, []))
-  unfolding happens form earlierForm
-  one-to-three = comes wrongLengthCut 3 field-three (fields (levelsIn bytes)) bytes
-
-  -- no other answer differs
-  pub no-other : happens wrongTagCut bytes ≡ false → happens wrongLengthCut bytes ≡ false → form bytes ≡ earlierForm bytes
-  unfolding happens form earlierForm
-  no-other = form-stays (fields (levelsIn bytes)) bytes
+  form-changes = record {
+    two = comes wrongTagCut 2 field-two (fields (levelsIn bytes)) bytes;
+    three = comes wrongLengthCut 3 field-three (fields (levelsIn bytes)) bytes;
+    no-other = form-stays (fields (levelsIn bytes)) bytes;
+  }
 
   -- one of the three holds of any bytes, so what follows from each of them does
   by-change : {P : Type 0} → (earlierForm bytes ≡ refused (1, []) → (n : ℕ) → form bytes ≡ refused (n, []) → P) → (form bytes ≡ earlierForm bytes → P) → P
-  by-change {P} changes keeps = go (happens wrongTagCut bytes) (happens wrongLengthCut bytes) refl refl
+  by-change {P} moved keeps = go (happens wrongTagCut bytes) (happens wrongLengthCut bytes) refl refl
     where
       go : (a b : Bool) → happens wrongTagCut bytes ≡ a → happens wrongLengthCut bytes ≡ b → P
-      go true b e f = let (x, y) = one-to-two (subst T (sym e) tt) in changes x 2 y
-      go false true e f = let (x, y) = one-to-three (subst T (sym f) tt) in changes x 3 y
-      go false false e f = keeps (no-other e f)
+      go true b e f = let (x, y) = form-changes .two (subst T (sym e) tt) in moved x 2 y
+      go false true e f = let (x, y) = form-changes .three (subst T (sym f) tt) in moved x 3 y
+      go false false e f = keeps (form-changes .no-other e f)
 
   -- so the answers differ exactly there
-  abbrev pub changes : Bool
-  changes = happens wrongTagCut bytes || happens wrongLengthCut bytes
+  abbrev pub inEither : Bool
+  inEither = happens wrongTagCut bytes || happens wrongLengthCut bytes
 
-  pub differs-only : (form bytes ≡ earlierForm bytes → ⊥) → T changes
+  pub differs-only : (form bytes ≡ earlierForm bytes → ⊥) → T inEither
   differs-only h = go (happens wrongTagCut bytes) (happens wrongLengthCut bytes) refl refl
     where
       go : (a b : Bool) → happens wrongTagCut bytes ≡ a → happens wrongLengthCut bytes ≡ b → T (a || b)
       go true b e f = tt
       go false true e f = tt
-      go false false e f = absurd (h (no-other e f))
+      go false false e f = absurd (h (form-changes .no-other e f))
 
-  pub differs-there : T changes → form bytes ≡ earlierForm bytes → ⊥
+  pub differs-there : T inEither → form bytes ≡ earlierForm bytes → ⊥
   differs-there h e = go (happens wrongTagCut bytes) (happens wrongLengthCut bytes) refl refl h
     where
       other : (n : ℕ) → 2 ≤ n → (earlierForm bytes ≡ refused (1, [])) × (form bytes ≡ refused (n, [])) → ⊥
       other n k b = let c : n + 256 * 0 ≡ 1 + 256 * 0 = ap code (sym (b .1) ∙ e ∙ b .0) in omega arith
 
       go : (a b : Bool) → happens wrongTagCut bytes ≡ a → happens wrongLengthCut bytes ≡ b → T (a || b) → ⊥
-      go true b f g k = other 2 (omega arith) (one-to-two (subst T (sym f) tt))
-      go false true f g k = other 3 (omega arith) (one-to-three (subst T (sym g) tt))
+      go true b f g k = other 2 (omega arith) (form-changes .two (subst T (sym f) tt))
+      go false true f g k = other 3 (omega arith) (form-changes .three (subst T (sym g) tt))
       go false false f g k = k
 
   -- what stands where a table is read, and where not, is the same
@@ -245,15 +249,22 @@ module _ (bytes : List ℕ) where
   unfolding tableRead earlierTableRead
   same-table = same-after (tableIn bytes) emptyTable
 
-  -- ---- naming a tag: a wrong name is 2 in either order; after a right one the answer is that of reading, and the value is the same
+  -- ---- naming a tag: a wrong name is 2 in either order; after a right one the answer changes alike, and the value is the same
   module _ (tag : ℕ) where
     pub wrong-name : tagRight tag ≡ false → (nameable bytes tag ≡ refused (2, [])) × (earlierNameable bytes tag ≡ refused (2, []))
     unfolding nameable earlierNameable
     wrong-name e = (asks-wrong (tagRight tag) _ (form bytes) e, asks-wrong (tagRight tag) _ (earlierForm bytes) e)
 
-    pub right-name : T (tagRight tag) → (nameable bytes tag ≡ form bytes) × (earlierNameable bytes tag ≡ earlierForm bytes)
+    pub name-changes : T (tagRight tag) → Changes bytes (earlierNameable bytes tag) (nameable bytes tag)
     unfolding nameable earlierNameable
-    right-name h = (asks-right (tagRight tag) _ (form bytes) h, asks-right (tagRight tag) _ (earlierForm bytes) h)
+    name-changes h =
+        let present = asks-right (tagRight tag) (2, []) (form bytes) h in
+        let earlier = asks-right (tagRight tag) (2, []) (earlierForm bytes) h in
+        record {
+          two = λ k. let (a, b) = form-changes .two k in (earlier ∙ a, present ∙ b);
+          three = λ k. let (a, b) = form-changes .three k in (earlier ∙ a, present ∙ b);
+          no-other = λ g k. present ∙ form-changes .no-other g k ∙ sym earlier;
+        }
 
     pub same-named : {B : Type 0} (x y : B) → answered (nameable bytes tag) x y ≡ answered (earlierNameable bytes tag) x y
     unfolding nameable earlierNameable
@@ -267,17 +278,14 @@ module _ (bytes : List ℕ) where
     unfolding valueOf
     same-value = same-named (valueIn bytes tag) []
 
-  -- ---- a call that reads its table from bytes first (`form bytes then ..`): its answer changes there alone and by the same
-  -- numbers, and lent memory holds the same afterwards
+  -- ---- a call that reads its table from bytes first: its answer changes alike, and what it is lent holds the same afterwards
   module _ {A : Type 0} (rules : Answer A) where
-    pub call-two : T (happens wrongTagCut bytes) → (earlierForm bytes then rules ≡ refused (1, [])) × (form bytes then rules ≡ refused (2, []))
-    call-two h = let (a, b) = one-to-two h in (then-refused (earlierForm bytes) rules _ a, then-refused (form bytes) rules _ b)
-
-    pub call-three : T (happens wrongLengthCut bytes) → (earlierForm bytes then rules ≡ refused (1, [])) × (form bytes then rules ≡ refused (3, []))
-    call-three h = let (a, b) = one-to-three h in (then-refused (earlierForm bytes) rules _ a, then-refused (form bytes) rules _ b)
-
-    pub call-stays : happens wrongTagCut bytes ≡ false → happens wrongLengthCut bytes ≡ false → form bytes then rules ≡ earlierForm bytes then rules
-    call-stays g h = ap (λ (o : Answer Unit). o then rules) (no-other g h)
+    pub call-changes : Changes bytes (earlierForm bytes then rules) (form bytes then rules)
+    call-changes = record {
+      two = λ h. let (a, b) = form-changes .two h in (then-refused (earlierForm bytes) rules _ a, then-refused (form bytes) rules _ b);
+      three = λ h. let (a, b) = form-changes .three h in (then-refused (earlierForm bytes) rules _ a, then-refused (form bytes) rules _ b);
+      no-other = λ g h. ap (λ (o : Answer Unit). o then rules) (form-changes .no-other g h);
+    }
 
     pub same-lent : {B : Type 0} (x y : B) → answered (form bytes then rules) x y ≡ answered (earlierForm bytes then rules) x y
     same-lent x y =

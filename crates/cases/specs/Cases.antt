@@ -37,9 +37,9 @@ pub record Table : Type 0 where
   pub stage-2 : firstStage (negsuc 0) (negsuc 0) (pos 0) 2 ≡ pos 1
   -- -1; 0, 0 with f 0 gives -1
   pub stage-down : firstStage (negsuc 0) (pos 0) (pos 0) 0 ≡ negsuc 0
-  -- the listing of 3 1, 2 2, 5 7 4 4: "53 3 1 2 2", "1 1", "-2 -2"
+  -- the listing of 3 1, 2 2, 5 7 4 4: "53 3 1 2 2", "2 1", "-2 -2" (document 02, job 4)
   pub listing : copyText (3 ∷ 1 ∷ 0 ∷ 2 ∷ 0 ∷ 2 ∷ 0 ∷ 5 ∷ 0 ∷ 7 ∷ 0 ∷ 4 ∷ 0 ∷ 4 ∷ [])
-      ≡ 53 ∷ 51 ∷ 32 ∷ 51 ∷ 32 ∷ 49 ∷ 32 ∷ 50 ∷ 32 ∷ 50 ∷ 10 ∷ 49 ∷ 32 ∷ 49 ∷ 10 ∷ 45 ∷ 50 ∷ 32 ∷ 45 ∷ 50 ∷ 10 ∷ []
+      ≡ 53 ∷ 51 ∷ 32 ∷ 51 ∷ 32 ∷ 49 ∷ 32 ∷ 50 ∷ 32 ∷ 50 ∷ 10 ∷ 50 ∷ 32 ∷ 49 ∷ 10 ∷ 45 ∷ 50 ∷ 32 ∷ 45 ∷ 50 ∷ 10 ∷ []
   -- in 2^-16: input to P1 273434, P1 to U1 6945, U2 to G1 75341 (stages 0, 1, 3 and 4 leave P1, U1, U2 and G1)
   pub gains : gain forward S.high 1 samples ∷ gain forward S.low 2 (node 0) ∷ gain forward S.low 5 (node 3) ∷ [] ≡ 273434 ∷ 6945 ∷ 75341 ∷ []
 

@@ -4,6 +4,7 @@ ghost use Rattle.refusals.specs.Answers.{_then_, answered, code};
 ghost use Rattle.refusals.specs.Told.{told};
 ghost use Rattle.width_table.specs.Bytes.{form, writable, bytesAfter};
 ghost use Rattle.width_table.specs.Names.{nameable};
+ghost use Rattle.reversible.specs.Reversible.{columnsThenRows, rowsThenColumns};
 ghost use Rattle.reversible.specs.Calls.{forwardAnswer, forwardPlane, forwardWork, backAnswer, backPixels, backWork};
 ghost use Rattle.engine.specs.Answers.{checked, boundAnswered, rangeAfter, errorAfter, startAfter, lengthAfter, changeAnswer, changeOut, constantChangeAnswer, constantChangeOut, tableFrom, answer97, plane97, work97, viewChecked, distanceAfter, viewAnswer97, viewPixels97, viewWork97};
 use refusals::Outcome;
@@ -171,7 +172,7 @@ pub extern "C" fn suz_table_write(
     table_written(WidthTable::new(depth, levels, *constants, *widths), out)
 }
 
-// 5/3 forward: 4, 8, 9, 10.
+// 5/3 forward, columns before rows: 4, 8, 9, 10.
 #[no_mangle]
 pub extern "C" fn suz_forward53(
     depth: u8,
@@ -183,13 +184,13 @@ pub extern "C" fn suz_forward53(
     work: &mut [i32],
 ) -> u32
     ensures answer { λ r. ⌜ r ≡ code (forwardAnswer depth levels width height (now (pixels .entry)) (now (plane .entry)) (now (work .entry))) ⌝ }
-    ensures plane { λ _. ⌜ now (plane .exit) ≡ forwardPlane depth levels width height (now (pixels .entry)) (now (plane .entry)) (now (work .entry)) ⌝ }
+    ensures plane { λ _. ⌜ now (plane .exit) ≡ forwardPlane columnsThenRows depth levels width height (now (pixels .entry)) (now (plane .entry)) (now (work .entry)) ⌝ }
     ensures work { λ _. ⌜ now (work .exit) ≡ forwardWork depth levels width height (now (pixels .entry)) (now (plane .entry)) (now (work .entry)) ⌝ }
 {
     refusals::code(reversible::forward(depth, levels, pixels, width, height, plane, work))
 }
 
-// 5/3 back: 4, 8, 9, 11.
+// 5/3 back, of what suz_forward53 makes: rows undone before columns. 4, 8, 9, 11.
 #[no_mangle]
 pub extern "C" fn suz_inverse53(
     depth: u8,
@@ -200,11 +201,29 @@ pub extern "C" fn suz_inverse53(
     pixels: &mut [u16],
     work: &mut [i32],
 ) -> u32
-    ensures answer { λ r. ⌜ r ≡ code (backAnswer depth levels width height (now (plane .entry)) (now (pixels .entry)) (now (work .entry))) ⌝ }
-    ensures pixels { λ _. ⌜ now (pixels .exit) ≡ backPixels depth levels width height (now (plane .entry)) (now (pixels .entry)) (now (work .entry)) ⌝ }
+    ensures answer { λ r. ⌜ r ≡ code (backAnswer columnsThenRows depth levels width height (now (plane .entry)) (now (pixels .entry)) (now (work .entry))) ⌝ }
+    ensures pixels { λ _. ⌜ now (pixels .exit) ≡ backPixels columnsThenRows depth levels width height (now (plane .entry)) (now (pixels .entry)) (now (work .entry)) ⌝ }
     ensures work { λ _. ⌜ now (work .exit) ≡ backWork depth levels width height (now (plane .entry)) (now (pixels .entry)) (now (work .entry)) ⌝ }
 {
     refusals::code(reversible::back(depth, levels, plane, width, height, pixels, work))
+}
+
+// 5/3 back, of copies made earlier, rows before columns: columns undone before rows. 4, 8, 9, 11.
+#[no_mangle]
+pub extern "C" fn suz_inverse53_rows_first(
+    depth: u8,
+    levels: u8,
+    plane: &[i32],
+    width: usize,
+    height: usize,
+    pixels: &mut [u16],
+    work: &mut [i32],
+) -> u32
+    ensures answer { λ r. ⌜ r ≡ code (backAnswer rowsThenColumns depth levels width height (now (plane .entry)) (now (pixels .entry)) (now (work .entry))) ⌝ }
+    ensures pixels { λ _. ⌜ now (pixels .exit) ≡ backPixels rowsThenColumns depth levels width height (now (plane .entry)) (now (pixels .entry)) (now (work .entry)) ⌝ }
+    ensures work { λ _. ⌜ now (work .exit) ≡ backWork depth levels width height (now (plane .entry)) (now (pixels .entry)) (now (work .entry)) ⌝ }
+{
+    refusals::code(reversible::back_rows_first(depth, levels, plane, width, height, pixels, work))
 }
 
 // 9/7 forward: 1 to 5 of the bytes, then 6, 7, 8, 9, 10.

@@ -18,7 +18,7 @@ use Rattle.lines.specs.RowLaws.{place-in, rows-length, rows-at, tabulate-same}
 use Rattle.width_table.specs.Table.{depthRight, levelsRight}
 use Rattle.pictures.specs.Pictures.{pixelsRight, sample, planeOf}
 use Rattle.pictures.specs.PictureLaws.{sized, sized-then, sized-right, over-take}
-use Rattle.reversible.specs.Reversible.{forward}
+use Rattle.reversible.specs.Reversible.{columnsThenRows, forward}
 use Rattle.reversible.specs.Calls.{limited, forwardAnswer, forwardPlane}
 use Rattle.listing.specs.declared.Head.{Head}
 use Rattle.listing.specs.Listing.{line, rowLines, refusedLine, headBytes, maxPixels, maxInput, maxText, copyDepth, copyLevels, copyWidth, copyHeight, copySize, copyPixels, copyForm, copyAnswer, headIn, headText, copyLines, copyText, listed}
@@ -61,7 +61,7 @@ module _ (bytes : List ℕ) where
   text-refused r e v = ap (λ (o : Answer Unit). copyLines bytes (o then verdict)) e ∙ ap (copyLines bytes) v
 
   pub text-done : copyForm bytes ≡ passed → verdict ≡ passed
-      → copyText bytes ≡ headText (headIn bytes) ++ rowLines (copyWidth bytes) (forward (copyLevels bytes) (copyWidth bytes) (copyHeight bytes) (sample (copyPixels bytes) (copyDepth bytes) (copyWidth bytes))) 0 (copyHeight bytes)
+      → copyText bytes ≡ headText (headIn bytes) ++ rowLines (copyWidth bytes) (forward columnsThenRows (copyLevels bytes) (copyWidth bytes) (copyHeight bytes) (sample (copyPixels bytes) (copyDepth bytes) (copyWidth bytes))) 0 (copyHeight bytes)
   unfolding copyText copyAnswer copyLines
   text-done e v = ap (λ (o : Answer Unit). copyLines bytes (o then verdict)) e ∙ ap (copyLines bytes) v
 
@@ -81,7 +81,7 @@ rows-written w h q l old some e = rows-agree w (planeOf w l) q 0 h (λ r c i j.
 -- ---- the call's answer
 
 plane-written : (B L w h : ℕ) (pixels : List ℕ) (plane work : List ℤ) → forwardAnswer B L w h pixels plane work ≡ passed
-    → forwardPlane B L w h pixels plane work ≡ over (rowByRow w h (forward L w h (sample pixels B w))) plane
+    → forwardPlane columnsThenRows B L w h pixels plane work ≡ over (rowByRow w h (forward columnsThenRows L w h (sample pixels B w))) plane
 unfolding forwardPlane
 plane-written B L w h pixels plane work e = answered-done _ _ e
 
@@ -105,11 +105,11 @@ module _ (bytes : List ℕ) (head : Head) (is : head ≡ headIn bytes) (right : 
     pub refused-text : (r : Reason) → o ≡ refused r → refusedLine (r .0) ≡ copyText bytes
     refused-text r e = sym (text-refused bytes r right (sym judged ∙ e))
 
-    pub plane-text : (new : List ℤ) → new ≡ forwardPlane (head .depth) (head .levels) (head .w) (head .h) (take (head .w * head .h) after) plane work → o ≡ passed
+    pub plane-text : (new : List ℤ) → new ≡ forwardPlane columnsThenRows (head .depth) (head .levels) (head .w) (head .h) (take (head .w * head .h) after) plane work → o ≡ passed
         → headText head ++ rowLines (head .w) (planeOf (head .w) new) 0 (head .h) ≡ copyText bytes
     plane-text new e d =
         let v : verdict bytes ≡ passed = sym judged ∙ d in
-        let written = e ∙ (λ i. forwardPlane (is i .depth) (is i .levels) (is i .w) (is i .h) (same-pixels i) plane work)
+        let written = e ∙ (λ i. forwardPlane columnsThenRows (is i .depth) (is i .levels) (is i .w) (is i .h) (same-pixels i) plane work)
         ∙ plane-written _ _ _ _ _ _ _ (forward-judges bytes plane work formed for-plane for-work ∙ v) in
         (λ i. headText (is i) ++ rowLines (is i .w) (planeOf (is i .w) new) 0 (is i .h))
         ∙ ap (λ (t : List ℕ). headText (headIn bytes) ++ t) (rows-written (copyWidth bytes) (copyHeight bytes) _ new plane (omega (arith, formed .wide .0)) written)

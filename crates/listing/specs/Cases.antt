@@ -1,18 +1,18 @@
--- Document 01's listing, and a refusal of each number that the program gives.
+-- Document 01's listing, as document 02 has it, and a refusal of each number that the program gives.
 use Prim.Native.Nat.{ℕ, _+_}
 use mathlib.Core.List.{List, [], _∷_, map}
 use mathlib.Core.Path.{_≡_, refl}
 use Rattle.numbers.specs.Tests.{every}
 use Rattle.lines.specs.Lines.{lowAfter, highBefore, highAfter, onHighs, onLows, lowsFirst}
-use Rattle.lines.specs.Planes.{tabulate, rows, columns, within, side, rowsFirst, levels}
+use Rattle.lines.specs.Planes.{tabulate, rows, columns, within, side, columnsFirst, levels}
 use Rattle.pictures.specs.Pictures.{pixelsRight, sample}
 use Rattle.reversible.specs.Reversible.{predict, update, high, low, reversiblePass, forward}
 use Rattle.listing.specs.Listing.{digits, decimal, line, rowLines, refusedLine, pairs, copyPixels, copyForm, copyAnswer, copyLines, copyText}
 
--- 3 1, 2 2, 5 7 4 4 gives "53 3 1 2 2", "1 1", "-2 -2"
+-- 3 1, 2 2, 5 7 4 4 gives "53 3 1 2 2", "2 1", "-2 -2" (document 02, job 4)
 pub document : copyText (3 ∷ 1 ∷ 0 ∷ 2 ∷ 0 ∷ 2 ∷ 0 ∷ 5 ∷ 0 ∷ 7 ∷ 0 ∷ 4 ∷ 0 ∷ 4 ∷ [])
-    ≡ 53 ∷ 51 ∷ 32 ∷ 51 ∷ 32 ∷ 49 ∷ 32 ∷ 50 ∷ 32 ∷ 50 ∷ 10 ∷ 49 ∷ 32 ∷ 49 ∷ 10 ∷ 45 ∷ 50 ∷ 32 ∷ 45 ∷ 50 ∷ 10 ∷ []
-unfolding copyText copyLines copyAnswer copyForm pixelsRight copyPixels pairs refusedLine rowLines line decimal digits every forward levels rowsFirst within rows columns side sample reversiblePass low high onHighs onLows lowAfter highBefore highAfter lowsFirst predict update tabulate
+    ≡ 53 ∷ 51 ∷ 32 ∷ 51 ∷ 32 ∷ 49 ∷ 32 ∷ 50 ∷ 32 ∷ 50 ∷ 10 ∷ 50 ∷ 32 ∷ 49 ∷ 10 ∷ 45 ∷ 50 ∷ 32 ∷ 45 ∷ 50 ∷ 10 ∷ []
+unfolding copyText copyLines copyAnswer copyForm pixelsRight copyPixels pairs refusedLine rowLines line decimal digits every forward levels columnsFirst within rows columns side sample reversiblePass low high onHighs onLows lowAfter highBefore highAfter lowsFirst predict update tabulate
 document = refl
 
 -- "refused", a space, the number and the line's end

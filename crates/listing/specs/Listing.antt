@@ -9,7 +9,7 @@ use Rattle.refusals.specs.Answers.{Answer, done, refused, passed, asks, _then_}
 use Rattle.lines.specs.Planes.{Plane, tabulate}
 use Rattle.width_table.specs.Table.{depthRight, levelsRight}
 use Rattle.pictures.specs.Pictures.{sideRight, pixelsRight, sample}
-use Rattle.reversible.specs.Reversible.{forward}
+use Rattle.reversible.specs.Reversible.{columnsThenRows, forward}
 use Rattle.listing.specs.declared.Head.{Head}
 
 -- ---- text
@@ -129,7 +129,7 @@ module _ (bytes : List ℕ) where
 
   -- the lines of an answer: the head and the plane's rows, or the refusal
   unfoldable pub copyLines : Answer Unit → List ℕ
-  copyLines (done x) = headText headIn ++ rowLines copyWidth (forward copyLevels copyWidth copyHeight (sample copyPixels copyDepth copyWidth)) 0 copyHeight
+  copyLines (done x) = headText headIn ++ rowLines copyWidth (forward columnsThenRows copyLevels copyWidth copyHeight (sample copyPixels copyDepth copyWidth)) 0 copyHeight
   copyLines (refused r) = refusedLine (r .0)
 
   -- what the program prints

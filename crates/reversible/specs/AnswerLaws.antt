@@ -14,7 +14,7 @@ use Rattle.refusals.specs.AnswerLaws.{asks-done, asks-right, asks-wrong, then-d
 use Rattle.lines.specs.Planes.{rowByRow}
 use Rattle.pictures.specs.Pictures.{pixelsRight, sample, zeroed}
 use Rattle.pictures.specs.PictureLaws.{sized, sized-then, sized-done, pixels-done}
-use Rattle.reversible.specs.Reversible.{forward}
+use Rattle.reversible.specs.Reversible.{Order, columnsThenRows, forward}
 use Rattle.reversible.specs.Calls.{limited, forwardAnswer, forwardPlane, forwardWork, hasPicture, backAllowed, backAnswer, backPixels, backWork}
 use Rattle.reversible.specs.FoundLaws.{TakenBack}
 use Rattle.reversible.specs.Needs.{CallRoom, ForwardRoom}
@@ -43,7 +43,7 @@ module _ (B L w h : ℕ) (pixels : List ℕ) (plane work : List ℤ) where
 
   -- the call's answer, and what it leaves in the plane and in the work area
   abbrev pub Forwarded : Answer Unit → List ℤ → List ℤ → Type 0
-  Forwarded o p q = (o ≡ forwardAnswer B L w h pixels plane work) × ((p ≡ forwardPlane B L w h pixels plane work) × (q ≡ forwardWork B L w h pixels plane work))
+  Forwarded o p q = (o ≡ forwardAnswer B L w h pixels plane work) × ((p ≡ forwardPlane columnsThenRows B L w h pixels plane work) × (q ≡ forwardWork B L w h pixels plane work))
 
   not-done : (r : Reason) → forwardAnswer B L w h pixels plane work ≡ refused r → Forwarded (refused r) plane work
   unfolding forwardPlane forwardWork
@@ -59,7 +59,7 @@ module _ (B L w h : ℕ) (pixels : List ℕ) (plane work : List ℤ) where
   pub forward-pixel : (r : Reason) → allowed ≡ passed → pixelsRight B w h pixels ≡ refused r → Forwarded (refused r) plane work
   forward-pixel r e f = not-done r (chain ∙ then-right allowed _ e ∙ f)
 
-  pub forward-done : allowed ≡ passed → pixelsRight B w h pixels ≡ passed → (p q : List ℤ) → p ≡ over (rowByRow w h (forward L w h (sample pixels B w))) plane → q ≡ zeroed (w * h) work → Forwarded passed p q
+  pub forward-done : allowed ≡ passed → pixelsRight B w h pixels ≡ passed → (p q : List ℤ) → p ≡ over (rowByRow w h (forward columnsThenRows L w h (sample pixels B w))) plane → q ≡ zeroed (w * h) work → Forwarded passed p q
   unfolding forwardPlane forwardWork
   forward-done e f p q a b =
       let d = chain ∙ then-right allowed _ e ∙ f in
@@ -70,22 +70,22 @@ module _ (B L w h : ℕ) (pixels : List ℕ) (plane work : List ℤ) where
 
 -- ---- back
 
-module _ (B L w h : ℕ) (plane : List ℤ) (pixels : List ℕ) (work : List ℤ) where
+module _ (order : Order) (B L w h : ℕ) (plane : List ℤ) (pixels : List ℕ) (work : List ℤ) where
   abbrev may : Answer Unit
   may = limited B L then sized L w h (length pixels) (length plane) (length work)
 
   -- the call's answer, and what it leaves in the pixels and in the work area
   abbrev pub Backed : Answer Unit → List ℕ → List ℤ → Type 0
-  Backed o p q = (o ≡ backAnswer B L w h plane pixels work) × ((p ≡ backPixels B L w h plane pixels work) × (q ≡ backWork B L w h plane pixels work))
+  Backed o p q = (o ≡ backAnswer order B L w h plane pixels work) × ((p ≡ backPixels order B L w h plane pixels work) × (q ≡ backWork B L w h plane pixels work))
 
   pub back-not-allowed : (r : Reason) → may ≡ refused r → Backed (refused r) pixels work
   unfolding backAnswer backPixels backWork backAllowed
   back-not-allowed r e =
-      let d : backAnswer B L w h plane pixels work ≡ refused r = then-refused may _ r e in
+      let d : backAnswer order B L w h plane pixels work ≡ refused r = then-refused may _ r e in
       (sym d, (sym (answered-refused _ pixels d), sym (answered-refused _ work e)))
 
   module _ (e : may ≡ passed) (p : List ℕ) (q : List ℤ) (cleared : q ≡ zeroed (w * h) work) where
-    last : backAnswer B L w h plane pixels work ≡ asks (hasPicture B L w h plane) 11 passed
+    last : backAnswer order B L w h plane pixels work ≡ asks (hasPicture order B L w h plane) 11 passed
     unfolding backAnswer backAllowed
     last = then-right may _ e
 
@@ -93,13 +93,13 @@ module _ (B L w h : ℕ) (plane : List ℤ) (pixels : List ℕ) (work : List ℤ
     unfolding backWork backAllowed
     zero-work = cleared ∙ sym (answered-done _ work e)
 
-    pub back-done : (r : Bool) → TakenBack B L w h plane pixels p r → r ≡ true → Backed passed p q
+    pub back-done : (r : Bool) → TakenBack order B L w h plane pixels p r → r ≡ true → Backed passed p q
     unfolding backPixels
     back-done r b t =
         let d = last ∙ ap (λ (t : Bool). asks t 11 passed) (sym (b .answer) ∙ t) in
         (sym d, (b .written (subst T (sym t) tt) ∙ sym (answered-done _ pixels d), zero-work))
 
-    pub back-none : (r : Bool) → TakenBack B L w h plane pixels p r → r ≡ false → Backed (refused (11, [])) p q
+    pub back-none : (r : Bool) → TakenBack order B L w h plane pixels p r → r ≡ false → Backed (refused (11, [])) p q
     unfolding backPixels
     back-none r b t =
         let d = last ∙ ap (λ (t : Bool). asks t 11 passed) (sym (b .answer) ∙ t) in

@@ -10,16 +10,16 @@ use Rattle.lines.specs.Planes.{side, levelsBack}
 use Rattle.lines.specs.PlaneLaws.{Agree}
 use Rattle.lifting.specs.Kernels.{rowOf}
 use Rattle.pictures.specs.Looks.{Tells, Between}
-use Rattle.reversible.specs.Reversible.{back}
+use Rattle.reversible.specs.Reversible.{Order, back}
 use Rattle.reversible.specs.LevelLaws.{Sized, planeAt}
 use Rattle.reversible.specs.LoopLaws.{BackLeft, sides, back-part}
 use Rattle.reversible.specs.Needs.{LevelsRoom}
 
 -- ---- the answer of all levels back
 
-pub record BackDone (L w h : ℕ) (x y : ℕ → ℤ) (r : Bool) : Type 0 where
-  pub done : T r → Agree w h (planeAt w y) (back L w h (planeAt w x))
-  pub none : Sized (2 ^ 11) w h (back L w h (planeAt w x)) → T r
+pub record BackDone (order : Order) (L w h : ℕ) (x y : ℕ → ℤ) (r : Bool) : Type 0 where
+  pub done : T r → Agree w h (planeAt w y) (back order L w h (planeAt w x))
+  pub none : Sized (2 ^ 11) w h (back order L w h (planeAt w x)) → T r
 
 -- a size as a look sees it
 pub sized-between : (n : ℕ) (z : ℤ) → natAbs z ≤ n → Between (negℤ (pos n)) (pos n) z
@@ -33,7 +33,7 @@ between-sized n z h = abs-≤ n z .1 h
 abbrev pub largest : ℕ
 largest = 2 ^ 22
 
-module _ {L w h n m : ℕ} (p : LevelsRoom L w h n m) (k : ℕ) (i : k < L) (x y : ℕ → ℤ) (left : BackLeft L w h (k + 1) x y) (across down : ℕ) (ea : across ≡ side k w) (ed : down ≡ side k h)
+module _ (order : Order) {L w h n m : ℕ} (p : LevelsRoom L w h n m) (k : ℕ) (i : k < L) (x y : ℕ → ℤ) (left : BackLeft order L w h (k + 1) x y) (across down : ℕ) (ea : across ≡ side k w) (ed : down ≡ side k h)
     (r : Bool) (look : Tells ((i : ℕ) → i < down → (j : ℕ) → j < across → Between (negℤ (pos largest)) (pos largest) (rowOf w 0 y i j)) r) where
   -- the look goes by the plane's rows
   here : (i j : ℕ) → i * w + j ≡ 0 + i * w + j
@@ -42,14 +42,14 @@ module _ {L w h n m : ℕ} (p : LevelsRoom L w h n m) (k : ℕ) (i : k < L) (x y
   pub look-small : T r → Sized largest (side k w) (side k h) (planeAt w y)
   look-small t a b e f = subst (λ (k : ℕ). natAbs (y k) ≤ largest) (sym (here a b)) (between-sized largest (rowOf w 0 y a b) (look .holds t a (omega arith) b (omega arith)))
 
-  pub look-large : r ≡ false → BackDone L w h x y false
+  pub look-large : r ≡ false → BackDone order L w h x y false
   look-large e = record {
     done = λ t. absurd t;
     none = λ small. subst T e (look .told (λ a u b v. let s = sides L w h (p .across) (p .down) k i in
-        let z = back-part L w h (p .across) (p .down) (k + 1) (omega arith) (p .few) x y left small a b (omega (arith, s .in-h)) (omega (arith, s .in-w)) in
+        let z = back-part L w h (p .across) (p .down) order (k + 1) (omega arith) (p .few) x y left small a b (omega (arith, s .in-h)) (omega (arith, s .in-w)) in
         sized-between largest (rowOf w 0 y a b) (subst (λ (k : ℕ). natAbs (y k) ≤ largest) (here a b) (omega arith))));
   }
 
-pub back-all : (L w h : ℕ) (x y : ℕ → ℤ) → BackLeft L w h 0 x y → BackDone L w h x y true
+pub back-all : (order : Order) (L w h : ℕ) (x y : ℕ → ℤ) → BackLeft order L w h 0 x y → BackDone order L w h x y true
 unfolding back levelsBack
-back-all L w h x y f = record { done = λ t. f .left; none = λ s. tt }
+back-all order L w h x y f = record { done = λ t. f .left; none = λ s. tt }

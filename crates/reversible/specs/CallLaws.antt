@@ -1,4 +1,4 @@
--- The 5/3 calls: there and back (`there-and-back`), back and there (`back-and-there`).
+-- The 5/3 calls, in either order of rows and columns: there and back (`there-and-back`), back and there (`back-and-there`).
 use Prim.Native.Nat.{ℕ, _+_, _*_, _-_, _^_, _<_, _≤_}
 use mathlib.Core.Bool.{_&&_}
 use mathlib.Core.List.{List, map}
@@ -16,7 +16,7 @@ use Rattle.lines.specs.RowLaws.{place-in, rows-length, rows-same, rows-take, ev
 use Rattle.width_table.specs.Table.{depthRight, levelsRight}
 use Rattle.pictures.specs.Pictures.{pixelsRight, sample, planeOf}
 use Rattle.pictures.specs.PictureLaws.{Room, sized, sized-then, sized-done, sized-right, pixels-done, pixel-below, over-take, over-length}
-use Rattle.reversible.specs.Reversible.{forward, back}
+use Rattle.reversible.specs.Reversible.{Order, forward, back}
 use Rattle.reversible.specs.ReversibleLaws.{take-add, forward-agrees}
 use Rattle.reversible.specs.PictureLaws.{Picture, planeIn, goes-back, found-picture, found-plane, pixel-is}
 use Rattle.reversible.specs.Calls.{limited, forwardAnswer, forwardPlane, pixelsBack, isPixel, hasPicture, backAllowed, backAnswer, backPixels}
@@ -43,9 +43,9 @@ forward-done B L w h pixels plane work e =
       right = pixels-done B w h pixels (b .1);
     }
 
-module _ (B L w h : ℕ) (pixels : List ℕ) (plane work : List ℤ) (e : forwardAnswer B L w h pixels plane work ≡ passed) (pixels' : List ℕ) (work' : List ℤ) (rp : w * h ≤ length pixels') (rw' : w * h ≤ length work') where
+module _ (order : Order) (B L w h : ℕ) (pixels : List ℕ) (plane work : List ℤ) (e : forwardAnswer B L w h pixels plane work ≡ passed) (pixels' : List ℕ) (work' : List ℤ) (rp : w * h ≤ length pixels') (rw' : w * h ≤ length work') where
   abbrev made : List ℤ
-  made = forwardPlane B L w h pixels plane work
+  made = forwardPlane order B L w h pixels plane work
 
   facts : ForwardDone B L w h pixels plane work
   facts = forward-done B L w h pixels plane work e
@@ -62,76 +62,76 @@ module _ (B L w h : ℕ) (pixels : List ℕ) (plane work : List ℤ) (e : forwar
   roomy-h : Roomy L h
   roomy-h = roomy L h (facts .room .tall .0)
 
-  is-over : made ≡ over (planeIn B L w h pixels) plane
+  is-over : made ≡ over (planeIn order B L w h pixels) plane
   unfolding forwardPlane
-  is-over = answered-done (over (planeIn B L w h pixels) plane) plane e
+  is-over = answered-done (over (planeIn order B L w h pixels) plane) plane e
 
-  long : length (planeIn B L w h pixels) ≡ w * h
-  long = rows-length w h some-w (forward L w h (sample pixels B w))
+  long : length (planeIn order B L w h pixels) ≡ w * h
+  long = rows-length w h some-w (forward order L w h (sample pixels B w))
 
   room-made : w * h ≤ length made
-  room-made = subst (λ (l : List ℤ). w * h ≤ length l) (sym is-over) (omega (arith, long, over-length (planeIn B L w h pixels) plane))
+  room-made = subst (λ (l : List ℤ). w * h ≤ length l) (sym is-over) (omega (arith, long, over-length (planeIn order B L w h pixels) plane))
 
-  front : planeIn B L w h pixels ≡ take (w * h) made
-  front = sym (ap (take (w * h)) is-over ∙ over-take (w * h) (planeIn B L w h pixels) plane long)
+  front : planeIn order B L w h pixels ≡ take (w * h) made
+  front = sym (ap (take (w * h)) is-over ∙ over-take (w * h) (planeIn order B L w h pixels) plane long)
 
-  value : (r c : ℕ) → r < h → c < w → back L w h (planeOf w made) r c +ℤ pos (2 ^ (B - 1)) ≡ pos (getD pixels (r * w + c) 0)
+  value : (r c : ℕ) → r < h → c < w → back order L w h (planeOf w made) r c +ℤ pos (2 ^ (B - 1)) ≡ pos (getD pixels (r * w + c) 0)
   unfolding sample
   value r c i j =
-      ap (λ (z : ℤ). z +ℤ pos (2 ^ (B - 1))) (goes-back B L w h roomy-w roomy-h some-w some-h made room-made (sample pixels B w) front r c i j)
+      ap (λ (z : ℤ). z +ℤ pos (2 ^ (B - 1))) (goes-back order B L w h roomy-w roomy-h some-w some-h made room-made (sample pixels B w) front r c i j)
       ∙ take-add (pos (getD pixels (r * w + c) 0)) (pos (2 ^ (B - 1)))
 
   pixel-right : (r c : ℕ) → r < h → c < w → getD pixels (r * w + c) 0 < 2 ^ B
   pixel-right r c i j = pixel-below B w h pixels (facts .room .first) (facts .right) (r * w + c) (place-in w h some-w r c i j)
 
-  has : T (hasPicture B L w h made)
+  has : T (hasPicture order B L w h made)
   unfolding hasPicture pixelsBack
-  has = every-row w h some-w (isPixel B) (λ r c. back L w h (planeOf w made) r c +ℤ pos (2 ^ (B - 1)))
+  has = every-row w h some-w (isPixel B) (λ r c. back order L w h (planeOf w made) r c +ℤ pos (2 ^ (B - 1)))
       (λ r c i j. subst (λ (z : ℤ). T (isPixel B z)) (sym (value r c i j)) (pixel-is B (getD pixels (r * w + c) 0) (pixel-right r c i j)))
 
-  same-pixels : map natAbs (pixelsBack B L w h made) ≡ take (w * h) pixels
+  same-pixels : map natAbs (pixelsBack order B L w h made) ≡ take (w * h) pixels
   unfolding pixelsBack
   same-pixels =
-      rows-map natAbs w h (λ r c. back L w h (planeOf w made) r c +ℤ pos (2 ^ (B - 1)))
+      rows-map natAbs w h (λ r c. back order L w h (planeOf w made) r c +ℤ pos (2 ^ (B - 1)))
       ∙ rows-same w h some-w _ (λ r c. getD pixels (r * w + c) 0) (λ r c i j. ap natAbs (value r c i j))
       ∙ rows-take w h some-w pixels 0 (facts .room .first)
 
-  pub goes-back-done : backAnswer B L w h made pixels' work' ≡ passed
+  pub goes-back-done : backAnswer order B L w h made pixels' work' ≡ passed
   unfolding backAnswer backAllowed
   goes-back-done =
       let f = facts in
       then-right (backAllowed B L w h made pixels' work') _ (allowed B L w h (length pixels') (length made) (length work') (f .limits) (record { wide = f .room .wide; tall = f .room .tall; first = rp; second = room-made; third = rw' }))
-      ∙ asks-right (hasPicture B L w h made) _ _ has
+      ∙ asks-right (hasPicture order B L w h made) _ _ has
 
   -- the exact copy goes back to the same picture
-  pub there-and-back : backPixels B L w h made pixels' work' ≡ over (take (w * h) pixels) pixels'
+  pub there-and-back : backPixels order B L w h made pixels' work' ≡ over (take (w * h) pixels) pixels'
   unfolding backPixels
-  there-and-back = answered-done (over (map natAbs (pixelsBack B L w h made)) pixels') pixels' goes-back-done ∙ ap (λ (l : List ℕ). over l pixels') same-pixels
+  there-and-back = answered-done (over (map natAbs (pixelsBack order B L w h made)) pixels') pixels' goes-back-done ∙ ap (λ (l : List ℕ). over l pixels') same-pixels
 
 -- ---- back and there
 
-record BackDone (B L w h : ℕ) (plane : List ℤ) (pixels : List ℕ) (work : List ℤ) : Type 0 where
+record BackDone (order : Order) (B L w h : ℕ) (plane : List ℤ) (pixels : List ℕ) (work : List ℤ) : Type 0 where
   limits : T (depthRight B && levelsRight L)
   room : Room L w h (length pixels) (length plane) (length work)
-  right : T (hasPicture B L w h plane)
+  right : T (hasPicture order B L w h plane)
 
-back-done : (B L w h : ℕ) (plane : List ℤ) (pixels : List ℕ) (work : List ℤ) → backAnswer B L w h plane pixels work ≡ passed → BackDone B L w h plane pixels work
+back-done : (order : Order) (B L w h : ℕ) (plane : List ℤ) (pixels : List ℕ) (work : List ℤ) → backAnswer order B L w h plane pixels work ≡ passed → BackDone order B L w h plane pixels work
 unfolding backAnswer backAllowed
-back-done B L w h plane pixels work e =
+back-done order B L w h plane pixels work e =
     let a = then-done (backAllowed B L w h plane pixels work) _ e in
     let b = then-done (limited B L) _ (a .0) in
     record {
       limits = asks-done (depthRight B && levelsRight L) _ _ (b .0) .0;
       room = sized-done L w h (length pixels) (length plane) (length work) (b .1);
-      right = asks-done (hasPicture B L w h plane) _ _ (a .1) .0;
+      right = asks-done (hasPicture order B L w h plane) _ _ (a .1) .0;
     }
 
-module _ (B L w h : ℕ) (plane : List ℤ) (pixels : List ℕ) (work : List ℤ) (e : backAnswer B L w h plane pixels work ≡ passed) (plane' work' : List ℤ) (rp : w * h ≤ length plane') (rw' : w * h ≤ length work') where
+module _ (order : Order) (B L w h : ℕ) (plane : List ℤ) (pixels : List ℕ) (work : List ℤ) (e : backAnswer order B L w h plane pixels work ≡ passed) (plane' work' : List ℤ) (rp : w * h ≤ length plane') (rw' : w * h ≤ length work') where
   abbrev picture : List ℕ
-  picture = backPixels B L w h plane pixels work
+  picture = backPixels order B L w h plane pixels work
 
-  known : BackDone B L w h plane pixels work
-  known = back-done B L w h plane pixels work e
+  known : BackDone order B L w h plane pixels work
+  known = back-done order B L w h plane pixels work e
 
   big-w : 1 ≤ w
   big-w = omega (arith, known .room .wide .0)
@@ -146,10 +146,10 @@ module _ (B L w h : ℕ) (plane : List ℤ) (pixels : List ℕ) (work : List ℤ
   wide-h = roomy L h (known .room .tall .0)
 
   abbrev came : List ℕ
-  came = map natAbs (pixelsBack B L w h plane)
+  came = map natAbs (pixelsBack order B L w h plane)
 
   right-came : Picture B w h came
-  right-came = found-picture B L w h wide-w wide-h big-w big-h plane (known .room .second) (known .right)
+  right-came = found-picture order B L w h wide-w wide-h big-w big-h plane (known .room .second) (known .right)
 
   over-came : picture ≡ over came pixels
   unfolding backPixels
@@ -167,10 +167,10 @@ module _ (B L w h : ℕ) (plane : List ℤ) (pixels : List ℕ) (work : List ℤ
       ap (λ (l : List ℕ). pos (getD l (r * w + c) 0) -ℤ pos (2 ^ (B - 1))) over-came
       ∙ ap (λ (n : ℕ). pos n -ℤ pos (2 ^ (B - 1))) (List·getD-append came (drop (length came) pixels) 0 (r * w + c) (subst (λ (n : ℕ). r * w + c < n) (sym (right-came .long)) (place-in w h big-w r c i j)))
 
-  same-plane : planeIn B L w h picture ≡ take (w * h) plane
+  same-plane : planeIn order B L w h picture ≡ take (w * h) plane
   same-plane =
-      rows-same w h big-w (forward L w h (sample picture B w)) (forward L w h (sample came B w)) (forward-agrees L w h wide-w wide-h (sample picture B w) (sample came B w) same-samples)
-      ∙ found-plane B L w h wide-w wide-h big-w big-h plane (known .room .second) (known .right)
+      rows-same w h big-w (forward order L w h (sample picture B w)) (forward order L w h (sample came B w)) (forward-agrees order L w h wide-w wide-h (sample picture B w) (sample came B w) same-samples)
+      ∙ found-plane order B L w h wide-w wide-h big-w big-h plane (known .room .second) (known .right)
 
   pub comes-forward-done : forwardAnswer B L w h picture plane' work' ≡ passed
   unfolding forwardAnswer pixelsRight
@@ -183,6 +183,6 @@ module _ (B L w h : ℕ) (plane : List ℤ) (pixels : List ℕ) (work : List ℤ
       ∙ asks-right (every (λ p. ltb p (2 ^ B)) (take (w * h) picture)) _ _ (subst (λ (l : List ℕ). T (every (λ p. ltb p (2 ^ B)) l)) (sym front-came) (right-came .right))
 
   -- a plane that goes back comes out the same when worked forward
-  pub back-and-there : forwardPlane B L w h picture plane' work' ≡ over (take (w * h) plane) plane'
+  pub back-and-there : forwardPlane order B L w h picture plane' work' ≡ over (take (w * h) plane) plane'
   unfolding forwardPlane
-  back-and-there = answered-done (over (planeIn B L w h picture) plane') plane' comes-forward-done ∙ ap (λ (l : List ℤ). over l plane') same-plane
+  back-and-there = answered-done (over (planeIn order B L w h picture) plane') plane' comes-forward-done ∙ ap (λ (l : List ℤ). over l plane') same-plane

@@ -19,7 +19,7 @@ use Rattle.lifting.specs.Patch.{at, patch, patch-in, patch-above}
 use Rattle.pictures.specs.Pictures.{planeOf}
 use Rattle.pictures.specs.Looks.{Tells, Between, tells-same}
 use Rattle.pictures.specs.MemoryLaws.{over-is}
-use Rattle.reversible.specs.Reversible.{back}
+use Rattle.reversible.specs.Reversible.{Order, back}
 use Rattle.reversible.specs.ReversibleLaws.{back-agrees}
 use Rattle.reversible.specs.Calls.{pixelsBack, isPixel, hasPicture}
 use Rattle.reversible.specs.LevelLaws.{planeAt}
@@ -65,12 +65,12 @@ by-place P w h some f k i = subst P (div-add-mod' k w) (f (k / w) (k % w) (div-l
 
 -- ---- the plane is taken back in values y: whether it has a picture, and what its pixels are
 
-pub record Found (B L w h : ℕ) (plane : List ℤ) (y : ℕ → ℤ) (r : Bool) : Type 0 where
-  pub answer : r ≡ hasPicture B L w h plane
+pub record Found (order : Order) (B L w h : ℕ) (plane : List ℤ) (y : ℕ → ℤ) (r : Bool) : Type 0 where
+  pub answer : r ≡ hasPicture order B L w h plane
   pub samples : T r → (k : ℕ) → k < w * h → IsSample B (y k)
-  pub pixels : T r → (k : ℕ) → k < w * h → getD (pixelsBack B L w h plane) k (pos 0) ≡ y k +ℤ pos (2 ^ (B - 1))
+  pub pixels : T r → (k : ℕ) → k < w * h → getD (pixelsBack order B L w h plane) k (pos 0) ≡ y k +ℤ pos (2 ^ (B - 1))
 
-module _ {B L w h a b c : ℕ} (room : CallRoom B L w h a b c) (plane : List ℤ) (x mid y : ℕ → ℤ) (copied : mid ≡ patch 0 (w * h) (at plane) x) where
+module _ (order : Order) {B L w h a b c : ℕ} (room : CallRoom B L w h a b c) (plane : List ℤ) (x mid y : ℕ → ℤ) (copied : mid ≡ patch 0 (w * h) (at plane) x) where
   some-w : 1 ≤ w
   some-w = omega (arith, room .room .wide .0)
 
@@ -78,52 +78,52 @@ module _ {B L w h a b c : ℕ} (room : CallRoom B L w h a b c) (plane : List ℤ
   some-h = omega (arith, room .room .tall .0)
 
   abbrev sampleAt : Plane ℤ
-  sampleAt = back L w h (planeOf w plane)
+  sampleAt = back order L w h (planeOf w plane)
 
-  same : Agree w h (back L w h (planeAt w mid)) sampleAt
-  same = back-agrees L w h (roomy L w (room .room .wide .0)) (roomy L h (room .room .tall .0)) (planeAt w mid) (planeOf w plane)
+  same : Agree w h (back order L w h (planeAt w mid)) sampleAt
+  same = back-agrees order L w h (roomy L w (room .room .wide .0)) (roomy L h (room .room .tall .0)) (planeAt w mid) (planeOf w plane)
       (λ r c i j. ap (λ (f : ℕ → ℤ). f (r * w + c)) copied ∙ ap (patch 0 (w * h) (at plane) x) (omega arith) ∙ patch-in 0 (w * h) (at plane) x (r * w + c) (place-in w h some-w r c i j))
 
   abbrev pixelAt : Plane ℤ
   pixelAt r c = sampleAt r c +ℤ pos (2 ^ (B - 1))
 
-  from-picture : T (hasPicture B L w h plane) → (r c : ℕ) → r < h → c < w → IsSample B (sampleAt r c)
+  from-picture : T (hasPicture order B L w h plane) → (r c : ℕ) → r < h → c < w → IsSample B (sampleAt r c)
   unfolding hasPicture pixelsBack
   from-picture t r c i j = pixel-sample B (room .depth .0) (room .depth .1) (sampleAt r c) (every-row-at w h some-w (isPixel B) pixelAt t r c i j)
 
-  to-picture : ((r c : ℕ) → r < h → c < w → IsSample B (sampleAt r c)) → T (hasPicture B L w h plane)
+  to-picture : ((r c : ℕ) → r < h → c < w → IsSample B (sampleAt r c)) → T (hasPicture order B L w h plane)
   unfolding hasPicture pixelsBack
   to-picture s = every-row w h some-w (isPixel B) pixelAt (λ r c i j. sample-pixel B (room .depth .0) (room .depth .1) (sampleAt r c) (s r c i j))
 
-  pub found-none : (r : Bool) → BackDone L w h mid y r → r ≡ false → Found B L w h plane y false
+  pub found-none : (r : Bool) → BackDone order L w h mid y r → r ≡ false → Found order B L w h plane y false
   found-none r done e = record {
-    answer = tells-same false (hasPicture B L w h plane) (record { holds = λ t. absurd t; told = λ t. t }) (record { holds = none; told = λ t. absurd t });
+    answer = tells-same false (hasPicture order B L w h plane) (record { holds = λ t. absurd t; told = λ t. t }) (record { holds = none; told = λ t. absurd t });
     samples = λ t. absurd t;
     pixels = λ t. absurd t;
   }
     where
-      none : T (hasPicture B L w h plane) → ⊥
+      none : T (hasPicture order B L w h plane) → ⊥
       none t = subst T e (done .none (λ r c i j. subst (λ (z : ℤ). natAbs z ≤ 2 ^ 11) (sym (same r c i j))
           (sample-size (2 ^ 11) (pos (2 ^ (B - 1))) (sampleAt r c) (middle B (room .depth .0) (room .depth .1) .1) (from-picture t r c i j))))
 
-  pub found-all : (r s : Bool) → BackDone L w h mid y r → T r → Tells ((j : ℕ) → j < w * h → IsSample B (y j)) s → Found B L w h plane y s
+  pub found-all : (r s : Bool) → BackDone order L w h mid y r → T r → Tells ((j : ℕ) → j < w * h → IsSample B (y j)) s → Found order B L w h plane y s
   unfolding pixelsBack
   found-all r s done t look =
       let is : Agree w h (planeAt w y) sampleAt = λ r c i j. done .done t r c i j ∙ same r c i j in
-      let sees : Tells ((j : ℕ) → j < w * h → IsSample B (y j)) (hasPicture B L w h plane) = record {
+      let sees : Tells ((j : ℕ) → j < w * h → IsSample B (y j)) (hasPicture order B L w h plane) = record {
         holds = λ p. by-place (λ k. IsSample B (y k)) w h some-w (λ r c i j. subst (IsSample B) (sym (is r c i j)) (from-picture p r c i j));
         told = λ f. to-picture (λ r c i j. subst (IsSample B) (is r c i j) (f (r * w + c) (place-in w h some-w r c i j)));
       } in
       record {
-        answer = tells-same s (hasPicture B L w h plane) look sees;
+        answer = tells-same s (hasPicture order B L w h plane) look sees;
         samples = look .holds;
-        pixels = λ u. by-place (λ k. getD (pixelsBack B L w h plane) k (pos 0) ≡ y k +ℤ pos (2 ^ (B - 1))) w h some-w
+        pixels = λ u. by-place (λ k. getD (pixelsBack order B L w h plane) k (pos 0) ≡ y k +ℤ pos (2 ^ (B - 1))) w h some-w
             (λ r c i j. rows-at w h some-w pixelAt (pos 0) r c i j ∙ ap (λ (z : ℤ). z +ℤ pos (2 ^ (B - 1))) (sym (is r c i j)));
       }
 
 -- the values are the front of a longer slice
-pub found-front : {B L w h : ℕ} {plane : List ℤ} {r : Bool} (part rest : List ℤ) → length part ≡ w * h → Found B L w h plane (at part) r → Found B L w h plane (at (part ++ rest)) r
-found-front {B} {L} {w} {h} {plane} {r} part rest e f = record {
+pub found-front : {order : Order} {B L w h : ℕ} {plane : List ℤ} {r : Bool} (part rest : List ℤ) → length part ≡ w * h → Found order B L w h plane (at part) r → Found order B L w h plane (at (part ++ rest)) r
+found-front {order} {B} {L} {w} {h} {plane} {r} part rest e f = record {
   answer = f .answer;
   samples = λ t k i. subst (IsSample B) (sym (front k i)) (f .samples t k i);
   pixels = λ t k i. f .pixels t k i ∙ ap (λ (z : ℤ). z +ℤ pos (2 ^ (B - 1))) (sym (front k i));
@@ -135,29 +135,29 @@ found-front {B} {L} {w} {h} {plane} {r} part rest e f = record {
 -- ---- what is written
 
 -- the answer, and the pixels before and after
-pub record TakenBack (B L w h : ℕ) (plane : List ℤ) (pixels after : List ℕ) (r : Bool) : Type 0 where
-  pub answer : r ≡ hasPicture B L w h plane
-  pub written : T r → after ≡ over (map natAbs (pixelsBack B L w h plane)) pixels
+pub record TakenBack (order : Order) (B L w h : ℕ) (plane : List ℤ) (pixels after : List ℕ) (r : Bool) : Type 0 where
+  pub answer : r ≡ hasPicture order B L w h plane
+  pub written : T r → after ≡ over (map natAbs (pixelsBack order B L w h plane)) pixels
   pub kept : T (not r) → after ≡ pixels
 
-pub taken-none : {B L w h : ℕ} {plane : List ℤ} {y : ℕ → ℤ} (pixels : List ℕ) (r : Bool) → Found B L w h plane y r → r ≡ false → TakenBack B L w h plane pixels pixels false
+pub taken-none : {order : Order} {B L w h : ℕ} {plane : List ℤ} {y : ℕ → ℤ} (pixels : List ℕ) (r : Bool) → Found order B L w h plane y r → r ≡ false → TakenBack order B L w h plane pixels pixels false
 taken-none pixels r f e = record { answer = sym e ∙ f .answer; written = λ t. absurd t; kept = λ t. refl }
 
-module _ {B L w h n m k : ℕ} (room : CallRoom B L w h n m k) (plane : List ℤ) (y : ℕ → ℤ) (pixels after : List ℕ) (r : Bool) (f : Found B L w h plane y r) (t : r ≡ true)
+module _ {order : Order} {B L w h n m k : ℕ} (room : CallRoom B L w h n m k) (plane : List ℤ) (y : ℕ → ℤ) (pixels after : List ℕ) (r : Bool) (f : Found order B L w h plane y r) (t : r ≡ true)
     (written : (λ k. getD after k 0) ≡ patch 0 (w * h) (λ k. natAbs (y k +ℤ pos (2 ^ (B - 1)))) (λ k. getD pixels k 0)) where
-  new-length : length (map natAbs (pixelsBack B L w h plane)) ≡ w * h
+  new-length : length (map natAbs (pixelsBack order B L w h plane)) ≡ w * h
   unfolding pixelsBack
-  new-length = length-map (pixelsBack B L w h plane) natAbs ∙ rows-length w h (omega (arith, room .room .wide .0)) (λ r c. back L w h (planeOf w plane) r c +ℤ pos (2 ^ (B - 1)))
+  new-length = length-map (pixelsBack order B L w h plane) natAbs ∙ rows-length w h (omega (arith, room .room .wide .0)) (λ r c. back order L w h (planeOf w plane) r c +ℤ pos (2 ^ (B - 1)))
 
-  pub taken : length pixels ≡ n → length after ≡ n → TakenBack B L w h plane pixels after true
+  pub taken : length pixels ≡ n → length after ≡ n → TakenBack order B L w h plane pixels after true
   taken e d = record {
     answer = sym t ∙ f .answer;
-    written = λ u. over-is 0 (map natAbs (pixelsBack B L w h plane)) pixels after (omega arith) (omega (arith, new-length, room .room .first))
+    written = λ u. over-is 0 (map natAbs (pixelsBack order B L w h plane)) pixels after (omega arith) (omega (arith, new-length, room .room .first))
         (λ k i. front k (subst (λ (n : ℕ). k < n) new-length i)) (λ q i. ap (λ (g : ℕ → ℕ). g q) written ∙ patch-above 0 (w * h) _ (λ k. getD pixels k 0) q (omega (arith, new-length)));
     kept = λ u. absurd u;
   }
     where
-      front : (k : ℕ) → k < w * h → getD after k 0 ≡ getD (map natAbs (pixelsBack B L w h plane)) k 0
+      front : (k : ℕ) → k < w * h → getD after k 0 ≡ getD (map natAbs (pixelsBack order B L w h plane)) k 0
       front k i =
           ap (λ (g : ℕ → ℕ). g k) written ∙ ap (patch 0 (w * h) (λ k. natAbs (y k +ℤ pos (2 ^ (B - 1)))) (λ k. getD pixels k 0)) (omega arith) ∙ patch-in 0 (w * h) _ (λ k. getD pixels k 0) k i
-          ∙ ap natAbs (sym (f .pixels (subst T (sym t) tt) k i)) ∙ sym (List·getD-map natAbs (pixelsBack B L w h plane) k (pos 0))
+          ∙ ap natAbs (sym (f .pixels (subst T (sym t) tt) k i)) ∙ sym (List·getD-map natAbs (pixelsBack order B L w h plane) k (pos 0))

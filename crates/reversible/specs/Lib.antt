@@ -1,16 +1,17 @@
 -- The reversible 5/3 transform (document 01: the lifting; the exact copy).
---   Reversible       the transform of a plane, and its way back
+--   Reversible       the transform of a plane, and its way back, in either order of rows and columns
 --   Cases            the same by cases, ends apart from the middle (source document 004, equations 1, 2 and 4 to 6)
 --   Calls            the forward call and the back call: the answer, and each lent slice afterwards
 -- Proved of them:
 --   CaseLaws         pass-is, back-is: the 5/3 by cases is the 5/3
---   ReversibleLaws   forward-back, back-forward: each undoes the other
---   PictureLaws      has-picture: refusal 11 comes exactly where no picture has the plane
+--   ReversibleLaws   forward-back, back-forward: each undoes the other, in either order
+--   PictureLaws      has-picture: refusal 11 comes exactly where no picture has the plane in that order
 --   CallLaws         there-and-back, back-and-there
 --   OneToOne         same-picture: two pictures with the same plane are one
 -- For the proofs of the code:
+--   Orders           the order as the code names it
 --   Sizes            the kernels of the code are the passes; how large their values become
---   LevelLaws        a level in memory, forward and back
+--   LevelLaws        a level in memory, forward and back, in either order
 --   LoopLaws         levels one after another in memory
 --   Needs            what the functions ask of their callers
 --   StepLaws         samples in, levels, the work area cleared
@@ -20,6 +21,7 @@
 pub mod Reversible
 pub mod Cases
 pub mod Calls
+pub mod Orders
 pub mod CaseLaws
 pub mod ReversibleLaws
 pub mod PictureLaws

@@ -9,7 +9,7 @@ use Rattle.lines.specs.Planes.{Plane, levels, levelsBack, side}
 use Rattle.lines.specs.PlaneLaws.{Roomy, roomy, side-le, Agree}
 use Rattle.pictures.specs.Pictures.{Admitted}
 use Rattle.pictures.specs.MemoryLaws.{Stands}
-use Rattle.reversible.specs.Reversible.{forward, backLevel, back}
+use Rattle.reversible.specs.Reversible.{Order, columnsThenRows, forward, backLevel, back}
 use Rattle.reversible.specs.ReversibleLaws.{back-forward, back-agrees}
 use Rattle.reversible.specs.LevelLaws.{Sized, planeAt, levelForward, levelBack, forward-beyond, forward-stands, back-stands, forward-sized}
 use Rattle.width_table.specs.Table.{maxLevels}
@@ -33,15 +33,15 @@ pub record Sides (L w h k : ℕ) : Type 0 where
 
 -- forward: k levels of what stood in memory as x are done
 pub record ForwardDone (w h k : ℕ) (x y : ℕ → ℤ) : Type 0 where
-  pub stands : Stands w h y (forward k w h (planeAt w x))
+  pub stands : Stands w h y (forward columnsThenRows k w h (planeAt w x))
   pub beyond : (q : ℕ) → w * h ≤ q → y q ≡ x q
 
 -- back: of L levels of what stood in memory as x, k are left to take back
-pub record BackLeft (L w h k : ℕ) (x y : ℕ → ℤ) : Type 0 where
-  pub left : Agree w h (back k w h (planeAt w y)) (back L w h (planeAt w x))
+pub record BackLeft (order : Order) (L w h k : ℕ) (x y : ℕ → ℤ) : Type 0 where
+  pub left : Agree w h (back order k w h (planeAt w y)) (back order L w h (planeAt w x))
 
-pub one-more : {L w h j : ℕ} {x y : ℕ → ℤ} (k : ℕ) → j ≡ k + 1 → BackLeft L w h j x y → BackLeft L w h (k + 1) x y
-one-more {L} {w} {h} {x} {y} k e f = subst (λ (n : ℕ). BackLeft L w h n x y) e f
+pub one-more : {order : Order} {L w h j : ℕ} {x y : ℕ → ℤ} (k : ℕ) → j ≡ k + 1 → BackLeft order L w h j x y → BackLeft order L w h (k + 1) x y
+one-more {order} {L} {w} {h} {x} {y} k e f = subst (λ (n : ℕ). BackLeft order L w h n x y) e f
 
 module _ (L w h : ℕ) (aw : Admitted L w) (ah : Admitted L h) where
   pub sides : (k : ℕ) → k < L → Sides L w h k
@@ -61,7 +61,7 @@ module _ (L w h : ℕ) (aw : Admitted L w) (ah : Admitted L h) where
   forward-more k i x y z f e =
       let s = sides k i in
       subst (λ (n : ℕ). ForwardDone w h n x z) (sym (add-one k)) (subst (λ (m : ℕ → ℤ). ForwardDone w h (suc k) x m) (sym e) (record {
-        stands = forward-stands w h (side k w) (side k h) (s .wide) (s .tall) (s .in-w) (s .in-h) y (forward k w h (planeAt w x)) (f .stands);
+        stands = forward-stands w h (side k w) (side k h) (s .wide) (s .tall) (s .in-w) (s .in-h) y (forward columnsThenRows k w h (planeAt w x)) (f .stands);
         beyond = λ q far. forward-beyond w h (side k w) (side k h) (s .wide) (s .tall) (s .in-w) (s .in-h) y q far ∙ f .beyond q far;
       }))
 
@@ -73,28 +73,28 @@ module _ (L w h : ℕ) (aw : Admitted L w) (ah : Admitted L h) where
   forward-part k i five x y f small r c a b =
       let s = sides k i in
       subst (λ (t : ℤ). natAbs t ≤ 2 ^ 21) (sym (f .stands r c (omega (arith, s .in-h)) (omega (arith, s .in-w))))
-      (omega (arith, four-pow k (omega arith), forward-sized w h k (λ j t. roomy L w (aw .0) j (omega arith)) (λ j t. roomy L h (ah .0) j (omega arith)) (planeAt w x) small r c (omega (arith, s .in-h)) (omega (arith, s .in-w))))
+      (omega (arith, four-pow k (omega arith), forward-sized columnsThenRows w h k (λ j t. roomy L w (aw .0) j (omega arith)) (λ j t. roomy L h (ah .0) j (omega arith)) (planeAt w x) small r c (omega (arith, s .in-h)) (omega (arith, s .in-w))))
 
-  pub back-none : (x : ℕ → ℤ) → BackLeft L w h L x x
-  back-none x = record { left = λ r c i j. refl }
+  pub back-none : (order : Order) (x : ℕ → ℤ) → BackLeft order L w h L x x
+  back-none order x = record { left = λ r c i j. refl }
 
-  pub back-more : (k : ℕ) → k < L → (x y z : ℕ → ℤ) → BackLeft L w h (k + 1) x y → z ≡ levelBack w (side k w) (side k h) y → BackLeft L w h k x z
+  pub back-more : (order : Order) (k : ℕ) → k < L → (x y z : ℕ → ℤ) → BackLeft order L w h (k + 1) x y → z ≡ levelBack order w (side k w) (side k h) y → BackLeft order L w h k x z
   unfolding back levelsBack
-  back-more k i x y z f e =
+  back-more order k i x y z f e =
       let s = sides k i in
-      let g = subst (λ (n : ℕ). BackLeft L w h n x y) (add-one k) f in
-      subst (λ (m : ℕ → ℤ). BackLeft L w h k x m) (sym e) (record {
+      let g = subst (λ (n : ℕ). BackLeft order L w h n x y) (add-one k) f in
+      subst (λ (m : ℕ → ℤ). BackLeft order L w h k x m) (sym e) (record {
         left = λ r c a b.
-            back-agrees k w h (λ j t. roomy L w (aw .0) j (omega arith)) (λ j t. roomy L h (ah .0) j (omega arith)) _ (backLevel (side k w) (side k h) (planeAt w y))
-            (back-stands w h (side k w) (side k h) (s .wide) (s .tall) (s .in-w) (s .in-h) y (planeAt w y) (λ r c i j. refl)) r c a b
+            back-agrees order k w h (λ j t. roomy L w (aw .0) j (omega arith)) (λ j t. roomy L h (ah .0) j (omega arith)) _ (backLevel order (side k w) (side k h) (planeAt w y))
+            (back-stands w h (side k w) (side k h) (s .wide) (s .tall) (s .in-w) (s .in-h) y (planeAt w y) (λ r c i j. refl) order) r c a b
             ∙ g .left r c a b;
       })
 
   -- where the samples that come out are those of a picture, nothing on the way is large
-  pub back-part : (k : ℕ) → k ≤ L → L ≤ maxLevels → (x y : ℕ → ℤ) → BackLeft L w h k x y → Sized (2 ^ 11) w h (back L w h (planeAt w x)) → Sized (2 ^ 21) w h (planeAt w y)
-  back-part k i five x y f small r c a b =
+  pub back-part : (order : Order) (k : ℕ) → k ≤ L → L ≤ maxLevels → (x y : ℕ → ℤ) → BackLeft order L w h k x y → Sized (2 ^ 11) w h (back order L w h (planeAt w x)) → Sized (2 ^ 21) w h (planeAt w y)
+  back-part order k i five x y f small r c a b =
       let wide : Roomy k w = λ j t. roomy L w (aw .0) j (omega arith) in
       let tall : Roomy k h = λ j t. roomy L h (ah .0) j (omega arith) in
-      let found : Sized (2 ^ 11) w h (back k w h (planeAt w y)) = λ r c a b. subst (λ (t : ℤ). natAbs t ≤ 2 ^ 11) (sym (f .left r c a b)) (small r c a b) in
-      subst (λ (p : Plane ℤ). natAbs (p r c) ≤ 2 ^ 21) (back-forward k w h wide tall (planeAt w y))
-      (omega (arith, four-pow k (omega arith), forward-sized w h k wide tall (back k w h (planeAt w y)) found r c a b))
+      let found : Sized (2 ^ 11) w h (back order k w h (planeAt w y)) = λ r c a b. subst (λ (t : ℤ). natAbs t ≤ 2 ^ 11) (sym (f .left r c a b)) (small r c a b) in
+      subst (λ (p : Plane ℤ). natAbs (p r c) ≤ 2 ^ 21) (back-forward order k w h wide tall (planeAt w y))
+      (omega (arith, four-pow k (omega arith), forward-sized order w h k wide tall (back order k w h (planeAt w y)) found r c a b))

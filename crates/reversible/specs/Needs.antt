@@ -1,7 +1,7 @@
 -- What the functions of the code ask of their callers.
 use Prim.Native.Nat.{ℕ, _+_, _*_, _-_, _<_, _≤_, _^_}
 use mathlib.Core.List.{List}
-use mathlib.Core.Path.{_≡_, sym, _∙_, ap, subst, subst₂}
+use mathlib.Core.Path.{_≡_, refl, sym, _∙_, ap, subst, subst₂}
 use native.Mathlib.Omega.{arith}
 use native.Mathlib.Nat.{mul-le-mul-right, mul-comm}
 use lib.Dec.{T, ltb}
@@ -11,15 +11,15 @@ use Rattle.numbers.specs.Tests.{every}
 use Rattle.lifting.specs.Kernels.{Part, worked, SafeKernel, rowOf, columnOf, rowsWorked, columnsWorked}
 use Rattle.lifting.specs.Patch.{at, patch-in}
 use Rattle.lifting.specs.PatchLines.{lineAt, patchLines}
-use Rattle.lifting.specs.Strips.{pixelLine}
+use Rattle.lifting.specs.Strips.{pixelColumn, pixel-at}
 use Rattle.pictures.specs.Pictures.{maxSide, Admitted}
 use Rattle.pictures.specs.PictureLaws.{Room}
-use Rattle.pictures.specs.MemoryLaws.{loaded, pixel-rows-worked}
+use Rattle.pictures.specs.MemoryLaws.{loaded, pixel-columns-worked}
 use Rattle.lines.specs.Lines.{Liftable}
-use Rattle.lines.specs.Planes.{side}
+use Rattle.lines.specs.Planes.{Plane, side}
 use Rattle.lines.specs.RowLaws.{place-in}
 use Rattle.reversible.specs.LevelLaws.{Sized, planeAt, forward-rows-safe, forward-columns-safe, rows-sized, back-rows-safe, back-columns-safe, columns-sized}
-use Rattle.reversible.specs.Sizes.{forwardKernel, backKernel, forward-safe}
+use Rattle.reversible.specs.Sizes.{forwardKernel, backKernel, forward-size, back-size, forward-safe}
 use Rattle.reversible.specs.LoopLaws.{Sides, sides}
 use Rattle.width_table.specs.Table.{maxLevels, maxDepth}
 
@@ -118,37 +118,70 @@ loaded-at pixels middle w h x some r c i j = ap (loaded pixels middle w h x) (le
 pub loaded-sized : (b : ℕ) (pixels : List ℕ) (middle w h : ℕ) (x : ℕ → ℤ) → 1 ≤ w → ((k : ℕ) → k < w * h → natAbs (pos (getD pixels k 0) -ℤ pos middle) ≤ b) → Sized b w h (planeAt w (loaded pixels middle w h x))
 loaded-sized b pixels middle w h x some small r c i j = subst (λ (z : ℤ). natAbs z ≤ b) (sym (loaded-at pixels middle w h x some r c i j)) (small (r * w + c) (place-in w h some r c i j))
 
--- the columns, after the rows
-columns-after : (W w h : ℕ) → Liftable w → Liftable h → w ≤ W → (y : ℕ → ℤ) → Sized (2 ^ 21) w h (planeAt W y) → (x : ℕ → ℤ) → x ≡ rowsWorked forwardKernel W w h y → (c : ℕ) → c < w → SafeKernel forwardKernel h (columnOf W 0 x c)
-columns-after W w h wide tall narrow y small x e = subst (λ (z : ℕ → ℤ). (c : ℕ) → c < w → SafeKernel forwardKernel h (columnOf W 0 z c)) (sym e)
-    (forward-columns-safe W w h (2 * 2 ^ 21) wide tall narrow (rowsWorked forwardKernel W w h y) (rows-sized W w h (2 ^ 21) wide tall narrow y small) (omega arith))
+-- a room with other values
+pub room-again : {a : ℕ} {old : List ℤ} {tile W w h : ℕ} → LevelRoom a old tile W w h → (b : ℕ) (new : List ℤ) (tile′ : ℕ) → length new ≡ length old → tile′ ≡ tile → Sized b w h (planeAt W (at new)) → LevelRoom b new tile′ W w h
+room-again {old} p b new tile′ e f small = record { part = part-as old new e (p .part); wide = p .wide; tall = p .tall; row = omega (arith, p .row); column = omega (arith, p .column); small = small }
+
+-- values of a smaller size
+pub sized-less : (a b w h : ℕ) (p : Plane ℤ) → a ≤ b → Sized a w h p → Sized b w h p
+sized-less a b w h p i s r c x y = omega (arith, s r c x y)
 
 module _ {B : ℕ} {pixels : List ℕ} {plane : List ℤ} {tile w h : ℕ} (p : FirstRoom B pixels plane tile w h) where
   some-columns : 1 ≤ w
   some-columns = omega (arith, p .wide)
 
-  pub first-rows : (m : ℕ) → m ≡ 2 ^ (B - 1) → (r : ℕ) → r < h → SafeKernel forwardKernel w (pixelLine pixels m (r * w))
-  first-rows m e = subst (λ (n : ℕ). (r : ℕ) → r < h → SafeKernel forwardKernel w (pixelLine pixels n (r * w))) (sym e)
-      (λ r i. forward-safe w (2 ^ 11) (pixelLine pixels (2 ^ (B - 1)) (r * w)) (p .wide) (λ c j. p .small (r * w + c) (place-in w h some-columns r c i j)) (omega arith))
+  pub first-columns : (m : ℕ) → m ≡ 2 ^ (B - 1) → (c : ℕ) → c < w → SafeKernel forwardKernel h (pixelColumn pixels m w 0 c)
+  first-columns m e = subst (λ (n : ℕ). (c : ℕ) → c < w → SafeKernel forwardKernel h (pixelColumn pixels n w 0 c)) (sym e)
+      (λ c j. forward-safe h (2 ^ 11) (pixelColumn pixels (2 ^ (B - 1)) w 0 c) (p .tall)
+      (λ r i. subst (λ (z : ℤ). natAbs z ≤ 2 ^ 11) (sym (pixel-at pixels (2 ^ (B - 1)) (lineAt 0 w r) (r * w) c c (omega arith))) (p .small (r * w + c) (place-in w h some-columns r c i j))) (omega arith))
 
-  -- the rows that the pixels give are those of the samples
-  pub first-worked : (m : ℕ) → m ≡ 2 ^ (B - 1) → (x : ℕ → ℤ) → x ≡ patchLines (lineAt 0 w) w h (λ r. worked forwardKernel w (pixelLine pixels m (r * w))) (at plane)
-      → x ≡ rowsWorked forwardKernel w w h (loaded pixels (2 ^ (B - 1)) w h (at plane))
-  first-worked m e x f = f ∙ pixel-rows-worked forwardKernel pixels m w h (at plane) (p .wide) ∙ ap (λ (n : ℕ). rowsWorked forwardKernel w w h (loaded pixels n w h (at plane))) e
+  -- the columns that the pixels give are those of the samples
+  pub first-worked : (m : ℕ) → m ≡ 2 ^ (B - 1) → (x : ℕ → ℤ) → x ≡ patchLines (lineAt 0 w) w h (λ r c. worked forwardKernel h (pixelColumn pixels m w 0 c) r) (at plane)
+      → x ≡ columnsWorked forwardKernel w 0 w h (loaded pixels (2 ^ (B - 1)) w h (at plane))
+  first-worked m e x f = f ∙ pixel-columns-worked forwardKernel pixels m w h (at plane) (p .wide) (p .tall) ∙ ap (λ (n : ℕ). columnsWorked forwardKernel w 0 w h (loaded pixels n w h (at plane))) e
 
-  pub first-columns : (x : ℕ → ℤ) → x ≡ rowsWorked forwardKernel w w h (loaded pixels (2 ^ (B - 1)) w h (at plane)) → (c : ℕ) → c < w → SafeKernel forwardKernel h (columnOf w 0 x c)
-  first-columns = columns-after w w h (p .wide) (p .tall) (omega arith) (loaded pixels (2 ^ (B - 1)) w h (at plane)) (loaded-sized (2 ^ 21) pixels (2 ^ (B - 1)) w h (at plane) some-columns (λ k i. omega (arith, p .small k i)))
+  -- the rows then have what they ask
+  pub first-rows : (new : List ℤ) (tile′ : ℕ) → length new ≡ length plane → tile′ ≡ tile → at new ≡ columnsWorked forwardKernel w 0 w h (loaded pixels (2 ^ (B - 1)) w h (at plane)) → LevelRoom (2 ^ 22) new tile′ w w h
+  first-rows new tile′ e f is = record {
+    part = part-as plane new e (p .part);
+    wide = p .wide;
+    tall = p .tall;
+    row = omega (arith, p .row);
+    column = omega (arith, p .column);
+    small = subst (λ (x : ℕ → ℤ). Sized (2 ^ 22) w h (planeAt w x)) (sym is)
+        (sized-less (2 * 2 ^ 11) (2 ^ 22) w h (planeAt w (columnsWorked forwardKernel w 0 w h (loaded pixels (2 ^ (B - 1)) w h (at plane)))) (omega arith) (columns-sized w w h (2 ^ 11) (p .wide) (p .tall) (omega arith) (loaded pixels (2 ^ (B - 1)) w h (at plane)) (loaded-sized (2 ^ 11) pixels (2 ^ (B - 1)) w h (at plane) some-columns (p .small)) forwardKernel 2 forward-size));
+  }
 
 module _ {plane : List ℤ} {tile W w h : ℕ} where
-  pub forward-rows : LevelRoom (2 ^ 21) plane tile W w h → (r : ℕ) → r < h → SafeKernel forwardKernel w (rowOf W 0 (at plane) r)
-  forward-rows p = forward-rows-safe W w h (2 ^ 21) (p .wide) (p .tall) (omega (arith, p .part .narrow)) (at plane) (p .small) (omega arith)
+  pub forward-columns : LevelRoom (2 ^ 22) plane tile W w h → (c : ℕ) → c < w → SafeKernel forwardKernel h (columnOf W 0 (at plane) c)
+  forward-columns p = forward-columns-safe W w h (2 ^ 22) (p .wide) (p .tall) (omega (arith, p .part .narrow)) (at plane) (p .small) (omega arith)
 
-  pub forward-columns : LevelRoom (2 ^ 21) plane tile W w h → (x : ℕ → ℤ) → x ≡ rowsWorked forwardKernel W w h (at plane) → (c : ℕ) → c < w → SafeKernel forwardKernel h (columnOf W 0 x c)
-  forward-columns p = columns-after W w h (p .wide) (p .tall) (omega (arith, p .part .narrow)) (at plane) (p .small)
+  pub forward-rows : LevelRoom (2 ^ 22) plane tile W w h → (r : ℕ) → r < h → SafeKernel forwardKernel w (rowOf W 0 (at plane) r)
+  forward-rows p = forward-rows-safe W w h (2 ^ 22) (p .wide) (p .tall) (omega (arith, p .part .narrow)) (at plane) (p .small) (omega arith)
 
-  pub back-columns : LevelRoom (2 ^ 22) plane tile W w h → (c : ℕ) → c < w → SafeKernel backKernel h (columnOf W 0 (at plane) c)
-  back-columns p = back-columns-safe W w h (2 ^ 22) (p .wide) (p .tall) (omega (arith, p .part .narrow)) (at plane) (p .small) (omega arith)
+  pub back-columns : LevelRoom (2 ^ 24) plane tile W w h → (c : ℕ) → c < w → SafeKernel backKernel h (columnOf W 0 (at plane) c)
+  back-columns p = back-columns-safe W w h (2 ^ 24) (p .wide) (p .tall) (omega (arith, p .part .narrow)) (at plane) (p .small) (omega arith)
 
-  pub back-rows : LevelRoom (2 ^ 22) plane tile W w h → (x : ℕ → ℤ) → x ≡ columnsWorked backKernel W 0 w h (at plane) → (r : ℕ) → r < h → SafeKernel backKernel w (rowOf W 0 x r)
-  back-rows p x e = subst (λ (y : ℕ → ℤ). (r : ℕ) → r < h → SafeKernel backKernel w (rowOf W 0 y r)) (sym e)
-      (back-rows-safe W w h (3 * 2 ^ 22) (p .wide) (p .tall) (omega (arith, p .part .narrow)) (columnsWorked backKernel W 0 w h (at plane)) (columns-sized W w h (2 ^ 22) (p .wide) (p .tall) (omega (arith, p .part .narrow)) (at plane) (p .small)) (omega arith))
+  pub back-rows : LevelRoom (2 ^ 24) plane tile W w h → (r : ℕ) → r < h → SafeKernel backKernel w (rowOf W 0 (at plane) r)
+  back-rows p = back-rows-safe W w h (2 ^ 24) (p .wide) (p .tall) (omega (arith, p .part .narrow)) (at plane) (p .small) (omega arith)
+
+  -- a level's first pass has room, and after it the second
+  pub first-forward : LevelRoom (2 ^ 21) plane tile W w h → LevelRoom (2 ^ 22) plane tile W w h
+  first-forward p = room-again p (2 ^ 22) plane tile refl refl (sized-less (2 ^ 21) (2 ^ 22) w h (planeAt W (at plane)) (omega arith) (p .small))
+
+  pub then-forward-rows : LevelRoom (2 ^ 21) plane tile W w h → (new : List ℤ) (tile′ : ℕ) → length new ≡ length plane → tile′ ≡ tile → at new ≡ columnsWorked forwardKernel W 0 w h (at plane) → LevelRoom (2 ^ 22) new tile′ W w h
+  then-forward-rows p new tile′ e f is = room-again p (2 ^ 22) new tile′ e f (subst (λ (x : ℕ → ℤ). Sized (2 ^ 22) w h (planeAt W x)) (sym is)
+      (columns-sized W w h (2 ^ 21) (p .wide) (p .tall) (omega (arith, p .part .narrow)) (at plane) (p .small) forwardKernel 2 forward-size))
+
+  pub first-back : LevelRoom (2 ^ 22) plane tile W w h → LevelRoom (2 ^ 24) plane tile W w h
+  first-back p = room-again p (2 ^ 24) plane tile refl refl (sized-less (2 ^ 22) (2 ^ 24) w h (planeAt W (at plane)) (omega arith) (p .small))
+
+  module _ (p : LevelRoom (2 ^ 22) plane tile W w h) (new : List ℤ) (tile′ : ℕ) (e : length new ≡ length plane) (f : tile′ ≡ tile) where
+    after : (x : ℕ → ℤ) → at new ≡ x → Sized (3 * 2 ^ 22) w h (planeAt W x) → LevelRoom (2 ^ 24) new tile′ W w h
+    after x is small = room-again p (2 ^ 24) new tile′ e f (subst (λ (x : ℕ → ℤ). Sized (2 ^ 24) w h (planeAt W x)) (sym is) (sized-less (3 * 2 ^ 22) (2 ^ 24) w h (planeAt W x) (omega arith) small))
+
+    pub then-back-columns : at new ≡ rowsWorked backKernel W w h (at plane) → LevelRoom (2 ^ 24) new tile′ W w h
+    then-back-columns is = after _ is (rows-sized W w h (2 ^ 22) (p .wide) (p .tall) (omega (arith, p .part .narrow)) (at plane) (p .small) backKernel 3 back-size)
+
+    pub then-back-rows : at new ≡ columnsWorked backKernel W 0 w h (at plane) → LevelRoom (2 ^ 24) new tile′ W w h
+    then-back-rows is = after _ is (columns-sized W w h (2 ^ 22) (p .wide) (p .tall) (omega (arith, p .part .narrow)) (at plane) (p .small) backKernel 3 back-size)

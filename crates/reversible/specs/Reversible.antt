@@ -1,4 +1,5 @@
--- The reversible 5/3 transform and its way back (document 01: the lifting; pictures and planes). Values are whole numbers without limit.
+-- The reversible 5/3 transform and its way back (document 01: the lifting; pictures and planes), in either order of rows and columns
+-- (document 02, job 4). Values are whole numbers without limit.
 use Prim.Native.Nat.{ℕ, _+_, _*_}
 use lib.IntN.{ℤ, pos, _+ℤ_, _-ℤ_}
 use Rattle.numbers.specs.Floor.{floorDiv}
@@ -27,12 +28,18 @@ module _ (n : ℕ) (x : ℕ → ℤ) where
   unfoldable pub reversiblePass : ℕ → ℤ
   reversiblePass = lowsFirst n low high
 
--- a level: the rows, then the columns
-abbrev pub forwardLevel : OnPart ℤ
-forwardLevel = rowsFirst reversiblePass (λ low. reversiblePass)
+-- The order in which the levels of an exact copy were worked. New copies have the columns before the rows, as JPEG 2000 Part 1 has them
+-- (document 02, job 4); copies made earlier have the rows before the columns (document 01, pictures and planes).
+pub data Order : Type 0 where
+  columnsThenRows rowsThenColumns : Order
 
-unfoldable pub forward : ℕ → OnPart ℤ
-forward = levels (λ l. forwardLevel)
+-- a level
+abbrev pub forwardLevel : Order → OnPart ℤ
+forwardLevel columnsThenRows = columnsFirst reversiblePass (λ low. reversiblePass)
+forwardLevel rowsThenColumns = rowsFirst reversiblePass (λ low. reversiblePass)
+
+unfoldable pub forward : Order → ℕ → OnPart ℤ
+forward order = levels (λ l. forwardLevel order)
 
 -- ---- back: the same steps taken back, in reverse
 
@@ -53,10 +60,11 @@ module _ (n : ℕ) (y : ℕ → ℤ) where
   unfoldable pub backPass : ℕ → ℤ
   backPass = interleaved lowBack highBack
 
--- a level taken back: the columns, then the rows
-abbrev pub backLevel : OnPart ℤ
-backLevel = columnsFirst backPass (λ low. backPass)
+-- a level of a copy of that order taken back: new copies undo the rows first, copies made earlier the columns (document 02, job 4)
+abbrev pub backLevel : Order → OnPart ℤ
+backLevel columnsThenRows = rowsFirst backPass (λ low. backPass)
+backLevel rowsThenColumns = columnsFirst backPass (λ low. backPass)
 
 -- the last level comes first
-unfoldable pub back : ℕ → OnPart ℤ
-back = levelsBack (λ l. backLevel)
+unfoldable pub back : Order → ℕ → OnPart ℤ
+back order = levelsBack (λ l. backLevel order)

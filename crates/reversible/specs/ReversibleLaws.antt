@@ -1,4 +1,5 @@
--- The 5/3 transform and its way back undo each other (`forward-back`, `back-forward`), and read nothing outside the picture.
+-- The 5/3 transform and its way back undo each other, in either order of rows and columns (`forward-back`, `back-forward`), and read
+-- nothing outside the picture.
 use Prim.Native.Nat.{ℕ, _+_, _*_, _<_}
 use mathlib.Core.Path.{_≡_, _∙_, fun-ext}
 use native.Mathlib.Omega.{arith}
@@ -10,8 +11,8 @@ use Rattle.lines.specs.Planes.{Plane}
 use Rattle.lines.specs.LineLaws.{some-highs, first-low, first-high, even-place, odd-place, by-parity, by-half, Equal, first-equal, interleaved-equal, evens-equal, odds-equal, lows-equal, highs-equal}
 use Rattle.lines.specs.Neighbours.{low-after-in, on-highs-equal, on-lows-equal}
 use Rattle.lines.specs.PlaneLaws.{Roomy, Agree}
-use Rattle.lines.specs.BackLaws.{equal, Undoes, UndoesPart, rows-first-undone, levels-undone, levels-redone, levels-read, back-reads}
-use Rattle.reversible.specs.Reversible.{predict, update, high, low, reversiblePass, forwardLevel, forward, unpredict, unupdate, lowBack, highBack, backPass, backLevel, back}
+use Rattle.lines.specs.BackLaws.{equal, Undoes, UndoesPart, rows-first-undone, columns-first-undone, levels-undone, levels-redone, levels-read, back-reads}
+use Rattle.reversible.specs.Reversible.{Order, columnsThenRows, rowsThenColumns, predict, update, high, low, reversiblePass, forwardLevel, forward, unpredict, unupdate, lowBack, highBack, backPass, backLevel, back}
 
 -- ---- steps
 
@@ -108,24 +109,25 @@ passes-undone = record { there = record { reads = pass-same; taken = pass-undone
 
 -- ---- levels
 
-pub level-undone : UndoesPart _≡_ forwardLevel backLevel
-level-undone = rows-first-undone equal passes-undone (λ low. passes-undone)
+pub level-undone : (order : Order) → UndoesPart _≡_ (forwardLevel order) (backLevel order)
+level-undone columnsThenRows = columns-first-undone equal passes-undone (λ low. passes-undone)
+level-undone rowsThenColumns = rows-first-undone equal passes-undone (λ low. passes-undone)
 
-module _ (L w h : ℕ) (wide : Roomy L w) (tall : Roomy L h) where
-  pub forward-back : (p : Plane ℤ) → back L w h (forward L w h p) ≡ p
+module _ (order : Order) (L w h : ℕ) (wide : Roomy L w) (tall : Roomy L h) where
+  pub forward-back : (p : Plane ℤ) → back order L w h (forward order L w h p) ≡ p
   unfolding forward back
-  forward-back p = fun-ext λ r. fun-ext λ c. levels-undone equal (λ l. level-undone) w h L wide tall p r c
+  forward-back p = fun-ext λ r. fun-ext λ c. levels-undone equal (λ l. level-undone order) w h L wide tall p r c
 
-  pub back-forward : (p : Plane ℤ) → forward L w h (back L w h p) ≡ p
+  pub back-forward : (p : Plane ℤ) → forward order L w h (back order L w h p) ≡ p
   unfolding forward back
-  back-forward p = fun-ext λ r. fun-ext λ c. levels-redone equal (λ l. level-undone) w h L wide tall p r c
+  back-forward p = fun-ext λ r. fun-ext λ c. levels-redone equal (λ l. level-undone order) w h L wide tall p r c
 
   -- what lies outside the picture is not read
   module _ (p q : Plane ℤ) (same : Agree w h p q) where
-    pub forward-agrees : Agree w h (forward L w h p) (forward L w h q)
+    pub forward-agrees : Agree w h (forward order L w h p) (forward order L w h q)
     unfolding forward
-    forward-agrees = levels-read equal (λ l. level-undone) w h w h (omega arith) (omega arith) L wide tall p q same
+    forward-agrees = levels-read equal (λ l. level-undone order) w h w h (omega arith) (omega arith) L wide tall p q same
 
-    pub back-agrees : Agree w h (back L w h p) (back L w h q)
+    pub back-agrees : Agree w h (back order L w h p) (back order L w h q)
     unfolding back
-    back-agrees = back-reads equal (λ l. level-undone) w h w h (omega arith) (omega arith) L wide tall p q same
+    back-agrees = back-reads equal (λ l. level-undone order) w h w h (omega arith) (omega arith) L wide tall p q same

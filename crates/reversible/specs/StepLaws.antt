@@ -15,7 +15,7 @@ use Rattle.lifting.specs.Patch.{at, patch-above}
 use Rattle.pictures.specs.Pictures.{sample}
 use Rattle.pictures.specs.PictureLaws.{pixel-below}
 use Rattle.pictures.specs.MemoryLaws.{loaded, stands-over}
-use Rattle.reversible.specs.Reversible.{forward}
+use Rattle.reversible.specs.Reversible.{columnsThenRows, forward}
 use Rattle.reversible.specs.ReversibleLaws.{forward-agrees}
 use Rattle.reversible.specs.LevelLaws.{Sized, planeAt}
 use Rattle.reversible.specs.LoopLaws.{ForwardDone, sides}
@@ -65,8 +65,8 @@ module _ {B L w h : ℕ} {pixels : List ℕ} {plane work : ℕ} (room : ForwardR
 
   -- a picture's plane, worked
   pub worked-plane : (l after : List ℤ) → ForwardDone w h L (loaded pixels (2 ^ (B - 1)) w h (at l)) (at after) → length l ≡ plane → length after ≡ plane
-      → after ≡ over (rowByRow w h (forward L w h (sample pixels B w))) l
+      → after ≡ over (rowByRow w h (forward columnsThenRows L w h (sample pixels B w))) l
   worked-plane l after done e f =
-      stands-over w h (forward L w h (sample pixels B w)) l after some-w (omega (arith, room .call .room .second)) (omega arith)
-      (λ r c i j. done .stands r c i j ∙ forward-agrees L w h (roomy L w (room .call .room .wide .0)) (roomy L h (room .call .room .tall .0)) (planeAt w (loaded pixels (2 ^ (B - 1)) w h (at l))) (sample pixels B w) (loaded-samples (at l)) r c i j)
+      stands-over w h (forward columnsThenRows L w h (sample pixels B w)) l after some-w (omega (arith, room .call .room .second)) (omega arith)
+      (λ r c i j. done .stands r c i j ∙ forward-agrees columnsThenRows L w h (roomy L w (room .call .room .wide .0)) (roomy L h (room .call .room .tall .0)) (planeAt w (loaded pixels (2 ^ (B - 1)) w h (at l))) (sample pixels B w) (loaded-samples (at l)) r c i j)
       (λ q far. done .beyond q far ∙ patch-above 0 (w * h) _ (at l) q (omega arith))

@@ -1,4 +1,5 @@
-// The reversible 5/3 transform of a picture, and its way back (document 01: the lifting; why a strip or book comes back).
+// The reversible 5/3 transform of a picture, columns before rows, and its way back; the way back of copies made rows before columns
+// (document 01: the lifting; why a strip or book comes back; document 02, job 4).
 ghost use mathlib.Core.Path.{_≡_};
 ghost use Prim.Native.Nat.{ℕ, _+_, _*_, _-_, _<_, _≤_, _^_};
 ghost use lib.ListN.{length, getD};
@@ -8,11 +9,14 @@ ghost use Rattle.refusals.specs.Answers.{_then_};
 ghost use Rattle.refusals.specs.Told.{told};
 ghost use Rattle.lines.specs.Planes.{rowByRow};
 ghost use Rattle.lifting.specs.Patch.{at, patch};
+ghost use Rattle.lifting.specs.Kernels.{rowsWorked, columnsWorked};
 ghost use Rattle.pictures.specs.Pictures.{sided, holds, sample, zeroed};
 ghost use Rattle.pictures.specs.Looks.{Tells, Between};
 ghost use Rattle.pictures.specs.MemoryLaws.{loaded};
-ghost use Rattle.reversible.specs.Reversible.{forward};
+ghost use Rattle.reversible.specs.Reversible.{columnsThenRows, rowsThenColumns, forward};
 ghost use Rattle.reversible.specs.Calls.{limited, forwardAnswer, forwardPlane, forwardWork, backAnswer, backPixels, backWork};
+ghost use Rattle.reversible.specs.Orders.{orderOf};
+ghost use Rattle.reversible.specs.Sizes.{forwardKernel, backKernel};
 ghost use Rattle.reversible.specs.LevelLaws.{levelForward, levelBack};
 ghost use Rattle.reversible.specs.LoopLaws.{ForwardDone};
 ghost use Rattle.reversible.specs.Needs.{LevelRoom, FirstRoom, ForwardRoom, LevelsRoom, CallRoom};
@@ -33,6 +37,12 @@ const MAX_VALUE: i32 = 1 << 22;
 
 const MIN_VALUE: i32 = -MAX_VALUE;
 
+// What the levels of a copy worked first; `orderOf` of specs/Orders says the order.
+enum First {
+    Columns,
+    Rows,
+}
+
 // Refusals 4, 8 and 9, for slices of so many elements.
 fn allowed(
     depth: u8,
@@ -51,22 +61,11 @@ fn allowed(
     pictures::room_right(levels, w, h, first, second, third)
 }
 
-// One level forward, of a part of w columns and h rows: the rows, then the columns.
-fn level_forward(plane: &mut [i32], tile: &mut [i32], stride: usize, w: usize, h: usize)
-    requires { ⌜ LevelRoom (2 ^ 21) (now plane) (length (now tile)) stride w h ⌝ }
-    ensures { λ _. ⌜ at (now (plane .exit)) ≡ levelForward stride w h (at (now (plane .entry))) ⌝ }
+// The columns of a part of w columns and h rows, forward.
+fn columns_forward(plane: &mut [i32], tile: &mut [i32], stride: usize, w: usize, h: usize)
+    requires { ⌜ LevelRoom (2 ^ 22) (now plane) (length (now tile)) stride w h ⌝ }
+    ensures { λ _. ⌜ at (now (plane .exit)) ≡ columnsWorked forwardKernel stride 0 w h (at (now (plane .entry))) ⌝ }
 {
-    lifting::rows(
-        plane,
-        tile,
-        stride,
-        w,
-        h,
-        Kernel::One(Pair {
-            highs: Step::Predict,
-            lows: Step::Update,
-        }),
-    );
     lifting::columns(
         plane,
         tile,
@@ -81,13 +80,40 @@ fn level_forward(plane: &mut [i32], tile: &mut [i32], stride: usize, w: usize, h
     );
 }
 
-// The first level forward, whose rows are those of the picture.
+// Its rows, forward.
+fn rows_forward(plane: &mut [i32], tile: &mut [i32], stride: usize, w: usize, h: usize)
+    requires { ⌜ LevelRoom (2 ^ 22) (now plane) (length (now tile)) stride w h ⌝ }
+    ensures { λ _. ⌜ at (now (plane .exit)) ≡ rowsWorked forwardKernel stride w h (at (now (plane .entry))) ⌝ }
+{
+    lifting::rows(
+        plane,
+        tile,
+        stride,
+        w,
+        h,
+        Kernel::One(Pair {
+            highs: Step::Predict,
+            lows: Step::Update,
+        }),
+    );
+}
+
+// One level forward: the columns, then the rows.
+fn level_forward(plane: &mut [i32], tile: &mut [i32], stride: usize, w: usize, h: usize)
+    requires { ⌜ LevelRoom (2 ^ 21) (now plane) (length (now tile)) stride w h ⌝ }
+    ensures { λ _. ⌜ at (now (plane .exit)) ≡ levelForward stride w h (at (now (plane .entry))) ⌝ }
+{
+    columns_forward(plane, tile, stride, w, h);
+    rows_forward(plane, tile, stride, w, h);
+}
+
+// The first level forward, whose columns are those of the picture.
 fn first_level(pixels: &[u16], depth: u8, plane: &mut [i32], tile: &mut [i32], w: usize, h: usize)
     requires { ⌜ FirstRoom depth (now pixels) (now plane) (length (now tile)) w h ⌝ }
     ensures { λ _. ⌜ at (now (plane .exit)) ≡ levelForward w w h (loaded (now (pixels .entry)) (2 ^ (depth - 1)) w h (at (now (plane .entry)))) ⌝ }
 {
     let middle = pictures::middle(depth);
-    lifting::pixel_rows(
+    lifting::pixel_columns(
         pixels,
         middle,
         plane,
@@ -99,18 +125,7 @@ fn first_level(pixels: &[u16], depth: u8, plane: &mut [i32], tile: &mut [i32], w
             lows: Step::Update,
         }),
     );
-    lifting::columns(
-        plane,
-        tile,
-        w,
-        0,
-        w,
-        h,
-        Kernel::One(Pair {
-            highs: Step::Predict,
-            lows: Step::Update,
-        }),
-    );
+    rows_forward(plane, tile, w, w, h);
 }
 
 // All levels forward, of a picture.
@@ -147,7 +162,7 @@ fn transform(
     work: &mut [i32],
 )
     requires { ⌜ ForwardRoom depth levels w h (now pixels) (length (now plane)) (length (now work)) ⌝ }
-    ensures plane { λ _. ⌜ now (plane .exit) ≡ over (rowByRow w h (forward levels w h (sample (now (pixels .entry)) depth w))) (now (plane .entry)) ⌝ }
+    ensures plane { λ _. ⌜ now (plane .exit) ≡ over (rowByRow w h (forward columnsThenRows levels w h (sample (now (pixels .entry)) depth w))) (now (plane .entry)) ⌝ }
     ensures work { λ _. ⌜ now (work .exit) ≡ zeroed (w * h) (now (work .entry)) ⌝ }
 {
     let size = w * h;
@@ -155,7 +170,7 @@ fn transform(
     pictures::clear(work, size);
 }
 
-// The 5/3 transform of a picture: refusals 4, 8, 9 and 10; the plane, and a work area of which the first w * h elements become 0.
+// The 5/3 transform of a picture, columns before rows: refusals 4, 8, 9 and 10; the plane, and a work area of which the first w * h elements become 0.
 pub fn forward(
     depth: u8,
     levels: u8,
@@ -166,7 +181,7 @@ pub fn forward(
     work: &mut [i32],
 ) -> Outcome
     ensures answer { λ r. ⌜ told r ≡ forwardAnswer depth levels w h (now (pixels .entry)) (now (plane .entry)) (now (work .entry)) ⌝ }
-    ensures plane { λ _. ⌜ now (plane .exit) ≡ forwardPlane depth levels w h (now (pixels .entry)) (now (plane .entry)) (now (work .entry)) ⌝ }
+    ensures plane { λ _. ⌜ now (plane .exit) ≡ forwardPlane columnsThenRows depth levels w h (now (pixels .entry)) (now (plane .entry)) (now (work .entry)) ⌝ }
     ensures work { λ _. ⌜ now (work .exit) ≡ forwardWork depth levels w h (now (pixels .entry)) (now (plane .entry)) (now (work .entry)) ⌝ }
 {
     match allowed(depth, levels, w, h, pixels.len(), plane.len(), work.len()) {
@@ -181,10 +196,10 @@ pub fn forward(
     }
 }
 
-// One level back, of a part of w columns and h rows: the columns, then the rows.
-fn level_back(values: &mut [i32], tile: &mut [i32], stride: usize, w: usize, h: usize)
-    requires { ⌜ LevelRoom (2 ^ 22) (now values) (length (now tile)) stride w h ⌝ }
-    ensures { λ _. ⌜ at (now (values .exit)) ≡ levelBack stride w h (at (now (values .entry))) ⌝ }
+// The columns of a part of w columns and h rows, taken back.
+fn columns_back(values: &mut [i32], tile: &mut [i32], stride: usize, w: usize, h: usize)
+    requires { ⌜ LevelRoom (2 ^ 24) (now values) (length (now tile)) stride w h ⌝ }
+    ensures { λ _. ⌜ at (now (values .exit)) ≡ columnsWorked backKernel stride 0 w h (at (now (values .entry))) ⌝ }
 {
     lifting::columns(
         values,
@@ -198,6 +213,13 @@ fn level_back(values: &mut [i32], tile: &mut [i32], stride: usize, w: usize, h: 
             lows: Step::Unupdate,
         }),
     );
+}
+
+// Its rows, taken back.
+fn rows_back(values: &mut [i32], tile: &mut [i32], stride: usize, w: usize, h: usize)
+    requires { ⌜ LevelRoom (2 ^ 24) (now values) (length (now tile)) stride w h ⌝ }
+    ensures { λ _. ⌜ at (now (values .exit)) ≡ rowsWorked backKernel stride w h (at (now (values .entry))) ⌝ }
+{
     lifting::rows(
         values,
         tile,
@@ -211,10 +233,34 @@ fn level_back(values: &mut [i32], tile: &mut [i32], stride: usize, w: usize, h: 
     );
 }
 
+// One level back, of a copy whose levels were worked in an order: the other order.
+fn level_back(values: &mut [i32], tile: &mut [i32], stride: usize, w: usize, h: usize, first: First)
+    requires { ⌜ LevelRoom (2 ^ 22) (now values) (length (now tile)) stride w h ⌝ }
+    ensures { λ _. ⌜ at (now (values .exit)) ≡ levelBack (orderOf first) stride w h (at (now (values .entry))) ⌝ }
+{
+    match first {
+        First::Columns => {
+            rows_back(values, tile, stride, w, h);
+            columns_back(values, tile, stride, w, h);
+        }
+        First::Rows => {
+            columns_back(values, tile, stride, w, h);
+            rows_back(values, tile, stride, w, h);
+        }
+    }
+}
+
 // All levels back, the last one first; false where a value lies beyond MIN_VALUE or MAX_VALUE.
-fn levels_back(values: &mut [i32], tile: &mut [i32], w: usize, h: usize, levels: u8) -> bool
+fn levels_back(
+    values: &mut [i32],
+    tile: &mut [i32],
+    w: usize,
+    h: usize,
+    levels: u8,
+    first: First,
+) -> bool
     requires { ⌜ LevelsRoom levels w h (length (now values)) (length (now tile)) ⌝ }
-    ensures { λ r. ⌜ BackDone levels w h (at (now (values .entry))) (at (now (values .exit))) r ⌝ }
+    ensures { λ r. ⌜ BackDone (orderOf first) levels w h (at (now (values .entry))) (at (now (values .exit))) r ⌝ }
 {
     let mut k = levels;
     while 0 < k {
@@ -222,7 +268,7 @@ fn levels_back(values: &mut [i32], tile: &mut [i32], w: usize, h: usize, levels:
         let across = pictures::side_after(w, k);
         let down = pictures::side_after(h, k);
         if pictures::part_between(values, 0, w, across, down, MIN_VALUE, MAX_VALUE) {
-            level_back(values, tile, w, across, down);
+            level_back(values, tile, w, across, down, first);
         } else {
             return false;
         }
@@ -266,13 +312,14 @@ fn found(
     h: usize,
     values: &mut [i32],
     tile: &mut [i32; TILE],
+    first: First,
 ) -> bool
     requires { ⌜ CallRoom depth levels w h (length (now values)) (length (now plane)) (length (now values)) ⌝ }
-    ensures { λ r. ⌜ Found depth levels w h (now (plane .entry)) (at (now (values .exit))) r ⌝ }
+    ensures { λ r. ⌜ Found (orderOf first) depth levels w h (now (plane .entry)) (at (now (values .exit))) r ⌝ }
 {
     let n = w * h;
     copy_front(plane, values, n);
-    if levels_back(values, tile, w, h, levels) {
+    if levels_back(values, tile, w, h, levels, first) {
         samples_right(values, n, depth)
     } else {
         false
@@ -309,13 +356,14 @@ fn take_back(
     pixels: &mut [u16],
     work: &mut [i32],
     tile: &mut [i32; TILE],
+    first: First,
 ) -> bool
     requires { ⌜ CallRoom depth levels w h (length (now pixels)) (length (now plane)) (length (now work)) ⌝ }
-    ensures { λ r. ⌜ TakenBack depth levels w h (now (plane .entry)) (now (pixels .entry)) (now (pixels .exit)) r ⌝ }
+    ensures { λ r. ⌜ TakenBack (orderOf first) depth levels w h (now (plane .entry)) (now (pixels .entry)) (now (pixels .exit)) r ⌝ }
     ensures { λ _. ⌜ now (work .exit) ≡ zeroed (w * h) (now (work .entry)) ⌝ }
 {
     let n = w * h;
-    if found(depth, levels, plane, w, h, &mut work[..n], tile) {
+    if found(depth, levels, plane, w, h, &mut work[..n], tile, first) {
         write_pixels(work, pixels, n, depth);
         pictures::clear(work, n);
         true
@@ -325,8 +373,36 @@ fn take_back(
     }
 }
 
-// The picture of a 5/3 plane: refusals 4, 8, 9 and 11. The first w * h elements of the work area become 0, with 11 too.
-// The tile is made before anything is judged (docs/DECISIONS.md, the compiler's back end).
+// The picture of a plane whose levels were worked in an order: refusals 4, 8, 9 and 11. The first w * h elements of the work area become
+// 0, with 11 too. The tile is made before anything is judged (docs/DECISIONS.md, the compiler's back end).
+fn back_in(
+    depth: u8,
+    levels: u8,
+    plane: &[i32],
+    w: usize,
+    h: usize,
+    pixels: &mut [u16],
+    work: &mut [i32],
+    first: First,
+) -> Outcome
+    ensures answer { λ r. ⌜ told r ≡ backAnswer (orderOf first) depth levels w h (now (plane .entry)) (now (pixels .entry)) (now (work .entry)) ⌝ }
+    ensures pixels { λ _. ⌜ now (pixels .exit) ≡ backPixels (orderOf first) depth levels w h (now (plane .entry)) (now (pixels .entry)) (now (work .entry)) ⌝ }
+    ensures work { λ _. ⌜ now (work .exit) ≡ backWork depth levels w h (now (plane .entry)) (now (pixels .entry)) (now (work .entry)) ⌝ }
+{
+    let mut tile = [0i32; TILE];
+    match allowed(depth, levels, w, h, pixels.len(), plane.len(), work.len()) {
+        Outcome::Refused(why) => Outcome::Refused(why),
+        Outcome::Done => {
+            if take_back(depth, levels, plane, w, h, pixels, work, &mut tile, first) {
+                Outcome::Done
+            } else {
+                Outcome::Refused(Refusal::NoPicture)
+            }
+        }
+    }
+}
+
+// The picture of a copy that `forward` made.
 pub fn back(
     depth: u8,
     levels: u8,
@@ -336,19 +412,26 @@ pub fn back(
     pixels: &mut [u16],
     work: &mut [i32],
 ) -> Outcome
-    ensures answer { λ r. ⌜ told r ≡ backAnswer depth levels w h (now (plane .entry)) (now (pixels .entry)) (now (work .entry)) ⌝ }
-    ensures pixels { λ _. ⌜ now (pixels .exit) ≡ backPixels depth levels w h (now (plane .entry)) (now (pixels .entry)) (now (work .entry)) ⌝ }
+    ensures answer { λ r. ⌜ told r ≡ backAnswer columnsThenRows depth levels w h (now (plane .entry)) (now (pixels .entry)) (now (work .entry)) ⌝ }
+    ensures pixels { λ _. ⌜ now (pixels .exit) ≡ backPixels columnsThenRows depth levels w h (now (plane .entry)) (now (pixels .entry)) (now (work .entry)) ⌝ }
     ensures work { λ _. ⌜ now (work .exit) ≡ backWork depth levels w h (now (plane .entry)) (now (pixels .entry)) (now (work .entry)) ⌝ }
 {
-    let mut tile = [0i32; TILE];
-    match allowed(depth, levels, w, h, pixels.len(), plane.len(), work.len()) {
-        Outcome::Refused(why) => Outcome::Refused(why),
-        Outcome::Done => {
-            if take_back(depth, levels, plane, w, h, pixels, work, &mut tile) {
-                Outcome::Done
-            } else {
-                Outcome::Refused(Refusal::NoPicture)
-            }
-        }
-    }
+    back_in(depth, levels, plane, w, h, pixels, work, First::Columns)
+}
+
+// The picture of a copy made earlier, whose levels were worked rows first.
+pub fn back_rows_first(
+    depth: u8,
+    levels: u8,
+    plane: &[i32],
+    w: usize,
+    h: usize,
+    pixels: &mut [u16],
+    work: &mut [i32],
+) -> Outcome
+    ensures answer { λ r. ⌜ told r ≡ backAnswer rowsThenColumns depth levels w h (now (plane .entry)) (now (pixels .entry)) (now (work .entry)) ⌝ }
+    ensures pixels { λ _. ⌜ now (pixels .exit) ≡ backPixels rowsThenColumns depth levels w h (now (plane .entry)) (now (pixels .entry)) (now (work .entry)) ⌝ }
+    ensures work { λ _. ⌜ now (work .exit) ≡ backWork depth levels w h (now (plane .entry)) (now (pixels .entry)) (now (work .entry)) ⌝ }
+{
+    back_in(depth, levels, plane, w, h, pixels, work, First::Rows)
 }

@@ -4,6 +4,7 @@ use mathlib.Core.Path.{sym, subst}
 use borrow.Author.Needs.{needs}
 use lib.Dec.{T}
 use Rattle.lifting.specs.Patch.{at}
+use Rattle.reversible.specs.Orders.{orderOf}
 use Rattle.reversible.specs.FoundLaws.{found-all, found-none}
 use Rattle.reversible.proofs.found.Statement.{statement}
 use Rattle.reversible.proofs.found.Tie as tie
@@ -12,14 +13,14 @@ returns : tie.Need-returns
 returns c =
     let s = c .before .before .before .before .before .before .before .before .before .before in
     let levels = c .before .before .before .before .levels-back in
-    found-all (s .pre) (s .args .plane .now) _ _ (at (levels .last .0)) (c .before .before .before .before .before .before .before .before .copy-front .ensures) _ _
+    found-all (orderOf (s .args .first)) (s .pre) (s .args .plane .now) _ _ (at (levels .last .0)) (c .before .before .before .before .before .before .before .before .copy-front .ensures) _ _
     (levels .ensures) (subst T (sym (c .before .before .if1 .taken)) tt) (c .samples-right .ensures)
 
 returns-2 : tie.Need-returns-2
 returns-2 c =
     let s = c .before .before .before .before .before .before .before .before in
     let levels = c .before .before .levels-back in
-    found-none (s .pre) (s .args .plane .now) _ _ (at (levels .last .0)) (c .before .before .before .before .before .before .copy-front .ensures) _ (levels .ensures) (c .if1 .left)
+    found-none (orderOf (s .args .first)) (s .pre) (s .args .plane .now) _ _ (at (levels .last .0)) (c .before .before .before .before .before .before .copy-front .ensures) _ (levels .ensures) (c .if1 .left)
 
 pub found-spec : {M : Type 1} → statement M
 found-spec =

@@ -9,15 +9,17 @@ use Rattle.lifting.specs.Patch.{at}
 use Rattle.reversible.specs.LevelLaws.{levelBack}
 use Rattle.reversible.specs.LoopLaws.{BackLeft, one-more, back-none, back-more}
 use Rattle.reversible.specs.Needs.{level-room, part-here}
+use Rattle.reversible.specs.Orders.{orderOf}
 use Rattle.reversible.specs.BackLaws.{look-small, look-large, back-all, largest}
 use Rattle.reversible.proofs.levels_back.Statement.{statement}
 use Rattle.reversible.proofs.levels_back.Tie as tie
 
 abbrev Inv-loop : tie.InvT-loop
-Inv-loop values₀ tile₀ w h levels k₀ values tile k = (k ≤ levels) × (length values ≡ length values₀) × (length tile ≡ length tile₀) × BackLeft levels w h k (at values₀) (at values)
+Inv-loop values₀ tile₀ w h levels first k₀ values tile k =
+    (k ≤ levels) × (length values ≡ length values₀) × (length tile ≡ length tile₀) × BackLeft (orderOf first) levels w h k (at values₀) (at values)
 
 abbrev μ-loop : tie.MeasureT-loop
-μ-loop values₀ tile₀ w h levels k₀ values tile k = k
+μ-loop values₀ tile₀ w h levels first k₀ values tile k = k
 
 part-between-requires : tie.Need-part-between-requires Inv-loop μ-loop
 part-between-requires c κs =
@@ -33,7 +35,7 @@ level-back-requires c κs =
     let ed = c .before .before .before .before .before .side-after2 .ensures in
     let look = c .before .before .before .part-between in
     level-room largest _ _ _ (s .pre) (t .k - 1) (omega arith) _ _ _ _ (omega (arith, t .inv .1)) (omega (arith, t .inv .2)) ea ed
-    (look-small (s .pre) (t .k - 1) (omega arith) _ (at (t .values)) (one-more (t .k - 1) (omega arith) (t .inv .3)) _ _ ea ed _ (look .ensures) (subst T (sym (c .before .before .if1 .taken)) tt))
+    (look-small (orderOf (s .args .first)) (s .pre) (t .k - 1) (omega arith) _ (at (t .values)) (one-more (t .k - 1) (omega arith) (t .inv .3)) _ _ ea ed _ (look .ensures) (subst T (sym (c .before .before .if1 .taken)) tt))
 
 loop-again : tie.Need-loop-again Inv-loop μ-loop
 loop-again c =
@@ -44,21 +46,21 @@ loop-again c =
       omega arith,
       omega (arith, t .inv .1),
       omega (arith, t .inv .2),
-      back-more _ _ _ (s .pre .across) (s .pre .down) (t .k - 1) (omega arith) _ (at (t .values)) _ (one-more (t .k - 1) (omega arith) (t .inv .3))
-          (c .before .before .level-back .ensures ∙ (λ u. levelBack (s .args .w) (ea u) (ed u) (at (t .values)))),
+      back-more _ _ _ (s .pre .across) (s .pre .down) (orderOf (s .args .first)) (t .k - 1) (omega arith) _ (at (t .values)) _ (one-more (t .k - 1) (omega arith) (t .inv .3))
+          (c .before .before .level-back .ensures ∙ (λ u. levelBack (orderOf (s .args .first)) (s .args .w) (ea u) (ed u) (at (t .values)))),
     )
 
 returns : tie.Need-returns Inv-loop μ-loop
 returns c =
     let s = c .before .before .before .before .before .before .before in
     let t = c .before .before .before .before .before .before .loop in
-    look-large (s .pre) (t .k - 1) (omega arith) _ _ (one-more (t .k - 1) (omega arith) (t .inv .3)) _ _ (c .before .before .before .before .side-after .ensures) (c .before .before .before .side-after2 .ensures) _ (c .before .part-between .ensures) (c .if1 .left)
+    look-large (orderOf (s .args .first)) (s .pre) (t .k - 1) (omega arith) _ _ (one-more (t .k - 1) (omega arith) (t .inv .3)) _ _ (c .before .before .before .before .side-after .ensures) (c .before .before .before .side-after2 .ensures) _ (c .before .part-between .ensures) (c .if1 .left)
 
 returns-2 : tie.Need-returns-2 Inv-loop μ-loop
 returns-2 c =
     let a = c .before .before .args in
     let e : c .before .loop .k ≡ 0 = omega arith in
-    back-all _ _ _ _ _ (subst (λ (k : ℕ). BackLeft (a .levels) (a .w) (a .h) k (at (a .values .now)) (at (c .before .loop .values))) e (c .before .loop .inv .3))
+    back-all (orderOf (a .first)) _ _ _ _ _ (subst (λ (k : ℕ). BackLeft (orderOf (a .first)) (a .levels) (a .w) (a .h) k (at (a .values .now)) (at (c .before .loop .values))) e (c .before .loop .inv .3))
 
 pub levels-back-spec : {M : Type 1} → statement M
 levels-back-spec =
@@ -66,7 +68,7 @@ levels-back-spec =
     (tie.spec
     Inv-loop
     μ-loop
-    (λ c. (omega arith, refl, refl, back-none _ _ _ (c .pre .across) (c .pre .down) _))
+    (λ c. (omega arith, refl, refl, back-none _ _ _ (c .pre .across) (c .pre .down) _ _))
     (λ c. omega arith)
     (λ c κs. omega (arith, c .before .before .pre .across))
     (λ c κs. omega (arith, c .before .before .before .pre .down))

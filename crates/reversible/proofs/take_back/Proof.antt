@@ -10,6 +10,7 @@ use lib.IntN.{ℤ}
 use lib.ListN.{length, drop}
 use lib.Seq.{length-take-le, length-front}
 use Rattle.lifting.specs.Patch.{at}
+use Rattle.reversible.specs.Orders.{orderOf}
 use Rattle.reversible.specs.FoundLaws.{Found, found-front, taken, taken-none}
 use Rattle.pictures.specs.MemoryLaws.{zeroed-part}
 use Rattle.reversible.specs.Needs.{other-slices}
@@ -29,7 +30,7 @@ part-length c =
 
 -- what was found there, said of the whole work area
 whole : (c : tie.After-work) → let s = c .before .before .before .before .before .args in
-    Found (s .depth) (s .levels) (s .w) (s .h) (s .plane .now) (at (part c ++ drop (s .w * s .h) (s .work .now))) (c .before .found .result)
+    Found (orderOf (s .first)) (s .depth) (s .levels) (s .w) (s .h) (s .plane .now) (at (part c ++ drop (s .w * s .h) (s .work .now))) (c .before .found .result)
 whole c = let s = c .before .before .before .before .before .args in found-front (part c) (drop (s .w * s .h) (s .work .now)) (part-length c) (c .before .found .ensures)
 
 -- and its length

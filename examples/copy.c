@@ -1,5 +1,6 @@
 /*
- * An exact copy of a tiny picture and back, and two width tables judged.
+ * An exact copy of a tiny picture and back, the picture of a copy made earlier,
+ * and two width tables judged.
  *
  * From the root of the work tree, after `rt staticlib engine`:
  *
@@ -78,6 +79,14 @@ int main(void)
               suz_inverse53(DEPTH, LEVELS, plane, COUNT, WIDTH, HEIGHT, back, COUNT, work,
                             COUNT)))
         return 1;
+
+    /* A copy made earlier, rows first, has a way back of its own. */
+    static const int32_t earlier[4] = {1, 1, -2, -2};
+    if (tell("inverse53_rows_first", suz_inverse53_rows_first(3, 1, earlier, 4, 2, 2, back, 4,
+                                                              work, 4)))
+        return 1;
+    printf("the picture of the earlier copy: %u %u over %u %u\n", (unsigned)back[0],
+           (unsigned)back[1], (unsigned)back[2], (unsigned)back[3]);
 
     uint8_t table[SUZ_TABLE_LENGTH(1)], narrow[SUZ_TABLE_LENGTH(1)];
     make_table(table);

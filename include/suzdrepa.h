@@ -43,6 +43,7 @@
  *    9      a lent slice is too short
  *   10      a pixel is 2^B or more
  *   11      the 5/3 plane is the transform of no picture of that depth and size
+ *           (in the order of rows and columns that the call undoes)
  *   12      a coefficient is outside its node's width
  *   13      viewing is not accurate to half a grey, or a value may pass 2^15
  *
@@ -51,7 +52,7 @@
  * memset of the C library take (the project's tests read this off its machine
  * code):
  *
- *   260   suz_inverse53
+ *   260   suz_inverse53, suz_inverse53_rows_first
  *    80   suz_view97
  *     4   suz_forward53, suz_forward97, suz_table_check, suz_table_bound,
  *         suz_table_view, suz_view_distance
@@ -67,6 +68,20 @@
  * leaves as low-low is the upper left (width + 1) / 2 by (height + 1) / 2, and
  * level 2 works that part in place, and so on. Row-high, column-low stands
  * upper right; row-low, column-high lower left.
+ *
+ * EXACT COPIES are 5/3 planes. New ones have the order of JPEG 2000 Part 1:
+ * each level works the columns, then the rows. Copies made earlier were worked
+ * rows first, as the 9/7 transform is. The subbands stand in the same places,
+ * but many numbers differ, and each order has a way back of its own:
+ *
+ *   the copy was made by                              its picture is given by
+ *   suz_forward53, columns first                      suz_inverse53
+ *   suz_forward53 of earlier libraries, rows first    suz_inverse53_rows_first
+ *
+ * (Libraries without suz_inverse53_rows_first are the earlier ones.) Nothing in
+ * the numbers tells the two kinds apart: keep with each copy which it is. Given
+ * a copy of the other kind, a call refuses it 11, or answers 0 and gives, as a
+ * rule, another picture.
  *
  * LENT MEMORY. Each transform takes pixels, plane and a work area. All three
  * need width * height elements. Elements past that count are never written.
@@ -301,7 +316,9 @@ uint32_t suz_view97(const uint8_t *table, size_t table_len,
                     int64_t *work, size_t work_len);
 
 /*
- * 5/3 forward: the exact copy of a picture.
+ * 5/3 forward: the exact copy of a picture, in the order of JPEG 2000 Part 1.
+ * Each level works the columns, then the rows. suz_inverse53 gives the picture
+ * back (see EXACT COPIES).
  * Reads pixels, writes plane and work (see LENT MEMORY).
  * Refused 4 (depth or levels), 8, 9, 10.
  */
@@ -312,7 +329,11 @@ uint32_t suz_forward53(uint8_t depth, uint8_t levels,
                        int32_t *work, size_t work_len);
 
 /*
- * 5/3 back: the picture of an exact copy.
+ * 5/3 back: the picture of an exact copy that was worked columns first, as
+ * suz_forward53 works it. Each level, the last one first, undoes the rows, then
+ * the columns. For copies made earlier, rows first, take
+ * suz_inverse53_rows_first; this call refuses them 11, or answers 0 and gives
+ * another picture (see EXACT COPIES).
  * Reads plane, writes pixels and work (see LENT MEMORY).
  * Refused 4 (depth or levels), 8, 9, 11.
  */
@@ -321,6 +342,21 @@ uint32_t suz_inverse53(uint8_t depth, uint8_t levels,
                        size_t width, size_t height,
                        uint16_t *pixels, size_t pixels_len,
                        int32_t *work, size_t work_len);
+
+/*
+ * 5/3 back for copies made earlier: the picture of an exact copy that was
+ * worked rows first, as earlier libraries worked it. Each level, the last one
+ * first, undoes the columns, then the rows. For copies that suz_forward53 makes
+ * now take suz_inverse53; this call refuses them 11, or answers 0 and gives
+ * another picture (see EXACT COPIES).
+ * Reads plane, writes pixels and work (see LENT MEMORY).
+ * Refused as suz_inverse53: 4 (depth or levels), 8, 9, 11.
+ */
+uint32_t suz_inverse53_rows_first(uint8_t depth, uint8_t levels,
+                                  const int32_t *plane, size_t plane_len,
+                                  size_t width, size_t height,
+                                  uint16_t *pixels, size_t pixels_len,
+                                  int32_t *work, size_t work_len);
 
 #ifdef __cplusplus
 }

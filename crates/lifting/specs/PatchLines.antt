@@ -17,7 +17,7 @@ abbrev pub lineAt : ℕ → ℕ → ℕ → ℕ
 lineAt base stride i = base + i * stride
 
 -- n lines of m values, one or more, lie in the slice, and no two of them meet
-pub record Lying {A : Type 0} (l : List A) (base stride n m : ℕ) : Type 0 where
+pub record Lying (l : List ℤ) (base stride n m : ℕ) : Type 0 where
   pub some : 1 ≤ n
   pub few : n < 2 ^ 63
   pub narrow : m ≤ stride

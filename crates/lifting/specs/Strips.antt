@@ -2,7 +2,7 @@
 -- Assumes nothing.
 use mathlib.Core.Path.{_≡_, refl, sym, ap, _∙_, fun-ext}
 use mathlib.Core.List.{List}
-use Prim.Native.Nat.{ℕ, suc, _+_, _*_, _-_, _/_, _<_, _≤_, _^_}
+use Prim.Native.Nat.{ℕ, suc, _+_, _*_, _-_, _/_, _<_, _≤_}
 use native.Mathlib.Nat.{mul-le-mul-left, mul-le-mul-right, mul-comm, add-mul, mul-one, div-mul-le-self, le-div-iff-mul-le}
 use native.Mathlib.Omega.{arith}
 use native.Mathlib.Decide.{decLt, ℕ-discrete}
@@ -19,8 +19,8 @@ use Rattle.lifting.specs.Passes.{Liftable, evens, odds}
 use Rattle.lifting.specs.Kernels.{worked, SafeKernel, Part, rowOf, columnOf, rowsBy, columnsBy}
 use Rattle.lifting.specs.Tiles.{Tile, column, highColumn, sizes, Held}
 
--- n lines of s values in the plane (or of s pixels in a picture), line i from place from + i * stride on, and a tile with room for them
-pub record Strip {A : Type 0} (plane : List A) (tile : List ℤ) (stride from s n : ℕ) : Type 0 where
+-- n lines of s values in the plane, line i from place from + i * stride on, and a tile with room for them
+pub record Strip (plane tile : List ℤ) (stride from s n : ℕ) : Type 0 where
   pub lines : Lying plane from stride n s
   pub some : 1 ≤ s
   pub two : Liftable n
@@ -41,20 +41,8 @@ Finished k stride from s n y x z =
 abbrev pub pixelLine : List ℕ → ℕ → ℕ → ℕ → ℤ
 pixelLine pixels middle from i = pos (getD pixels (from + i) 0) -ℤ pos middle
 
--- column j of lines of pixels, line i from place from + i * stride on
-abbrev pub pixelColumn : List ℕ → ℕ → ℕ → ℕ → ℕ → ℕ → ℤ
-pixelColumn pixels middle stride from j i = pixelLine pixels middle (lineAt from stride i) j
-
 pub pixel-at : (pixels : List ℕ) (middle a b i j : ℕ) → a + i ≡ b + j → pixelLine pixels middle a i ≡ pixelLine pixels middle b j
 pixel-at pixels middle a b i j e = ap (λ (k : ℕ). pos (getD pixels k 0) -ℤ pos middle) e
-
--- pixels in a row: one column, each line one pixel on
-pub pixel-row : (pixels : List ℕ) (middle from n : ℕ) (y : ℕ → ℤ) → Held 1 n (λ j. evens (pixelColumn pixels middle 1 from j)) (λ j. odds (pixelColumn pixels middle 1 from j)) y
-    → Held 1 n (λ j. evens (pixelLine pixels middle from)) (λ j. odds (pixelLine pixels middle from)) y
-pixel-row pixels middle from n y held = record {
-  low = λ i j p g. held .low i j p g ∙ pixel-at pixels middle (lineAt from 1 (2 * i)) from j (2 * i) (omega arith);
-  high = λ i j p g. held .high i j p g ∙ pixel-at pixels middle (lineAt from 1 (2 * i + 1)) from j (2 * i + 1) (omega arith);
-}
 
 -- the same strip, of slices as long
 pub strip-of : {plane tile : List ℤ} {stride from s n : ℕ} → Strip plane tile stride from s n → (p t : List ℤ) → length p ≡ length plane → length t ≡ length tile → Strip p t stride from s n
@@ -78,7 +66,7 @@ tile-lines {s} {n} on t e = record {
 }
 
 -- lines 2 i and 2 i + 1 in the plane, and where they go in the tile
-pub record Two {A : Type 0} (plane : List A) (tile : List ℤ) (stride from s n i : ℕ) : Type 0 where
+pub record Two (plane tile : List ℤ) (stride from s n i : ℕ) : Type 0 where
   pub even : lineAt from stride (2 * i) ≡ from + 2 * i * stride
   pub odd : lineAt from stride (2 * i + 1) ≡ from + 2 * i * stride + stride
   pub both : from + 2 * i * stride + stride + s ≤ length plane
@@ -86,7 +74,7 @@ pub record Two {A : Type 0} (plane : List A) (tile : List ℤ) (stride from s n 
   pub low : i * s + s ≤ lows n * s
   pub high : lows n * s + (i * s + s) ≤ length tile
 
-pub two-lines : {A : Type 0} {plane : List A} {tile : List ℤ} {stride from s n : ℕ} → Strip plane tile stride from s n → (i : ℕ) → i < highs n → Two plane tile stride from s n i
+pub two-lines : {plane tile : List ℤ} {stride from s n : ℕ} → Strip plane tile stride from s n → (i : ℕ) → i < highs n → Two plane tile stride from s n i
 two-lines {stride} {from} {s} {n} on i h =
     let o : (2 * i + 1) * stride ≡ 2 * i * stride + stride = omega arith in
     let f = on .lines .fits (2 * i + 1) (omega arith) in record {
@@ -99,12 +87,12 @@ two-lines {stride} {from} {s} {n} on i h =
     }
 
 -- the last line, which has no other beside it
-pub record Last {A : Type 0} (plane : List A) (tile : List ℤ) (stride from s n : ℕ) : Type 0 where
+pub record Last (plane tile : List ℤ) (stride from s n : ℕ) : Type 0 where
   pub there : from + 2 * highs n * stride + s ≤ length plane
   pub low : highs n * s + s ≡ lows n * s
   pub high : lows n * s ≤ length tile
 
-pub last-line : {A : Type 0} {plane : List A} {tile : List ℤ} {stride from s n : ℕ} → Strip plane tile stride from s n → highs n < lows n → Last plane tile stride from s n
+pub last-line : {plane tile : List ℤ} {stride from s n : ℕ} → Strip plane tile stride from s n → highs n < lows n → Last plane tile stride from s n
 last-line {stride} {from} {s} {n} on h = record {
   there = on .lines .fits (2 * highs n) (omega arith);
   low = omega (arith, sizes s n (on .two) .odd h);
@@ -256,8 +244,8 @@ module _ (pass : OnLine ℤ) (stride from d s h : ℕ) (narrow : from + (d + s) 
   columns-more z e = strips-more stride from d s h narrow _ x y is _ z e (λ i j p g. ap (λ (c : ℕ → ℤ). pass h c i) (column-as-was j g))
 
 -- no column is done
-pub strips-none : (line : ℕ → ℕ) (h : ℕ) (new : ℕ → ℕ → ℤ) (x : ℕ → ℤ) → x ≡ patchLines line 0 h new x
-strips-none line h new x = fun-ext λ p. sym (lines-out line 0 new x h p (λ i j a b e. omega arith))
+pub columns-none : (pass : OnLine ℤ) (stride from h : ℕ) (x : ℕ → ℤ) → x ≡ columnsBy pass stride from 0 h x
+columns-none pass stride from h x = fun-ext λ p. sym (lines-out (lineAt from stride) 0 _ x h p (λ i j a b e. omega arith))
 
 -- ---- how wide a strip may be, of h rows, in a tile of t values
 
@@ -278,30 +266,3 @@ part-strip part two p t e d s some among room = record {
   two = two;
   room = room;
 }
-
--- the s columns after the first d of a picture or a plane of w columns, as a strip
-pub strip-at : {A : Type 0} (l : List A) (tile : List ℤ) (w h d s : ℕ) → Liftable h → h < 2 ^ 31 → ((r : ℕ) → r < h → lineAt 0 w r + w ≤ length l) → 1 ≤ s → d + s ≤ w → h * s ≤ length tile → Strip l tile w d s h
-strip-at l tile w h d s two few fits some among room = record {
-  lines = record { some = omega (arith, two); few = omega arith; narrow = omega arith; fits = λ r i. omega (arith, fits r i) };
-  some = some;
-  two = two;
-  room = room;
-}
-
--- the rows of a picture lie in it
-pub rows-fit : {A : Type 0} (l : List A) (w h : ℕ) → w * h ≤ length l → (r : ℕ) → r < h → lineAt 0 w r + w ≤ length l
-rows-fit l w h room r i = omega (arith, mul-le-mul-right {m = suc r} {n = h} w i, mul-comm w h)
-
--- ---- columns of pixels, strip by strip
-
--- column j of the strip from column d on
-pub column-on : (pixels : List ℕ) (middle w d j : ℕ) → pixelColumn pixels middle w d j ≡ pixelColumn pixels middle w 0 (d + j)
-column-on pixels middle w d j = fun-ext λ i. pixel-at pixels middle (lineAt d w i) (lineAt 0 w i) j (d + j) (omega arith)
-
--- s columns more, by a pass
-pub pixels-more : (pass : OnLine ℤ) (pixels : List ℕ) (middle w h d s : ℕ) → d + s ≤ w → (x y z : ℕ → ℤ) → y ≡ patchLines (lineAt 0 w) d h (λ r c. pass h (pixelColumn pixels middle w 0 c) r) x
-    → z ≡ patchLines (lineAt d w) s h (λ r c. pass h (pixelColumn pixels middle w d c) r) y → z ≡ patchLines (lineAt 0 w) (d + s) h (λ r c. pass h (pixelColumn pixels middle w 0 c) r) x
-pixels-more pass pixels middle w h d s narrow x y z is e =
-    let zero : d ≡ 0 + d = omega arith in
-    strips-more w 0 d s h (omega arith) _ x y is _ z (e ∙ (λ u. patchLines (lineAt (zero u) w) s h (λ r c. pass h (pixelColumn pixels middle w d c) r) y))
-    (λ i j p g. ap (λ (c : ℕ → ℤ). pass h c i) (column-on pixels middle w d j))

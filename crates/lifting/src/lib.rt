@@ -15,7 +15,7 @@ ghost use Rattle.lifting.specs.PatchLines.{lineAt, patchLines, Lying};
 ghost use Rattle.lifting.specs.Passes.{evens, odds, Liftable};
 ghost use Rattle.lifting.specs.Tiles.{Tile, column, highColumn, highsDone, lowsDone, AtHighs, AtLows, liftedTile, unliftedTile, LiftSafe, UnliftSafe, Held};
 ghost use Rattle.lifting.specs.Kernels.{worked, Forward, SafeKernel, SamePair, SameKernel, Part, rowOf, columnOf, rowsWorked, columnsWorked};
-ghost use Rattle.lifting.specs.Strips.{Strip, Ready, Finished, pixelLine, pixelColumn};
+ghost use Rattle.lifting.specs.Strips.{Strip, Ready, Finished, pixelLine};
 
 // A lifting step: what it makes of a value and two neighbours is `applied` of specs/Steps. `Near` and `Far` are the forms in which a
 // scaled step is run: by products of unsigned numbers, the neighbours' sum turned where the constant is negative.
@@ -84,7 +84,7 @@ pub enum Kernel {
 // ---- one value
 
 // One value less half of its neighbours' sum, rounded down.
-fn predicted(own: i32, x: i32, y: i32) -> i32
+pub fn predicted(own: i32, x: i32, y: i32) -> i32
     requires { ⌜ Safe Step.Predict own x y ⌝ }
     ensures { λ r. ⌜ r ≡ applied Step.Predict own x y ⌝ }
 {
@@ -92,7 +92,7 @@ fn predicted(own: i32, x: i32, y: i32) -> i32
 }
 
 // One value and a quarter of its neighbours' sum, rounded to the nearest.
-fn updated(own: i32, x: i32, y: i32) -> i32
+pub fn updated(own: i32, x: i32, y: i32) -> i32
     requires { ⌜ Safe Step.Update own x y ⌝ }
     ensures { λ r. ⌜ r ≡ applied Step.Update own x y ⌝ }
 {
@@ -298,7 +298,7 @@ fn apply(step: Step, own: i32, x: i32, y: i32) -> i32
 // ---- one value at an end of its line, where both neighbours are one: the papers' reduced equations
 
 // The last high of an even length: source document 004, equation 5.
-fn predicted_end(own: i32, x: i32) -> i32
+pub fn predicted_end(own: i32, x: i32) -> i32
     requires { ⌜ Safe Step.Predict own x x ⌝ }
     ensures { λ r. ⌜ r ≡ ended Step.Predict own x ⌝ }
 {
@@ -306,7 +306,7 @@ fn predicted_end(own: i32, x: i32) -> i32
 }
 
 // The first low: source document 004, equation 4. The last low of an odd length: equation 6.
-fn updated_end(own: i32, x: i32) -> i32
+pub fn updated_end(own: i32, x: i32) -> i32
     requires { ⌜ Safe Step.Update own x x ⌝ }
     ensures { λ r. ⌜ r ≡ ended Step.Update own x ⌝ }
 {
@@ -1085,47 +1085,34 @@ fn strip(
 // ---- rows and columns of a plane
 
 // A pixel less the middle of its range.
-fn centred(pixel: u16, middle: u16) -> i32
+pub fn centred(pixel: u16, middle: u16) -> i32
     ensures { λ r. ⌜ r ≡ pos pixel -ℤ pos middle ⌝ }
 {
     (pixel as i32) - (middle as i32)
 }
 
-// The n pixels from place `from` on go to the tile from place `to` on.
-fn put_pixels(pixels: &[u16], from: usize, tile: &mut [i32], to: usize, n: usize, middle: u16)
-    requires { ⌜ (from + n ≤ length (now pixels)) × (to + n ≤ length (now tile)) ⌝ }
-    ensures { λ _. ⌜ at (now (tile .exit)) ≡ patch to n (pixelLine (now (pixels .entry)) middle from) (at (now (tile .entry))) ⌝ }
+// One pixel goes to the tile.
+fn put_pixel(pixels: &[u16], from: usize, tile: &mut [i32], to: usize, middle: u16)
+    requires { ⌜ (from < length (now pixels)) × (to < length (now tile)) ⌝ }
+    ensures { λ _. ⌜ at (now (tile .exit)) ≡ patch to 1 (pixelLine (now (pixels .entry)) middle from) (at (now (tile .entry))) ⌝ }
 {
-    for j in 0..n {
-        let v = centred(pixels[from + j], middle);
-        tile[to + j] = v;
-    }
+    tile[to] = centred(pixels[from], middle);
 }
 
-// n lines of s pixels, line i from place from + i * stride on, go to the tile, the even ones first.
-fn split_pixels(
-    pixels: &[u16],
-    tile: &mut [i32],
-    stride: usize,
-    from: usize,
-    s: usize,
-    n: usize,
-    middle: u16,
-)
-    requires { ⌜ Strip (now pixels) (now tile) stride from s n ⌝ }
-    ensures { λ _. ⌜ Held s n (λ j. evens (pixelColumn (now (pixels .entry)) middle stride from j)) (λ j. odds (pixelColumn (now (pixels .entry)) middle stride from j)) (at (now (tile .exit))) ⌝ }
+// n pixels go to the tile, the even ones first.
+fn split_pixels(pixels: &[u16], from: usize, tile: &mut [i32], n: usize, middle: u16)
+    requires { ⌜ (n < 2 ^ 31) × (from + n ≤ length (now pixels)) × (n ≤ length (now tile)) ⌝ }
+    ensures { λ _. ⌜ Held 1 n (λ j. evens (pixelLine (now (pixels .entry)) middle from)) (λ j. odds (pixelLine (now (pixels .entry)) middle from)) (at (now (tile .exit))) ⌝ }
 {
     let low = (n + 1) / 2;
     let high = n / 2;
-    let top = low * s;
     for i in 0..high {
-        let a = from + 2 * i * stride;
-        let c = i * s;
-        put_pixels(pixels, a, tile, c, s, middle);
-        put_pixels(pixels, a + stride, tile, top + c, s, middle);
+        let a = from + 2 * i;
+        put_pixel(pixels, a, tile, i, middle);
+        put_pixel(pixels, a + 1, tile, low + i, middle);
     }
     if high < low {
-        put_pixels(pixels, from + 2 * high * stride, tile, high * s, s, middle);
+        put_pixel(pixels, from + 2 * high, tile, high, middle);
     }
 }
 
@@ -1146,7 +1133,7 @@ pub fn pixel_rows(
 {
     for r in 0..h {
         let from = r * w;
-        split_pixels(pixels, tile, 1, from, 1, w, middle);
+        split_pixels(pixels, from, tile, w, middle);
         finish(plane, tile, 1, from, 1, w, kernel);
     }
 }
@@ -1193,31 +1180,6 @@ pub fn columns(
     while done < w {
         let s = smaller(most, w - done);
         strip(plane, tile, stride, from + done, s, h, kernel);
-        done += s;
-    }
-}
-
-// w columns of h pixels, each less the middle of its range, worked on their way into a plane as wide, strip by strip.
-pub fn pixel_columns(
-    pixels: &[u16],
-    middle: u16,
-    plane: &mut [i32],
-    tile: &mut [i32],
-    w: usize,
-    h: usize,
-    kernel: Kernel,
-)
-    requires { ⌜ Part (now plane) w 0 w h × Liftable h × (h ≤ length (now tile)) × Forward kernel × (w * h ≤ length (now pixels)) ⌝ }
-    requires { ⌜ ((c : ℕ) → c < w → SafeKernel kernel h (pixelColumn (now pixels) middle w 0 c)) ⌝ }
-    ensures plane { λ _. ⌜ at (now (plane .exit)) ≡ patchLines (lineAt 0 w) w h (λ r c. worked kernel h (pixelColumn (now (pixels .entry)) middle w 0 c) r) (at (now (plane .entry))) ⌝ }
-    ensures tile { λ _. ⌜ Free (now (tile .entry)) (now (tile .exit)) ⌝ }
-{
-    let most = smaller(STRIP, tile.len() / h);
-    let mut done = 0;
-    while done < w {
-        let s = smaller(most, w - done);
-        split_pixels(pixels, tile, w, done, s, h, middle);
-        finish(plane, tile, w, done, s, h, kernel);
         done += s;
     }
 }

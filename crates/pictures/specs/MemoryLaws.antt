@@ -27,7 +27,7 @@ use Rattle.lifting.specs.Steps.{applied, scaledBy}
 use Rattle.lifting.specs.Passes.{liftedHighs, liftedLows}
 use Rattle.lifting.specs.Patch.{at, patch, patch-in, patch-above, patch-ext, patch-set}
 use Rattle.lifting.specs.PatchLines.{lineAt, patchLines, lines-apart, lines-out, lines-in, lines-is}
-use Rattle.lifting.specs.Strips.{pixelLine, pixelColumn, pixel-at}
+use Rattle.lifting.specs.Strips.{pixelLine}
 use Rattle.pictures.specs.Pictures.{zeroed}
 use Rattle.lifting.specs.Kernels.{worked, rowOf, rowsBy, columnsBy, rowsWorked, columnsWorked}
 
@@ -86,18 +86,18 @@ module _ (k : Kernel) (pixels : List ℕ) (middle w h : ℕ) (x : ℕ → ℤ) (
   sample-at : (i c : ℕ) → i < h → c < w → pixelLine pixels middle (i * w) c ≡ rowOf w 0 (loaded pixels middle w h x) i c
   sample-at i c a b = sym (ap (loaded pixels middle w h x) (let e : lineAt 0 w i + c ≡ 0 + (i * w + c) = omega arith in e) ∙ patch-in 0 (w * h) _ x (i * w + c) (place-in w h some i c a b))
 
-  -- rows put over the plane are put over the plane that holds the pixels
-  over-loaded : (new old : ℕ → ℕ → ℤ) → ((i j : ℕ) → i < h → j < w → new i j ≡ old i j) → patchLines (lineAt 0 w) w h new x ≡ patchLines (lineAt 0 w) w h old (loaded pixels middle w h x)
-  over-loaded new old same = lines-is (lineAt 0 w) w old (loaded pixels middle w h x) rows-apart h _
-      (λ i j a b. lines-in (lineAt 0 w) w new x rows-apart h i j a b ∙ same i j a b)
-      (λ p off. lines-out (lineAt 0 w) w new x h p off ∙ sym (patch-above 0 (w * h) _ x p (omega (arith, past p off))))
-
-  -- the rows, and the columns, that the pixels give are those of the plane that holds them
+  -- the rows that the pixels give are those of the plane that holds them
   pub pixel-rows-worked : patchLines (lineAt 0 w) w h (λ r. worked k w (pixelLine pixels middle (r * w))) x ≡ rowsWorked k w w h (loaded pixels middle w h x)
-  pixel-rows-worked = over-loaded _ _ (λ i j a b. worked-same k w works _ _ (λ c d. sample-at i c a d) j b)
+  pixel-rows-worked = lines-is (lineAt 0 w) w _ (loaded pixels middle w h x) rows-apart h _
+      (λ i j a b. lines-in (lineAt 0 w) w _ x rows-apart h i j a b ∙ worked-same k w works _ _ (λ c d. sample-at i c a d) j b)
+      (λ p off. lines-out (lineAt 0 w) w _ x h p off ∙ sym (patch-above 0 (w * h) _ x p (omega (arith, past p off))))
 
-  pub pixel-columns-worked : Liftable h → patchLines (lineAt 0 w) w h (λ r c. worked k h (pixelColumn pixels middle w 0 c) r) x ≡ columnsWorked k w 0 w h (loaded pixels middle w h x)
-  pixel-columns-worked tall = over-loaded _ _ (λ i j a b. worked-same k h tall _ _ (λ r d. pixel-at pixels middle (lineAt 0 w r) (r * w) j j (omega arith) ∙ sample-at r j d b) i a)
+  -- columns, worked from the pixels into all rows of a plane, are those of the plane that holds them
+  pub pixel-columns-worked : Liftable h → (y : ℕ → ℤ) → ((r c : ℕ) → r < h → c < w → y (r * w + c) ≡ worked k h (λ i. pixelLine pixels middle (i * w) c) r) → ((q : ℕ) → w * h ≤ q → y q ≡ x q)
+      → y ≡ columnsWorked k w 0 w h (loaded pixels middle w h x)
+  pixel-columns-worked tall y in-rows beyond = lines-is (lineAt 0 w) w _ (loaded pixels middle w h x) rows-apart h y
+      (λ i j a b. ap y (let e : lineAt 0 w i + j ≡ i * w + j = omega arith in e) ∙ in-rows i j a b ∙ worked-same k h tall _ _ (λ r d. sample-at r j d b) i a)
+      (λ p off. beyond p (past p off) ∙ sym (patch-above 0 (w * h) _ x p (omega (arith, past p off))))
 
 -- ---- rows and columns worked
 

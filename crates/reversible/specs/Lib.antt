@@ -11,6 +11,7 @@
 -- For the proofs of the code:
 --   Orders           the order as the code names it
 --   Sizes            the kernels of the code are the passes; how large their values become
+--   Columns          the columns of a picture, line by line into the plane
 --   LevelLaws        a level in memory, forward and back, in either order
 --   LoopLaws         levels one after another in memory
 --   Needs            what the functions ask of their callers
@@ -28,6 +29,7 @@ pub mod PictureLaws
 pub mod CallLaws
 pub mod Sizes
 pub mod LevelLaws
+pub mod Columns
 pub mod LoopLaws
 pub mod Needs
 pub mod StepLaws

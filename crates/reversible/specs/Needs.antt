@@ -1,5 +1,5 @@
 -- What the functions of the code ask of their callers.
-use Prim.Native.Nat.{ℕ, _+_, _*_, _-_, _<_, _≤_, _^_}
+use Prim.Native.Nat.{ℕ, suc, _+_, _*_, _-_, _<_, _≤_, _^_}
 use mathlib.Core.List.{List}
 use mathlib.Core.Path.{_≡_, refl, sym, _∙_, ap, subst, subst₂}
 use native.Mathlib.Omega.{arith}
@@ -10,16 +10,16 @@ use lib.ListN.{length, getD, take}
 use Rattle.numbers.specs.Tests.{every}
 use Rattle.lifting.specs.Kernels.{Part, worked, SafeKernel, rowOf, columnOf, rowsWorked, columnsWorked}
 use Rattle.lifting.specs.Patch.{at, patch-in}
-use Rattle.lifting.specs.PatchLines.{lineAt, patchLines}
-use Rattle.lifting.specs.Strips.{pixelColumn, pixel-at}
+use Rattle.lifting.specs.PatchLines.{lineAt}
 use Rattle.pictures.specs.Pictures.{maxSide, Admitted}
 use Rattle.pictures.specs.PictureLaws.{Room}
-use Rattle.pictures.specs.MemoryLaws.{loaded, pixel-columns-worked}
+use Rattle.pictures.specs.MemoryLaws.{loaded}
 use Rattle.lines.specs.Lines.{Liftable}
 use Rattle.lines.specs.Planes.{Plane, side}
 use Rattle.lines.specs.RowLaws.{place-in}
 use Rattle.reversible.specs.LevelLaws.{Sized, planeAt, forward-rows-safe, forward-columns-safe, rows-sized, back-rows-safe, back-columns-safe, columns-sized}
 use Rattle.reversible.specs.Sizes.{forwardKernel, backKernel, forward-size, back-size, forward-safe}
+use Rattle.reversible.specs.Columns.{sampleColumn, PixelRoom}
 use Rattle.reversible.specs.LoopLaws.{Sides, sides}
 use Rattle.width_table.specs.Table.{maxLevels, maxDepth}
 
@@ -130,25 +130,25 @@ module _ {B : ℕ} {pixels : List ℕ} {plane : List ℤ} {tile w h : ℕ} (p : 
   some-columns : 1 ≤ w
   some-columns = omega (arith, p .wide)
 
-  pub first-columns : (m : ℕ) → m ≡ 2 ^ (B - 1) → (c : ℕ) → c < w → SafeKernel forwardKernel h (pixelColumn pixels m w 0 c)
-  first-columns m e = subst (λ (n : ℕ). (c : ℕ) → c < w → SafeKernel forwardKernel h (pixelColumn pixels n w 0 c)) (sym e)
-      (λ c j. forward-safe h (2 ^ 11) (pixelColumn pixels (2 ^ (B - 1)) w 0 c) (p .tall)
-      (λ r i. subst (λ (z : ℤ). natAbs z ≤ 2 ^ 11) (sym (pixel-at pixels (2 ^ (B - 1)) (lineAt 0 w r) (r * w) c c (omega arith))) (p .small (r * w + c) (place-in w h some-columns r c i j))) (omega arith))
-
-  -- the columns that the pixels give are those of the samples
-  pub first-worked : (m : ℕ) → m ≡ 2 ^ (B - 1) → (x : ℕ → ℤ) → x ≡ patchLines (lineAt 0 w) w h (λ r c. worked forwardKernel h (pixelColumn pixels m w 0 c) r) (at plane)
-      → x ≡ columnsWorked forwardKernel w 0 w h (loaded pixels (2 ^ (B - 1)) w h (at plane))
-  first-worked m e x f = f ∙ pixel-columns-worked forwardKernel pixels m w h (at plane) (p .wide) (p .tall) ∙ ap (λ (n : ℕ). columnsWorked forwardKernel w 0 w h (loaded pixels n w h (at plane))) e
+  -- its columns can be worked
+  pub first-columns : (m : ℕ) → m ≡ 2 ^ (B - 1) → PixelRoom pixels m (length plane) w h
+  first-columns m e = subst (λ (n : ℕ). PixelRoom pixels n (length plane) w h) (sym e) (record {
+    wide = p .wide;
+    tall = p .tall;
+    held = p .held;
+    room = omega (arith, p .part .fits (h - 1) (omega (arith, p .tall)), ap (λ (t : ℕ). t * w) (let e : h ≡ suc (h - 1) = omega (arith, p .tall) in e), mul-comm w h);
+    safe = λ c j. forward-safe h (2 ^ 11) (sampleColumn pixels (2 ^ (B - 1)) w h c) (p .tall) (λ r i. p .small (r * w + c) (place-in w h some-columns r c i j)) (omega arith);
+  })
 
   -- the rows then have what they ask
-  pub first-rows : (new : List ℤ) (tile′ : ℕ) → length new ≡ length plane → tile′ ≡ tile → at new ≡ columnsWorked forwardKernel w 0 w h (loaded pixels (2 ^ (B - 1)) w h (at plane)) → LevelRoom (2 ^ 22) new tile′ w w h
-  first-rows new tile′ e f is = record {
+  pub first-rows : (m : ℕ) → m ≡ 2 ^ (B - 1) → (new : List ℤ) (tile′ : ℕ) → length new ≡ length plane → tile′ ≡ tile → at new ≡ columnsWorked forwardKernel w 0 w h (loaded pixels m w h (at plane)) → LevelRoom (2 ^ 22) new tile′ w w h
+  first-rows m g new tile′ e f is = record {
     part = part-as plane new e (p .part);
     wide = p .wide;
     tall = p .tall;
     row = omega (arith, p .row);
     column = omega (arith, p .column);
-    small = subst (λ (x : ℕ → ℤ). Sized (2 ^ 22) w h (planeAt w x)) (sym is)
+    small = subst (λ (x : ℕ → ℤ). Sized (2 ^ 22) w h (planeAt w x)) (sym (is ∙ ap (λ (n : ℕ). columnsWorked forwardKernel w 0 w h (loaded pixels n w h (at plane))) g))
         (sized-less (2 * 2 ^ 11) (2 ^ 22) w h (planeAt w (columnsWorked forwardKernel w 0 w h (loaded pixels (2 ^ (B - 1)) w h (at plane)))) (omega arith) (columns-sized w w h (2 ^ 11) (p .wide) (p .tall) (omega arith) (loaded pixels (2 ^ (B - 1)) w h (at plane)) (loaded-sized (2 ^ 11) pixels (2 ^ (B - 1)) w h (at plane) some-columns (p .small)) forwardKernel 2 forward-size));
   }
 

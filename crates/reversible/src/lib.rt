@@ -8,7 +8,10 @@ ghost use Rattle.numbers.specs.Lists.{over};
 ghost use Rattle.refusals.specs.Answers.{_then_};
 ghost use Rattle.refusals.specs.Told.{told};
 ghost use Rattle.lines.specs.Planes.{rowByRow};
+ghost use Rattle.lines.specs.Lines.{lows, highs};
 ghost use Rattle.lifting.specs.Patch.{at, patch};
+ghost use Rattle.lifting.specs.Steps.{applied, Safe};
+ghost use Rattle.lifting.specs.Strips.{pixelLine};
 ghost use Rattle.lifting.specs.Kernels.{rowsWorked, columnsWorked};
 ghost use Rattle.pictures.specs.Pictures.{sided, holds, sample, zeroed};
 ghost use Rattle.pictures.specs.Looks.{Tells, Between};
@@ -18,6 +21,7 @@ ghost use Rattle.reversible.specs.Calls.{limited, forwardAnswer, forward
 ghost use Rattle.reversible.specs.Orders.{orderOf};
 ghost use Rattle.reversible.specs.Sizes.{forwardKernel, backKernel};
 ghost use Rattle.reversible.specs.LevelLaws.{levelForward, levelBack};
+ghost use Rattle.reversible.specs.Columns.{highAt, lowAt, PixelRoom, HighsTo};
 ghost use Rattle.reversible.specs.LoopLaws.{ForwardDone};
 ghost use Rattle.reversible.specs.Needs.{LevelRoom, FirstRoom, ForwardRoom, LevelsRoom, CallRoom};
 ghost use Rattle.reversible.specs.BackLaws.{BackDone};
@@ -107,24 +111,160 @@ fn level_forward(plane: &mut [i32], tile: &mut [i32], stride: usize, w: usize, h
     rows_forward(plane, tile, stride, w, h);
 }
 
+// A line of n highs: the pixels from place `own` on, with the lines of lows beside them from `before` and `after` on. Source document
+// 004, equation 1.
+fn high_line(
+    pixels: &[u16],
+    middle: u16,
+    own: usize,
+    before: usize,
+    after: usize,
+    plane: &mut [i32],
+    to: usize,
+    n: usize,
+)
+    requires { ⌜ (own + n ≤ length (now pixels)) × (before + n ≤ length (now pixels)) × (after + n ≤ length (now pixels)) × (to + n ≤ length (now plane)) ⌝ }
+    requires { ⌜ ((j : ℕ) → j < n → Safe Step.Predict (pixelLine (now pixels) middle own j) (pixelLine (now pixels) middle before j) (pixelLine (now pixels) middle after j)) ⌝ }
+    ensures { λ _. ⌜ at (now (plane .exit)) ≡ patch to n (λ j. applied Step.Predict (pixelLine (now (pixels .entry)) middle own j) (pixelLine (now (pixels .entry)) middle before j) (pixelLine (now (pixels .entry)) middle after j)) (at (now (plane .entry))) ⌝ }
+{
+    for j in 0..n {
+        let v = lifting::predicted(
+            lifting::centred(pixels[own + j], middle),
+            lifting::centred(pixels[before + j], middle),
+            lifting::centred(pixels[after + j], middle),
+        );
+        plane[to + j] = v;
+    }
+}
+
+// The last line of highs of an even height, with the last line of lows beside it: equation 5.
+fn high_end(
+    pixels: &[u16],
+    middle: u16,
+    own: usize,
+    beside: usize,
+    plane: &mut [i32],
+    to: usize,
+    n: usize,
+)
+    requires { ⌜ (own + n ≤ length (now pixels)) × (beside + n ≤ length (now pixels)) × (to + n ≤ length (now plane)) ⌝ }
+    requires { ⌜ ((j : ℕ) → j < n → Safe Step.Predict (pixelLine (now pixels) middle own j) (pixelLine (now pixels) middle beside j) (pixelLine (now pixels) middle beside j)) ⌝ }
+    ensures { λ _. ⌜ at (now (plane .exit)) ≡ patch to n (λ j. applied Step.Predict (pixelLine (now (pixels .entry)) middle own j) (pixelLine (now (pixels .entry)) middle beside j) (pixelLine (now (pixels .entry)) middle beside j)) (at (now (plane .entry))) ⌝ }
+{
+    for j in 0..n {
+        let v = lifting::predicted_end(
+            lifting::centred(pixels[own + j], middle),
+            lifting::centred(pixels[beside + j], middle),
+        );
+        plane[to + j] = v;
+    }
+}
+
+// A line of n lows: the pixels from place `own` on, with the lines of highs beside them in the plane. Equation 2.
+fn low_line(
+    pixels: &[u16],
+    middle: u16,
+    own: usize,
+    plane: &mut [i32],
+    before: usize,
+    after: usize,
+    to: usize,
+    n: usize,
+)
+    requires { ⌜ (own + n ≤ length (now pixels)) × (to + n ≤ before) × (to + n ≤ after) × (before + n ≤ length (now plane)) × (after + n ≤ length (now plane)) ⌝ }
+    requires { ⌜ ((j : ℕ) → j < n → Safe Step.Update (pixelLine (now pixels) middle own j) (at (now plane) (before + j)) (at (now plane) (after + j))) ⌝ }
+    ensures { λ _. ⌜ at (now (plane .exit)) ≡ patch to n (λ j. applied Step.Update (pixelLine (now (pixels .entry)) middle own j) (at (now (plane .entry)) (before + j)) (at (now (plane .entry)) (after + j))) (at (now (plane .entry))) ⌝ }
+{
+    for j in 0..n {
+        let v = lifting::updated(
+            lifting::centred(pixels[own + j], middle),
+            plane[before + j],
+            plane[after + j],
+        );
+        plane[to + j] = v;
+    }
+}
+
+// The first line of lows, with the first line of highs beside it, and the last one of an odd height, with the last line of highs:
+// equations 4 and 6.
+fn low_end(
+    pixels: &[u16],
+    middle: u16,
+    own: usize,
+    plane: &mut [i32],
+    beside: usize,
+    to: usize,
+    n: usize,
+)
+    requires { ⌜ (own + n ≤ length (now pixels)) × (to + n ≤ beside) × (beside + n ≤ length (now plane)) ⌝ }
+    requires { ⌜ ((j : ℕ) → j < n → Safe Step.Update (pixelLine (now pixels) middle own j) (at (now plane) (beside + j)) (at (now plane) (beside + j))) ⌝ }
+    ensures { λ _. ⌜ at (now (plane .exit)) ≡ patch to n (λ j. applied Step.Update (pixelLine (now (pixels .entry)) middle own j) (at (now (plane .entry)) (beside + j)) (at (now (plane .entry)) (beside + j))) (at (now (plane .entry))) ⌝ }
+{
+    for j in 0..n {
+        let v = lifting::updated_end(lifting::centred(pixels[own + j], middle), plane[beside + j]);
+        plane[to + j] = v;
+    }
+}
+
+// Line i of the highs of a picture's columns.
+fn high_at(pixels: &[u16], middle: u16, plane: &mut [i32], w: usize, h: usize, i: usize)
+    requires { ⌜ PixelRoom (now pixels) middle (length (now plane)) w h × (i < highs h) ⌝ }
+    ensures { λ _. ⌜ at (now (plane .exit)) ≡ patch ((lows h + i) * w) w (λ c. highAt (now (pixels .entry)) middle w h c i) (at (now (plane .entry))) ⌝ }
+{
+    let low = (h + 1) / 2;
+    let own = (2 * i + 1) * w;
+    let to = (low + i) * w;
+    if i + 1 < low {
+        high_line(pixels, middle, own, own - w, own + w, plane, to, w);
+    } else {
+        high_end(pixels, middle, own, own - w, plane, to, w);
+    }
+}
+
+// Line i of the lows, where the lines of highs beside it stand in the plane.
+fn low_at(pixels: &[u16], middle: u16, plane: &mut [i32], w: usize, h: usize, i: usize)
+    requires { ⌜ PixelRoom (now pixels) middle (length (now plane)) w h × (i < lows h) ⌝ }
+    requires { ⌜ HighsTo (i + 1) (now pixels) middle w h (at (now plane)) ⌝ }
+    ensures { λ _. ⌜ at (now (plane .exit)) ≡ patch (i * w) w (λ c. lowAt (now (pixels .entry)) middle w h c i) (at (now (plane .entry))) ⌝ }
+{
+    let low = (h + 1) / 2;
+    let own = 2 * i * w;
+    let to = i * w;
+    if i == 0 {
+        low_end(pixels, middle, own, plane, low * w, to, w);
+    } else {
+        let before = (low + i - 1) * w;
+        if i < h / 2 {
+            low_line(pixels, middle, own, plane, before, before + w, to, w);
+        } else {
+            low_end(pixels, middle, own, plane, before, to, w);
+        }
+    }
+}
+
+// The columns of a picture, forward, line by line on their way into the plane: line i of the highs, then line i of the lows, so that every
+// pixel and every coefficient is passed once and in order.
+fn pixel_columns(pixels: &[u16], middle: u16, plane: &mut [i32], w: usize, h: usize)
+    requires { ⌜ PixelRoom (now pixels) middle (length (now plane)) w h ⌝ }
+    ensures { λ _. ⌜ at (now (plane .exit)) ≡ columnsWorked forwardKernel w 0 w h (loaded (now (pixels .entry)) middle w h (at (now (plane .entry)))) ⌝ }
+{
+    let high = h / 2;
+    for i in 0..high {
+        high_at(pixels, middle, plane, w, h, i);
+        low_at(pixels, middle, plane, w, h, i);
+    }
+    if high < (h + 1) / 2 {
+        low_at(pixels, middle, plane, w, h, high);
+    }
+}
+
 // The first level forward, whose columns are those of the picture.
 fn first_level(pixels: &[u16], depth: u8, plane: &mut [i32], tile: &mut [i32], w: usize, h: usize)
     requires { ⌜ FirstRoom depth (now pixels) (now plane) (length (now tile)) w h ⌝ }
     ensures { λ _. ⌜ at (now (plane .exit)) ≡ levelForward w w h (loaded (now (pixels .entry)) (2 ^ (depth - 1)) w h (at (now (plane .entry)))) ⌝ }
 {
     let middle = pictures::middle(depth);
-    lifting::pixel_columns(
-        pixels,
-        middle,
-        plane,
-        tile,
-        w,
-        h,
-        Kernel::One(Pair {
-            highs: Step::Predict,
-            lows: Step::Update,
-        }),
-    );
+    pixel_columns(pixels, middle, plane, w, h);
     rows_forward(plane, tile, w, w, h);
 }
 

@@ -1,6 +1,6 @@
 //! The commands.
 
-use crate::container::Plane;
+use crate::container::{Kind, Order, Plane};
 use crate::pgm::Picture;
 use crate::progress::Progress;
 use crate::{counted, png, sample, show, suggest, text, Failure};
@@ -35,9 +35,11 @@ roll - works scanned pictures of punched rolls
   roll difference ONE.pgm OTHER.pgm OUT.pgm
                                         how many greys two pictures differ at
                                         most, and a picture of where
-  roll copy [--levels N] IN.pgm OUT     exact copy as 5/3 coefficients; without
-                                        --levels as many as the sides admit
-  roll restore IN OUT.pgm               the picture of an exact copy
+  roll copy [--levels N] IN.pgm OUT     exact copy as 5/3 coefficients, columns
+                                        first; without --levels as many as the
+                                        sides admit
+  roll restore IN OUT.pgm               the picture of an exact copy, also of an
+                                        earlier one (rows first)
   roll picture PLANE OUT.png            coefficients drawn where they stand
   roll sample DIR                       a drawn roll and some tables to try
   roll --help
@@ -72,10 +74,19 @@ Pictures are PGM files (P5) with a largest value up to 4095; the depth is the
 bits of the largest value. `restore` and `view` write 2^depth - 1 as largest
 value. `difference` draws no difference black and the largest white.
 
-Files of coefficients have two lines of text, `suzdrepa-53` or `suzdrepa-97`
-and then depth, levels, width and height; with 97 the width table follows;
-then the coefficients, 32-bit signed, low byte first, row by row. A 9/7
-coefficient v means v / 2^f with the fractional bits f of its node.
+Exact copies have the order of JPEG 2000 Part 1: each level works the columns,
+then the rows. Copies made earlier were worked rows first; `restore` knows them
+by the file's first line. Restored and copied again, such a copy is a new one.
+
+Files of coefficients have two lines of text. The first is one of
+
+  suzdrepa-53 columns-first             an exact copy as it is made now
+  suzdrepa-53                           an exact copy made earlier, rows first
+  suzdrepa-97                           9/7 coefficients
+
+and the second depth, levels, width and height; with 97 the width table
+follows; then the coefficients, 32-bit signed, low byte first, row by row. A
+9/7 coefficient v means v / 2^f with the fractional bits f of its node.
 
 Exit status: 0 done, 1 refused (number and reason are told), 2 a wrong command
 line (a number outside its limits is one) or a file that cannot be read,
@@ -480,7 +491,7 @@ fn forward97(
         levels: table.levels(),
         width,
         height,
-        table: Some(table),
+        kind: Kind::Fixed(table),
         values,
     };
     progress.tell("writing");
@@ -507,7 +518,7 @@ fn view97(
     let inputs: Vec<&OsStr> = named.into_iter().chain([from]).collect();
     apart(&inputs, to)?;
     let plane = Plane::read(&read(from)?).map_err(not_understood(from))?;
-    let Some(table) = &plane.table else {
+    let Kind::Fixed(table) = &plane.kind else {
         return Err(Failure::File(format!(
             "{}: an exact copy; 9/7 coefficients (suzdrepa-97) are viewed, `restore` takes a copy",
             shown(from)
@@ -605,7 +616,7 @@ fn copy(levels: Option<u8>, from: &OsStr, to: &OsStr, out: &mut dyn Write) -> Re
         levels,
         width,
         height,
-        table: None,
+        kind: Kind::ExactCopy(Order::ColumnsFirst),
         values,
     };
     progress.tell("writing");
@@ -614,7 +625,7 @@ fn copy(levels: Option<u8>, from: &OsStr, to: &OsStr, out: &mut dyn Write) -> Re
     tell(
         out,
         &format!(
-            "{}: exact copy, {width} x {height}, {}\n",
+            "{}: exact copy (columns first), {width} x {height}, {}\n",
             shown(to),
             show::bits_and_levels(picture.depth, levels)
         ),
@@ -624,32 +635,67 @@ fn copy(levels: Option<u8>, from: &OsStr, to: &OsStr, out: &mut dyn Write) -> Re
 fn restore(from: &OsStr, to: &OsStr, out: &mut dyn Write) -> Result<(), Failure> {
     apart(&[from], to)?;
     let plane = Plane::read(&read(from)?).map_err(not_understood(from))?;
-    if plane.table.is_some() {
+    let Kind::ExactCopy(order) = plane.kind else {
         return Err(Failure::File(format!(
             "{}: 9/7 coefficients; an exact copy (suzdrepa-53) is restored, `view` takes these",
             shown(from)
         )));
-    }
+    };
     let progress = Progress::new();
     progress.tell(&format!("restoring {} x {}", plane.width, plane.height));
-    let pixels = suzdrepa::inverse53_to_vec(
+    let picture = Picture {
+        width: plane.width,
+        height: plane.height,
+        depth: plane.depth,
+        pixels: taken_back(&plane, order).map_err(copy_refused(from, order))?,
+    };
+    progress.tell("writing");
+    write(to, &picture.write())?;
+    drop(progress);
+    tell(
+        out,
+        &format!(
+            "{}: {}, from {}\n",
+            shown(to),
+            picture.shape(),
+            copy_in_words(order)
+        ),
+    )
+}
+
+/// The pixels of an exact copy, by the call for its order.
+fn taken_back(plane: &Plane, order: Order) -> Result<Vec<u16>, Refusal> {
+    let back = match order {
+        Order::ColumnsFirst => suzdrepa::inverse53_to_vec,
+        Order::RowsFirst => suzdrepa::inverse53_rows_first_to_vec,
+    };
+    back(
         plane.depth,
         plane.levels,
         &plane.values,
         plane.width,
         plane.height,
     )
-    .map_err(refused(from))?;
-    let picture = Picture {
-        width: plane.width,
-        height: plane.height,
-        depth: plane.depth,
-        pixels,
-    };
-    progress.tell("writing");
-    write(to, &picture.write())?;
-    drop(progress);
-    tell(out, &format!("{}: {}\n", shown(to), picture.shape()))
+}
+
+/// A copy of that order, in words.
+fn copy_in_words(order: Order) -> &'static str {
+    match order {
+        Order::ColumnsFirst => "a copy (columns first)",
+        Order::RowsFirst => "an earlier copy (rows first)",
+    }
+}
+
+/// As [`refused`]; where no picture has the copy, also what it was taken for,
+/// since its first line may say the wrong order.
+fn copy_refused(path: &OsStr, order: Order) -> impl Fn(Refusal) -> Failure + '_ {
+    move |refusal| match refusal {
+        Refusal::NoPicture => {
+            let taken = copy_in_words(order);
+            Failure::Refused(format!("{}: {refusal}; taken for {taken}", shown(path)))
+        }
+        _ => refused(path)(refusal),
+    }
 }
 
 /// The grey values of a plane. Each band has its own scale: the coarsest
@@ -783,7 +829,7 @@ mod tests {
             levels: 1,
             width: 4,
             height: 2,
-            table: None,
+            kind: Kind::ExactCopy(Order::ColumnsFirst),
             values: vec![-100, 100, 7, -14, 0, 0, i32::MIN, i32::MAX],
         };
         assert_eq!(greys(&plane), [0, 255, 191, 1, 128, 128, 1, 254]);

@@ -3,13 +3,19 @@
 //! Two lines of text, then bytes:
 //!
 //! ```text
-//! suzdrepa-53                      or  suzdrepa-97
+//! suzdrepa-53 columns-first        or  suzdrepa-53  or  suzdrepa-97
 //! DEPTH LEVELS WIDTH HEIGHT        decimal numbers, one space between
 //! (suzdrepa-97 only) the width table, 20 + 36 * LEVELS bytes
 //! WIDTH * HEIGHT coefficients, 32-bit signed, low byte first, row by row
 //! ```
 //!
 //! Nothing follows the last coefficient.
+//!
+//! The numbers of an exact copy do not tell in which order rows and columns
+//! were worked, so its first line does. Files written before there were two
+//! orders have no mark: their copies were worked rows first. A tool of that
+//! time does not know the mark and says so; it never takes a new copy for one
+//! of its own.
 
 use suzdrepa::WidthTable;
 
@@ -20,13 +26,41 @@ pub struct Plane {
     pub levels: u8,
     pub width: usize,
     pub height: usize,
-    /// The width table of a 9/7 plane; a 5/3 plane has none.
-    pub table: Option<WidthTable>,
+    pub kind: Kind,
     pub values: Vec<i32>,
 }
 
-const REVERSIBLE: &str = "suzdrepa-53";
+/// What the coefficients are, with what is needed to take them back.
+#[derive(Clone, Debug, PartialEq, Eq)]
+pub enum Kind {
+    /// An exact 5/3 copy.
+    ExactCopy(Order),
+    /// 9/7 coefficients under their width table.
+    Fixed(WidthTable),
+}
+
+/// What each level of an exact copy worked first.
+#[derive(Clone, Copy, Debug, PartialEq, Eq)]
+pub enum Order {
+    /// As JPEG 2000 Part 1 does, and as copies are made now.
+    ColumnsFirst,
+    /// As copies were made earlier.
+    RowsFirst,
+}
+
+const COLUMNS_FIRST: &str = "suzdrepa-53 columns-first";
+const ROWS_FIRST: &str = "suzdrepa-53";
 const FIXED: &str = "suzdrepa-97";
+
+impl Kind {
+    fn first_line(&self) -> &'static str {
+        match self {
+            Kind::ExactCopy(Order::ColumnsFirst) => COLUMNS_FIRST,
+            Kind::ExactCopy(Order::RowsFirst) => ROWS_FIRST,
+            Kind::Fixed(_) => FIXED,
+        }
+    }
+}
 
 /// The line up to the next newline, and the rest; a line is short.
 fn line(bytes: &[u8]) -> Option<(&str, &[u8])> {
@@ -44,9 +78,11 @@ fn number<T: std::str::FromStr>(text: Option<&str>) -> Option<T> {
 
 impl Plane {
     pub fn read(bytes: &[u8]) -> Result<Plane, String> {
-        let (kind, rest) = line(bytes)
-            .filter(|(kind, _)| [REVERSIBLE, FIXED].contains(kind))
-            .ok_or("not a file of coefficients (suzdrepa-53 or suzdrepa-97)")?;
+        let unknown = "not a file of coefficients \
+                       (suzdrepa-53 columns-first, suzdrepa-53 or suzdrepa-97)";
+        let (first, rest) = line(bytes)
+            .filter(|(first, _)| [COLUMNS_FIRST, ROWS_FIRST, FIXED].contains(first))
+            .ok_or(unknown)?;
         let wrong = "the second line is not depth, levels, width and height";
         let (shape, mut rest) = line(rest).ok_or(wrong)?;
         let mut words = shape.split(' ');
@@ -57,21 +93,23 @@ impl Plane {
         if words.next().is_some() {
             return Err(wrong.into());
         }
-        let table = if kind == FIXED {
-            let length = WidthTable::length(levels);
-            if rest.len() < length {
-                return Err("the file ends within its width table".into());
+        let kind = match first {
+            COLUMNS_FIRST => Kind::ExactCopy(Order::ColumnsFirst),
+            ROWS_FIRST => Kind::ExactCopy(Order::RowsFirst),
+            _ => {
+                let length = WidthTable::length(levels);
+                if rest.len() < length {
+                    return Err("the file ends within its width table".into());
+                }
+                let (table, values) = rest.split_at(length);
+                rest = values;
+                let table = WidthTable::from_bytes(table)
+                    .map_err(|refusal| format!("the width table is {refusal}"))?;
+                if (table.depth(), table.levels()) != (depth, levels) {
+                    return Err("the width table does not agree with the second line".into());
+                }
+                Kind::Fixed(table)
             }
-            let (table, values) = rest.split_at(length);
-            rest = values;
-            let table = WidthTable::from_bytes(table)
-                .map_err(|refusal| format!("the width table is {refusal}"))?;
-            if (table.depth(), table.levels()) != (depth, levels) {
-                return Err("the width table does not agree with the second line".into());
-            }
-            Some(table)
-        } else {
-            None
         };
         let due = width.checked_mul(height).and_then(|n| n.checked_mul(4));
         match due {
@@ -93,22 +131,22 @@ impl Plane {
             levels,
             width,
             height,
-            table,
+            kind,
             values,
         })
     }
 
     pub fn write(&self) -> Vec<u8> {
-        let kind = match self.table {
-            Some(_) => FIXED,
-            None => REVERSIBLE,
-        };
         let mut bytes = format!(
-            "{kind}\n{} {} {} {}\n",
-            self.depth, self.levels, self.width, self.height
+            "{}\n{} {} {} {}\n",
+            self.kind.first_line(),
+            self.depth,
+            self.levels,
+            self.width,
+            self.height
         )
         .into_bytes();
-        if let Some(table) = &self.table {
+        if let Kind::Fixed(table) = &self.kind {
             bytes.extend(table.as_bytes());
         }
         for value in &self.values {
@@ -123,37 +161,60 @@ mod tests {
     use super::*;
     use suzdrepa::Width;
 
-    fn reversible() -> Plane {
+    fn copy(order: Order) -> Plane {
         Plane {
             depth: 3,
             levels: 1,
             width: 2,
             height: 3,
-            table: None,
+            kind: Kind::ExactCopy(order),
             values: vec![1, 1, -2, i32::MIN, i32::MAX, 0],
         }
     }
 
     fn fixed() -> Plane {
+        let table = WidthTable::uniform(3, 1, 24, Width::new(12, 2));
         Plane {
-            table: WidthTable::uniform(3, 1, 24, Width::new(12, 2)).ok(),
-            ..reversible()
+            kind: Kind::Fixed(table.unwrap()),
+            ..copy(Order::ColumnsFirst)
         }
+    }
+
+    /// A plane of each kind.
+    fn planes() -> [Plane; 3] {
+        [copy(Order::ColumnsFirst), copy(Order::RowsFirst), fixed()]
     }
 
     #[test]
     fn round_trips() {
-        for plane in [reversible(), fixed()] {
-            assert_eq!(Plane::read(&plane.write()), Ok(plane));
+        let starts = [
+            &b"suzdrepa-53 columns-first\n3 1 2 3\n\x01\x00\x00\x00"[..],
+            b"suzdrepa-53\n3 1 2 3\n\x01\x00\x00\x00",
+            b"suzdrepa-97\n3 1 2 3\n\x01\x00\x01\x03",
+        ];
+        for (plane, start) in planes().into_iter().zip(starts) {
+            let bytes = plane.write();
+            assert!(bytes.starts_with(start), "{:?}", plane.kind);
+            let again = Plane::read(&bytes).unwrap();
+            assert_eq!(again.write(), bytes);
+            assert_eq!(again, plane);
         }
-        assert!(reversible()
-            .write()
-            .starts_with(b"suzdrepa-53\n3 1 2 3\n\x01\x00\x00\x00"));
+    }
+
+    /// The mark alone tells the two orders apart.
+    #[test]
+    fn a_copy_with_its_mark_taken_away_is_one_of_the_other_order() {
+        let (new, earlier) = (copy(Order::ColumnsFirst), copy(Order::RowsFirst));
+        let bytes = new.write();
+        let (kept, rest) = bytes.split_at("suzdrepa-53".len());
+        let unmarked = [kept, rest.strip_prefix(b" columns-first").unwrap()].concat();
+        assert_eq!(unmarked, earlier.write());
+        assert_eq!(Plane::read(&unmarked), Ok(earlier));
     }
 
     #[test]
     fn every_cut_and_every_addition_is_told() {
-        for plane in [reversible(), fixed()] {
+        for plane in planes() {
             let mut bytes = plane.write();
             for length in 0..bytes.len() {
                 assert!(Plane::read(&bytes[..length]).is_err());
@@ -165,10 +226,30 @@ mod tests {
 
     #[test]
     fn damaged_heads_are_told() {
+        for first in [
+            "",
+            "suzdrepa-54",
+            "suzdrepa-53 ",
+            "suzdrepa-53 rows-first",
+            "suzdrepa-53 columns-first ",
+            "suzdrepa-53  columns-first",
+            "suzdrepa-53 columns",
+            "suzdrepa-53 Columns-first",
+            "suzdrepa-53 columns-first rows-first",
+            "suzdrepa-53\tcolumns-first",
+            "suzdrepa-53 columns-first\r",
+            " suzdrepa-53",
+            "suzdrepa-97 ",
+            "suzdrepa-97 columns-first",
+        ] {
+            let rest = &copy(Order::RowsFirst).write()["suzdrepa-53".len()..];
+            let error = Plane::read(&[first.as_bytes(), rest].concat()).unwrap_err();
+            assert!(error.starts_with("not a file of coefficients"), "{first}");
+        }
         for (bytes, text) in [
-            (&b"suzdrepa-54\n3 1 2 3\n"[..], "not a file of coefficients"),
-            (b"suzdrepa-53 \n3 1 2 3\n", "not a file of coefficients"),
-            (b"suzdrepa-53", "not a file of coefficients"),
+            (&b"suzdrepa-53"[..], "not a file of coefficients"),
+            (b"suzdrepa-53 columns-first", "not a file of coefficients"),
+            (b"suzdrepa-53 columns-first\n3 1 2\n", "second line"),
             (b"suzdrepa-53\n3 1 2\n", "second line"),
             (b"suzdrepa-53\n3 1 2 3 4\n", "second line"),
             (b"suzdrepa-53\n3 1 2  3\n", "second line"),

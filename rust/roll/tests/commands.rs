@@ -481,9 +481,17 @@ fn copies_come_back() {
         let picture = folder.file("p.pgm", &whole);
         let (copy, back) = (folder.path("copy"), folder.path("back.pgm"));
         let told = succeeds(&["copy", &picture, &copy]);
-        let due = format!(", {}\n", counted(levels, "level"));
-        assert!(told.ends_with(&due), "{told}");
-        succeeds(&["restore", &copy, &back]);
+        let bits = counted(&(largest.ilog2() + 1).to_string(), "bit");
+        let shape = format!("{width} x {height}, {bits}");
+        let levels = counted(levels, "level");
+        let due = format!("{copy}: exact copy (columns first), {shape}, {levels}\n");
+        assert_eq!(told, due);
+        assert!(folder
+            .bytes("copy")
+            .starts_with(b"suzdrepa-53 columns-first\n"));
+        let told = succeeds(&["restore", &copy, &back]);
+        let due = format!("{back}: {shape}, from a copy (columns first)\n");
+        assert_eq!(told, due);
         assert_eq!(folder.bytes("back.pgm"), whole);
         succeeds(&["copy", &picture, &copy, "--levels", "1"]);
         succeeds(&["restore", &copy, &back]);
@@ -491,6 +499,131 @@ fn copies_come_back() {
         let drawn = folder.path("copy.png");
         succeeds(&["picture", &copy, &drawn]);
         assert!(folder.bytes("copy.png").starts_with(b"\x89PNG"));
+    }
+}
+
+/// A file with this first line: three bits, one level, two by two.
+fn two_by_two(first: &str, coefficients: [i32; 4]) -> Vec<u8> {
+    let head = format!("{first}\n3 1 2 2\n").into_bytes();
+    let numbers = coefficients.map(i32::to_le_bytes).concat();
+    [head, numbers].concat()
+}
+
+/// The copies of documents 01 and 02: as it was made earlier, and as it is now.
+#[test]
+fn copies_of_both_orders_are_restored() {
+    let folder = Folder::new("both_orders");
+    let back = folder.path("back.pgm");
+    let new = two_by_two("suzdrepa-53 columns-first", [2, 1, -2, -2]);
+    let earlier = two_by_two("suzdrepa-53", [1, 1, -2, -2]);
+    for (bytes, from) in [
+        (&new, "a copy (columns first)"),
+        (&earlier, "an earlier copy (rows first)"),
+    ] {
+        let copy = folder.file("copy", bytes);
+        let told = succeeds(&["restore", &copy, &back]);
+        assert_eq!(told, format!("{back}: 2 x 2, 3 bits, from {from}\n"));
+        let picture = roll::pgm::Picture::read(&folder.bytes("back.pgm")).unwrap();
+        assert_eq!((picture.width, picture.height, picture.depth), (2, 2, 3));
+        assert_eq!(picture.pixels, [5, 7, 4, 4]);
+        let drawn = folder.path("copy.png");
+        succeeds(&["picture", &copy, &drawn]);
+        assert!(folder.bytes("copy.png").starts_with(b"\x89PNG"));
+        fails(&["view", &copy, &back], 2, "copy: an exact copy; 9/7");
+        // Restored and copied again it is a new one.
+        let again = folder.path("again");
+        succeeds(&["copy", &back, &again]);
+        assert_eq!(folder.bytes("again"), new);
+    }
+}
+
+#[test]
+fn marks_that_are_not_known() {
+    let folder = Folder::new("marks");
+    let out = folder.path("out");
+    for first in [
+        "suzdrepa-53 rows-first",
+        "suzdrepa-53 ",
+        "suzdrepa-53 columns-first ",
+    ] {
+        let copy = folder.file("copy", &two_by_two(first, [2, 1, -2, -2]));
+        for command in ["restore", "picture", "view"] {
+            fails(&[command, &copy, &out], 2, "not a file of coefficients");
+        }
+    }
+    assert!(!std::path::Path::new(&out).exists());
+}
+
+/// Columns for rows and rows for columns.
+fn turned<T: Copy>(plane: &[T], width: usize) -> Vec<T> {
+    let column = |x: usize| plane.iter().skip(x).step_by(width).copied();
+    (0..width).flat_map(column).collect()
+}
+
+/// Where a mark was taken away or put in, the file is restored as a copy of the
+/// other order, or refused 11.
+#[test]
+fn wrong_marks() {
+    let folder = Folder::new("wrong_marks");
+    let (marked, unmarked) = ("suzdrepa-53 columns-first\n", "suzdrepa-53\n");
+    let (mut removed, mut added) = ([0; 2], [0; 2]);
+    for (width, height) in (2..9).flat_map(|width| (2..9).map(move |height| (width, height))) {
+        for largest in [1, 7, 255] {
+            let picture = roll::pgm::Picture::read(&pgm(width, height, largest)).unwrap();
+            let (depth, pixels) = (picture.depth, picture.pixels);
+            let new = suzdrepa::forward53_to_vec(depth, 1, &pixels, width, height).unwrap();
+            // Rows first is columns first on the picture turned over.
+            let on_its_side = turned(&pixels, width);
+            let earlier = suzdrepa::forward53_to_vec(depth, 1, &on_its_side, height, width);
+            let earlier = turned(&earlier.unwrap(), height);
+            let restored = |first: &str, plane: &[i32]| {
+                let mut bytes = format!("{first}{depth} 1 {width} {height}\n").into_bytes();
+                bytes.extend(plane.iter().flat_map(|value| value.to_le_bytes()));
+                let copy = folder.file("copy", &bytes);
+                let (status, _, err) = roll(&["restore", &copy, &folder.path("back.pgm")]);
+                match status {
+                    0 => Ok(roll::pgm::Picture::read(&folder.bytes("back.pgm"))
+                        .unwrap()
+                        .pixels),
+                    _ => Err((status, err)),
+                }
+            };
+            assert_eq!(restored(marked, &new).as_ref(), Ok(&pixels));
+            assert_eq!(restored(unmarked, &earlier).as_ref(), Ok(&pixels));
+
+            let back = suzdrepa::inverse53_rows_first_to_vec(depth, 1, &new, width, height);
+            let taken = "taken for an earlier copy (rows first)";
+            count(&mut removed, restored(unmarked, &new), back, &pixels, taken);
+            let back = suzdrepa::inverse53_to_vec(depth, 1, &earlier, width, height);
+            let taken = "taken for a copy (columns first)";
+            count(&mut added, restored(marked, &earlier), back, &pixels, taken);
+        }
+    }
+    for seen in [removed, added] {
+        assert!(seen.iter().all(|&n| n > 10), "{removed:?} {added:?}");
+    }
+}
+
+/// Holds what was restored under a wrong mark against the engine's answer in
+/// that order, and counts refusals and other pictures.
+fn count(
+    seen: &mut [usize; 2],
+    restored: Result<Vec<u16>, (u8, String)>,
+    due: Result<Vec<u16>, suzdrepa::Refusal>,
+    right: &[u16],
+    taken: &str,
+) {
+    match restored {
+        Err((status, err)) => {
+            assert_eq!((status, due), (1, Err(suzdrepa::Refusal::NoPicture)));
+            assert!(err.contains(": refused 11: the 5/3 plane"), "{err}");
+            assert!(err.ends_with(&format!("; {taken}\n")), "{err}");
+            seen[0] += 1;
+        }
+        Ok(pixels) => {
+            seen[1] += usize::from(pixels != right);
+            assert_eq!(Ok(pixels), due);
+        }
     }
 }
 
@@ -710,17 +843,24 @@ fn damaged_copies() {
     let last = changed.len() - 1;
     changed[last] = 0x7f;
     let changed = folder.file("changed", &changed);
-    fails(&["restore", &changed, &out], 1, "refused 11: the 5/3 plane");
+    fails(
+        &["restore", &changed, &out],
+        1,
+        "refused 11: the 5/3 plane is the transform of no picture of that depth and size; \
+         taken for a copy (columns first)",
+    );
     // A depth and levels outside their limits are the engine's to refuse.
-    let head = |shape: &str| format!("suzdrepa-53\n{shape} 2 1\n\0\0\0\0\0\0\0\0").into_bytes();
-    let odd = folder.file("odd", &head("13 1"));
-    fails(&["restore", &odd, &out], 1, "refused 4");
-    let odd = folder.file("odd", &head("8 0"));
-    fails(&["restore", &odd, &out], 1, "refused 4");
-    fails(&["picture", &odd, &out], 2, "0 levels");
-    let odd = folder.file("odd", &head("8 1"));
-    fails(&["restore", &odd, &out], 1, "refused 8");
-    fails(&["picture", &odd, &out], 2, "2 x 1");
+    for first in ["suzdrepa-53 columns-first", "suzdrepa-53"] {
+        let head = |shape: &str| format!("{first}\n{shape} 2 1\n\0\0\0\0\0\0\0\0").into_bytes();
+        let odd = folder.file("odd", &head("13 1"));
+        fails(&["restore", &odd, &out], 1, "refused 4");
+        let odd = folder.file("odd", &head("8 0"));
+        fails(&["restore", &odd, &out], 1, "refused 4");
+        fails(&["picture", &odd, &out], 2, "0 levels");
+        let odd = folder.file("odd", &head("8 1"));
+        fails(&["restore", &odd, &out], 1, "refused 8");
+        fails(&["picture", &odd, &out], 2, "2 x 1");
+    }
     assert!(!std::path::Path::new(&out).exists());
 }
 
@@ -745,6 +885,7 @@ fn random_damage_never_panics() {
     succeeds(&["copy", &p, &copy]);
     succeeds(&["forward97", &table_path, &p, &fixed]);
     let (copy, fixed) = (folder.bytes("copy"), folder.bytes("fixed"));
+    let earlier = two_by_two("suzdrepa-53", [1, 1, -2, -2]);
     let out = folder.path("out");
     let mut seen = [0usize; 3];
     for _ in 0..200 {
@@ -753,12 +894,13 @@ fn random_damage_never_panics() {
             (&text, &["table"][..]),
             (&picture, &["copy"][..]),
             (&copy, &["restore", "picture"][..]),
+            (&earlier, &["restore", "picture"][..]),
             (&fixed, &["restore", "picture", "view"][..]),
         ] {
             let mut bytes = whole.clone();
             // Mostly in the head, where the structure is.
             for _ in 0..=below(3) {
-                let reach = if below(2) == 0 { 24 } else { bytes.len() };
+                let reach = if below(2) == 0 { 36 } else { bytes.len() };
                 let at = below(reach.min(bytes.len()));
                 match below(4) {
                     0 => {
@@ -802,6 +944,7 @@ fn the_sample() {
     fails(&["check", &folder.path("refused7.table")], 1, "refused 7");
     let (copy, back) = (folder.path("copy"), folder.path("back.pgm"));
     succeeds(&["copy", &folder.path("roll.pgm"), &copy]);
-    succeeds(&["restore", &copy, &back]);
+    let told = succeeds(&["restore", &copy, &back]);
+    assert!(told.ends_with(", from a copy (columns first)\n"), "{told}");
     assert_eq!(folder.bytes("back.pgm"), folder.bytes("roll.pgm"));
 }

@@ -33,7 +33,7 @@
 //!         work.as_mut_ptr(), work.len(),
 //!     )
 //! };
-//! assert_eq!((answer, plane), (0, [1, 1, -2, -2]));
+//! assert_eq!((answer, plane), (0, [2, 1, -2, -2]));
 //! ```
 
 #![no_std]
@@ -152,7 +152,7 @@ extern "C" {
         work_len: usize,
     ) -> u32;
 
-    /// 5/3 forward: 4, 8, 9, 10.
+    /// 5/3 forward, columns first: 4, 8, 9, 10.
     pub fn suz_forward53(
         depth: u8,
         levels: u8,
@@ -166,8 +166,22 @@ extern "C" {
         work_len: usize,
     ) -> u32;
 
-    /// 5/3 back: 4, 8, 9, 11.
+    /// 5/3 back, of a copy worked columns first: 4, 8, 9, 11.
     pub fn suz_inverse53(
+        depth: u8,
+        levels: u8,
+        plane: *const i32,
+        plane_len: usize,
+        width: usize,
+        height: usize,
+        pixels: *mut u16,
+        pixels_len: usize,
+        work: *mut i32,
+        work_len: usize,
+    ) -> u32;
+
+    /// 5/3 back, of a copy made earlier, rows first: 4, 8, 9, 11.
+    pub fn suz_inverse53_rows_first(
         depth: u8,
         levels: u8,
         plane: *const i32,

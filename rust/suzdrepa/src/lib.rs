@@ -7,7 +7,8 @@
 //!   many bits every intermediate value has ([`forward97`]),
 //! * **viewing**, which shows a stored 9/7 plane as a picture ([`view97`]),
 //! * the **5/3 transform**, an exact copy that goes back to the same picture
-//!   ([`forward53`], [`inverse53`]),
+//!   ([`forward53`], [`inverse53`]; [`inverse53_rows_first`] for copies made
+//!   earlier),
 //! * **width tables**: built, read, judged, changed, written ([`WidthTable`]),
 //!   or as plain bytes ([`check_table`], [`table_view`], [`view_distance`],
 //!   [`table_bound`], [`table_form`], [`table_value`], [`write_table`],
@@ -34,13 +35,32 @@
 //! the first width times height elements of the work area, as success does.
 //! The functions ending in `_to_vec` allocate output and work area themselves.
 //!
+//! # Exact copies
+//!
 //! ```
 //! let pixels = [5u16, 7, 4, 4];
 //! let plane = suzdrepa::forward53_to_vec(3, 1, &pixels, 2, 2)?;
-//! assert_eq!(plane, [1, 1, -2, -2]);
+//! assert_eq!(plane, [2, 1, -2, -2]);
 //! assert_eq!(suzdrepa::inverse53_to_vec(3, 1, &plane, 2, 2)?, pixels);
 //! # Ok::<(), suzdrepa::Refusal>(())
 //! ```
+//!
+//! A copy has the order of JPEG 2000 Part 1: each level works the columns, then
+//! the rows. Copies made by earlier versions, which had no
+//! [`inverse53_rows_first`], were worked rows first, and go back by that call:
+//!
+//! ```
+//! let earlier = [1, 1, -2, -2];
+//! let pixels = suzdrepa::inverse53_rows_first_to_vec(3, 1, &earlier, 2, 2)?;
+//! assert_eq!(pixels, [5, 7, 4, 4]);
+//! // The other call cannot know: it takes the plane for another picture's.
+//! assert_ne!(suzdrepa::inverse53_to_vec(3, 1, &earlier, 2, 2), Ok(pixels));
+//! # Ok::<(), suzdrepa::Refusal>(())
+//! ```
+//!
+//! Nothing in the numbers tells the two kinds apart, so the caller keeps with
+//! each copy which it is. Given a copy of the other kind, a call refuses it 11,
+//! or gives, as a rule, another picture.
 //!
 //! # Coefficients under a width table
 //!
@@ -193,7 +213,8 @@ pub fn view97_to_vec(
     Ok(pixels)
 }
 
-/// Works a picture into its exact 5/3 copy.
+/// Works a picture into its exact 5/3 copy, as JPEG 2000 Part 1 does: each
+/// level the columns, then the rows. [`inverse53`] takes it back.
 ///
 /// Refused 4 (depth or levels), 8 (sides), 9 (a slice too short), 10 (a pixel
 /// too large).
@@ -237,10 +258,12 @@ pub fn forward53_to_vec(
     Ok(plane)
 }
 
-/// Turns an exact 5/3 copy back into its picture.
+/// Turns an exact 5/3 copy, worked columns first as by [`forward53`], back into
+/// its picture. Copies made earlier, rows first, are for
+/// [`inverse53_rows_first`].
 ///
 /// Refused 4 (depth or levels), 8 (sides), 9 (a slice too short), 11 where no
-/// picture of that depth and size has this plane.
+/// picture of that depth and size has this plane in this order.
 pub fn inverse53(
     depth: u8,
     levels: u8,
@@ -250,22 +273,15 @@ pub fn inverse53(
     pixels: &mut [u16],
     work: &mut [i32],
 ) -> Result<(), Refusal> {
-    // SAFETY: pointers and lengths are those of slices; `pixels` and `work`
-    // are exclusive.
-    Refusal::from_answer(unsafe {
-        sys::suz_inverse53(
-            depth,
-            levels,
-            plane.as_ptr(),
-            plane.len(),
-            width,
-            height,
-            pixels.as_mut_ptr(),
-            pixels.len(),
-            work.as_mut_ptr(),
-            work.len(),
-        )
-    })
+    let copy = ExactCopy {
+        order: Order::ColumnsFirst,
+        depth,
+        levels,
+        plane,
+        width,
+        height,
+    };
+    copy.back(pixels, work)
 }
 
 /// As [`inverse53`], with pixels of its own.
@@ -280,6 +296,86 @@ pub fn inverse53_to_vec(
     let (mut pixels, mut work) = (vec![0; count], vec![0; count]);
     inverse53(depth, levels, plane, width, height, &mut pixels, &mut work)?;
     Ok(pixels)
+}
+
+/// Turns an exact 5/3 copy that was made earlier, rows first, back into its
+/// picture. Copies that [`forward53`] makes are for [`inverse53`].
+///
+/// Refused as [`inverse53`]: 4, 8, 9, 11.
+pub fn inverse53_rows_first(
+    depth: u8,
+    levels: u8,
+    plane: &[i32],
+    width: usize,
+    height: usize,
+    pixels: &mut [u16],
+    work: &mut [i32],
+) -> Result<(), Refusal> {
+    let copy = ExactCopy {
+        order: Order::RowsFirst,
+        depth,
+        levels,
+        plane,
+        width,
+        height,
+    };
+    copy.back(pixels, work)
+}
+
+/// As [`inverse53_rows_first`], with pixels of its own.
+pub fn inverse53_rows_first_to_vec(
+    depth: u8,
+    levels: u8,
+    plane: &[i32],
+    width: usize,
+    height: usize,
+) -> Result<Vec<u16>, Refusal> {
+    let count = elements(width, height);
+    let (mut pixels, mut work) = (vec![0; count], vec![0; count]);
+    inverse53_rows_first(depth, levels, plane, width, height, &mut pixels, &mut work)?;
+    Ok(pixels)
+}
+
+/// What each level of a copy worked first.
+enum Order {
+    ColumnsFirst,
+    RowsFirst,
+}
+
+/// What both ways back are given.
+struct ExactCopy<'a> {
+    order: Order,
+    depth: u8,
+    levels: u8,
+    plane: &'a [i32],
+    width: usize,
+    height: usize,
+}
+
+impl ExactCopy<'_> {
+    /// Back by the call of its order.
+    fn back(&self, pixels: &mut [u16], work: &mut [i32]) -> Result<(), Refusal> {
+        let call = match self.order {
+            Order::ColumnsFirst => sys::suz_inverse53,
+            Order::RowsFirst => sys::suz_inverse53_rows_first,
+        };
+        // SAFETY: pointers and lengths are those of slices; `pixels` and
+        // `work` are exclusive.
+        Refusal::from_answer(unsafe {
+            call(
+                self.depth,
+                self.levels,
+                self.plane.as_ptr(),
+                self.plane.len(),
+                self.width,
+                self.height,
+                pixels.as_mut_ptr(),
+                pixels.len(),
+                work.as_mut_ptr(),
+                work.len(),
+            )
+        })
+    }
 }
 
 fn plane_and_work(width: usize, height: usize) -> (Vec<i32>, Vec<i32>) {
@@ -310,6 +406,8 @@ mod tests {
         assert_eq!(refusal.number(), 8);
         let refusal = inverse53_to_vec(8, 1, &[], usize::MAX, 2).unwrap_err();
         assert_eq!(refusal.number(), 8);
+        let refusal = inverse53_rows_first_to_vec(8, 1, &[], usize::MAX, 2).unwrap_err();
+        assert_eq!(refusal.number(), 8);
         let (kept, others) = (Width::new(4, 10), Width::new(12, 20));
         let table = WidthTable::kept_and_others(8, 1, 24, kept, others).unwrap();
         let refusal = view97_to_vec(table.as_bytes(), &[], usize::MAX, 2).unwrap_err();
@@ -337,6 +435,10 @@ mod tests {
         let refusal = write_table(8, 1, [1; 6], widths, &mut []).unwrap_err();
         assert_eq!(refusal.number(), 9);
         let refusal = forward53(8, 1, &[], 2, 2, &mut [], &mut []).unwrap_err();
+        assert_eq!(refusal.number(), 9);
+        let refusal = inverse53(8, 1, &[], 2, 2, &mut [], &mut []).unwrap_err();
+        assert_eq!(refusal.number(), 9);
+        let refusal = inverse53_rows_first(8, 1, &[], 2, 2, &mut [], &mut []).unwrap_err();
         assert_eq!(refusal.number(), 9);
     }
 }

@@ -4,10 +4,10 @@
 //! sides are 256, 512, 1024, 2048 and 4096 where none is named. In each row
 //! the two programs run in turn, and must leave equal planes and pictures.
 
-mod inputs;
-mod plain;
-
-use inputs::{picture, tight_table, view_table, wide_table, DEPTH, LEVELS, MIN_SIDE, VIEW_LEVELS};
+use bench::inputs::{
+    picture, tight_table, view_table, wide_table, DEPTH, LEVELS, MIN_SIDE, VIEW_LEVELS,
+};
+use bench::plain::{self, Order};
 use std::process::ExitCode;
 use std::time::{Duration, Instant};
 use suzdrepa::{WidthTable, MAX_SIDE};
@@ -18,6 +18,8 @@ struct Buffers {
     pixels: Vec<u16>,
     /// The exact copy of the picture.
     copy: Vec<i32>,
+    /// The same as it was made earlier, rows first.
+    earlier: Vec<i32>,
     /// Its coefficients under the table for viewing.
     stored: Vec<i32>,
     plane: Vec<i32>,
@@ -34,14 +36,26 @@ impl Buffers {
             .expect("the picture is admitted");
         let stored = suzdrepa::forward97_to_vec(view_table.as_bytes(), &pixels, side, side)
             .expect("the picture is admitted");
+        let (mut earlier, mut work) = (vec![0; side * side], vec![0; side * side]);
+        let done = plain::forward53(
+            Order::RowsFirst,
+            DEPTH,
+            LEVELS,
+            &pixels,
+            (side, side),
+            &mut earlier,
+            &mut work,
+        );
+        assert!(done);
         Buffers {
             side,
             pixels,
             copy,
+            earlier,
             stored,
             plane: vec![0; side * side],
             back: vec![0; side * side],
-            work: vec![0; side * side],
+            work,
             view_work: vec![0; side * side],
         }
     }
@@ -137,7 +151,10 @@ fn measure(side: usize, tables: &[(&str, WidthTable)], view_table: &WidthTable) 
               plane,
               work,
               ..
-          }| { plain::forward53(DEPTH, LEVELS, pixels, size, plane, work) },
+          }| {
+            let order = Order::ColumnsFirst;
+            plain::forward53(order, DEPTH, LEVELS, pixels, size, plane, work)
+        },
     );
     row(
         "5/3 back",
@@ -147,11 +164,39 @@ fn measure(side: usize, tables: &[(&str, WidthTable)], view_table: &WidthTable) 
           }| { suzdrepa::inverse53(DEPTH, LEVELS, copy, side, side, back, work).is_ok() },
         &|Buffers {
               copy, back, work, ..
-          }| { plain::inverse53(DEPTH, LEVELS, copy, size, back, work) },
+          }| {
+            let order = Order::ColumnsFirst;
+            plain::inverse53(order, DEPTH, LEVELS, copy, size, back, work)
+        },
     );
     assert!(
         buffers.back == buffers.pixels,
         "the picture came back changed"
+    );
+    row(
+        "5/3 back, rows first",
+        &mut buffers,
+        &|Buffers {
+              earlier,
+              back,
+              work,
+              ..
+          }| {
+            suzdrepa::inverse53_rows_first(DEPTH, LEVELS, earlier, side, side, back, work).is_ok()
+        },
+        &|Buffers {
+              earlier,
+              back,
+              work,
+              ..
+          }| {
+            let order = Order::RowsFirst;
+            plain::inverse53(order, DEPTH, LEVELS, earlier, size, back, work)
+        },
+    );
+    assert!(
+        buffers.back == buffers.pixels,
+        "the picture of an earlier copy came back changed"
     );
     for (name, table) in tables {
         let table = table.as_bytes();
@@ -230,7 +275,7 @@ mod tests {
     use ::compare::chance::Chance;
     use ::compare::hostile::Shape;
     use ::compare::tables;
-    use suzdrepa::{Place, Width};
+    use suzdrepa::{Place, Refusal, Width};
 
     fn shape(chance: &mut Chance) -> Shape {
         let (depth, levels) = (chance.within(1, 12) as u8, chance.within(1, 5) as u8);
@@ -238,9 +283,8 @@ mod tests {
     }
 
     #[test]
-    fn the_same_copies_and_pictures() {
+    fn the_same_copies() {
         let mut chance = Chance::new(1);
-        let mut refused = 0;
         for _ in 0..500 {
             let Shape {
                 depth,
@@ -250,36 +294,75 @@ mod tests {
             } = shape(&mut chance);
             let (count, size) = (width * height, (width, height));
             let mut pixels = chance.picture(depth, count);
-            let due = suzdrepa::forward53_to_vec(depth, levels, &pixels, width, height).unwrap();
             let (mut plane, mut work) = (chance.plane(count), chance.plane(count));
-            assert!(plain::forward53(
-                depth, levels, &pixels, size, &mut plane, &mut work
-            ));
-            assert_eq!((&plane, &work), (&due, &vec![0; count]));
-            let mut back = chance.sixteen_bits(count);
-            assert!(plain::inverse53(
-                depth, levels, &plane, size, &mut back, &mut work
-            ));
-            assert_eq!((&back, &work), (&pixels, &vec![0; count]));
-            // One coefficient changed, a little or beyond all measure.
-            let reach = *chance.of(&[2, 1 << depth, 1 << 20, 1 << 24, 1 << 31]);
-            let by = chance.below(2 * reach) as i64 - reach as i64;
-            plane[chance.below(count)] = by as i32;
-            let due = suzdrepa::inverse53_to_vec(depth, levels, &plane, width, height);
-            let done = plain::inverse53(depth, levels, &plane, size, &mut back, &mut work);
-            assert_eq!(done, due.is_ok());
-            refused += usize::from(!done);
-            if let Ok(pixels) = due {
-                assert_eq!(back, pixels);
-            }
-            assert!(work.iter().all(|&value| value == 0));
+            let mut copy = |order, pixels: &[u16]| {
+                work.fill(1);
+                let done =
+                    plain::forward53(order, depth, levels, pixels, size, &mut plane, &mut work);
+                done.then(|| {
+                    assert_eq!(work, vec![0; count]);
+                    plane.clone()
+                })
+            };
+            let due = suzdrepa::forward53_to_vec(depth, levels, &pixels, width, height);
+            assert_eq!(copy(Order::ColumnsFirst, &pixels), due.ok());
+            // The engine makes no earlier copies, but knows whose they are.
+            let earlier = copy(Order::RowsFirst, &pixels).unwrap();
+            let back =
+                suzdrepa::inverse53_rows_first_to_vec(depth, levels, &earlier, width, height);
+            assert_eq!(back.as_ref(), Ok(&pixels));
             pixels[chance.below(count)] = 1 << depth;
-            assert!(!plain::forward53(
-                depth, levels, &pixels, size, &mut plane, &mut work
-            ));
+            assert_eq!(copy(Order::ColumnsFirst, &pixels), None);
+            assert_eq!(copy(Order::RowsFirst, &pixels), None);
         }
-        assert!((100..450).contains(&refused), "{refused}");
     }
+
+    /// From copies, and from planes with one coefficient changed, a little or
+    /// beyond all measure.
+    #[test]
+    fn the_same_pictures() {
+        for (order, engine) in [
+            (Order::ColumnsFirst, suzdrepa::inverse53_to_vec as Back),
+            (Order::RowsFirst, suzdrepa::inverse53_rows_first_to_vec),
+        ] {
+            let mut chance = Chance::new(4);
+            let mut refused = 0;
+            for _ in 0..500 {
+                let Shape {
+                    depth,
+                    levels,
+                    width,
+                    height,
+                } = shape(&mut chance);
+                let (count, size) = (width * height, (width, height));
+                let pixels = chance.picture(depth, count);
+                let (mut plane, mut work) = (chance.plane(count), chance.plane(count));
+                let worked =
+                    plain::forward53(order, depth, levels, &pixels, size, &mut plane, &mut work);
+                assert!(worked);
+                let mut back = |plane: &[i32]| {
+                    let mut pixels = vec![u16::MAX; count];
+                    work.fill(1);
+                    let done =
+                        plain::inverse53(order, depth, levels, plane, size, &mut pixels, &mut work);
+                    assert_eq!(work, vec![0; count]);
+                    assert!(done || pixels == vec![u16::MAX; count]);
+                    done.then_some(pixels)
+                };
+                assert_eq!(back(&plane), Some(pixels));
+                let reach = *chance.of(&[2, 1 << depth, 1 << 20, 1 << 24, 1 << 31]);
+                let by = chance.below(2 * reach) as i64 - reach as i64;
+                plane[chance.below(count)] = by as i32;
+                let due = engine(depth, levels, &plane, width, height);
+                refused += usize::from(due.is_err());
+                assert_eq!(back(&plane), due.ok());
+            }
+            assert!((100..450).contains(&refused), "{refused}");
+        }
+    }
+
+    /// The engine's way back: depth, levels, plane and sides.
+    type Back = fn(u8, u8, &[i32], usize, usize) -> Result<Vec<u16>, Refusal>;
 
     /// Under the tables of the benchmark, tight ones, and generous ones with
     /// numbers changed for as long as they are accepted: every form of a stage
@@ -335,6 +418,7 @@ mod tests {
             assert_eq!((plane, work), (due, vec![0; count]));
         }
     }
+
     /// Under tables of every viewable depth and number of levels; a
     /// coefficient outside its width is found, and nothing is touched.
     #[test]

@@ -5,7 +5,7 @@
 //!
 //! Rows and columns are worked alike. A *tile* is a number of lines of `n`
 //! values each, the lines of the lows first, then those of the highs: a row is
-//! a tile with one value a line, a strip of columns one with up to [`STRIP`].
+//! a tile with one value a line, a strip of columns one with up to `STRIP`.
 //! Every stage is then a flat loop over slices, which the compiler vectorises.
 
 /// The most columns that are worked side by side.
@@ -144,6 +144,40 @@ fn rows(
     }
 }
 
+/// Works a strip of `n` columns forward, whose lines stand in the tile, and
+/// stores it at column `x` of the plane.
+fn strip(tile: &mut [i32], n: usize, plane: &mut [i32], width: usize, x: usize, pass: &impl Pass) {
+    let h = tile.len() / n;
+    let (lows, highs) = tile.split_at_mut(h.div_ceil(2) * n);
+    pass.run(lows, highs, n);
+    for (row, line) in plane.chunks_exact_mut(width).zip(tile.chunks_exact(n)) {
+        row[x..x + n].copy_from_slice(line);
+    }
+}
+
+/// Works the columns of the whole picture forward, from its pixels.
+fn first_columns(
+    depth: u8,
+    pixels: &[u16],
+    (width, height): (usize, usize),
+    plane: &mut [i32],
+    tile: &mut [i32],
+    pass: &impl Pass,
+) {
+    let middle = 1 << (depth - 1);
+    for x in (0..width).step_by(STRIP) {
+        let n = STRIP.min(width - x);
+        let tile = &mut tile[..height * n];
+        for (y, row) in pixels.chunks_exact(width).enumerate() {
+            let line = &mut tile[parted(y, height) * n..][..n];
+            for (value, &pixel) in line.iter_mut().zip(&row[x..x + n]) {
+                *value = i32::from(pixel) - middle;
+            }
+        }
+        strip(tile, n, plane, width, x, pass);
+    }
+}
+
 /// Works columns `from` to `to` of a part of the plane forward.
 fn columns(
     plane: &mut [i32],
@@ -159,12 +193,17 @@ fn columns(
         for (y, row) in plane.chunks_exact(width).take(h).enumerate() {
             tile[parted(y, h) * n..][..n].copy_from_slice(&row[x..x + n]);
         }
-        let (lows, highs) = tile.split_at_mut(h.div_ceil(2) * n);
-        pass.run(lows, highs, n);
-        for (row, line) in plane.chunks_exact_mut(width).zip(tile.chunks_exact(n)) {
-            row[x..x + n].copy_from_slice(line);
-        }
+        strip(tile, n, plane, width, x, pass);
     }
+}
+
+/// What each level of the 5/3 works first, going forward.
+#[derive(Clone, Copy, PartialEq, Eq)]
+pub enum Order {
+    /// As copies are made now.
+    ColumnsFirst,
+    /// As they were made earlier.
+    RowsFirst,
 }
 
 struct Reversible;
@@ -187,6 +226,7 @@ impl Pass for ReversibleBack {
 
 /// 5/3 forward; false where a pixel is too large.
 pub fn forward53(
+    order: Order,
     depth: u8,
     levels: u8,
     pixels: &[u16],
@@ -199,11 +239,22 @@ pub fn forward53(
     }
     let width = size.0;
     for (level, (w, h)) in parts(size, levels).into_iter().enumerate() {
-        match level {
-            0 => first_rows(depth, pixels, width, plane, &Reversible),
-            _ => rows(plane, width, (w, h), work, &Reversible),
+        match order {
+            Order::ColumnsFirst => {
+                match level {
+                    0 => first_columns(depth, pixels, size, plane, work, &Reversible),
+                    _ => columns(plane, width, (0, w), h, work, &Reversible),
+                }
+                rows(plane, width, (w, h), work, &Reversible);
+            }
+            Order::RowsFirst => {
+                match level {
+                    0 => first_rows(depth, pixels, width, plane, &Reversible),
+                    _ => rows(plane, width, (w, h), work, &Reversible),
+                }
+                columns(plane, width, (0, w), h, work, &Reversible);
+            }
         }
-        columns(plane, width, (0, w), h, work, &Reversible);
     }
     work.fill(0);
     true
@@ -221,51 +272,117 @@ fn together(values: &[i32], middle: i32) -> u32 {
 /// do no sum of a level leaves 32 bits.
 const SMALL: u32 = 22;
 
-/// Undoes the columns of a part of the plane; false where a value is too
-/// large.
-fn columns_back(plane: &mut [i32], width: usize, (w, h): (usize, usize), tile: &mut [i32]) -> bool {
+/// What a pass back looks at: of the two that undo a level, the first one at
+/// what enters it, the second one at what it leaves.
+#[derive(Clone, Copy)]
+enum Look {
+    /// Whether every value is small.
+    Entering,
+    /// The bits of all values together, each moved up by so much.
+    Leaving(i32),
+}
+
+impl Look {
+    /// Whether values that enter are small, where they are looked at.
+    #[inline(always)]
+    fn entering(self, values: &[i32]) -> bool {
+        match self {
+            Look::Entering => together(values, 1 << SMALL) >> (SMALL + 1) == 0,
+            Look::Leaving(_) => true,
+        }
+    }
+
+    /// The bits of values that leave, where they are looked at.
+    #[inline(always)]
+    fn leaving(self, values: &[i32]) -> u32 {
+        match self {
+            Look::Entering => 0,
+            Look::Leaving(middle) => together(values, middle),
+        }
+    }
+}
+
+/// Undoes the columns of a part of the plane. Gives the bits of what leaves,
+/// and nothing where a value that enters is too large.
+fn columns_back(
+    plane: &mut [i32],
+    width: usize,
+    (w, h): (usize, usize),
+    tile: &mut [i32],
+    look: Look,
+) -> Option<u32> {
+    let mut bits = 0;
     for x in (0..w).step_by(STRIP) {
         let n = STRIP.min(w - x);
         let tile = &mut tile[..h * n];
-        let mut bits = 0;
+        let mut small = true;
         for (row, line) in plane.chunks_exact(width).zip(tile.chunks_exact_mut(n)) {
             line.copy_from_slice(&row[x..x + n]);
-            bits |= together(line, 1 << SMALL);
+            small &= look.entering(line);
         }
-        if bits >> (SMALL + 1) != 0 {
-            return false;
+        if !small {
+            return None;
         }
         let (lows, highs) = tile.split_at_mut(h.div_ceil(2) * n);
         ReversibleBack.run(lows, highs, n);
         for (y, row) in plane.chunks_exact_mut(width).take(h).enumerate() {
-            row[x..x + n].copy_from_slice(&tile[parted(y, h) * n..][..n]);
+            let line = &tile[parted(y, h) * n..][..n];
+            bits |= look.leaving(line);
+            row[x..x + n].copy_from_slice(line);
         }
     }
-    true
+    Some(bits)
 }
 
-/// Undoes the rows of a part of the plane; the bits of what they hold then.
+/// The same for the rows.
 fn rows_back(
     plane: &mut [i32],
     width: usize,
     (w, h): (usize, usize),
     line: &mut [i32],
-    middle: i32,
-) -> u32 {
+    look: Look,
+) -> Option<u32> {
     let line = &mut line[..w];
     let mut bits = 0;
     for row in plane.chunks_exact_mut(width).take(h) {
         line.copy_from_slice(&row[..w]);
+        if !look.entering(line) {
+            return None;
+        }
         let (lows, highs) = line.split_at_mut(w.div_ceil(2));
         ReversibleBack.run(lows, highs, 1);
-        bits |= together(line, middle);
+        bits |= look.leaving(line);
         join(line, &mut row[..w], |value| value);
     }
-    bits
+    Some(bits)
+}
+
+/// Undoes a level, what was worked last first. Gives the bits of what leaves,
+/// each value moved up by `middle`, and nothing where one that enters is too
+/// large.
+fn level_back(
+    order: Order,
+    plane: &mut [i32],
+    width: usize,
+    part: (usize, usize),
+    tile: &mut [i32],
+    middle: i32,
+) -> Option<u32> {
+    match order {
+        Order::ColumnsFirst => {
+            rows_back(plane, width, part, tile, Look::Entering)?;
+            columns_back(plane, width, part, tile, Look::Leaving(middle))
+        }
+        Order::RowsFirst => {
+            columns_back(plane, width, part, tile, Look::Entering)?;
+            rows_back(plane, width, part, tile, Look::Leaving(middle))
+        }
+    }
 }
 
 /// 5/3 back; false where no picture has the plane.
 pub fn inverse53(
+    order: Order,
     depth: u8,
     levels: u8,
     plane: &[i32],
@@ -277,15 +394,11 @@ pub fn inverse53(
     let middle = 1 << (depth - 1);
     work.copy_from_slice(plane);
     let mut tile = vec![0; size.1.max(width) * STRIP];
-    let mut bits = 0;
-    for part in parts(size, levels).into_iter().rev() {
-        if !columns_back(work, width, part, &mut tile) {
-            work.fill(0);
-            return false;
-        }
-        bits = rows_back(work, width, part, &mut tile, middle);
-    }
-    if bits >> depth != 0 {
+    let mut parts = parts(size, levels).into_iter().rev();
+    let left = parts.try_fold(0, |_, part| {
+        level_back(order, work, width, part, &mut tile, middle)
+    });
+    if left.is_none_or(|bits| bits >> depth != 0) {
         work.fill(0);
         return false;
     }

@@ -311,3 +311,21 @@ pub fn inverse53(
         |plane, pixels, work| calls::inverse53(depth, levels, plane, width, height, pixels, work),
     )
 }
+
+pub fn inverse53_rows_first(
+    depth: u8,
+    levels: u8,
+    width: usize,
+    height: usize,
+    lent: Lent<i32, u16>,
+) -> Done<u16> {
+    transform(
+        lent,
+        |plane, pixels, work| {
+            suzdrepa::inverse53_rows_first(depth, levels, plane, width, height, pixels, work)
+        },
+        |plane, pixels, work| {
+            calls::inverse53_rows_first(depth, levels, plane, width, height, pixels, work)
+        },
+    )
+}

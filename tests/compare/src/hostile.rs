@@ -202,6 +202,15 @@ impl Shape {
         self.width * self.height
     }
 
+    /// With width and height exchanged.
+    pub fn turned(self) -> Shape {
+        Shape {
+            width: self.height,
+            height: self.width,
+            ..self
+        }
+    }
+
     /// Columns and rows of the values of a node.
     pub fn values_of(&self, place: Place) -> (usize, usize) {
         let (w, h) = (

@@ -42,6 +42,7 @@ fn the_copy_runs() {
     prints("copy", &[
         "the picture came back the same",
         "inverse53 of a damaged copy: refused 11: the 5/3 plane is the transform of no picture of that depth and size",
+        "the picture of the earlier copy: 5 7 over 4 4",
         "check of a wide table: done",
         "check of the narrow table: refused 6: a node does not fit (level 1, pass 1, node 1)",
     ]);

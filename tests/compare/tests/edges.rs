@@ -11,6 +11,7 @@ use reference::papers::{back53, back97, forward53, forward97};
 use reference::places::{kept_node, low_count};
 use reference::WidthTable;
 use std::path::Path;
+use suzdrepa::Refusal;
 
 /// Width and height of a picture.
 type Size = (usize, usize);
@@ -83,22 +84,66 @@ fn columns(plane: &mut [i128], width: usize, pass: impl Fn(bool, &[i128]) -> Vec
     }
 }
 
-/// The library's 5/3 plane is that of 004's equations along rows, then
-/// columns; the library and the equations taken back give the picture again.
+/// An order of the 5/3: 004's equations along rows and columns of a plane of
+/// some width, forward and taken back, and the library's way back.
+struct Order53 {
+    forward: fn(&mut [i128], usize),
+    back: fn(&mut [i128], usize),
+    library_back: LibraryBack,
+}
+
+/// Depth, levels, plane and sides.
+type LibraryBack = fn(u8, u8, &[i32], usize, usize) -> Result<Vec<u16>, Refusal>;
+
+/// New copies.
+const COLUMNS_FIRST: Order53 = Order53 {
+    forward: |plane, width| {
+        columns(plane, width, |_, column| forward53(column));
+        rows(plane, width, forward53);
+    },
+    back: |plane, width| {
+        rows(plane, width, back53);
+        columns(plane, width, |_, column| back53(column));
+    },
+    library_back: suzdrepa::inverse53_to_vec,
+};
+
+/// Earlier copies.
+const ROWS_FIRST: Order53 = Order53 {
+    forward: |plane, width| {
+        rows(plane, width, forward53);
+        columns(plane, width, |_, column| forward53(column));
+    },
+    back: |plane, width| {
+        columns(plane, width, |_, column| back53(column));
+        rows(plane, width, back53);
+    },
+    library_back: suzdrepa::inverse53_rows_first_to_vec,
+};
+
+/// The plane of a picture by the equations.
+fn copy53(order: &Order53, depth: u8, width: usize, picture: &[u16]) -> Vec<i32> {
+    let mut plane = entering(depth, picture);
+    (order.forward)(&mut plane, width);
+    plane.iter().map(|&v| i32::try_from(v).unwrap()).collect()
+}
+
+/// The library's 5/3 plane is that of 004's equations along columns, then
+/// rows; from it and from an earlier copy the library and the equations taken
+/// back give the picture again.
 fn hold53(depth: u8, size: Size, picture: &[u16]) {
     let (width, height) = size;
-    let samples = entering(depth, picture);
-    let mut due = samples.clone();
-    rows(&mut due, width, forward53);
-    columns(&mut due, width, |_, column| forward53(column));
     let plane = suzdrepa::forward53_to_vec(depth, 1, picture, width, height).unwrap();
-    assert_eq!(without_limit(&plane), due, "{size:?} {picture:?}");
-
-    let back = suzdrepa::inverse53_to_vec(depth, 1, &plane, width, height).unwrap();
-    assert_eq!(back, picture, "{size:?}");
-    columns(&mut due, width, |_, column| back53(column));
-    rows(&mut due, width, back53);
-    assert_eq!(due, samples, "{size:?} {picture:?}");
+    let due = copy53(&COLUMNS_FIRST, depth, width, picture);
+    assert_eq!(plane, due, "{size:?} {picture:?}");
+    for order in [COLUMNS_FIRST, ROWS_FIRST] {
+        let plane = copy53(&order, depth, width, picture);
+        let back = (order.library_back)(depth, 1, &plane, width, height);
+        assert_eq!(back.as_deref(), Ok(picture), "{size:?}");
+        let mut values = without_limit(&plane);
+        (order.back)(&mut values, width);
+        assert_eq!(values, entering(depth, picture), "{size:?} {picture:?}");
+    }
 }
 
 /// The library's 9/7 plane is that of 003's equations along rows, then
@@ -227,39 +272,34 @@ fn the_5_3_of_every_small_size_is_that_of_004_forward_and_back() {
 #[test]
 fn a_5_3_plane_goes_back_where_the_equations_of_004_taken_back_stay_in_the_depth() {
     let mut chance = Chance::new(122);
-    let (mut good, mut bad) = (0, 0);
-    for size in small_sizes() {
-        for _ in 0..rounds(20) {
-            let (width, height) = size;
-            let depth = *chance.of(&DEPTHS);
-            let picture = chance.picture(depth, width * height);
-            let mut plane = suzdrepa::forward53_to_vec(depth, 1, &picture, width, height).unwrap();
-            let place = chance.below(plane.len());
-            plane[place] += *chance.of(&[1, -1, 2, -3, 40]);
+    for order in [COLUMNS_FIRST, ROWS_FIRST] {
+        let (mut good, mut bad) = (0, 0);
+        for (width, height) in small_sizes() {
+            for _ in 0..rounds(20) {
+                let depth = *chance.of(&DEPTHS);
+                let picture = chance.picture(depth, width * height);
+                let mut plane = copy53(&order, depth, width, &picture);
+                let place = chance.below(plane.len());
+                plane[place] += *chance.of(&[1, -1, 2, -3, 40]);
 
-            let mut values = without_limit(&plane);
-            columns(&mut values, width, |_, column| back53(column));
-            rows(&mut values, width, back53);
-            let middle = 1i128 << (depth - 1);
-            let in_depth = |v: &i128| (0..2 * middle).contains(&(v + middle));
-            let back = suzdrepa::inverse53_to_vec(depth, 1, &plane, width, height);
-            match values.iter().all(in_depth) {
-                true => {
-                    assert_eq!(
-                        entering(depth, &back.unwrap()),
-                        values,
-                        "{size:?} {plane:?}"
-                    );
+                let mut values = without_limit(&plane);
+                (order.back)(&mut values, width);
+                let middle = 1i128 << (depth - 1);
+                let in_depth = |v: &i128| (0..2 * middle).contains(&(v + middle));
+                let back = (order.library_back)(depth, 1, &plane, width, height);
+                if values.iter().all(in_depth) {
+                    let back = entering(depth, &back.unwrap());
+                    assert_eq!(back, values, "{width} x {height} {plane:?}");
                     good += 1;
-                }
-                false => {
-                    assert_eq!(back.unwrap_err().number(), 11, "{size:?} {plane:?}");
+                } else {
+                    let number = back.unwrap_err().number();
+                    assert_eq!(number, 11, "{width} x {height} {plane:?}");
                     bad += 1;
                 }
             }
         }
+        assert!(good > 100 && bad > 100, "{good} {bad}");
     }
-    assert!(good > 100 && bad > 100, "{good} {bad}");
 }
 
 #[test]

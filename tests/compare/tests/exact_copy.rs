@@ -22,7 +22,7 @@ fn bytes(depth: u8, levels: u8, width: u16, height: u16, pixels: &[u16]) -> Vec<
 #[test]
 fn the_listing_of_the_document() {
     let input = bytes(3, 1, 2, 2, &[5, 7, 4, 4]);
-    assert_eq!(same(&input), "53 3 1 2 2\n1 1\n-2 -2\n");
+    assert_eq!(same(&input), "53 3 1 2 2\n2 1\n-2 -2\n");
 }
 
 #[test]

@@ -4,12 +4,14 @@
 use compare::chance::Chance;
 use compare::tables::{any, damaged, generous, narrow};
 use reference::refusal::answer;
-use reference::{calls, Width};
+use reference::reversible53::{self, Order};
+use reference::{calls, Refusal, Width};
 use std::ptr::{null, null_mut};
 use suzdrepa_sys::{
-    suz_forward53, suz_forward97, suz_inverse53, suz_table_bound, suz_table_change,
-    suz_table_change_constant, suz_table_check, suz_table_form, suz_table_value, suz_table_view,
-    suz_table_write, suz_view97, suz_view_distance, SUZ_TABLE_CONSTANTS, SUZ_TABLE_WIDTHS,
+    suz_forward53, suz_forward97, suz_inverse53, suz_inverse53_rows_first, suz_table_bound,
+    suz_table_change, suz_table_change_constant, suz_table_check, suz_table_form, suz_table_value,
+    suz_table_view, suz_table_write, suz_view97, suz_view_distance, SUZ_TABLE_CONSTANTS,
+    SUZ_TABLE_WIDTHS,
 };
 
 fn some_table(chance: &mut Chance) -> Vec<u8> {
@@ -124,6 +126,31 @@ fn change_answers_in_whole() {
     }
 }
 
+/// A way back of the C interface, and of the reference.
+type BareBack = unsafe extern "C" fn(
+    u8,
+    u8,
+    *const i32,
+    usize,
+    usize,
+    usize,
+    *mut u16,
+    usize,
+    *mut i32,
+    usize,
+) -> u32;
+type DueBack = fn(u8, u8, &[i32], usize, usize, &mut [u16], &mut [i32]) -> Result<(), Refusal>;
+
+/// Both ways back, of new copies and of earlier ones.
+const WAYS_BACK: [(&str, BareBack, DueBack); 2] = [
+    ("inverse53", suz_inverse53, calls::inverse53),
+    (
+        "inverse53_rows_first",
+        suz_inverse53_rows_first,
+        calls::inverse53_rows_first,
+    ),
+];
+
 #[test]
 fn transform_answers_in_whole() {
     let mut chance = Chance::new(24);
@@ -165,7 +192,7 @@ fn transform_answers_in_whole() {
         );
         assert_eq!(ours, answer(due));
         assert_eq!((&our_plane, &our_work), (&due_plane, &due_work));
-        seen.insert((97, ours & 255));
+        seen.insert(("forward97", ours & 255));
 
         // Viewed is what that left in the plane: coefficients, or anything.
         let work64 = chance.sixty_four_bits(lengths[2]);
@@ -197,7 +224,7 @@ fn transform_answers_in_whole() {
         assert_eq!(ours, answer(due));
         assert_eq!((our_pixels, our_work), (due_pixels, due_work));
         assert_eq!(our_plane, due_plane);
-        seen.insert((79, ours & 255));
+        seen.insert(("view97", ours & 255));
 
         let (mut our_plane, mut our_work) = (plane.clone(), work.clone());
         let (mut due_plane, mut due_work) = (plane.clone(), work.clone());
@@ -227,47 +254,64 @@ fn transform_answers_in_whole() {
         );
         assert_eq!(ours, answer(due));
         assert_eq!((&our_plane, &our_work), (&due_plane, &due_work));
-        seen.insert((53, ours & 255));
+        seen.insert(("forward53", ours & 255));
 
-        // Back from what that left in the plane: a copy or anything.
-        let (mut our_pixels, mut due_pixels) = (pixels.clone(), pixels.clone());
-        let (mut our_work, mut due_work) = (work.clone(), work.clone());
-        // SAFETY: pointers and lengths are those of vectors.
-        let ours = unsafe {
-            suz_inverse53(
-                depth,
-                levels,
-                our_plane.as_ptr(),
-                our_plane.len(),
-                width,
-                height,
-                our_pixels.as_mut_ptr(),
-                our_pixels.len(),
-                our_work.as_mut_ptr(),
-                our_work.len(),
-            )
-        };
-        let due = calls::inverse53(
-            depth,
-            levels,
-            &due_plane,
-            width,
-            height,
-            &mut due_pixels,
-            &mut due_work,
-        );
-        assert_eq!(ours, answer(due));
-        assert_eq!((our_pixels, our_work), (due_pixels, due_work));
-        seen.insert((35, ours & 255));
+        // Back from what that left in the plane, a copy or anything, and from
+        // an earlier copy in its place.
+        let mut earlier = our_plane.clone();
+        if ours == 0 {
+            let picture = &pixels[..width * height];
+            let order = Order::RowsFirst;
+            let copy = reversible53::forward(order, depth, levels, picture, width, height);
+            for (place, value) in earlier.iter_mut().zip(copy) {
+                *place = value as i32;
+            }
+        }
+        for (name, bare, due) in WAYS_BACK {
+            for plane in [&our_plane, &earlier] {
+                let before = plane.clone();
+                let (mut our_pixels, mut due_pixels) = (pixels.clone(), pixels.clone());
+                let (mut our_work, mut due_work) = (work.clone(), work.clone());
+                // SAFETY: pointers and lengths are those of vectors.
+                let ours = unsafe {
+                    bare(
+                        depth,
+                        levels,
+                        plane.as_ptr(),
+                        plane.len(),
+                        width,
+                        height,
+                        our_pixels.as_mut_ptr(),
+                        our_pixels.len(),
+                        our_work.as_mut_ptr(),
+                        our_work.len(),
+                    )
+                };
+                let due = due(
+                    depth,
+                    levels,
+                    &before,
+                    width,
+                    height,
+                    &mut due_pixels,
+                    &mut due_work,
+                );
+                assert_eq!(ours, answer(due));
+                assert_eq!((our_pixels, our_work), (due_pixels, due_work));
+                assert_eq!(*plane, before);
+                seen.insert((name, ours & 255));
+            }
+        }
     }
-    // Every number that the four calls have was seen, and no other.
+    // Every number that the five calls have was seen, and no other.
     let due = [
-        (35, &[0, 4, 8, 9, 11][..]),
-        (53, &[0, 4, 8, 9, 10][..]),
-        (79, &[0, 1, 2, 3, 4, 5, 6, 7, 8, 9, 12, 13][..]),
-        (97, &[0, 1, 2, 3, 4, 5, 6, 7, 8, 9, 10][..]),
+        ("forward53", &[0, 4, 8, 9, 10][..]),
+        ("forward97", &[0, 1, 2, 3, 4, 5, 6, 7, 8, 9, 10][..]),
+        ("inverse53", &[0, 4, 8, 9, 11][..]),
+        ("inverse53_rows_first", &[0, 4, 8, 9, 11][..]),
+        ("view97", &[0, 1, 2, 3, 4, 5, 6, 7, 8, 9, 12, 13][..]),
     ];
-    let due: Vec<(i32, u32)> = due
+    let due: Vec<(&str, u32)> = due
         .iter()
         .flat_map(|(call, numbers)| numbers.iter().map(|&n| (*call, n)))
         .collect();
@@ -302,7 +346,10 @@ fn null_pointers_of_length_0() {
             let (i, o) = (null_mut::<i32>(), null_mut::<u16>());
             assert_eq!(suz_forward97(at, len, null(), 0, w, h, i, 0, i, 0), due);
             assert_eq!(suz_forward53(8, 1, null(), 0, w, h, i, 0, i, 0), due);
-            assert_eq!(suz_inverse53(8, 1, null(), 0, w, h, o, 0, i, 0), due);
+            for (_, bare, _) in WAYS_BACK {
+                assert_eq!(bare(8, 1, null(), 0, w, h, o, 0, i, 0), due);
+                assert_eq!(bare(0, 1, null(), 0, w, h, o, 0, i, 0), 4);
+            }
             let long = null_mut::<i64>();
             assert_eq!(suz_view97(at, len, null(), 0, w, h, o, 0, long, 0), due);
             assert_eq!(suz_view97(null(), 0, null(), 0, w, h, o, 0, long, 0), 1);

@@ -5,6 +5,7 @@
 use crate::places::{kept_node, side_admitted};
 use crate::precision::{bound_of, verdict};
 use crate::refusal::{Place, Refusal};
+use crate::reversible53::Order;
 use crate::table::{value_of_tag, Width, WidthTable, WIDTHS};
 use crate::{fixed97, fixed_inverse97, reversible53, viewing};
 use std::ops::Range;
@@ -138,7 +139,7 @@ pub fn view97(
     Ok(())
 }
 
-/// 5/3 forward: 4, 8, 9, 10.
+/// 5/3 forward, columns first: 4, 8, 9, 10.
 pub fn forward53(
     depth: u8,
     levels: u8,
@@ -153,7 +154,8 @@ pub fn forward53(
     lengths(count, &[pixels.len(), plane.len(), work.len()])?;
     let pixels = &pixels[..count];
     depth_of_pixels(pixels, depth)?;
-    let worked = reversible53::forward(depth, levels, pixels, width, height);
+    let order = Order::ColumnsFirst;
+    let worked = reversible53::forward(order, depth, levels, pixels, width, height);
     for (place, value) in plane.iter_mut().zip(worked) {
         *place = i32::try_from(value).expect("12-bit pixels give small coefficients");
     }
@@ -161,7 +163,7 @@ pub fn forward53(
     Ok(())
 }
 
-/// 5/3 back: 4, 8, 9, 11.
+/// 5/3 back, of a copy worked columns first: 4, 8, 9, 11.
 pub fn inverse53(
     depth: u8,
     levels: u8,
@@ -174,11 +176,40 @@ pub fn inverse53(
     depth_and_levels(depth, levels)?;
     let count = sides(width, height, levels)?;
     lengths(count, &[pixels.len(), plane.len(), work.len()])?;
-    let picture = reversible53::back(depth, levels, &plane[..count], width, height);
-    work[..count].fill(0);
+    let order = Order::ColumnsFirst;
+    let picture = reversible53::back(order, depth, levels, &plane[..count], width, height);
+    hand_over(picture, &mut pixels[..count], &mut work[..count])
+}
+
+/// 5/3 back, of a copy made earlier, rows first: 4, 8, 9, 11.
+pub fn inverse53_rows_first(
+    depth: u8,
+    levels: u8,
+    plane: &[i32],
+    width: usize,
+    height: usize,
+    pixels: &mut [u16],
+    work: &mut [i32],
+) -> Result<(), Refusal> {
+    depth_and_levels(depth, levels)?;
+    let count = sides(width, height, levels)?;
+    lengths(count, &[pixels.len(), plane.len(), work.len()])?;
+    let order = Order::RowsFirst;
+    let picture = reversible53::back(order, depth, levels, &plane[..count], width, height);
+    hand_over(picture, &mut pixels[..count], &mut work[..count])
+}
+
+/// What a way back leaves, where there is a picture and where there is none
+/// (11).
+fn hand_over(
+    picture: Option<Vec<u16>>,
+    pixels: &mut [u16],
+    work: &mut [i32],
+) -> Result<(), Refusal> {
+    work.fill(0);
     match picture {
         Some(picture) => {
-            pixels[..count].copy_from_slice(&picture);
+            pixels.copy_from_slice(&picture);
             Ok(())
         }
         None => Err(Refusal::plain(11)),
@@ -281,29 +312,66 @@ mod tests {
         assert_eq!(run(1, 1, &[0, 1, 1, 2], 2, 2, 4, 4), 10);
     }
 
+    /// A way back: depth, levels, plane, sides, pixels, work area.
+    type WayBack = fn(u8, u8, &[i32], usize, usize, &mut [u16], &mut [i32]) -> Result<(), Refusal>;
+
+    /// Both, with the copy that each takes back to 5 7 over 4 4.
+    const WAYS_BACK: [(WayBack, [i32; 4]); 2] = [
+        (inverse53, [2, 1, -2, -2]),
+        (inverse53_rows_first, [1, 1, -2, -2]),
+    ];
+
+    #[test]
+    fn order_of_5_3_back() {
+        let outside = [99; 5];
+        for (back, _) in WAYS_BACK {
+            let run = |depth, levels, plane: &[i32], w, h, pixels_len: usize, work_len: usize| {
+                let (mut pixels, mut work) = (vec![7; pixels_len], vec![7; work_len]);
+                let number = number(back(depth, levels, plane, w, h, &mut pixels, &mut work));
+                assert!(pixels.iter().all(|&p| p == 7) && work.iter().all(|&v| v == 7));
+                number
+            };
+            assert_eq!(run(0, 1, &outside, 1, 1, 0, 0), 4);
+            assert_eq!(run(13, 1, &outside, 2, 2, 4, 4), 4);
+            assert_eq!(run(1, 0, &outside, 2, 2, 4, 4), 4);
+            assert_eq!(run(1, 6, &outside, 2, 2, 4, 4), 4);
+            assert_eq!(run(1, 1, &outside, 1, 2, 0, 0), 8);
+            assert_eq!(run(1, 1, &outside, usize::MAX, usize::MAX, 0, 0), 8);
+            assert_eq!(run(1, 2, &outside, 2, 2, 4, 4), 8);
+            assert_eq!(run(1, 1, &outside[..3], 2, 2, 4, 4), 9);
+            assert_eq!(run(1, 1, &outside, 2, 2, 3, 4), 9);
+            assert_eq!(run(1, 1, &outside, 2, 2, 4, 3), 9);
+        }
+    }
+
     #[test]
     fn lent_memory_past_the_picture_stays() {
         let pixels = [5u16, 7, 4, 4, 999];
         let (mut plane, mut work) = ([50; 6], [60; 7]);
         forward53(3, 1, &pixels, 2, 2, &mut plane, &mut work).unwrap();
-        assert_eq!(plane, [1, 1, -2, -2, 50, 50]);
+        assert_eq!(plane, [2, 1, -2, -2, 50, 50]);
         assert_eq!(work, [0, 0, 0, 0, 60, 60, 60]);
-        let mut back = [77u16; 6];
-        let mut work = [60; 5];
-        inverse53(3, 1, &plane, 2, 2, &mut back, &mut work).unwrap();
-        assert_eq!(back, [5, 7, 4, 4, 77, 77]);
-        assert_eq!(work, [0, 0, 0, 0, 60]);
+        for (back, copy) in WAYS_BACK {
+            plane[..4].copy_from_slice(&copy);
+            let mut pixels = [77u16; 6];
+            let mut work = [60; 5];
+            back(3, 1, &plane, 2, 2, &mut pixels, &mut work).unwrap();
+            assert_eq!(pixels, [5, 7, 4, 4, 77, 77]);
+            assert_eq!(work, [0, 0, 0, 0, 60]);
+        }
     }
 
     #[test]
     fn refusal_11_zeroes_the_work_area_alone() {
         let plane = [i32::MAX, 1, i32::MIN, -2, 3];
-        let mut pixels = [77u16; 5];
-        let mut work = [60; 6];
-        let refused = inverse53(3, 1, &plane, 2, 2, &mut pixels, &mut work);
-        assert_eq!(number(refused), 11);
-        assert_eq!(pixels, [77; 5]);
-        assert_eq!(work, [0, 0, 0, 0, 60, 60]);
+        for (back, _) in WAYS_BACK {
+            let mut pixels = [77u16; 5];
+            let mut work = [60; 6];
+            let refused = back(3, 1, &plane, 2, 2, &mut pixels, &mut work);
+            assert_eq!(number(refused), 11);
+            assert_eq!(pixels, [77; 5]);
+            assert_eq!(work, [0, 0, 0, 0, 60, 60]);
+        }
     }
 
     #[test]

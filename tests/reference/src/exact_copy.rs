@@ -2,7 +2,7 @@
 
 use crate::places::side_admitted;
 use crate::refusal::Refusal;
-use crate::reversible53;
+use crate::reversible53::{self, Order};
 
 /// Pixels that the program has memory for.
 pub const MEMORY: usize = 4096;
@@ -48,7 +48,7 @@ fn listing(input: &[u8]) -> Result<String, Refusal> {
     if pixels.iter().any(|&p| p >= 1 << depth) {
         return refuse(10);
     }
-    let plane = reversible53::forward(depth, levels, &pixels, width, height);
+    let plane = reversible53::forward(Order::ColumnsFirst, depth, levels, &pixels, width, height);
     let mut text = format!("53 {depth} {levels} {width} {height}\n");
     for row in plane.chunks(width) {
         let numbers: Vec<String> = row.iter().map(|v| v.to_string()).collect();
@@ -73,7 +73,7 @@ mod tests {
     #[test]
     fn the_listing_of_the_document() {
         let input = bytes(3, 1, 2, 2, &[5, 7, 4, 4]);
-        assert_eq!(exact_copy(&input), "53 3 1 2 2\n1 1\n-2 -2\n");
+        assert_eq!(exact_copy(&input), "53 3 1 2 2\n2 1\n-2 -2\n");
     }
 
     #[test]

@@ -12,7 +12,8 @@
 //! * [`fixed97`], [`exact97`]: the 9/7 transform in fixed point and in fractions
 //! * [`fixed_inverse97`], [`exact_inverse97`], [`viewing`]: the same undone, and
 //!   the bound between the two
-//! * [`reversible53`]: the 5/3 transform forward and back
+//! * [`reversible53`]: the 5/3 transform forward and back, columns first as new
+//!   copies have it and rows first as copies made earlier
 //! * [`papers`]: a third reading, the passes as source documents 003 and 004
 //!   print them, the ends of a line apart from its middle
 //! * [`places`]: sides, low and high parts, kept nodes

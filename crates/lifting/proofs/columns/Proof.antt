@@ -6,7 +6,7 @@ use native.Mathlib.Omega.{arith}
 use lib.ListN.{length}
 use Rattle.lifting.specs.Patch.{at}
 use Rattle.lifting.specs.Kernels.{worked, SafeKernel, columnsWorked}
-use Rattle.lifting.specs.Strips.{column-as-was, columns-more, strips-none, some-width, enough-room, part-strip}
+use Rattle.lifting.specs.Strips.{column-as-was, columns-more, columns-none, some-width, enough-room, part-strip}
 use Rattle.lifting.proofs.columns.Statement.{statement}
 use Rattle.lifting.proofs.columns.Tie as tie
 
@@ -18,7 +18,7 @@ abbrev μ-loop : tie.MeasureT-loop
 μ-loop plane₀ tile₀ stride from w h kernel most done₀ plane tile done = w - done
 
 loop-holds : tie.Need-loop-holds Inv-loop μ-loop
-loop-holds c = (omega arith, refl, refl, strips-none _ _ _ _)
+loop-holds c = (omega arith, refl, refl, columns-none (worked (c .before .args .kernel)) _ _ _ _)
 
 -- the strip's width
 width : (c : tie.After-smaller2 Inv-loop μ-loop) → let a = c .before .before .before .before .args in

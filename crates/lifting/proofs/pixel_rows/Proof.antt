@@ -1,14 +1,14 @@
 -- `lifting::pixel_rows` meets its contract. The loop's invariant: the first r rows are done.
 -- Assumes nothing.
 use mathlib.Core.Path.{_≡_, refl}
-use Prim.Native.Nat.{suc, _+_, _*_, _-_, _≤_}
+use Prim.Native.Nat.{suc, _*_, _-_, _≤_}
 use native.Mathlib.Nat.{mul-le-mul-right}
 use native.Mathlib.Omega.{arith}
 use lib.ListN.{length}
 use Rattle.lifting.specs.Patch.{at}
 use Rattle.lifting.specs.PatchLines.{lineAt, patchLines, lines-none, lines-to}
 use Rattle.lifting.specs.Kernels.{worked}
-use Rattle.lifting.specs.Strips.{pixelLine, pixel-row, row-put}
+use Rattle.lifting.specs.Strips.{pixelLine, row-put}
 use Rattle.lifting.proofs.pixel_rows.Statement.{statement}
 use Rattle.lifting.proofs.pixel_rows.Tie as tie
 
@@ -31,12 +31,7 @@ split-pixels-requires : tie.Need-split-pixels-requires Inv-loop μ-loop
 split-pixels-requires c κs =
     let t = c .before in
     let a = t .before .before .before in
-    let there : t .before .loop .r * a .args .w + a .args .w ≤ length (a .args .pixels .now) = omega (arith, a .pre .0 .4, mul-le-mul-right {m = suc (t .before .loop .r)} {n = a .args .h} (a .args .w) (t .loop-test .taken)) in record {
-      lines = record { some = omega (arith, a .pre .0 .1); few = omega (arith, a .pre .0 .0 .wide); narrow = omega arith; fits = λ i p. omega arith };
-      some = omega arith;
-      two = a .pre .0 .1;
-      room = omega (arith, a .pre .0 .2);
-    }
+    omega (arith, a .pre .0 .0 .wide, a .pre .0 .2, a .pre .0 .4, mul-le-mul-right {m = suc (t .before .loop .r)} {n = a .args .h} (a .args .w) (t .loop-test .taken))
 
 finish-requires : tie.Need-finish-requires Inv-loop μ-loop
 finish-requires c κs =
@@ -55,7 +50,7 @@ finish-requires c κs =
         },
         a .pre .0 .3,
       ),
-      record { line = λ j. pixelLine (a .args .pixels .now) (a .args .middle) (t .before .loop .r * a .args .w); held = pixel-row (a .args .pixels .now) (a .args .middle) (t .before .loop .r * a .args .w) (a .args .w) _ (f .split-pixels .ensures); safe = λ j g. a .pre .1 (t .before .loop .r) h },
+      record { line = λ j. pixelLine (a .args .pixels .now) (a .args .middle) (t .before .loop .r * a .args .w); held = f .split-pixels .ensures; safe = λ j g. a .pre .1 (t .before .loop .r) h },
     )
 
 loop-again : tie.Need-loop-again Inv-loop μ-loop
@@ -68,7 +63,7 @@ loop-again c =
       omega arith,
       omega arith,
       omega arith,
-      row-put (a .args .w) (a .args .w) r (r * a .args .w) _ _ (at (a .args .plane .now)) _ _ (t .before .loop .inv .3) (omega arith) (g .finish .ensures _ (pixel-row (a .args .pixels .now) (a .args .middle) (r * a .args .w) (a .args .w) _ (f .split-pixels .ensures))) refl,
+      row-put (a .args .w) (a .args .w) r (r * a .args .w) _ _ (at (a .args .plane .now)) _ _ (t .before .loop .inv .3) (omega arith) (g .finish .ensures _ (f .split-pixels .ensures)) refl,
     )
 
 returns : tie.Need-returns Inv-loop μ-loop

@@ -1,54 +1,45 @@
--- `lifting::split_pixels` meets its contract. The loop's invariant: i lines of the lows and i of the highs are there.
+-- `lifting::split_pixels` meets its contract. The loop's invariant: i lows and i highs are there.
 -- Assumes nothing.
-use mathlib.Core.Path.{_≡_, refl}
-use Prim.Native.Nat.{_+_, _*_, _-_, _≤_}
+use mathlib.Core.Path.{_≡_, refl, ap, _∙_}
+use Prim.Native.Nat.{ℕ, _+_, _*_, _-_, _≤_}
 use native.Mathlib.Omega.{arith}
+use lib.IntN.{ℤ}
 use lib.ListN.{length}
 use Rattle.lines.specs.Lines.{lows, highs}
-use Rattle.lifting.specs.Patch.{at}
+use Rattle.lifting.specs.Patch.{at, patch}
 use Rattle.lifting.specs.Passes.{evens, odds}
-use Rattle.lifting.specs.PatchLines.{lineAt}
-use Rattle.lifting.specs.Tiles.{Filled, filled-none, filled-low, filled-high, filled-to, sizes}
-use Rattle.lifting.specs.Strips.{pixelColumn, pixel-at, two-lines, last-line}
+use Rattle.lifting.specs.Tiles.{Filled, filled-none, filled-low, filled-high, filled-to}
+use Rattle.lifting.specs.Strips.{pixelLine, pixel-at}
 use Rattle.lifting.proofs.split_pixels.Statement.{statement}
 use Rattle.lifting.proofs.split_pixels.Tie as tie
 
 abbrev Inv-loop : tie.InvT-loop
-Inv-loop pixels tile₀ stride from s n middle low high top i₀ tile i =
-    (i ≤ highs n) × (length tile ≡ length tile₀) × Filled s (lows n * s) i i (λ j. evens (pixelColumn pixels middle stride from j)) (λ j. odds (pixelColumn pixels middle stride from j)) (at tile)
+Inv-loop pixels from tile₀ n middle low high i₀ tile i =
+    (i ≤ highs n) × (length tile ≡ length tile₀) × Filled 1 (lows n * 1) i i (λ j. evens (pixelLine pixels middle from)) (λ j. odds (pixelLine pixels middle from)) (at tile)
 
 abbrev μ-loop : tie.MeasureT-loop
-μ-loop pixels tile₀ stride from s n middle low high top i₀ tile i = highs n - i
+μ-loop pixels from tile₀ n middle low high i₀ tile i = highs n - i
 
-mul-top : tie.Need-mul-top Inv-loop μ-loop
-mul-top c = omega (arith, c .before .pre .room, sizes (c .before .args .s) (c .before .args .n) (c .before .pre .two) .all)
+-- one value is a line of one
+line-of-one : (t u : ℕ) (row x z : ℕ → ℤ) → t ≡ u → z ≡ patch t 1 row x → z ≡ patch u 1 row x
+line-of-one t u row x z e is = is ∙ ap (λ (t : ℕ). patch t 1 row x) e
 
 loop-holds : tie.Need-loop-holds Inv-loop μ-loop
 loop-holds c = (omega arith, refl, filled-none _ _ _ _ _)
-
-put-pixels-requires : tie.Need-put-pixels-requires Inv-loop μ-loop
-put-pixels-requires c κs =
-    let z = two-lines (c .before .before .before .before .pre) _ (c .before .loop-test .taken) in
-    omega (arith, z .both, z .low, z .high)
-
-put-pixels-requires-2 : tie.Need-put-pixels-requires-2 Inv-loop μ-loop
-put-pixels-requires-2 c κs =
-    let z = two-lines (c .before .before .before .before .before .before .before .pre) _ (c .before .before .before .before .loop-test .taken) in
-    omega (arith, z .both, z .high)
 
 loop-again : tie.Need-loop-again Inv-loop μ-loop
 loop-again c =
     let g = c .before in
     let f = g .before .before .before in
     let t = f .before .before in
-    let a = t .before .before .before .args in
+    let a = t .before .before .before in
     let i = t .before .loop .i in
-    let z = two-lines (t .before .before .before .pre) _ (t .loop-test .taken) in
-    let same = pixel-at (a .pixels .now) (a .middle) in (
+    let n = a .args .n in (
       omega arith,
       omega arith,
-      filled-high (filled-low (t .before .loop .inv .2) _ _ (f .put-pixels .ensures) (λ j g. same _ (lineAt (a .from) (a .stride) (2 * i)) j j (omega (arith, z .even))) (omega (arith, z .low))) _ _ (g .put-pixels2 .ensures)
-          (λ j g. same _ (lineAt (a .from) (a .stride) (2 * i + 1)) j j (omega (arith, z .odd))) (omega (arith, z .low)),
+      filled-high
+          (filled-low (t .before .loop .inv .2) _ _ (line-of-one i (i * 1) _ _ _ (omega arith) (f .put-pixel .ensures)) (λ j h. pixel-at (a .args .pixels .now) (a .args .middle) (a .args .from + 2 * i) (a .args .from) j (2 * i) (omega arith)) (omega arith))
+          _ _ (line-of-one (lows n + i) (lows n * 1 + i * 1) _ _ _ (omega arith) (g .put-pixel2 .ensures)) (λ j h. pixel-at (a .args .pixels .now) (a .args .middle) (a .args .from + 2 * i + 1) (a .args .from) j (2 * i + 1) (omega arith)) (omega arith),
     )
 
 returns : tie.Need-returns Inv-loop μ-loop
@@ -57,8 +48,7 @@ returns c =
     let t = f .before .before .before in
     let a = t .before .before .before in
     let n = a .args .n in
-    let z = last-line (a .pre) (f .before .before .if1 .taken) in
-    filled-to (filled-low {a = highs n} {b = highs n} (filled-to (t .before .loop .inv .2) (omega arith) (omega arith)) _ _ (f .put-pixels3 .ensures) (λ j g. refl) (omega (arith, z .low))) (omega arith) (omega arith)
+    filled-to (filled-low {a = highs n} {b = highs n} (filled-to (t .before .loop .inv .2) (omega arith) (omega arith)) _ _ (line-of-one (highs n) (highs n * 1) _ _ _ (omega arith) (f .put-pixel3 .ensures)) (λ j h. pixel-at (a .args .pixels .now) (a .args .middle) (a .args .from + 2 * highs n) (a .args .from) j (2 * highs n) (omega arith)) (omega arith)) (omega arith) (omega arith)
 
 returns-2 : tie.Need-returns-2 Inv-loop μ-loop
 returns-2 c = filled-to (c .before .before .loop .inv .2) (omega arith) (omega arith)
@@ -69,25 +59,20 @@ split-pixels-spec =
     (tie.spec
     Inv-loop
     μ-loop
-    (λ c. omega (arith, c .before .pre .lines .few))
-    mul-top
+    (λ c. omega arith)
     loop-holds
-    (λ c. omega (arith, two-lines (c .before .before .before .pre) _ (c .loop-test .taken) .both))
-    (λ c. omega (arith, two-lines (c .before .before .before .pre) _ (c .loop-test .taken) .both))
-    (λ c. omega (arith, two-lines (c .before .before .before .pre) _ (c .loop-test .taken) .both))
-    (λ c. omega (arith, two-lines (c .before .before .before .pre) _ (c .loop-test .taken) .high))
-    put-pixels-requires
-    (λ c. omega (arith, two-lines (c .before .before .before .before .before .before .pre) _ (c .before .before .before .loop-test .taken) .both))
-    (λ c. omega (arith, two-lines (c .before .before .before .before .before .before .before .pre) _ (c .before .before .before .before .loop-test .taken) .high))
-    put-pixels-requires-2
+    (λ c. omega arith)
+    (λ c. omega arith)
+    (λ c κs. omega arith)
+    (λ c. omega arith)
+    (λ c. omega arith)
+    (λ c κs. omega arith)
     (λ c. omega arith)
     (λ c. omega arith)
     loop-again
-    (λ c. omega (arith, last-line (c .before .before .before .before .pre) (c .if1 .taken) .there))
-    (λ c. omega (arith, last-line (c .before .before .before .before .pre) (c .if1 .taken) .there))
-    (λ c. omega (arith, last-line (c .before .before .before .before .pre) (c .if1 .taken) .there))
-    (λ c. omega (arith, last-line (c .before .before .before .before .before .pre) (c .before .if1 .taken) .high, last-line (c .before .before .before .before .before .pre) (c .before .if1 .taken) .low))
-    (λ c κs. let z = last-line (c .before .before .before .before .before .pre) (c .before .if1 .taken) in omega (arith, z .there, z .low, z .high))
+    (λ c. omega arith)
+    (λ c. omega arith)
+    (λ c κs. omega arith)
     (λ c. omega arith)
     returns
     (λ c. omega arith)

@@ -1,30 +1,33 @@
--- `reversible::first_level` meets its contract: the columns that the pixels give are those of the samples, and samples of a picture keep each step inside its type.
+-- `reversible::first_level` meets its contract: samples of a picture keep each step inside its type.
 -- Assumes nothing.
-use mathlib.Core.Path.{_≡_, ap, _∙_}
+use mathlib.Core.Path.{ap, _∙_}
+use Prim.Native.Nat.{ℕ}
 use native.Mathlib.Omega.{arith}
 use borrow.Author.Needs.{needs}
+use Rattle.lifting.specs.Patch.{at}
 use Rattle.lifting.specs.Kernels.{rowsWorked}
+use Rattle.pictures.specs.MemoryLaws.{loaded}
 use Rattle.reversible.specs.Sizes.{forwardKernel}
-use Rattle.reversible.specs.Needs.{first-columns, first-worked, first-rows}
+use Rattle.reversible.specs.LevelLaws.{levelForward}
+use Rattle.reversible.specs.Needs.{first-columns, first-rows}
 use Rattle.reversible.proofs.first_level.Statement.{statement}
 use Rattle.reversible.proofs.first_level.Tie as tie
 
-pixel-columns-requires : tie.Need-pixel-columns-requires
-pixel-columns-requires c κs =
-    let p = c .before .before .before .before .pre in
-    ((p .part, p .tall, p .column, tt, p .held), first-columns p _ (c .before .before .middle .ensures))
-
 rows-forward-requires : tie.Need-rows-forward-requires
 rows-forward-requires c κs =
-    let s = c .before .before .before .before .before .before .before .before .before in
-    let m = c .before .before .before .before .before .before .before .middle .ensures in
-    first-rows (s .pre) _ _ (omega arith) (omega arith) (first-worked (s .pre) _ m _ (c .before .before .before .before .pixel-columns .ensures .0))
+    let f = c .before .before .before in
+    let m = f .before .before in
+    first-rows (m .before .before .pre) _ (m .middle .ensures) _ _ (omega arith) (omega arith) (f .pixel-columns .ensures)
 
 returns : tie.Need-returns
 returns c =
-    let s = c .before .before .before .before .before .before .before .before .before .before .before .before in
-    let m = c .before .before .before .before .before .before .before .before .before .before .middle .ensures in
-    c .before .before .rows-forward .ensures ∙ ap (rowsWorked forwardKernel _ _ _) (first-worked (s .pre) _ m _ (c .before .before .before .before .before .before .before .pixel-columns .ensures .0))
+    let r = c .before .before in
+    let f = r .before .before .before .before in
+    let m = f .before .before in
+    let g = m .before .before .args in
+    r .rows-forward .ensures ∙ ap (rowsWorked forwardKernel (g .w) (g .w) (g .h)) (f .pixel-columns .ensures)
+    ∙ ap (λ (n : ℕ). levelForward (g .w) (g .w) (g .h) (loaded (g .pixels .now) n (g .w) (g .h) (at (g .plane .now)))) (m .middle .ensures)
 
 pub first-level-spec : {M : Type 1} → statement M
-first-level-spec = tie.close (tie.spec (λ c κs. c .before .pre .depth) pixel-columns-requires rows-forward-requires (λ c. search needs) (λ c. search needs) returns)
+first-level-spec =
+    tie.close (tie.spec (λ c κs. c .before .pre .depth) (λ c κs. first-columns (c .before .before .before .pre) _ (c .before .middle .ensures)) rows-forward-requires (λ c. search needs) (λ c. search needs) returns)

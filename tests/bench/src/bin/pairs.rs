@@ -5,12 +5,17 @@
 //! the same memory, and the quartiles. Which build is called first turns from
 //! pair to pair. Both must leave the same. It needs a C compiler, which makes
 //! a shared library of each archive.
+//!
+//! Exact copies alone may differ: builds without `suz_inverse53_rows_first` work
+//! the 5/3 rows first, later ones columns first. The copy that a build makes
+//! must be the plain program's of its order, and each build takes its own back.
+//! A last row of the 5/3 takes back a copy worked rows first by both.
 
-#[path = "../inputs.rs"]
-mod inputs;
-
-use inputs::{picture, tight_table, view_table, wide_table, DEPTH, LEVELS, MIN_SIDE, VIEW_LEVELS};
-use std::ffi::{c_char, c_int, c_void, CString};
+use bench::inputs::{
+    picture, tight_table, view_table, wide_table, DEPTH, LEVELS, MIN_SIDE, VIEW_LEVELS,
+};
+use bench::plain::{self, Order};
+use std::ffi::{c_char, c_int, c_void, CStr, CString};
 use std::path::Path;
 use std::process::{Command, ExitCode};
 use std::time::Instant;
@@ -77,6 +82,8 @@ type View97 = unsafe extern "C" fn(
 struct Build {
     forward53: Forward53,
     inverse53: Inverse53,
+    /// The way back of copies worked rows first, where it is another.
+    inverse53_rows_first: Option<Inverse53>,
     forward97: Forward97,
     view97: View97,
 }
@@ -102,22 +109,85 @@ impl Build {
         if library.is_null() {
             return Err(format!("{} cannot be loaded", archive.display()));
         }
-        let symbol = |name: &std::ffi::CStr| {
+        let found = |name: &CStr| {
             // SAFETY: the library is loaded and the name ends in 0.
             let found = unsafe { dlsym(library, name.as_ptr()) };
-            match found.is_null() {
-                true => Err(format!("{} has no {name:?}", archive.display())),
-                false => Ok(found),
-            }
+            Some(found).filter(|found| !found.is_null())
+        };
+        let symbol = |name: &CStr| {
+            let missing = || format!("{} has no {name:?}", archive.display());
+            found(name).ok_or_else(missing)
         };
         // SAFETY: these are the types of the header include/suzdrepa.h.
         unsafe {
             Ok(Build {
                 forward53: std::mem::transmute::<*mut c_void, Forward53>(symbol(c"suz_forward53")?),
                 inverse53: std::mem::transmute::<*mut c_void, Inverse53>(symbol(c"suz_inverse53")?),
+                inverse53_rows_first: found(c"suz_inverse53_rows_first")
+                    .map(|found| std::mem::transmute::<*mut c_void, Inverse53>(found)),
                 forward97: std::mem::transmute::<*mut c_void, Forward97>(symbol(c"suz_forward97")?),
                 view97: std::mem::transmute::<*mut c_void, View97>(symbol(c"suz_view97")?),
             })
+        }
+    }
+
+    /// What `suz_forward53` works first.
+    fn order(&self) -> Order {
+        match self.inverse53_rows_first {
+            Some(_) => Order::ColumnsFirst,
+            None => Order::RowsFirst,
+        }
+    }
+
+    /// Works a picture whose sides are alike into its exact copy; the answer.
+    fn copy(&self, side: usize, pixels: &[u16], plane: &mut [i32], work: &mut [i32]) -> u32 {
+        // SAFETY: pointers and lengths are those of slices; `plane` and `work`
+        // are exclusive.
+        unsafe {
+            (self.forward53)(
+                DEPTH,
+                LEVELS,
+                pixels.as_ptr(),
+                pixels.len(),
+                side,
+                side,
+                plane.as_mut_ptr(),
+                plane.len(),
+                work.as_mut_ptr(),
+                work.len(),
+            )
+        }
+    }
+
+    /// Takes an exact copy of an order back to its picture; the answer. A build
+    /// without a call for copies worked rows first takes all for such.
+    fn picture(
+        &self,
+        order: Order,
+        side: usize,
+        plane: &[i32],
+        pixels: &mut [u16],
+        work: &mut [i32],
+    ) -> u32 {
+        let call = match (order, self.inverse53_rows_first) {
+            (Order::RowsFirst, Some(call)) => call,
+            _ => self.inverse53,
+        };
+        // SAFETY: pointers and lengths are those of slices; `pixels` and `work`
+        // are exclusive.
+        unsafe {
+            call(
+                DEPTH,
+                LEVELS,
+                plane.as_ptr(),
+                plane.len(),
+                side,
+                side,
+                pixels.as_mut_ptr(),
+                pixels.len(),
+                work.as_mut_ptr(),
+                work.len(),
+            )
         }
     }
 }
@@ -126,9 +196,11 @@ impl Build {
 struct Lent {
     side: usize,
     pixels: Vec<u16>,
-    /// The exact copy of the picture, and its coefficients under the table for
-    /// viewing.
-    copy: Vec<i32>,
+    /// The exact copies of the picture that the two builds make.
+    copies: [Vec<i32>; 2],
+    /// The exact copy rows first.
+    earlier: Vec<i32>,
+    /// The coefficients of the picture under the table for viewing.
     stored: Vec<i32>,
     plane: Vec<i32>,
     back: Vec<u16>,
@@ -136,11 +208,12 @@ struct Lent {
     view_work: Vec<i64>,
 }
 
-/// A call of one build on lent memory; its answer.
-type Call<'a> = &'a dyn Fn(&Build, &mut Lent) -> u32;
+/// A call of one build, which has a number, on lent memory; its answer.
+type Call<'a> = &'a dyn Fn(usize, &Build, &mut Lent) -> u32;
 
-/// Times pairs of calls and prints what AFTER takes of BEFORE's time.
-fn row(name: &str, builds: &[Build; 2], lent: &mut Lent, call: Call) {
+/// Times pairs of calls and prints what AFTER takes of BEFORE's time. What the
+/// two leave must be the same, where it is said to be `alike`.
+fn row(name: &str, alike: bool, builds: &[Build; 2], lent: &mut Lent, call: Call) {
     // A few seconds a row.
     let pairs = (120_000_000 / (lent.side * lent.side)).clamp(60, 1000);
     let mut ratios = Vec::with_capacity(pairs);
@@ -155,14 +228,14 @@ fn row(name: &str, builds: &[Build; 2], lent: &mut Lent, call: Call) {
             lent.work.fill(1);
             lent.view_work.fill(1);
             let start = Instant::now();
-            let answer = call(&builds[which], lent);
+            let answer = call(which, &builds[which], lent);
             times[which] = start.elapsed().as_secs_f64();
             assert_eq!(answer, 0);
             if pair == 0 {
                 left[which] = (lent.plane.clone(), lent.back.clone());
             }
         }
-        assert!(left[0] == left[1], "the two builds differ");
+        assert!(!alike || left[0] == left[1], "the two builds differ");
         if pair > 0 {
             ratios.push(times[1] / times[0]);
         }
@@ -179,51 +252,51 @@ fn row(name: &str, builds: &[Build; 2], lent: &mut Lent, call: Call) {
 }
 
 fn measure(side: usize, builds: &[Build; 2]) {
+    let n = side * side;
     let view_table = view_table();
     let pixels = picture(side);
-    let admitted = "the picture is admitted";
+    let mut work = vec![0; n];
+    let mut by_plain = |order| {
+        let mut plane = vec![0; n];
+        let size = (side, side);
+        let done = plain::forward53(order, DEPTH, LEVELS, &pixels, size, &mut plane, &mut work);
+        assert!(done);
+        plane
+    };
+    let copies = builds.each_ref().map(|build| {
+        let (mut plane, mut work) = (vec![0; n], vec![0; n]);
+        assert_eq!(build.copy(side, &pixels, &mut plane, &mut work), 0);
+        assert!(plane == by_plain(build.order()), "not a copy of its order");
+        plane
+    });
     let mut lent = Lent {
         side,
-        copy: suzdrepa::forward53_to_vec(DEPTH, LEVELS, &pixels, side, side).expect(admitted),
+        copies,
+        earlier: by_plain(Order::RowsFirst),
         stored: suzdrepa::forward97_to_vec(view_table.as_bytes(), &pixels, side, side)
-            .expect(admitted),
+            .expect("the picture is admitted"),
         pixels,
-        plane: vec![0; side * side],
-        back: vec![0; side * side],
-        work: vec![0; side * side],
-        view_work: vec![0; side * side],
+        plane: vec![0; n],
+        back: vec![0; n],
+        work,
+        view_work: vec![0; n],
     };
-    let n = side * side;
+    let alike = builds[0].order() == builds[1].order();
+    row("5/3 forward", alike, builds, &mut lent, &|_, build, m| {
+        build.copy(side, &m.pixels, &mut m.plane, &mut m.work)
+    });
+    row("5/3 back", true, builds, &mut lent, &|which, build, m| {
+        let copy = &m.copies[which];
+        build.picture(build.order(), side, copy, &mut m.back, &mut m.work)
+    });
+    let name = "5/3 back, rows first";
+    row(name, true, builds, &mut lent, &|_, build, m| {
+        let order = Order::RowsFirst;
+        build.picture(order, side, &m.earlier, &mut m.back, &mut m.work)
+    });
+    assert!(lent.back == lent.pixels, "the picture came back changed");
     // SAFETY, here and below: pointers and lengths are those of vectors of
     // their own, which hold n elements.
-    row("5/3 forward", builds, &mut lent, &|build, m| unsafe {
-        (build.forward53)(
-            DEPTH,
-            LEVELS,
-            m.pixels.as_ptr(),
-            n,
-            side,
-            side,
-            m.plane.as_mut_ptr(),
-            n,
-            m.work.as_mut_ptr(),
-            n,
-        )
-    });
-    row("5/3 back", builds, &mut lent, &|build, m| unsafe {
-        (build.inverse53)(
-            DEPTH,
-            LEVELS,
-            m.copy.as_ptr(),
-            n,
-            side,
-            side,
-            m.back.as_mut_ptr(),
-            n,
-            m.work.as_mut_ptr(),
-            n,
-        )
-    });
     let forward97 = |table: &WidthTable, build: &Build, m: &mut Lent| unsafe {
         let bytes = table.as_bytes();
         (build.forward97)(
@@ -241,12 +314,12 @@ fn measure(side: usize, builds: &[Build; 2]) {
     };
     for (name, table) in [("tight", tight_table()), ("wide", wide_table())] {
         let name = format!("9/7 forward, {name} table");
-        row(&name, builds, &mut lent, &|build, m| {
+        row(&name, true, builds, &mut lent, &|_, build, m| {
             forward97(&table, build, m)
         });
     }
     let name = format!("9/7 view, {VIEW_LEVELS} levels");
-    row(&name, builds, &mut lent, &|build, m| unsafe {
+    row(&name, true, builds, &mut lent, &|_, build, m| unsafe {
         let bytes = view_table.as_bytes();
         (build.view97)(
             bytes.as_ptr(),

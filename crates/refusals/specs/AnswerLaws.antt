@@ -22,6 +22,11 @@ module _ {A : Type 0} where
   pub asks-wrong : (t : Bool) (r : Reason) (o : Answer A) → t ≡ false → asksGiving t r o ≡ refused r
   asks-wrong t r o e = ap (λ (t : Bool). asksGiving t r o) e
 
+  -- the rule that is refused does not hold
+  pub asks-refused : (t : Bool) (r s : Reason) (a : A) → asksGiving t r (done a) ≡ refused s → t ≡ false
+  asks-refused true r s a e = never s a (sym e)
+  asks-refused false r s a e = refl
+
 pub then-done : {B : Type 0} (a : Answer Unit) (b : Answer B) {y : B} → a then b ≡ done y → (a ≡ done tt) × (b ≡ done y)
 then-done (done tt) b e = (refl, e)
 then-done (refused r) b {y} e = never r y e

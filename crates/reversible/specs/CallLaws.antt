@@ -1,16 +1,18 @@
--- The 5/3 calls, in either order of rows and columns: there and back (`there-and-back`), back and there (`back-and-there`).
+-- The 5/3 calls, in either order of rows and columns: there and back (`there-and-back`), back and there (`back-and-there`),
+-- and when the way back is done, and when it is refused 11 (`done-exactly`, `eleven-exactly`).
 use Prim.Native.Nat.{ℕ, _+_, _*_, _-_, _^_, _<_, _≤_}
-use mathlib.Core.Bool.{_&&_}
-use mathlib.Core.List.{List, map}
-use mathlib.Core.Path.{_≡_, sym, _∙_, ap, subst}
+use mathlib.Core.Bool.{Bool, true, false, _&&_}
+use mathlib.Core.List.{List, [], map}
+use mathlib.Core.Logic.{_↔_}
+use mathlib.Core.Path.{_≡_, refl, sym, _∙_, ap, subst}
 use native.Mathlib.Omega.{arith}
 use lib.Dec.{T, ltb}
 use lib.ListN.{length, getD, take, drop, List·getD-append}
 use lib.IntN.{ℤ, pos, natAbs, _+ℤ_, _-ℤ_}
 use Rattle.numbers.specs.Tests.{every}
 use Rattle.numbers.specs.Lists.{over}
-use Rattle.refusals.specs.Answers.{passed, _then_}
-use Rattle.refusals.specs.AnswerLaws.{asks-done, asks-right, then-done, then-right, answered-done}
+use Rattle.refusals.specs.Answers.{refused, passed, asks, _then_}
+use Rattle.refusals.specs.AnswerLaws.{asks-done, asks-right, asks-wrong, asks-refused, then-done, then-right, answered-done}
 use Rattle.lines.specs.PlaneLaws.{Roomy, roomy, Agree}
 use Rattle.lines.specs.RowLaws.{place-in, rows-length, rows-same, rows-take, every-row, rows-map}
 use Rattle.width_table.specs.Table.{depthRight, levelsRight}
@@ -18,7 +20,7 @@ use Rattle.pictures.specs.Pictures.{pixelsRight, sample, planeOf}
 use Rattle.pictures.specs.PictureLaws.{Room, sized, sized-then, sized-done, sized-right, pixels-done, pixel-below, over-take, over-length}
 use Rattle.reversible.specs.Reversible.{Order, forward, back}
 use Rattle.reversible.specs.ReversibleLaws.{take-add, forward-agrees}
-use Rattle.reversible.specs.PictureLaws.{Picture, planeIn, goes-back, found-picture, found-plane, pixel-is}
+use Rattle.reversible.specs.PictureLaws.{Picture, planeIn, goes-back, found-picture, found-plane, pixel-is, has-picture}
 use Rattle.reversible.specs.Calls.{limited, forwardAnswer, forwardPlane, pixelsBack, isPixel, hasPicture, backAllowed, backAnswer, backPixels}
 
 -- ---- there and back
@@ -186,3 +188,40 @@ module _ (order : Order) (B L w h : ℕ) (plane : List ℤ) (pixels : List ℕ) 
   pub back-and-there : forwardPlane order B L w h picture plane' work' ≡ over (take (w * h) plane) plane'
   unfolding forwardPlane
   back-and-there = answered-done (over (planeIn order B L w h picture) plane') plane' comes-forward-done ∙ ap (λ (l : List ℤ). over l plane') same-plane
+
+-- ---- 11, where 4, 8 and 9 do not apply
+
+module _ (order : Order) (B L w h : ℕ) (plane : List ℤ) (pixels : List ℕ) (work : List ℤ) (e : backAllowed B L w h plane pixels work ≡ passed) where
+  -- a picture of that depth and size whose transform, in that order, is the plane
+  abbrev pub Copied : Type 0
+  Copied = (picture : List ℕ) × Picture B w h picture × (planeIn order B L w h picture ≡ take (w * h) plane)
+
+  -- the answer goes by the last rule alone
+  by-picture : backAnswer order B L w h plane pixels work ≡ asks (hasPicture order B L w h plane) 11 passed
+  unfolding backAnswer
+  by-picture = then-right (backAllowed B L w h plane pixels work) _ e
+
+  room-back : Room L w h (length pixels) (length plane) (length work)
+  unfolding backAllowed
+  room-back = sized-done L w h (length pixels) (length plane) (length work) (then-done (limited B L) _ e .1)
+
+  exactly : T (hasPicture order B L w h plane) ↔ Copied
+  exactly =
+      let r = room-back in
+      has-picture order B L w h (roomy L w (r .wide .0)) (roomy L h (r .tall .0)) (omega (arith, r .wide .0)) (omega (arith, r .tall .0)) plane (r .second)
+
+  pub done-exactly : (backAnswer order B L w h plane pixels work ≡ passed) ↔ Copied
+  done-exactly = (
+    λ d. exactly .0 (asks-done (hasPicture order B L w h plane) (11, []) passed (sym by-picture ∙ d) .0),
+    λ c. by-picture ∙ asks-right (hasPicture order B L w h plane) (11, []) passed (exactly .1 c),
+  )
+
+  pub eleven-exactly : (backAnswer order B L w h plane pixels work ≡ refused (11, [])) ↔ (Copied → ⊥)
+  eleven-exactly = (
+    λ d c. subst T (asks-refused (hasPicture order B L w h plane) (11, []) (11, []) tt (sym by-picture ∙ d)) (exactly .1 c),
+    λ none. by-picture ∙ asks-wrong (hasPicture order B L w h plane) (11, []) passed (wrong (hasPicture order B L w h plane) (λ t. none (exactly .0 t))),
+  )
+    where
+      wrong : (t : Bool) → (T t → ⊥) → t ≡ false
+      wrong true f = absurd (f tt)
+      wrong false f = refl

@@ -6,8 +6,9 @@
 --   CaseLaws         pass-is, back-is: the 5/3 by cases is the 5/3
 --   ReversibleLaws   forward-back, back-forward: each undoes the other, in either order
 --   PictureLaws      has-picture: refusal 11 comes exactly where no picture has the plane in that order
---   CallLaws         there-and-back, back-and-there
+--   CallLaws         there-and-back, back-and-there; done-exactly, eleven-exactly
 --   OneToOne         same-picture: two pictures with the same plane are one
+--   TwoOrders        worked copies: the two orders are two
 -- For the proofs of the code:
 --   Orders           the order as the code names it
 --   Sizes            the kernels of the code are the passes; how large their values become
@@ -37,3 +38,4 @@ pub mod BackLaws
 pub mod FoundLaws
 pub mod AnswerLaws
 pub mod OneToOne
+pub mod TwoOrders

@@ -474,15 +474,17 @@ fn pixel_of(v: i32, half: i32) -> u16
     (v + half) as u16
 }
 
-// The first n samples go to the pixels.
-fn write_pixels(values: &[i32], pixels: &mut [u16], n: usize, depth: u8)
+// The first n samples go to the pixels and become 0.
+fn write_pixels(values: &mut [i32], pixels: &mut [u16], n: usize, depth: u8)
     requires { ⌜ (1 ≤ depth) × (depth ≤ maxDepth) × (n ≤ length (now values)) × (n ≤ length (now pixels)) ⌝ }
     requires { ⌜ ((j : ℕ) → j < n → IsSample depth (at (now values) j)) ⌝ }
     ensures { λ _. ⌜ (λ k. getD (now (pixels .exit)) k 0) ≡ patch 0 n (λ k. natAbs (at (now (values .entry)) k +ℤ pos (2 ^ (depth - 1)))) (λ k. getD (now (pixels .entry)) k 0) ⌝ }
+    ensures { λ _. ⌜ now (values .exit) ≡ zeroed n (now (values .entry)) ⌝ }
 {
     let half = middle(depth);
     for i in 0..n {
         pixels[i] = pixel_of(values[i], half);
+        values[i] = 0;
     }
 }
 
@@ -505,7 +507,6 @@ fn take_back(
     let n = w * h;
     if found(depth, levels, plane, w, h, &mut work[..n], tile, first) {
         write_pixels(work, pixels, n, depth);
-        pictures::clear(work, n);
         true
     } else {
         pictures::clear(work, n);

@@ -52,18 +52,18 @@ write-pixels-requires c κs =
 
 returns : tie.Need-returns
 returns c =
-    let s = c .before .before .before .before .before .before .before .before .before .before .before .before .before .before in
-    let w = c .before .before .before .before .before .before .before .before .before in (
-      taken (s .pre) (s .args .plane .now) _ (s .args .pixels .now) (c .before .before .before .before .before .write-pixels .last .1 .0) _ (whole w) (c .before .before .before .before .before .before .before .before .if1 .taken)
-          (c .before .before .before .before .before .write-pixels .ensures) (omega arith) (omega arith),
-      c .before .clear .ensures ∙ zeroed-part _ (part w) (s .args .work .now) (part-length w),
+    let g = c .before .before .before in
+    let w = g .before .before .before .before in
+    let s = w .before .before .before .before .before in (
+      taken (s .pre) (s .args .plane .now) _ (s .args .pixels .now) (g .write-pixels .last .1 .0) _ (whole w) (g .before .before .before .if1 .taken) (g .write-pixels .ensures .0) (omega arith) (omega arith),
+      g .write-pixels .ensures .1 ∙ zeroed-part _ (part w) (s .args .work .now) (part-length w),
     )
 
 returns-2 : tie.Need-returns-2
 returns-2 c =
     let s = c .before .before .before .before .before .before .before .before .before in
     let w = c .before .before .before .before in
-    (taken-none (s .args .pixels .now) _ (whole w) (c .before .before .before .if1 .left), c .before .clear2 .ensures ∙ zeroed-part _ (part w) (s .args .work .now) (part-length w))
+    (taken-none (s .args .pixels .now) _ (whole w) (c .before .before .before .if1 .left), c .before .clear .ensures ∙ zeroed-part _ (part w) (s .args .work .now) (part-length w))
 
 pub take-back-spec : {M : Type 1} → statement M
 take-back-spec =
@@ -74,7 +74,6 @@ take-back-spec =
     (λ c. let s = c .before .before in sym (length-take-le (s .args .w * s .args .h) (s .args .work .now) (s .pre .room .third)))
     found-requires
     write-pixels-requires
-    (λ c κs. omega (arith, whole-length (c .before .before .before .before .before .before .before), c .before .before .before .before .before .before .before .before .before .before .before .before .pre .room .third))
     (λ c κs. omega (arith, whole-length (c .before .before), c .before .before .before .before .before .before .before .pre .room .third))
     (λ c. search needs)
     (λ c. search needs)

@@ -1,0 +1,46 @@
+-- The two orders are two: document 01's listing, as it was and as document 02, job 4, has it, and each copy given to the other's way back.
+use Prim.Native.Nat.{ℕ}
+use mathlib.Core.List.{List, [], _∷_}
+use mathlib.Core.Path.{_≡_, refl}
+use lib.IntN.{ℤ, pos, negsuc}
+use Rattle.numbers.specs.Tests.{every}
+use Rattle.lines.specs.Lines.{lowAfter, highBefore, highAfter, onHighs, onLows, lowsFirst, interleaved}
+use Rattle.lines.specs.Planes.{tabulate, rowByRow, rows, columns, within, side, rowsFirst, columnsFirst, levels, levelsBack}
+use Rattle.refusals.specs.Answers.{refused, passed}
+use Rattle.pictures.specs.Pictures.{sided, holds, pixelsRight, sample}
+use Rattle.reversible.specs.Reversible.{columnsThenRows, rowsThenColumns, predict, update, high, low, reversiblePass, forward, unpredict, unupdate, lowBack, highBack, backPass, back}
+use Rattle.reversible.specs.Calls.{forwardAnswer, forwardPlane, pixelsBack, hasPicture, backAllowed, backAnswer, backPixels}
+
+-- the picture 5 7 over 4 4, of three bits
+abbrev picture : List ℕ
+picture = 5 ∷ 7 ∷ 4 ∷ 4 ∷ []
+
+-- its copy, one level, columns before rows: 2 1 over -2 -2
+abbrev newCopy : List ℤ
+newCopy = pos 2 ∷ pos 1 ∷ negsuc 1 ∷ negsuc 1 ∷ []
+
+-- and rows before columns: 1 1 over -2 -2
+abbrev earlierCopy : List ℤ
+earlierCopy = pos 1 ∷ pos 1 ∷ negsuc 1 ∷ negsuc 1 ∷ []
+
+-- lent memory
+abbrev blank : List ℤ
+blank = pos 0 ∷ pos 0 ∷ pos 0 ∷ pos 0 ∷ []
+
+abbrev white : List ℕ
+white = 0 ∷ 0 ∷ 0 ∷ 0 ∷ []
+
+pub record TwoOrders : Type 0 where
+  pub copied : forwardPlane columnsThenRows 3 1 2 2 picture blank blank ≡ newCopy
+  pub copied-earlier : forwardPlane rowsThenColumns 3 1 2 2 picture blank blank ≡ earlierCopy
+  -- each goes back by its own call
+  pub restored : backPixels columnsThenRows 3 1 2 2 newCopy white blank ≡ picture
+  pub restored-earlier : backPixels rowsThenColumns 3 1 2 2 earlierCopy white blank ≡ picture
+  -- the new copy is refused 11 by the earlier copies' call
+  pub new-by-earlier : backAnswer rowsThenColumns 3 1 2 2 newCopy white blank ≡ refused (11, [])
+  -- the new copies' call takes the earlier copy for another picture: 4 6 over 3 3
+  pub earlier-by-new : backPixels columnsThenRows 3 1 2 2 earlierCopy white blank ≡ 4 ∷ 6 ∷ 3 ∷ 3 ∷ []
+
+pub two-orders : TwoOrders
+unfolding forwardAnswer forwardPlane pixelsBack hasPicture backAllowed backAnswer backPixels sided holds pixelsRight sample every tabulate rowByRow rows columns within side rowsFirst columnsFirst levels levelsBack reversiblePass low high predict update forward unpredict unupdate lowBack highBack backPass back onHighs onLows lowAfter highBefore highAfter lowsFirst interleaved
+two-orders = record { copied = refl; copied-earlier = refl; restored = refl; restored-earlier = refl; new-by-earlier = refl; earlier-by-new = refl }

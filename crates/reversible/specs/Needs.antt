@@ -153,17 +153,18 @@ module _ {B : ℕ} {pixels : List ℕ} {plane : List ℤ} {tile w h : ℕ} (p : 
   }
 
 module _ {plane : List ℤ} {tile W w h : ℕ} where
-  pub forward-columns : LevelRoom (2 ^ 22) plane tile W w h → (c : ℕ) → c < w → SafeKernel forwardKernel h (columnOf W 0 (at plane) c)
-  forward-columns p = forward-columns-safe W w h (2 ^ 22) (p .wide) (p .tall) (omega (arith, p .part .narrow)) (at plane) (p .small) (omega arith)
+  -- what the passes over rows and over columns ask
+  pub forward-columns : LevelRoom (2 ^ 22) plane tile W w h → (Part plane W 0 w h × Liftable h × (h ≤ tile)) × ((c : ℕ) → c < w → SafeKernel forwardKernel h (columnOf W 0 (at plane) c))
+  forward-columns p = ((p .part, p .tall, p .column), forward-columns-safe W w h (2 ^ 22) (p .wide) (p .tall) (omega (arith, p .part .narrow)) (at plane) (p .small) (omega arith))
 
-  pub forward-rows : LevelRoom (2 ^ 22) plane tile W w h → (r : ℕ) → r < h → SafeKernel forwardKernel w (rowOf W 0 (at plane) r)
-  forward-rows p = forward-rows-safe W w h (2 ^ 22) (p .wide) (p .tall) (omega (arith, p .part .narrow)) (at plane) (p .small) (omega arith)
+  pub forward-rows : LevelRoom (2 ^ 22) plane tile W w h → (Part plane W 0 w h × Liftable w × (w ≤ tile)) × ((r : ℕ) → r < h → SafeKernel forwardKernel w (rowOf W 0 (at plane) r))
+  forward-rows p = ((p .part, p .wide, p .row), forward-rows-safe W w h (2 ^ 22) (p .wide) (p .tall) (omega (arith, p .part .narrow)) (at plane) (p .small) (omega arith))
 
-  pub back-columns : LevelRoom (2 ^ 24) plane tile W w h → (c : ℕ) → c < w → SafeKernel backKernel h (columnOf W 0 (at plane) c)
-  back-columns p = back-columns-safe W w h (2 ^ 24) (p .wide) (p .tall) (omega (arith, p .part .narrow)) (at plane) (p .small) (omega arith)
+  pub back-columns : LevelRoom (2 ^ 24) plane tile W w h → (Part plane W 0 w h × Liftable h × (h ≤ tile)) × ((c : ℕ) → c < w → SafeKernel backKernel h (columnOf W 0 (at plane) c))
+  back-columns p = ((p .part, p .tall, p .column), back-columns-safe W w h (2 ^ 24) (p .wide) (p .tall) (omega (arith, p .part .narrow)) (at plane) (p .small) (omega arith))
 
-  pub back-rows : LevelRoom (2 ^ 24) plane tile W w h → (r : ℕ) → r < h → SafeKernel backKernel w (rowOf W 0 (at plane) r)
-  back-rows p = back-rows-safe W w h (2 ^ 24) (p .wide) (p .tall) (omega (arith, p .part .narrow)) (at plane) (p .small) (omega arith)
+  pub back-rows : LevelRoom (2 ^ 24) plane tile W w h → (Part plane W 0 w h × Liftable w × (w ≤ tile)) × ((r : ℕ) → r < h → SafeKernel backKernel w (rowOf W 0 (at plane) r))
+  back-rows p = ((p .part, p .wide, p .row), back-rows-safe W w h (2 ^ 24) (p .wide) (p .tall) (omega (arith, p .part .narrow)) (at plane) (p .small) (omega arith))
 
   -- a level's first pass has room, and after it the second
   pub first-forward : LevelRoom (2 ^ 21) plane tile W w h → LevelRoom (2 ^ 22) plane tile W w h

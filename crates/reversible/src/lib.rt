@@ -12,14 +12,14 @@ ghost use Rattle.lines.specs.Lines.{lows, highs};
 ghost use Rattle.lifting.specs.Patch.{at, patch};
 ghost use Rattle.lifting.specs.Steps.{applied, Safe};
 ghost use Rattle.lifting.specs.Strips.{pixelLine};
-ghost use Rattle.lifting.specs.Kernels.{rowsWorked, columnsWorked};
+ghost use Rattle.lifting.specs.Kernels.{columnsWorked};
 ghost use Rattle.pictures.specs.Pictures.{sided, holds, sample, zeroed};
 ghost use Rattle.pictures.specs.Looks.{Tells, Between};
 ghost use Rattle.pictures.specs.MemoryLaws.{loaded};
 ghost use Rattle.reversible.specs.Reversible.{columnsThenRows, rowsThenColumns, forward};
 ghost use Rattle.reversible.specs.Calls.{limited, forwardAnswer, forwardPlane, forwardWork, backAnswer, backPixels, backWork};
 ghost use Rattle.reversible.specs.Orders.{orderOf};
-ghost use Rattle.reversible.specs.Sizes.{forwardKernel, backKernel};
+ghost use Rattle.reversible.specs.Sizes.{forwardKernel};
 ghost use Rattle.reversible.specs.LevelLaws.{levelForward, levelBack};
 ghost use Rattle.reversible.specs.Columns.{highAt, lowAt, PixelRoom, HighsTo};
 ghost use Rattle.reversible.specs.LoopLaws.{ForwardDone};
@@ -40,6 +40,17 @@ const TILE: usize = 16 * pictures::MAX_SIDE;
 const MAX_VALUE: i32 = 1 << 22;
 
 const MIN_VALUE: i32 = -MAX_VALUE;
+
+// A pass of the 5/3, and what undoes it.
+const PASS: Kernel = Kernel::One(Pair {
+    highs: Step::Predict,
+    lows: Step::Update,
+});
+
+const UNPASS: Kernel = Kernel::Undo(Pair {
+    highs: Step::Unpredict,
+    lows: Step::Unupdate,
+});
 
 // What the levels of a copy worked first; `orderOf` of specs/Orders says the order.
 enum First {
@@ -65,50 +76,13 @@ fn allowed(
     pictures::room_right(levels, w, h, first, second, third)
 }
 
-// The columns of a part of w columns and h rows, forward.
-fn columns_forward(plane: &mut [i32], tile: &mut [i32], stride: usize, w: usize, h: usize)
-    requires { ⌜ LevelRoom (2 ^ 22) (now plane) (length (now tile)) stride w h ⌝ }
-    ensures { λ _. ⌜ at (now (plane .exit)) ≡ columnsWorked forwardKernel stride 0 w h (at (now (plane .entry))) ⌝ }
-{
-    lifting::columns(
-        plane,
-        tile,
-        stride,
-        0,
-        w,
-        h,
-        Kernel::One(Pair {
-            highs: Step::Predict,
-            lows: Step::Update,
-        }),
-    );
-}
-
-// Its rows, forward.
-fn rows_forward(plane: &mut [i32], tile: &mut [i32], stride: usize, w: usize, h: usize)
-    requires { ⌜ LevelRoom (2 ^ 22) (now plane) (length (now tile)) stride w h ⌝ }
-    ensures { λ _. ⌜ at (now (plane .exit)) ≡ rowsWorked forwardKernel stride w h (at (now (plane .entry))) ⌝ }
-{
-    lifting::rows(
-        plane,
-        tile,
-        stride,
-        w,
-        h,
-        Kernel::One(Pair {
-            highs: Step::Predict,
-            lows: Step::Update,
-        }),
-    );
-}
-
-// One level forward: the columns, then the rows.
+// One level forward, of a part of w columns and h rows: the columns, then the rows.
 fn level_forward(plane: &mut [i32], tile: &mut [i32], stride: usize, w: usize, h: usize)
     requires { ⌜ LevelRoom (2 ^ 21) (now plane) (length (now tile)) stride w h ⌝ }
     ensures { λ _. ⌜ at (now (plane .exit)) ≡ levelForward stride w h (at (now (plane .entry))) ⌝ }
 {
-    columns_forward(plane, tile, stride, w, h);
-    rows_forward(plane, tile, stride, w, h);
+    lifting::columns(plane, tile, stride, 0, w, h, PASS);
+    lifting::rows(plane, tile, stride, w, h, PASS);
 }
 
 // A line of n highs: the pixels from place `own` on, with the lines of lows beside them from `before` and `after` on. Source document
@@ -265,7 +239,7 @@ fn first_level(pixels: &[u16], depth: u8, plane: &mut [i32], tile: &mut [i32], w
 {
     let middle = pictures::middle(depth);
     pixel_columns(pixels, middle, plane, w, h);
-    rows_forward(plane, tile, w, w, h);
+    lifting::rows(plane, tile, w, w, h, PASS);
 }
 
 // All levels forward, of a picture.
@@ -336,56 +310,19 @@ pub fn forward(
     }
 }
 
-// The columns of a part of w columns and h rows, taken back.
-fn columns_back(values: &mut [i32], tile: &mut [i32], stride: usize, w: usize, h: usize)
-    requires { ⌜ LevelRoom (2 ^ 24) (now values) (length (now tile)) stride w h ⌝ }
-    ensures { λ _. ⌜ at (now (values .exit)) ≡ columnsWorked backKernel stride 0 w h (at (now (values .entry))) ⌝ }
-{
-    lifting::columns(
-        values,
-        tile,
-        stride,
-        0,
-        w,
-        h,
-        Kernel::Undo(Pair {
-            highs: Step::Unpredict,
-            lows: Step::Unupdate,
-        }),
-    );
-}
-
-// Its rows, taken back.
-fn rows_back(values: &mut [i32], tile: &mut [i32], stride: usize, w: usize, h: usize)
-    requires { ⌜ LevelRoom (2 ^ 24) (now values) (length (now tile)) stride w h ⌝ }
-    ensures { λ _. ⌜ at (now (values .exit)) ≡ rowsWorked backKernel stride w h (at (now (values .entry))) ⌝ }
-{
-    lifting::rows(
-        values,
-        tile,
-        stride,
-        w,
-        h,
-        Kernel::Undo(Pair {
-            highs: Step::Unpredict,
-            lows: Step::Unupdate,
-        }),
-    );
-}
-
-// One level back, of a copy whose levels were worked in an order: the other order.
+// One level back, of a part of w columns and h rows: what was worked first is undone last.
 fn level_back(values: &mut [i32], tile: &mut [i32], stride: usize, w: usize, h: usize, first: First)
     requires { ⌜ LevelRoom (2 ^ 22) (now values) (length (now tile)) stride w h ⌝ }
     ensures { λ _. ⌜ at (now (values .exit)) ≡ levelBack (orderOf first) stride w h (at (now (values .entry))) ⌝ }
 {
     match first {
         First::Columns => {
-            rows_back(values, tile, stride, w, h);
-            columns_back(values, tile, stride, w, h);
+            lifting::rows(values, tile, stride, w, h, UNPASS);
+            lifting::columns(values, tile, stride, 0, w, h, UNPASS);
         }
         First::Rows => {
-            columns_back(values, tile, stride, w, h);
-            rows_back(values, tile, stride, w, h);
+            lifting::columns(values, tile, stride, 0, w, h, UNPASS);
+            lifting::rows(values, tile, stride, w, h, UNPASS);
         }
     }
 }

@@ -9,15 +9,15 @@ use Rattle.lifting.specs.Kernels.{rowsWorked}
 use Rattle.pictures.specs.MemoryLaws.{loaded}
 use Rattle.reversible.specs.Sizes.{forwardKernel}
 use Rattle.reversible.specs.LevelLaws.{levelForward}
-use Rattle.reversible.specs.Needs.{first-columns, first-rows}
+use Rattle.reversible.specs.Needs.{first-columns, first-rows, forward-rows}
 use Rattle.reversible.proofs.first_level.Statement.{statement}
 use Rattle.reversible.proofs.first_level.Tie as tie
 
-rows-forward-requires : tie.Need-rows-forward-requires
-rows-forward-requires c κs =
+rows-requires : tie.Need-rows-requires
+rows-requires c κs =
     let f = c .before .before .before in
     let m = f .before .before in
-    first-rows (m .before .before .pre) _ (m .middle .ensures) _ _ (omega arith) (omega arith) (f .pixel-columns .ensures)
+    forward-rows (first-rows (m .before .before .pre) _ (m .middle .ensures) _ _ (omega arith) (omega arith) (f .pixel-columns .ensures))
 
 returns : tie.Need-returns
 returns c =
@@ -25,9 +25,9 @@ returns c =
     let f = r .before .before .before .before in
     let m = f .before .before in
     let g = m .before .before .args in
-    r .rows-forward .ensures ∙ ap (rowsWorked forwardKernel (g .w) (g .w) (g .h)) (f .pixel-columns .ensures)
+    r .rows .ensures .0 ∙ ap (rowsWorked forwardKernel (g .w) (g .w) (g .h)) (f .pixel-columns .ensures)
     ∙ ap (λ (n : ℕ). levelForward (g .w) (g .w) (g .h) (loaded (g .pixels .now) n (g .w) (g .h) (at (g .plane .now)))) (m .middle .ensures)
 
 pub first-level-spec : {M : Type 1} → statement M
 first-level-spec =
-    tie.close (tie.spec (λ c κs. c .before .pre .depth) (λ c κs. first-columns (c .before .before .before .pre) _ (c .before .middle .ensures)) rows-forward-requires (λ c. search needs) (λ c. search needs) returns)
+    tie.close (tie.spec (λ c κs. c .before .pre .depth) (λ c κs. first-columns (c .before .before .before .pre) _ (c .before .middle .ensures)) rows-requires (λ c. search needs) (λ c. search needs) returns)

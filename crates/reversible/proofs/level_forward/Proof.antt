@@ -5,17 +5,15 @@ use native.Mathlib.Omega.{arith}
 use borrow.Author.Needs.{needs}
 use Rattle.lifting.specs.Kernels.{rowsWorked}
 use Rattle.reversible.specs.Sizes.{forwardKernel}
-use Rattle.reversible.specs.Needs.{first-forward, then-forward-rows}
+use Rattle.reversible.specs.Needs.{forward-columns, forward-rows, first-forward, then-forward-rows}
 use Rattle.reversible.proofs.level_forward.Statement.{statement}
 use Rattle.reversible.proofs.level_forward.Tie as tie
 
-rows-forward-requires : tie.Need-rows-forward-requires
-rows-forward-requires c κs =
-    let s = c .before .before .before .before .before .before .before in
-    then-forward-rows (s .pre) _ _ (omega arith) (omega arith) (c .before .before .before .before .columns-forward .ensures)
+rows-requires : tie.Need-rows-requires
+rows-requires c κs = forward-rows (then-forward-rows (c .before .before .before .before .before .before .before .pre) _ _ (omega arith) (omega arith) (c .before .before .before .before .columns .ensures .0))
 
 returns : tie.Need-returns
-returns c = c .before .before .rows-forward .ensures ∙ ap (rowsWorked forwardKernel _ _ _) (c .before .before .before .before .before .before .before .columns-forward .ensures)
+returns c = c .before .before .rows .ensures .0 ∙ ap (rowsWorked forwardKernel _ _ _) (c .before .before .before .before .before .before .before .columns .ensures .0)
 
 pub level-forward-spec : {M : Type 1} → statement M
-level-forward-spec = tie.close (tie.spec (λ c κs. first-forward (c .before .before .pre)) rows-forward-requires (λ c. search needs) (λ c. search needs) returns)
+level-forward-spec = tie.close (tie.spec (λ c κs. forward-columns (first-forward (c .before .before .pre))) rows-requires (λ c. search needs) (λ c. search needs) returns)

@@ -1,20 +1,20 @@
 -- The columns of a picture worked line by line into a plane: line i of the highs, then line i of the lows.
 use Prim.Native.Nat.{ℕ, suc, _+_, _*_, _-_, _<_, _≤_}
 use mathlib.Core.List.{List}
-use mathlib.Core.Path.{_≡_, refl, sym, _∙_, ap, subst}
+use mathlib.Core.Path.{_≡_, refl, sym, _∙_, ap}
 use native.Mathlib.Omega.{arith}
 use native.Mathlib.Decide.{ℕ-discrete}
 use native.Mathlib.Nat.{mul-le-mul-right, mul-comm}
 use lib.IntN.{ℤ}
 use lib.ListN.{length}
-use Rattle.lines.specs.Lines.{lows, highs, Liftable, lowAfter, highBefore, highAfter, onHighs, onLows, lowsFirst}
+use Rattle.lines.specs.Lines.{lows, highs, Liftable, lowAfter, highBefore, highAfter, onHighs, onLows}
 use Rattle.lines.specs.LineLaws.{some-highs, first-low, first-high, by-half}
 use Rattle.lines.specs.Neighbours.{low-after-next, low-after-last, high-before-first, high-before-next, high-after-next, high-after-last}
 use Rattle.lifting.specs.declared.Step.the-variants.{Predict, Update}
-use Rattle.lifting.specs.Steps.{applied, Safe}
+use Rattle.lifting.specs.Steps.{applied}
 use Rattle.lifting.specs.Passes.{evens, odds}
 use Rattle.lifting.specs.Kernels.{worked, SafeKernel, columnsWorked}
-use Rattle.lifting.specs.Patch.{at, patch, patch-in, patch-below, patch-above}
+use Rattle.lifting.specs.Patch.{patch, patch-in, patch-below, patch-above}
 use Rattle.lifting.specs.Strips.{pixelLine}
 use Rattle.pictures.specs.MemoryLaws.{loaded, pixel-columns-worked}
 use Rattle.reversible.specs.Sizes.{forwardKernel}

@@ -8,9 +8,8 @@ use lib.Dec.{T, ltb}
 use lib.IntN.{ℤ, pos, natAbs, _-ℤ_}
 use lib.ListN.{length, getD, take}
 use Rattle.numbers.specs.Tests.{every}
-use Rattle.lifting.specs.Kernels.{Part, worked, SafeKernel, rowOf, columnOf, rowsWorked, columnsWorked}
+use Rattle.lifting.specs.Kernels.{Part, SafeKernel, rowOf, columnOf, rowsWorked, columnsWorked}
 use Rattle.lifting.specs.Patch.{at, patch-in}
-use Rattle.lifting.specs.PatchLines.{lineAt}
 use Rattle.pictures.specs.Pictures.{maxSide, Admitted}
 use Rattle.pictures.specs.PictureLaws.{Room}
 use Rattle.pictures.specs.MemoryLaws.{loaded}

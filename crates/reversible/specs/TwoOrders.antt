@@ -6,7 +6,7 @@ use lib.IntN.{ℤ, pos, negsuc}
 use Rattle.numbers.specs.Tests.{every}
 use Rattle.lines.specs.Lines.{lowAfter, highBefore, highAfter, onHighs, onLows, lowsFirst, interleaved}
 use Rattle.lines.specs.Planes.{tabulate, rowByRow, rows, columns, within, side, rowsFirst, columnsFirst, levels, levelsBack}
-use Rattle.refusals.specs.Answers.{refused, passed}
+use Rattle.refusals.specs.Answers.{refused}
 use Rattle.pictures.specs.Pictures.{sided, holds, pixelsRight, sample}
 use Rattle.reversible.specs.Reversible.{columnsThenRows, rowsThenColumns, predict, update, high, low, reversiblePass, forward, unpredict, unupdate, lowBack, highBack, backPass, back}
 use Rattle.reversible.specs.Calls.{forwardAnswer, forwardPlane, pixelsBack, hasPicture, backAllowed, backAnswer, backPixels}

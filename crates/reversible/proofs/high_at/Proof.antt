@@ -1,10 +1,10 @@
 -- `reversible::high_at` meets its contract: in the middle both lines beside it, at the end of an even height the one.
 -- Assumes nothing.
-use mathlib.Core.Path.{_≡_, sym, _∙_}
-use Prim.Native.Nat.{ℕ, _+_, _*_, _-_, _<_, _≤_}
+use mathlib.Core.Path.{sym, _∙_}
+use Prim.Native.Nat.{_+_, _*_, _-_, _<_, _≤_}
 use native.Mathlib.Omega.{arith}
 use lib.ListN.{length}
-use Rattle.lines.specs.Lines.{lows, onHighs}
+use Rattle.lines.specs.Lines.{lows}
 use Rattle.lifting.specs.declared.Step.the-variants.{Predict}
 use Rattle.lifting.specs.Steps.{applied, Safe}
 use Rattle.lifting.specs.Runs.{as-type}

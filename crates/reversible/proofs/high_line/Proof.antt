@@ -1,10 +1,10 @@
 -- `reversible::high_line` meets its contract. The loop's invariant: the first j places of the line are there.
 -- Assumes nothing.
 use mathlib.Core.Path.{_≡_, refl, sym, _∙_}
-use Prim.Native.Nat.{_+_, _-_, _≤_}
+use Prim.Native.Nat.{_-_, _≤_}
 use native.Mathlib.Omega.{arith}
 use borrow.Author.Needs.{needs, sfits-of}
-use lib.IntN.{ℤ, pos}
+use lib.IntN.{pos}
 use lib.ListN.{length, length-set}
 use mir.Syntax.{w32}
 use mir.Facts.{toZ-ofZ}

@@ -33,11 +33,12 @@ module _ (n : ℕ) (x : ℕ → ℤ) where
 pub data Order : Type 0 where
   columnsThenRows rowsThenColumns : Order
 
--- a level
+-- a level worked in that order
 abbrev pub forwardLevel : Order → OnPart ℤ
 forwardLevel columnsThenRows = columnsFirst reversiblePass (λ low. reversiblePass)
 forwardLevel rowsThenColumns = rowsFirst reversiblePass (λ low. reversiblePass)
 
+-- level 1 comes first; each works what those before it left as low-low
 unfoldable pub forward : Order → ℕ → OnPart ℤ
 forward order = levels (λ l. forwardLevel order)
 

@@ -42,12 +42,12 @@ const MAX_VALUE: i32 = 1 << 22;
 const MIN_VALUE: i32 = -MAX_VALUE;
 
 // A pass of the 5/3, and what undoes it.
-const PASS: Kernel = Kernel::One(Pair {
+const FORWARD_PASS: Kernel = Kernel::One(Pair {
     highs: Step::Predict,
     lows: Step::Update,
 });
 
-const UNPASS: Kernel = Kernel::Undo(Pair {
+const BACK_PASS: Kernel = Kernel::Undo(Pair {
     highs: Step::Unpredict,
     lows: Step::Unupdate,
 });
@@ -81,8 +81,8 @@ fn level_forward(plane: &mut [i32], tile: &mut [i32], stride: usize, w: usize, h
     requires { ⌜ LevelRoom (2 ^ 21) (now plane) (length (now tile)) stride w h ⌝ }
     ensures { λ _. ⌜ at (now (plane .exit)) ≡ levelForward stride w h (at (now (plane .entry))) ⌝ }
 {
-    lifting::columns(plane, tile, stride, 0, w, h, PASS);
-    lifting::rows(plane, tile, stride, w, h, PASS);
+    lifting::columns(plane, tile, stride, 0, w, h, FORWARD_PASS);
+    lifting::rows(plane, tile, stride, w, h, FORWARD_PASS);
 }
 
 // A line of n highs: the pixels from place `own` on, with the lines of lows beside them from `before` and `after` on. Source document
@@ -239,7 +239,7 @@ fn first_level(pixels: &[u16], depth: u8, plane: &mut [i32], tile: &mut [i32], w
 {
     let middle = pictures::middle(depth);
     pixel_columns(pixels, middle, plane, w, h);
-    lifting::rows(plane, tile, w, w, h, PASS);
+    lifting::rows(plane, tile, w, w, h, FORWARD_PASS);
 }
 
 // All levels forward, of a picture.
@@ -317,12 +317,12 @@ fn level_back(values: &mut [i32], tile: &mut [i32], stride: usize, w: usize, h: 
 {
     match first {
         First::Columns => {
-            lifting::rows(values, tile, stride, w, h, UNPASS);
-            lifting::columns(values, tile, stride, 0, w, h, UNPASS);
+            lifting::rows(values, tile, stride, w, h, BACK_PASS);
+            lifting::columns(values, tile, stride, 0, w, h, BACK_PASS);
         }
         First::Rows => {
-            lifting::columns(values, tile, stride, 0, w, h, UNPASS);
-            lifting::rows(values, tile, stride, w, h, UNPASS);
+            lifting::columns(values, tile, stride, 0, w, h, BACK_PASS);
+            lifting::rows(values, tile, stride, w, h, BACK_PASS);
         }
     }
 }

@@ -332,8 +332,8 @@ uint32_t suz_forward53(uint8_t depth, uint8_t levels,
  * 5/3 back: the picture of an exact copy that was worked columns first, as
  * suz_forward53 works it. Each level, the last one first, undoes the rows, then
  * the columns. For copies made earlier, rows first, take
- * suz_inverse53_rows_first; this call refuses them 11, or answers 0 and gives
- * another picture (see EXACT COPIES).
+ * suz_inverse53_rows_first; this call refuses them 11, or answers 0 and gives,
+ * as a rule, another picture (see EXACT COPIES).
  * Reads plane, writes pixels and work (see LENT MEMORY).
  * Refused 4 (depth or levels), 8, 9, 11.
  */
@@ -347,8 +347,8 @@ uint32_t suz_inverse53(uint8_t depth, uint8_t levels,
  * 5/3 back for copies made earlier: the picture of an exact copy that was
  * worked rows first, as earlier libraries worked it. Each level, the last one
  * first, undoes the columns, then the rows. For copies that suz_forward53 makes
- * now take suz_inverse53; this call refuses them 11, or answers 0 and gives
- * another picture (see EXACT COPIES).
+ * now take suz_inverse53; this call refuses them 11, or answers 0 and gives, as
+ * a rule, another picture (see EXACT COPIES).
  * Reads plane, writes pixels and work (see LENT MEMORY).
  * Refused as suz_inverse53: 4 (depth or levels), 8, 9, 11.
  */

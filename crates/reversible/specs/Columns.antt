@@ -19,17 +19,17 @@ use Rattle.lifting.specs.Strips.{pixelLine}
 use Rattle.pictures.specs.MemoryLaws.{loaded, pixel-columns-worked}
 use Rattle.reversible.specs.Sizes.{forwardKernel}
 
-module _ (pixels : List ℕ) (middle w h : ℕ) where
-  -- column c of the samples
-  abbrev pub sampleColumn : ℕ → ℕ → ℤ
-  sampleColumn c r = pixelLine pixels middle (r * w) c
+-- column c of the samples of a picture of w columns
+abbrev pub sampleColumn : List ℕ → ℕ → ℕ → ℕ → ℕ → ℤ
+sampleColumn pixels middle w c r = pixelLine pixels middle (r * w) c
 
-  -- high i and low i of column c
-  abbrev pub highAt : ℕ → ℕ → ℤ
-  highAt c = onHighs (applied Predict) h (evens (sampleColumn c)) (odds (sampleColumn c))
+module _ (pixels : List ℕ) (middle w h c : ℕ) where
+  -- high i and low i of column c of h samples
+  abbrev pub highAt : ℕ → ℤ
+  highAt = onHighs (applied Predict) h (evens (sampleColumn pixels middle w c)) (odds (sampleColumn pixels middle w c))
 
-  abbrev pub lowAt : ℕ → ℕ → ℤ
-  lowAt c = onLows (applied Update) h (evens (sampleColumn c)) (highAt c)
+  abbrev pub lowAt : ℕ → ℤ
+  lowAt = onLows (applied Update) h (evens (sampleColumn pixels middle w c)) highAt
 
 -- a picture whose columns can be worked, and a plane for them
 pub record PixelRoom (pixels : List ℕ) (middle plane w h : ℕ) : Type 0 where
@@ -37,7 +37,7 @@ pub record PixelRoom (pixels : List ℕ) (middle plane w h : ℕ) : Type 0 where
   pub tall : Liftable h
   pub held : w * h ≤ length pixels
   pub room : w * h ≤ plane
-  pub safe : (c : ℕ) → c < w → SafeKernel forwardKernel h (sampleColumn pixels middle w h c)
+  pub safe : (c : ℕ) → c < w → SafeKernel forwardKernel h (sampleColumn pixels middle w c)
 
 -- the first n lines of highs, where there are so many, stand in the plane
 pub record HighsTo (n : ℕ) (pixels : List ℕ) (middle w h : ℕ) (y : ℕ → ℤ) : Type 0 where
@@ -58,7 +58,7 @@ module _ {ℓ} {B : Type ℓ} (f : ℤ → ℤ → ℤ → B) (pixels : List ℕ
   px from = pixelLine pixels middle from c
 
   abbrev column : ℕ → ℤ
-  column = sampleColumn pixels middle w h c
+  column = sampleColumn pixels middle w c
 
   module _ (i : ℕ) where
     abbrev own : ℕ
@@ -160,7 +160,7 @@ module _ (pixels : List ℕ) (middle w h : ℕ) where
     pub columns-done : {plane : ℕ} → PixelRoom pixels middle plane w h → n ≡ highs h → m ≡ lows h → y ≡ columnsWorked forwardKernel w 0 w h (loaded pixels middle w h x)
     unfolding worked
     columns-done p en em = pixel-columns-worked forwardKernel pixels middle w h x (p .wide) (p .tall) y
-        (λ r c i j. by-half (λ r. y (r * w + c) ≡ worked forwardKernel h (sampleColumn pixels middle w h c) r) h
+        (λ r c i j. by-half (λ r. y (r * w + c) ≡ worked forwardKernel h (sampleColumn pixels middle w c) r) h
         (λ k a. done .lows-stand k c (omega arith) j ∙ sym (first-low h (lowAt pixels middle w h c) (highAt pixels middle w h c) k a))
         (λ k a. done .highs-stand .stand k c (omega arith) a j ∙ sym (first-high h (lowAt pixels middle w h c) (highAt pixels middle w h c) k)) r i)
         (done .beyond)

@@ -136,7 +136,7 @@ module _ {B : ℕ} {pixels : List ℕ} {plane : List ℤ} {tile w h : ℕ} (p : 
     tall = p .tall;
     held = p .held;
     room = omega (arith, p .part .fits (h - 1) (omega (arith, p .tall)), ap (λ (t : ℕ). t * w) (let e : h ≡ suc (h - 1) = omega (arith, p .tall) in e), mul-comm w h);
-    safe = λ c j. forward-safe h (2 ^ 11) (sampleColumn pixels (2 ^ (B - 1)) w h c) (p .tall) (λ r i. p .small (r * w + c) (place-in w h some-columns r c i j)) (omega arith);
+    safe = λ c j. forward-safe h (2 ^ 11) (sampleColumn pixels (2 ^ (B - 1)) w c) (p .tall) (λ r i. p .small (r * w + c) (place-in w h some-columns r c i j)) (omega arith);
   })
 
   -- the rows then have what they ask

@@ -26,6 +26,7 @@ pub enum Refusal {
     NoPicture,
     OutsideWidth,
     NotViewable,
+    OutOfTurn,
 }
 
 // The answer of a call that hands nothing else back.
@@ -59,6 +60,7 @@ pub fn refusal_code(refusal: Refusal) -> u32
         Refusal::NoPicture => 11,
         Refusal::OutsideWidth => 12,
         Refusal::NotViewable => 13,
+        Refusal::OutOfTurn => 14,
     }
 }
 
@@ -80,6 +82,7 @@ pub fn number(refusal: Refusal) -> u8
         Refusal::NoPicture => 11,
         Refusal::OutsideWidth => 12,
         Refusal::NotViewable => 13,
+        Refusal::OutOfTurn => 14,
     }
 }
 

@@ -1,0 +1,141 @@
+-- The calls of a rolling scan (document 02, job 5): the answer, the scan and each lent slice afterwards.
+use Prim.Native.Nat.{ℕ, _+_, _*_, _<_}
+use mathlib.Core.Bool.{Bool, true, false, not, _&&_, _||_, cond}
+use mathlib.Core.List.{List}
+use mathlib.Core.Path.{_≡_}
+use lib.Dec.{T, leb, eqb}
+use lib.ListN.{length, drop}
+use lib.IntN.{ℤ}
+use Rattle.numbers.specs.Lists.{over}
+use Rattle.refusals.specs.Answers.{Reason, Answer, done, refused, passed, asks, _then_, answered}
+use Rattle.lines.specs.Planes.{rowByRow}
+use Rattle.width_table.specs.Nodes.{P1, U1, P2, Rows}
+use Rattle.width_table.specs.declared.WidthTable.{WidthTable}
+use Rattle.width_table.specs.Table.{fractionBits, inputBits}
+use Rattle.pictures.specs.Pictures.{sideRight, holds, pixelsRight, sample, planeOf}
+use Rattle.precision.specs.Verdict.{verdict}
+use Rattle.irreversible.specs.Claims.{Holds}
+use Rattle.irreversible.specs.Transforms.{fixedLine}
+use Rattle.rolling.specs.declared.Taken.{Taken}
+use Rattle.rolling.specs.declared.Taken.the-variants.{Zero}
+use Rattle.rolling.specs.declared.Scan.{Scan}
+use Rattle.rolling.specs.Schedule.{Line, Held, next, anyTaken, twoTaken, evenTaken, passOf, stacked, heldAfter, lineGives, endGives}
+
+-- ---- begin
+
+-- 14 for a table that is not of one level, then 4, then 6 and 7
+unfoldable pub beginAnswer : WidthTable → Answer Unit
+beginAnswer t = asks (eqb (t .levels) 1) 14 (verdict t)
+
+-- the scan that begins; one that is refused counts as ended
+unfoldable pub scanOf : WidthTable → Scan
+scanOf t = record { table = t; width = 0; taken = Zero; ended = answered (beginAnswer t) false true }
+
+-- A scan that goes on: it began and has not ended. (Whatever else is handed over counts as ended: a table with which no scan begins,
+-- lines taken of a width that is not admitted.)
+unfoldable pub goesOn : Scan → Bool
+goesOn s = answered (beginAnswer (s .table)) true false && not (s .ended) && (not (anyTaken (s .taken)) || sideRight 1 (s .width))
+
+-- ---- lent memory
+
+-- lines lent to hold, and lines lent for output
+abbrev pub heldLines : ℕ
+heldLines = 7
+
+abbrev pub outLines : ℕ
+outLines = 4
+
+-- What the seven lines hold is the library's own: the first five are what is held; the other two are free.
+unfoldable pub heldIn : ℕ → List ℤ → Held
+heldIn w held = record { low = planeOf w held 0; high = planeOf w held 1; p1 = planeOf w held 2; u1 = planeOf w held 3; p2 = planeOf w held 4 }
+
+-- Five integer bits hold each value on the way of a one-level transform under every accepted table (`small` of Small). Held memory
+-- is sound where each value in its lines is one of five integer bits; what a scan left is (`sound-left` of Theorems).
+unfoldable pub FiveBits : ℕ → ℤ → Type 0
+FiveBits f v = Holds 5 f v
+
+pub record Sound (t : WidthTable) (w : ℕ) (h : Held) : Type 0 where
+  pub low : (c : ℕ) → c < w → FiveBits (inputBits t 1 (passOf w c)) (h .low c)
+  pub high : (c : ℕ) → c < w → FiveBits (inputBits t 1 (passOf w c)) (h .high c)
+  pub p1 : (c : ℕ) → c < w → FiveBits (fractionBits t 1 (passOf w c) P1) (h .p1 c)
+  pub u1 : (c : ℕ) → c < w → FiveBits (fractionBits t 1 (passOf w c) U1) (h .u1 c)
+  pub p2 : (c : ℕ) → c < w → FiveBits (fractionBits t 1 (passOf w c) P2) (h .p2 c)
+
+-- equal in w columns
+abbrev pub SameLine : ℕ → Line → Line → Type 0
+SameLine w a b = (c : ℕ) → c < w → a c ≡ b c
+
+-- equal in each line that is held
+pub record SameHeld (w : ℕ) (a b : Held) : Type 0 where
+  pub low : SameLine w (a .low) (b .low)
+  pub high : SameLine w (a .high) (b .high)
+  pub p1 : SameLine w (a .p1) (b .p1)
+  pub u1 : SameLine w (a .u1) (b .u1)
+  pub p2 : SameLine w (a .p2) (b .p2)
+
+-- nothing from place n on changes
+pub record KeptFrom (n : ℕ) (old new : List ℤ) : Type 0 where
+  pub length-kept : length new ≡ length old
+  pub past-kept : drop n new ≡ drop n old
+
+-- lines given stand first in the output, and the rest of it stays
+abbrev pub outAfter : ℕ → List Line → List ℤ → List ℤ
+outAfter w lines out = over (rowByRow w (length lines) (stacked lines)) out
+
+-- ---- a line
+
+module _ (s : Scan) (pixels : List ℕ) (w : ℕ) (held out : List ℤ) where
+  -- 14 after the end, or for another width than the first accepted line's; 8; 9; 10
+  unfoldable pub lineAnswer : Answer Unit
+  lineAnswer =
+      asks (goesOn s && (not (anyTaken (s .taken)) || eqb w (s .width))) 14
+      (asks (sideRight 1 w) 8
+      (holds w (length pixels) then holds (heldLines * w) (length held) then holds (outLines * w) (length out) then
+      pixelsRight (s .table .depth) w 1 pixels))
+
+  -- the line worked along its row
+  unfoldable pub workedRow : Line
+  workedRow = fixedLine (s .table) 1 Rows w (sample pixels (s .table .depth) w 0)
+
+  -- the lines that it gives
+  unfoldable pub givenByLine : List Line
+  givenByLine = lineGives (s .table) w (s .taken) (heldIn w held) workedRow
+
+  -- the scan after it
+  unfoldable pub scanAfter : Scan
+  scanAfter = record { table = s .table; width = w; taken = next (s .taken); ended = s .ended }
+
+  -- What a line leaves. The answer counts the lines given. The lines given and held are promised where what the line reads is sound: a low
+  -- line reads what is held.
+  pub record LineCall (answer : Answer ℕ) (s′ : Scan) (held′ out′ : List ℤ) : Type 0 where
+    pub answer-is : answer ≡ lineAnswer then done (length givenByLine)
+    pub scan-is : s′ ≡ answered lineAnswer scanAfter s
+    pub refused-kept : (r : Reason) → lineAnswer ≡ refused r → (held′ ≡ held) × (out′ ≡ out)
+    pub past-kept : lineAnswer ≡ passed → KeptFrom (heldLines * w) held held′ × KeptFrom (length givenByLine * w) out out′
+    pub works : lineAnswer ≡ passed → (T (evenTaken (s .taken)) → Sound (s .table) w (heldIn w held))
+        → SameHeld w (heldIn w held′) (heldAfter (s .table) w (s .taken) (heldIn w held) workedRow) × (out′ ≡ outAfter w givenByLine out)
+
+-- ---- the end
+
+module _ (s : Scan) (held out : List ℤ) where
+  -- 14 after the end, or after fewer than two lines; 9
+  unfoldable pub endAnswer : Answer Unit
+  endAnswer =
+      asks (goesOn s && twoTaken (s .taken)) 14
+      (holds (heldLines * s .width) (length held) then holds (outLines * s .width) (length out))
+
+  -- the lines that it gives
+  unfoldable pub givenByEnd : List Line
+  givenByEnd = endGives (s .table) (s .width) (s .taken) (heldIn (s .width) held)
+
+  -- the scan after it
+  unfoldable pub scanEnded : Scan
+  scanEnded = record { table = s .table; width = s .width; taken = s .taken; ended = true }
+
+  -- What an end leaves. The seven held lines are free then.
+  pub record EndCall (answer : Answer ℕ) (s′ : Scan) (held′ out′ : List ℤ) : Type 0 where
+    pub answer-is : answer ≡ endAnswer then done (length givenByEnd)
+    pub scan-is : s′ ≡ answered endAnswer scanEnded s
+    pub refused-kept : (r : Reason) → endAnswer ≡ refused r → (held′ ≡ held) × (out′ ≡ out)
+    pub past-kept : endAnswer ≡ passed → KeptFrom (heldLines * s .width) held held′ × KeptFrom (length givenByEnd * s .width) out out′
+    pub works : endAnswer ≡ passed → Sound (s .table) (s .width) (heldIn (s .width) held) → out′ ≡ outAfter (s .width) givenByEnd out

@@ -1,0 +1,7 @@
+-- The rolling scan (document 02, job 5): a one-level 9/7 transform whose lines come one by one.
+--   Schedule   the columns of one level worked line by line, as the lines come (source document 003)
+--   Calls      the calls: the answer, the scan and each lent slice afterwards
+--   Told       what the code's answers say
+pub mod Schedule
+pub mod Calls
+pub mod Told

@@ -25,6 +25,12 @@ pub record Picture (t : WidthTable) (pixels : List ℕ) (w h : ℕ) : Type 0 whe
   pub height : Admitted (t .levels) h
   pub depth : (k : ℕ) → k < w * h → getD pixels k 0 < 2 ^ t .depth
 
+-- A strip of the table's depth: its sides are greater than 2^(L-1), and nothing limits them above.
+pub record Strip (t : WidthTable) (pixels : List ℕ) (w h : ℕ) : Type 0 where
+  pub width : 2 ^ (t .levels - 1) < w
+  pub height : 2 ^ (t .levels - 1) < h
+  pub depth : (k : ℕ) → k < w * h → getD pixels k 0 < 2 ^ t .depth
+
 -- ---- first half: less than two steps
 
 -- The kept node that gave the coefficient at row r, column c of a plane of L levels: at the last level whose part holds the

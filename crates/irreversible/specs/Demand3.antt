@@ -1,5 +1,5 @@
 -- Demand 3: under every accepted table each coefficient lies less than two of its own steps from the exact one (`two-steps`), and no
--- value on the way leaves its width (`widths`).
+-- value on the way leaves its width (`widths`). The same holds of strips of any size (`two-steps-strip`, `widths-strip`).
 use Prim.Native.Nat.{ℕ, zero, suc, _+_, _*_, _-_, _^_, _<_, _≤_}
 use mathlib.Core.Path.{_≡_, _∙_, ap, subst}
 use mathlib.Core.Bool.{Bool}
@@ -27,7 +27,7 @@ use Rattle.precision.specs.Verdict.{Accepted, AcceptPromise}
 use Rattle.exact.specs.Picture.{exactSample, exactPlane}
 use Rattle.pictures.specs.Pictures.{sample}
 use Rattle.irreversible.specs.Transforms.{fixedLine, fixedAfter, fixedPlane}
-use Rattle.irreversible.specs.Claims.{Picture, keptNode, bitsPlane, Near, TwoSteps, Holds, LevelInWidth, Widths}
+use Rattle.irreversible.specs.Claims.{Picture, Strip, keptNode, bitsPlane, Near, TwoSteps, Holds, LevelInWidth, Widths}
 use Rattle.precision.specs.Promise.{promise}
 use Rattle.exact.specs.FracLaws.{⊕-neg, ≈-sym, within-≈, within-zero}
 use Rattle.stages.specs.Sound.{Q, Good}
@@ -61,7 +61,7 @@ size-law a H P e h = omega arith
 pixel-law : (p H : ℕ) → p < 2 * H → natAbs (pos p -ℤ pos H) ≤ H
 pixel-law p H h = simp difs (omega arith)
 
-module _ (t : WidthTable) (ok : AcceptPromise t) (pixels : List ℕ) (w h : ℕ) (picture : Picture t pixels w h) where
+module _ (t : WidthTable) (ok : AcceptPromise t) (pixels : List ℕ) (w h : ℕ) (strip : Strip t pixels w h) where
   pub exactAfter : ℕ → Plane Frac
   exactAfter k = levels (λ l. rowsFirst exactPass (λ low. exactPass)) k w h (exactSample pixels (t .depth) w)
 
@@ -80,7 +80,7 @@ module _ (t : WidthTable) (ok : AcceptPromise t) (pixels : List ℕ) (w h : ℕ)
       let p = getD pixels (r * w + c) 0 in
       let H = 2 ^ (t .depth - 1) in
       let e : 2 ^ t .depth ≡ 2 * H = ap (λ (k : ℕ). 2 ^ k) (deeper (t .depth) (form-depth t (ok .form) .0)) ∙ pow-add 2 1 (t .depth - 1) in
-      let q : p < 2 ^ t .depth = picture .depth (r * w + c) (omega (arith, mul-le-mul-right w i)) in
+      let q : p < 2 ^ t .depth = strip .depth (r * w + c) (omega (arith, mul-le-mul-right w i)) in
       let s : natAbs (pos p -ℤ pos H) ≤ H = pixel-law p H (omega arith) in
       record {
         range = record { most = size-law (natAbs (pos p -ℤ pos H)) H (2 ^ t .depth) e s };
@@ -96,10 +96,10 @@ module _ (t : WidthTable) (ok : AcceptPromise t) (pixels : List ℕ) (w h : ℕ)
 
   module _ (k : ℕ) (i : k < t .levels) (a : After k) where
     big-w : Liftable (side k w)
-    big-w = roomy (t .levels) w (picture .width .0) k i
+    big-w = roomy (t .levels) w (strip .width) k i
 
     big-h : Liftable (side k h)
-    big-h = roomy (t .levels) h (picture .height .0) k i
+    big-h = roomy (t .levels) h (strip .height) k i
 
     fractions : (p : Pass) (n : Node) → fractionBits t (suc k) p n ≤ maxFractionBits
     fractions p n = form-widths t (ok .form) (suc k) (omega arith) (omega arith) p n .2
@@ -145,10 +145,10 @@ module _ (t : WidthTable) (ok : AcceptPromise t) (pixels : List ℕ) (w h : ℕ)
   good-everywhere zero z i r c p q = absurd (omega arith)
   good-everywhere (suc k) z i r c p q = good-next k i (after k (omega arith)) r c p q
 
-  -- Each coefficient of the plane is good for its kept node.
-  pub plane-good : (r c : ℕ) → r < h → c < w → Good (boundOf t (keptNode (t .levels) w h r c)) (bitsPlane t w h r c) (fixedPlane t pixels w h r c) (exactPlane pixels (t .depth) (t .levels) w h r c)
+  -- each coefficient of the plane is good for its kept node
+  good-plane : (r c : ℕ) → r < h → c < w → Good (boundOf t (keptNode (t .levels) w h r c)) (bitsPlane t w h r c) (fixedPlane t pixels w h r c) (exactPlane pixels (t .depth) (t .levels) w h r c)
   unfolding fixedPlane bitsPlane exactPlane exactAfter GoodFor
-  plane-good = good-everywhere (t .levels) (form-levels t (ok .form) .0) (omega arith)
+  good-plane = good-everywhere (t .levels) (form-levels t (ok .form) .0) (omega arith)
 
   result : (r c : ℕ) → r < h → c < w → Near (fixedPlane t pixels w h r c) (bitsPlane t w h r c) (exactPlane pixels (t .depth) (t .levels) w h r c)
   unfolding bitsPlane
@@ -157,12 +157,12 @@ module _ (t : WidthTable) (ok : AcceptPromise t) (pixels : List ℕ) (w h : ℕ)
       let k = keptNode (t .levels) w h r c in
       near (boundOf t k) (fractionBits t (k .level) (k .pass) (k .node)) _ _ (omega (arith, form-widths t (ok .form) (k .level) (K .least) (K .most) (k .pass) (k .node) .2))
       (ok .steps (k .level) (K .least) (K .most) (k .pass) (k .node) (K .kept))
-      (plane-good r c p q)
+      (good-plane r c p q)
 
   in-width : (k : ℕ) → k < t .levels → LevelInWidth t (suc k) (side k w) (side k h) (fixedAfter t k pixels w h)
   unfolding boundOf
   in-width k i =
-      level-in-width t (suc k) (λ p n. form-widths t (ok .form) (suc k) (omega arith) i p n .2) (side k w) (side k h) (roomy (t .levels) w (picture .width .0) k i) (roomy (t .levels) h (picture .height .0) k i) (entering t (suc k)) (fixedAfter t k pixels w h) (exactAfter k) (λ r c a b. after k (omega arith) .inside r c (a, b))
+      level-in-width t (suc k) (λ p n. form-widths t (ok .form) (suc k) (omega arith) i p n .2) (side k w) (side k h) (roomy (t .levels) w (strip .width) k i) (roomy (t .levels) h (strip .height) k i) (entering t (suc k)) (fixedAfter t k pixels w h) (exactAfter k) (λ r c a b. after k (omega arith) .inside r c (a, b))
       (λ p n. form-widths t (ok .form) (suc k) (omega arith) i p n .0) (λ p n. ok .fit (suc k) (omega arith) i p n)
 
   kept-held : (r c : ℕ) → r < h → c < w → (let k = keptNode (t .levels) w h r c in Holds (integerBits t (k .level) (k .pass) (k .node)) (fractionBits t (k .level) (k .pass) (k .node)) (fixedPlane t pixels w h r c))
@@ -172,19 +172,42 @@ module _ (t : WidthTable) (ok : AcceptPromise t) (pixels : List ℕ) (w h : ℕ)
       let k = keptNode (t .levels) w h r c in
       holds (boundOf t k) (fractionBits t (k .level) (k .pass) (k .node)) (integerBits t (k .level) (k .pass) (k .node)) _ _ (omega (arith, form-widths t (ok .form) (k .level) (K .least) (K .most) (k .pass) (k .node) .2))
       (form-widths t (ok .form) (k .level) (K .least) (K .most) (k .pass) (k .node) .0) (ok .fit (k .level) (K .least) (K .most) (k .pass) (k .node))
-      (plane-good r c p q)
+      (good-plane r c p q)
+
+-- ---- strips of any size
+
+pub two-steps-strip : (t : WidthTable) (pixels : List ℕ) (w h : ℕ) → Accepted t → Strip t pixels w h
+    → (r c : ℕ) → r < h → c < w
+    → Near (fixedPlane t pixels w h r c) (bitsPlane t w h r c) (exactPlane pixels (t .depth) (t .levels) w h r c)
+two-steps-strip t pixels w h ok strip r c p q = result t (promise t ok) pixels w h strip r c p q
+
+pub widths-strip : (t : WidthTable) (pixels : List ℕ) (w h : ℕ) → Accepted t → Strip t pixels w h
+    → (k : ℕ) → k < t .levels
+    → LevelInWidth t (suc k) (side k w) (side k h) (fixedAfter t k pixels w h)
+widths-strip t pixels w h ok strip k i = in-width t (promise t ok) pixels w h strip k i
+
+-- ---- pictures
+
+-- a picture of admitted size is such a strip
+pub strip-of : {t : WidthTable} {pixels : List ℕ} {w h : ℕ} → Picture t pixels w h → Strip t pixels w h
+strip-of picture = record { width = picture .width .0; height = picture .height .0; depth = picture .depth }
 
 pub two-steps : TwoSteps
-two-steps t pixels w h ok picture r c p q = result t (promise t ok) pixels w h picture r c p q
+two-steps t pixels w h ok picture = two-steps-strip t pixels w h ok (strip-of picture)
 
 pub widths : Widths
-widths t pixels w h ok picture k i = in-width t (promise t ok) pixels w h picture k i
+widths t pixels w h ok picture = widths-strip t pixels w h ok (strip-of picture)
 
 pub demand-3 : TwoSteps × Widths
 demand-3 = (two-steps, widths)
+
+-- Each coefficient of the plane is good for its kept node.
+pub plane-good : (t : WidthTable) → AcceptPromise t → (pixels : List ℕ) (w h : ℕ) → Picture t pixels w h → (r c : ℕ) → r < h → c < w
+    → Good (boundOf t (keptNode (t .levels) w h r c)) (bitsPlane t w h r c) (fixedPlane t pixels w h r c) (exactPlane pixels (t .depth) (t .levels) w h r c)
+plane-good t ok pixels w h picture = good-plane t ok pixels w h (strip-of picture)
 
 -- Each coefficient of the plane is in the width of its kept node.
 pub kept-widths : (t : WidthTable) (pixels : List ℕ) (w h : ℕ) → Accepted t → Picture t pixels w h → (r c : ℕ) → r < h → c < w
     → Holds (integerBits t (keptNode (t .levels) w h r c .level) (keptNode (t .levels) w h r c .pass) (keptNode (t .levels) w h r c .node))
     (fractionBits t (keptNode (t .levels) w h r c .level) (keptNode (t .levels) w h r c .pass) (keptNode (t .levels) w h r c .node)) (fixedPlane t pixels w h r c)
-kept-widths t pixels w h ok picture r c p q = kept-held t (promise t ok) pixels w h picture r c p q
+kept-widths t pixels w h ok picture = kept-held t (promise t ok) pixels w h (strip-of picture)

@@ -17,11 +17,11 @@ use Rattle.width_table.specs.Nodes.{Node, P1, U1, P2, U2, G1, G2, Pass, Rows, L
 use Rattle.width_table.specs.declared.WidthTable.{WidthTable}
 use Rattle.width_table.specs.Table.{constantBits, fractionBits, inputBits}
 use Rattle.lifting.specs.Kernels.{worked, SafeKernel, rowOf, columnOf, rowsWorked, columnsWorked}
-use Rattle.pictures.specs.MemoryLaws.{Stands, columnsPlane, columns-in, columns-below, columns-left, columns-right, worked-same, rows-stand, rows-beyond, columns-stand, columns-beyond}
+use Rattle.pictures.specs.MemoryLaws.{Reads, Stands, columnsPlane, columns-in, columns-below, columns-left, columns-right, worked-same, rows-stand, rows-beyond, columns-stand, columns-beyond}
 use Rattle.stages.specs.Fixed.{step, scale}
 use Rattle.irreversible.specs.Fixed.{atP1, atU1, atP2, atU2, atG1, atG2, valueAt, countAt, fixedPass}
 use Rattle.irreversible.specs.Transforms.{fixedLine, fixedLevel}
-use Rattle.irreversible.specs.Sized.{Sized, LineSized, LevelSized}
+use Rattle.irreversible.specs.Sized.{SizedTo, LineSizedTo, Sized, LineSized, LevelSized}
 use Rattle.irreversible.specs.KernelLaws.{kernelOf, worked-fixed}
 use Rattle.irreversible.specs.SafeLaws.{Limits, kernel-safe}
 
@@ -58,6 +58,9 @@ module _ (F : Node → ℕ) (fi : ℕ) (f : Node → ℕ) (n : ℕ) (x y : ℕ �
   value-same G1 k h = ap (scale zeta (F G1) (f U2) (f G1)) (same-U2 k h)
   value-same G2 k h = ap (scale zetaInverse (F G2) (f P2) (f G2)) (same-P2 k h)
 
+pub line-same : (t : WidthTable) (l : ℕ) (p : Pass) → Reads (fixedLine t l p)
+line-same t l p = subst Reads (worked-fixed t l p) (worked-same (kernelOf t l p))
+
 -- ---- one line
 
 -- the bits of a level are within their limits
@@ -73,16 +76,16 @@ module _ (t : WidthTable) (l : ℕ) (bits : BitsRight t l) (p : Pass) (n : ℕ) 
       (λ k h. subst (Sized (inputBits t l p)) (sym (same k h)) (given k h))
       (λ i k h. subst (Sized (fractionBits t l p i)) (sym (value-same (constantBits t) (inputBits t l p) (fractionBits t l p) n x v works same i k h)) (inside i k h))
 
-  -- what the pass leaves has the bits of its last nodes
-  pub line-sized : (k : ℕ) → k < n → Sized (fractionBits t l p (lastNode (ltb k (lows n)))) (fixedLine t l p n v k)
-  unfolding fixedLine fixedPass lowsFirst
-  line-sized k h =
-      let F = constantBits t in
-      let fi = inputBits t l p in
-      let f = fractionBits t l p in
-      by-ltb (λ q. Sized (f (lastNode q)) (elim q [ true ↦ atG1 F fi f n v k | false ↦ atG2 F fi f n v (k - lows n) ])) k (lows n)
-      (λ i. inside G1 k i)
-      (λ i. inside G2 (k - lows n) (omega arith))
+-- what a pass leaves has the bits of its last nodes
+pub line-sized : (e : ℕ) (t : WidthTable) (l : ℕ) (p : Pass) (n : ℕ) (v : ℕ → ℤ) → LineSizedTo e t l p n v → (k : ℕ) → k < n → SizedTo e (fractionBits t l p (lastNode (ltb k (lows n)))) (fixedLine t l p n v k)
+unfolding fixedLine fixedPass lowsFirst
+line-sized e t l p n v inside k h =
+    let F = constantBits t in
+    let fi = inputBits t l p in
+    let f = fractionBits t l p in
+    by-ltb (λ q. SizedTo e (f (lastNode q)) (elim q [ true ↦ atG1 F fi f n v k | false ↦ atG2 F fi f n v (k - lows n) ])) k (lows n)
+    (λ i. inside G1 k i)
+    (λ i. inside G2 (k - lows n) (omega arith))
 
 -- ---- one level
 
@@ -169,8 +172,8 @@ module _ (t : WidthTable) (l W H w h : ℕ) (wide : Liftable w) (tall : Liftable
     -- the bits that enter a column
     column-sized : (c : ℕ) → c < w → (q : Bool) → ltb c (lows w) ≡ q → (r : ℕ) → r < h → Sized (inputBits t l (columnPass q)) (rows (fixedLine t l Rows) w p r c)
     unfolding rows
-    column-sized c j true e r i = subst (λ (q : Bool). Sized (fractionBits t l Rows (lastNode q)) (fixedLine t l Rows w (λ k. p r k) c)) e (line-sized t l bits Rows w (λ k. p r k) wide (inside .inRows r i) c j)
-    column-sized c j false e r i = subst (λ (q : Bool). Sized (fractionBits t l Rows (lastNode q)) (fixedLine t l Rows w (λ k. p r k) c)) e (line-sized t l bits Rows w (λ k. p r k) wide (inside .inRows r i) c j)
+    column-sized c j true e r i = subst (λ (q : Bool). Sized (fractionBits t l Rows (lastNode q)) (fixedLine t l Rows w (λ k. p r k) c)) e (line-sized 10 t l Rows w (λ k. p r k) (inside .inRows r i) c j)
+    column-sized c j false e r i = subst (λ (q : Bool). Sized (fractionBits t l Rows (lastNode q)) (fixedLine t l Rows w (λ k. p r k) c)) e (line-sized 10 t l Rows w (λ k. p r k) (inside .inRows r i) c j)
 
     -- the kernel of a column that holds what the rows left
     column-safe : (c : ℕ) → c < w → (q : Bool) → ltb c (lows w) ≡ q → (v : ℕ → ℤ) → ((r : ℕ) → r < h → v r ≡ rows (fixedLine t l Rows) w p r c) → SafeKernel (kernelOf t l (columnPass q)) h v

@@ -6,17 +6,18 @@
 --   Transforms   the plane of a picture under a table
 --   Claims       demand 3 as two statements: TwoSteps and Widths
 --   Calls        the 9/7 call: the answer, and each lent slice afterwards
---   Sized        values below 2^10 in magnitude: what holds of each value on the way
+--   Sized        values below 2^10 in magnitude, and below 2^4 at level 1: what holds of each value on the way
 -- Proved of them:
---   Demand3      two-steps : TwoSteps, widths : Widths
+--   Demand3      two-steps : TwoSteps, widths : Widths; two-steps-strip, widths-strip: the same of strips of any size
 --   CallLaws     call-near, call-widths: demand 3 of every call that is not refused
 --   CaseLaws     pass-is: the pass by cases is the pass
 --   Constants    no-tie, is-nearest: a constant at F bits is the nearest multiple, for F from 1 to 24
 --   Subbands     kept-LL, kept-HL, kept-LH, kept-HH: the kept node of each subband of each level
 --   Sizes        sum-size, product-size: 64 bits hold the sum of a stage
 --   Narrow       eleven-bits: range and error of every node of an accepted table leave room in eleven integer bits
+--                five-bits: those of level 1 in five
 --                least-bits: what the columns of its level l leave has at least 2 l integer bits
---   SizedLaws    sized: so each value on the way is below 2^10 in magnitude
+--   SizedLaws    sized, first-sized: so each value on the way is below 2^10 in magnitude, and each one of level 1 below 2^4
 -- Proofs: Pass (by the rule of the crate stages, which is sound), Level lead to Demand3, in this order.
 -- For the code, which works lines by the kernels of the lifting crate:
 --   StepLaws     a stage as a step or a scaling of that crate
@@ -44,6 +45,7 @@ pub mod CallLaws
 pub mod CaseLaws
 pub mod StepLaws
 pub mod KernelLaws
+pub mod StagesLaws
 pub mod SafeLaws
 pub mod ConstantTable
 pub mod LevelLaws

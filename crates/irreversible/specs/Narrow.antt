@@ -1,5 +1,5 @@
 -- Under every accepted table eleven integer bits do: range plus error of each node is at most 2^10 - 2^-f (`eleven-bits`), and so of what
--- enters a level (`enters-eleven`). Ranges do not depend on the table, and none is above 865. In a pass no error is larger than three
+-- enters a level (`enters-eleven`). At level 1 five do (`five-bits`, `enters-five`). Ranges do not depend on the table, and none is above 865. In a pass no error is larger than three
 -- times that of G1 or G2, and what enters has no larger error than either; each G1 or G2 is kept or enters a pass, so that no error is
 -- larger than three times that of a kept node, which is below two steps. What the columns of level l leave has at least 2 l integer bits
 -- (`least-bits`).
@@ -248,12 +248,27 @@ given-most t l b Rows = times-least (b .range) (gainTo G1 0) (lit≤ tt)
 given-most t l b LowColumns = omega (arith, pass-range t l b Rows G1)
 given-most t l b HighColumns = omega (arith, pass-range t l b Rows G2, times-grows (b .range) (b .range) (gainTo G2 0) (gainTo G1 0) (omega arith) (lit≤ tt))
 
+-- of a level whose input is at most m
+range-under : (t : WidthTable) (l m : ℕ) → grown l ≤ m → (p : Pass) (n : Node) → passBound t l (entering t l) p n .range ≤ timesGain (timesGain m (gainTo G1 0)) (gainTo P1 0)
+range-under t l m i p n =
+    let j : given t l (entering t l) p .range ≤ timesGain m (gainTo G1 0) = le-trans (given-most t l (entering t l) p) (times-grows (entering t l .range) m (gainTo G1 0) (gainTo G1 0) (omega (arith, grown-is t l)) (omega arith)) in
+    rw (pass-range t l (entering t l) p n) (times-grows _ _ (gainTo n 0) (gainTo P1 0) j (gain-most n))
+
 range-most : (t : WidthTable) (l : ℕ) → l ≤ maxLevels → (p : Pass) (n : Node) → passBound t l (entering t l) p n .range ≤ largest
 unfolding largest
-range-most t l h p n =
-    let i : grown l ≤ grown maxLevels = leb→le (grown l) (grown maxLevels) (below-each (λ l. leb (grown l) (grown maxLevels)) (maxLevels + 1) l (omega arith) grown-tested) in
-    let j : given t l (entering t l) p .range ≤ timesGain (grown maxLevels) (gainTo G1 0) = le-trans (given-most t l (entering t l) p) (times-grows (entering t l .range) (grown maxLevels) (gainTo G1 0) (gainTo G1 0) (omega (arith, grown-is t l)) (omega arith)) in
-    rw (pass-range t l (entering t l) p n) (times-grows _ _ (gainTo n 0) (gainTo P1 0) j (gain-most n))
+range-most t l h = range-under t l (grown maxLevels) (leb→le (grown l) (grown maxLevels) (below-each (λ l. leb (grown l) (grown maxLevels)) (maxLevels + 1) l (omega arith) grown-tested))
+
+-- the same at level 1
+first : ℕ
+first = timesGain (timesGain (grown 1) (gainTo G1 0)) (gainTo P1 0)
+
+first-small : first ≤ 5 * 2 ^ 32
+unfolding first grown timesGain upDiv
+first-small = lit≤ tt
+
+range-first : (t : WidthTable) (p : Pass) (n : Node) → passBound t 1 (entering t 1) p n .range ≤ first
+unfolding first
+range-first t = range-under t 1 (grown 1) (omega arith)
 
 -- ---- errors
 
@@ -311,6 +326,18 @@ unfolding entering boundOf
 enters-eleven t ok zero a b = absurd (omega arith)
 enters-eleven t ok (suc zero) a b = omega (arith, step-most (t .depth))
 enters-eleven t ok (suc (suc l)) a b = eleven-bits t ok (suc l) (omega arith) (omega arith) LowColumns G1
+
+-- the same of level 1
+pub five-bits : (t : WidthTable) → AcceptPromise t → (p : Pass) (n : Node)
+    → boundOf t (nodeAt 1 p n) .range + boundOf t (nodeAt 1 p n) .error + 2 ^ (32 - fractionBits t 1 p n) ≤ 2 ^ 4 * 2 ^ 32
+unfolding boundOf
+five-bits t ok p n =
+    let some : 1 ≤ t .levels = form-levels t (ok .form) .0 in
+    omega (arith, step-most (fractionBits t 1 p n), range-first t p n, first-small, pass-error t 1 (entering t 1) p n, last-most t ok 1 (omega arith) some p (isLow n))
+
+pub enters-five : (t : WidthTable) → entering t 1 .range + entering t 1 .error + 2 ^ (32 - inputBits t 1 Rows) ≤ 2 ^ 4 * 2 ^ 32
+unfolding entering
+enters-five t = omega (arith, step-most (t .depth))
 
 -- ---- the least integer bits
 

@@ -1,4 +1,5 @@
--- Values of at most eleven integer bits: what holds of each value on the way under every accepted table (proved in SizedLaws).
+-- Values of few integer bits: of at most eleven is each value on the way under every accepted table, and of at most five each one of
+-- level 1 (proved in SizedLaws).
 use Prim.Native.Nat.{ℕ, suc, _+_, _^_, _<_}
 use mathlib.Core.List.{List}
 use lib.Dec.{ltb}
@@ -8,29 +9,48 @@ use Rattle.lines.specs.Planes.{Plane, side, rows}
 use Rattle.width_table.specs.Nodes.{Node, Pass, Rows, columnPass}
 use Rattle.width_table.specs.declared.WidthTable.{WidthTable}
 use Rattle.width_table.specs.Table.{constantBits, fractionBits, inputBits}
+use Rattle.pictures.specs.Pictures.{sample}
 use Rattle.precision.specs.Verdict.{Accepted}
 use Rattle.irreversible.specs.Fixed.{valueAt, countAt}
 use Rattle.irreversible.specs.Transforms.{fixedLine, fixedAfter}
-use Rattle.irreversible.specs.Claims.{Picture}
+use Rattle.irreversible.specs.Claims.{Picture, Strip}
 
--- v at f fractional bits is below 2^10 in magnitude
-abbrev pub Sized : ℕ → ℤ → Type 0
-Sized f v = natAbs v < 2 ^ (10 + f)
+-- v at f fractional bits is below 2^e in magnitude
+abbrev pub SizedTo : ℕ → ℕ → ℤ → Type 0
+SizedTo e f v = natAbs v < 2 ^ (e + f)
 
 -- each value that a pass of level l over n samples v leaves in a node
-abbrev pub LineSized : WidthTable → ℕ → Pass → ℕ → (ℕ → ℤ) → Type 0
-LineSized t l p n v =
+abbrev pub LineSizedTo : ℕ → WidthTable → ℕ → Pass → ℕ → (ℕ → ℤ) → Type 0
+LineSizedTo e t l p n v =
     (i : Node) (k : ℕ) → k < countAt n i
-    → Sized (fractionBits t l p i) (valueAt (constantBits t) (inputBits t l p) (fractionBits t l p) n v i k)
+    → SizedTo e (fractionBits t l p i) (valueAt (constantBits t) (inputBits t l p) (fractionBits t l p) n v i k)
 
 -- each value of level l, which is fed w columns and h rows of the plane p: what enters, each row, and each column of what the rows leave
-pub record LevelSized (t : WidthTable) (l w h : ℕ) (p : Plane ℤ) : Type 0 where
-  pub given : (r c : ℕ) → r < h → c < w → Sized (inputBits t l Rows) (p r c)
-  pub inRows : (r : ℕ) → r < h → LineSized t l Rows w (p r)
-  pub inColumns : (c : ℕ) → c < w → LineSized t l (columnPass (ltb c (lows w))) h (λ r. rows (fixedLine t l Rows) w p r c)
+pub record LevelSizedTo (e : ℕ) (t : WidthTable) (l w h : ℕ) (p : Plane ℤ) : Type 0 where
+  pub given : (r c : ℕ) → r < h → c < w → SizedTo e (inputBits t l Rows) (p r c)
+  pub inRows : (r : ℕ) → r < h → LineSizedTo e t l Rows w (p r)
+  pub inColumns : (c : ℕ) → c < w → LineSizedTo e t l (columnPass (ltb c (lows w))) h (λ r. rows (fixedLine t l Rows) w p r c)
+
+-- ---- 2^10: every level
+
+abbrev pub Sized : ℕ → ℤ → Type 0
+Sized = SizedTo 10
+
+abbrev pub LineSized : WidthTable → ℕ → Pass → ℕ → (ℕ → ℤ) → Type 0
+LineSized = LineSizedTo 10
+
+abbrev pub LevelSized : WidthTable → ℕ → ℕ → ℕ → Plane ℤ → Type 0
+LevelSized = LevelSizedTo 10
 
 abbrev pub AllSized : Type 0
 AllSized =
     (t : WidthTable) (pixels : List ℕ) (w h : ℕ) → Accepted t → Picture t pixels w h
     → (k : ℕ) → k < t .levels
     → LevelSized t (suc k) (side k w) (side k h) (fixedAfter t k pixels w h)
+
+-- ---- 2^4: level 1, of strips of any size
+
+abbrev pub FirstSized : Type 0
+FirstSized =
+    (t : WidthTable) (pixels : List ℕ) (w h : ℕ) → Accepted t → Strip t pixels w h
+    → LevelSizedTo 4 t 1 w h (sample pixels (t .depth) w)

@@ -1,7 +1,8 @@
--- Under every accepted table each value on the way is below 2^10 in magnitude (`sized`).
+-- Under every accepted table each value on the way is below 2^10 in magnitude (`sized`), and each one of level 1 below 2^4 (`first-sized`).
 use Prim.Native.Nat.{ℕ, suc, _+_, _*_, _-_, _^_, _<_, _≤_}
 use mathlib.Core.Path.{_≡_, sym}
 use mathlib.Core.Bool.{Bool, true, false}
+use mathlib.Core.List.{List}
 use native.Mathlib.Omega.{arith}
 use native.Mathlib.Nat.{mul-le-mul-right, lt-of-mul-lt-mul-right}
 use lib.Dec.{ltb}
@@ -14,72 +15,88 @@ use Rattle.stages.specs.Own.{pow-split}
 use Rattle.stages.specs.Rule.{Bound}
 use Rattle.stages.specs.Sound.{Good}
 use Rattle.lines.specs.Lines.{lows, Liftable}
-use Rattle.lines.specs.Planes.{Plane, side}
+use Rattle.lines.specs.Planes.{Plane, side, levels}
 use Rattle.lines.specs.PlaneLaws.{roomy}
 use Rattle.width_table.specs.Nodes.{Node, G1, G2, Pass, Rows, LowColumns, HighColumns, columnPass, lastNode}
-use Rattle.width_table.specs.Limits.{form-widths, form-input}
+use Rattle.width_table.specs.Limits.{form-levels, form-widths, form-input}
 use Rattle.width_table.specs.declared.WidthTable.{WidthTable}
 use Rattle.width_table.specs.Table.{maxFractionBits, constantBits, fractionBits, inputBits}
 use Rattle.precision.specs.Bounds.{boundAt, rowBound, passBound, entering, boundOf}
+use Rattle.precision.specs.Verdict.{AcceptPromise}
 use Rattle.precision.specs.Promise.{promise}
 use Rattle.irreversible.specs.Fixed.{valueAt, countAt}
 use Rattle.irreversible.specs.Transforms.{fixedAfter}
-use Rattle.irreversible.specs.Sized.{Sized, LineSized, AllSized}
+use Rattle.irreversible.specs.Claims.{Strip}
+use Rattle.irreversible.specs.Sized.{SizedTo, LineSizedTo, LevelSizedTo, AllSized, FirstSized}
 use Rattle.irreversible.specs.Pass.{Small, node-good}
 use Rattle.irreversible.specs.Level.{rowV, rowX, row-good}
-use Rattle.irreversible.specs.Demand3.{exactAfter, after}
-use Rattle.irreversible.specs.Narrow.{eleven-bits, enters-eleven}
+use Rattle.irreversible.specs.Demand3.{exactAfter, after, strip-of}
+use Rattle.irreversible.specs.Narrow.{eleven-bits, enters-eleven, five-bits, enters-five}
 
--- range and error of at most 2^10 - 2^-f
-abbrev Room : Bound → ℕ → Type 0
-Room b f = b .range + b .error + 2 ^ (32 - f) ≤ 2 ^ 10 * 2 ^ 32
+-- range and error of at most 2^e - 2^-f
+abbrev Room : ℕ → Bound → ℕ → Type 0
+Room e b f = b .range + b .error + 2 ^ (32 - f) ≤ 2 ^ e * 2 ^ 32
 
-good-sized : (b : Bound) (f : ℕ) (v : ℤ) (x : Frac) → f ≤ 32 → Room b f → Good b f v x → Sized f v
+good-sized : (e : ℕ) (b : Bound) (f : ℕ) (v : ℤ) (x : Frac) → f ≤ 32 → Room e b f → Good b f v x → SizedTo e f v
 unfolding meant
-good-sized b f v x small room g =
-    rw (pow-add 2 10 f)
-    (lt-of-mul-lt-mul-right (2 ^ 32) (law (natAbs v) (2 ^ f) (2 ^ (32 - f)) (b .range + b .error) (sym (pow-split f 32 small)) room (within-near (g .range) (g .error) .most)))
+good-sized e b f v x small room g =
+    rw (pow-add 2 e f)
+    (lt-of-mul-lt-mul-right (2 ^ 32) (law (natAbs v) (2 ^ f) (2 ^ (32 - f)) (2 ^ e) (b .range + b .error) (sym (pow-split f 32 small)) room (within-near (g .range) (g .error) .most)))
   where
-    law : (a P W s : ℕ) → W * P ≡ 2 ^ 32 → s + W ≤ 2 ^ 10 * 2 ^ 32 → a * 2 ^ 32 ≤ s * P → a * 2 ^ 32 < 2 ^ 10 * P * 2 ^ 32
-    law a P W s e h k = omega (arith, mul-le-mul-right P h)
+    law : (a P W E s : ℕ) → W * P ≡ 2 ^ 32 → s + W ≤ E * 2 ^ 32 → a * 2 ^ 32 ≤ s * P → a * 2 ^ 32 < E * P * 2 ^ 32
+    law a P W E s q h k = omega (arith, mul-le-mul-right P h)
 
 -- ---- a line
 
-line-sized : (F : Node → ℕ) (fi : ℕ) (b : Bound) (f : Node → ℕ) (n : ℕ) (v : ℕ → ℤ) (x : ℕ → Frac) → Liftable n → Small f → ((i : Node) → Room (boundAt F fi b f i) (f i)) → ((k : ℕ) → k < n → Good b fi (v k) (x k))
-    → (i : Node) (k : ℕ) → k < countAt n i → Sized (f i) (valueAt F fi f n v i k)
-line-sized F fi b f n v x big small room given i k h = good-sized _ _ _ _ (small i) (room i) (node-good F fi b f n v x big small given i k h)
+line-sized : (e : ℕ) (F : Node → ℕ) (fi : ℕ) (b : Bound) (f : Node → ℕ) (n : ℕ) (v : ℕ → ℤ) (x : ℕ → Frac) → Liftable n → Small f → ((i : Node) → Room e (boundAt F fi b f i) (f i)) → ((k : ℕ) → k < n → Good b fi (v k) (x k))
+    → (i : Node) (k : ℕ) → k < countAt n i → SizedTo e (f i) (valueAt F fi f n v i k)
+line-sized e F fi b f n v x big small room given i k h = good-sized e _ _ _ _ (small i) (room i) (node-good F fi b f n v x big small given i k h)
 
 -- ---- a level
 
-module _ (t : WidthTable) (l : ℕ) (bits : (p : Pass) (n : Node) → fractionBits t l p n ≤ maxFractionBits) (w h : ℕ) (wide : Liftable w) (tall : Liftable h) (b : Bound) (v : Plane ℤ) (x : Plane Frac) (given : (r c : ℕ) → r < h → c < w → Good b (inputBits t l Rows) (v r c) (x r c)) (room : (p : Pass) (n : Node) → Room (passBound t l b p n) (fractionBits t l p n)) where
+module _ (e : ℕ) (t : WidthTable) (l : ℕ) (bits : (p : Pass) (n : Node) → fractionBits t l p n ≤ maxFractionBits) (w h : ℕ) (wide : Liftable w) (tall : Liftable h) (b : Bound) (v : Plane ℤ) (x : Plane Frac) (given : (r c : ℕ) → r < h → c < w → Good b (inputBits t l Rows) (v r c) (x r c)) (room : (p : Pass) (n : Node) → Room e (passBound t l b p n) (fractionBits t l p n)) where
   small : (p : Pass) → Small (fractionBits t l p)
   small p n = omega (arith, bits p n)
 
-  rows-sized : (r : ℕ) → r < h → LineSized t l Rows w (v r)
+  rows-sized : (r : ℕ) → r < h → LineSizedTo e t l Rows w (v r)
   unfolding passBound rowBound
-  rows-sized r i = line-sized (constantBits t) (inputBits t l Rows) b (fractionBits t l Rows) w (v r) (x r) wide (small Rows) (room Rows) (λ k q. given r k i q)
+  rows-sized r i = line-sized e (constantBits t) (inputBits t l Rows) b (fractionBits t l Rows) w (v r) (x r) wide (small Rows) (room Rows) (λ k q. given r k i q)
 
-  column-sized : (q : Bool) (c : ℕ) → ((k : ℕ) → k < h → Good (rowBound t l b (lastNode q)) (fractionBits t l Rows (lastNode q)) (rowV t l w v k c) (rowX w x k c)) → LineSized t l (columnPass q) h (λ k. rowV t l w v k c)
+  column-sized : (q : Bool) (c : ℕ) → ((k : ℕ) → k < h → Good (rowBound t l b (lastNode q)) (fractionBits t l Rows (lastNode q)) (rowV t l w v k c) (rowX w x k c)) → LineSizedTo e t l (columnPass q) h (λ k. rowV t l w v k c)
   unfolding passBound
-  column-sized true c g = line-sized (constantBits t) (inputBits t l LowColumns) (rowBound t l b G1) (fractionBits t l LowColumns) h (λ k. rowV t l w v k c) (λ k. rowX w x k c) tall (small LowColumns) (room LowColumns) g
-  column-sized false c g = line-sized (constantBits t) (inputBits t l HighColumns) (rowBound t l b G2) (fractionBits t l HighColumns) h (λ k. rowV t l w v k c) (λ k. rowX w x k c) tall (small HighColumns) (room HighColumns) g
+  column-sized true c g = line-sized e (constantBits t) (inputBits t l LowColumns) (rowBound t l b G1) (fractionBits t l LowColumns) h (λ k. rowV t l w v k c) (λ k. rowX w x k c) tall (small LowColumns) (room LowColumns) g
+  column-sized false c g = line-sized e (constantBits t) (inputBits t l HighColumns) (rowBound t l b G2) (fractionBits t l HighColumns) h (λ k. rowV t l w v k c) (λ k. rowX w x k c) tall (small HighColumns) (room HighColumns) g
 
-  columns-sized : (c : ℕ) → c < w → LineSized t l (columnPass (ltb c (lows w))) h (λ k. rowV t l w v k c)
+  columns-sized : (c : ℕ) → c < w → LineSizedTo e t l (columnPass (ltb c (lows w))) h (λ k. rowV t l w v k c)
   columns-sized c j = column-sized (ltb c (lows w)) c (λ k q. row-good t l bits w h wide tall b v x given k c q j)
 
--- ---- all levels
+-- ---- a level of a strip
 
+module _ (e : ℕ) (t : WidthTable) (ok : AcceptPromise t) (pixels : List ℕ) (w h : ℕ) (strip : Strip t pixels w h) (k : ℕ) (i : k < t .levels)
+    (enters : Room e (entering t (suc k)) (inputBits t (suc k) Rows)) (room : (p : Pass) (n : Node) → Room e (passBound t (suc k) (entering t (suc k)) p n) (fractionBits t (suc k) p n)) where
+  level-sized : LevelSizedTo e t (suc k) (side k w) (side k h) (fixedAfter t k pixels w h)
+  unfolding rowV
+  level-sized =
+      let bits : (p : Pass) (n : Node) → fractionBits t (suc k) p n ≤ maxFractionBits = λ p n. form-widths t (ok .form) (suc k) (omega arith) i p n .2 in
+      let wide = roomy (t .levels) w (strip .width) k i in
+      let tall = roomy (t .levels) h (strip .height) k i in
+      let good : (r c : ℕ) → r < side k h → c < side k w → Good (entering t (suc k)) (inputBits t (suc k) Rows) (fixedAfter t k pixels w h r c) (exactAfter t ok pixels w h strip k r c) = λ r c a b. after t ok pixels w h strip k (omega arith) .inside r c (a, b) in
+      record {
+        given = λ r c a b. good-sized e _ _ _ _ (omega (arith, form-input t (ok .form) (suc k) (omega arith) i Rows)) enters (good r c a b);
+        inRows = rows-sized e t (suc k) bits (side k w) (side k h) wide tall (entering t (suc k)) (fixedAfter t k pixels w h) (exactAfter t ok pixels w h strip k) good room;
+        inColumns = columns-sized e t (suc k) bits (side k w) (side k h) wide tall (entering t (suc k)) (fixedAfter t k pixels w h) (exactAfter t ok pixels w h strip k) good room;
+      }
+
+-- every level
 pub sized : AllSized
-unfolding boundOf rowV
+unfolding boundOf
 sized t pixels w h ok picture k i =
     let p = promise t ok in
-    let bits : (q : Pass) (n : Node) → fractionBits t (suc k) q n ≤ maxFractionBits = λ q n. form-widths t (p .form) (suc k) (omega arith) i q n .2 in
-    let wide = roomy (t .levels) w (picture .width .0) k i in
-    let tall = roomy (t .levels) h (picture .height .0) k i in
-    let good : (r c : ℕ) → r < side k h → c < side k w → Good (entering t (suc k)) (inputBits t (suc k) Rows) (fixedAfter t k pixels w h r c) (exactAfter t p pixels w h picture k r c) = λ r c a b. after t p pixels w h picture k (omega arith) .inside r c (a, b) in
-    let room : (q : Pass) (n : Node) → Room (passBound t (suc k) (entering t (suc k)) q n) (fractionBits t (suc k) q n) = λ q n. eleven-bits t p (suc k) (omega arith) i q n in
-    record {
-      given = λ r c a b. good-sized _ _ _ _ (omega (arith, form-input t (p .form) (suc k) (omega arith) i Rows)) (enters-eleven t p (suc k) (omega arith) i) (good r c a b);
-      inRows = rows-sized t (suc k) bits (side k w) (side k h) wide tall (entering t (suc k)) (fixedAfter t k pixels w h) (exactAfter t p pixels w h picture k) good room;
-      inColumns = columns-sized t (suc k) bits (side k w) (side k h) wide tall (entering t (suc k)) (fixedAfter t k pixels w h) (exactAfter t p pixels w h picture k) good room;
-    }
+    level-sized 10 t p pixels w h (strip-of picture) k i (enters-eleven t p (suc k) (omega arith) i) (eleven-bits t p (suc k) (omega arith) i)
+
+-- level 1
+pub first-sized : FirstSized
+unfolding boundOf fixedAfter levels side
+first-sized t pixels w h ok strip =
+    let p = promise t ok in
+    level-sized 4 t p pixels w h strip 0 (form-levels t (p .form) .0) (enters-five t) (five-bits t p)

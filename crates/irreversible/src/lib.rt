@@ -17,6 +17,7 @@ ghost use Rattle.irreversible.specs.Calls.{fixedAnswer, fixedPlaneAfter,
 ghost use Rattle.width_table.specs.Numbered.{nodeOf, passOf, IsNode, IsPass};
 ghost use Rattle.irreversible.specs.StepLaws.{stepTop, stepOf, factorOf};
 ghost use Rattle.irreversible.specs.KernelLaws.{stageOf, scalingOf, kernelOf};
+ghost use Rattle.irreversible.specs.StagesLaws.{AsStages};
 ghost use Rattle.irreversible.specs.SafeLaws.{ConstantBits};
 ghost use Rattle.irreversible.specs.LevelLaws.{columned, levelWorked};
 ghost use Rattle.irreversible.specs.LevelBits.{IsLevel};
@@ -261,10 +262,18 @@ fn scaling(table: WidthTable, node: u8, value: u8, kept: u8) -> Factor
     factor_of(nearest_at(node, bits), bits, value, kept)
 }
 
-// The kernel of a pass, in the forms in which it is run.
-fn kernel_of(table: WidthTable, level: u8, pass: u8) -> Kernel
+// The stages of a pass, in the forms in which they are run: two pairs, then the scaling of the lows and that of the highs.
+pub struct Stages {
+    pub first: Pair,
+    pub second: Pair,
+    pub low: Factor,
+    pub high: Factor,
+}
+
+// The stages of a pass.
+pub fn stages_of(table: WidthTable, level: u8, pass: u8) -> Stages
     requires { ⌜ IsLevel table level × IsPass pass ⌝ }
-    ensures { λ r. ⌜ SameKernel (kernelOf table level (passOf pass)) r ⌝ }
+    ensures { λ r. ⌜ AsStages table level (passOf pass) r ⌝ }
 {
     let enters = table.input_bits(level, pass);
     let p1 = table.fraction_bits(level, pass, WidthTable::P1);
@@ -273,19 +282,40 @@ fn kernel_of(table: WidthTable, level: u8, pass: u8) -> Kernel
     let u2 = table.fraction_bits(level, pass, WidthTable::U2);
     let g1 = table.fraction_bits(level, pass, WidthTable::G1);
     let g2 = table.fraction_bits(level, pass, WidthTable::G2);
-    let kernel = Kernel::Two {
-        first: Pair {
-            highs: stage(table, WidthTable::P1, enters, enters, p1),
-            lows: stage(table, WidthTable::U1, p1, enters, u1),
-        },
-        second: Pair {
-            highs: stage(table, WidthTable::P2, u1, p1, p2),
-            lows: stage(table, WidthTable::U2, p2, u1, u2),
-        },
-        low: scaling(table, WidthTable::G1, u2, g1),
-        high: scaling(table, WidthTable::G2, p2, g2),
+    let first = Pair {
+        highs: stage(table, WidthTable::P1, enters, enters, p1),
+        lows: stage(table, WidthTable::U1, p1, enters, u1),
     };
-    lifting::readied(kernel)
+    let second = Pair {
+        highs: stage(table, WidthTable::P2, u1, p1, p2),
+        lows: stage(table, WidthTable::U2, p2, u1, u2),
+    };
+    let low = scaling(table, WidthTable::G1, u2, g1);
+    let high = scaling(table, WidthTable::G2, p2, g2);
+    Stages {
+        first: lifting::quickest_pair(first),
+        second: lifting::quickest_pair(second),
+        low: lifting::quickest_factor(low),
+        high: lifting::quickest_factor(high),
+    }
+}
+
+// The kernel of a pass.
+pub fn kernel_of(table: WidthTable, level: u8, pass: u8) -> Kernel
+    requires { ⌜ IsLevel table level × IsPass pass ⌝ }
+    ensures { λ r. ⌜ SameKernel (kernelOf table level (passOf pass)) r ⌝ }
+{
+    let stages = stages_of(table, level, pass);
+    let first = stages.first;
+    let second = stages.second;
+    let low = stages.low;
+    let high = stages.high;
+    Kernel::Two {
+        first,
+        second,
+        low,
+        high,
+    }
 }
 
 // The columns of a level of the w columns and h rows at the front of a plane whose rows are `stride` long.

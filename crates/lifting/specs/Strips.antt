@@ -176,7 +176,7 @@ pub row-column : (b j : ℕ) (y : ℕ → ℤ) → j < 1 → columnOf 1 b y j �
 row-column b j y h = fun-ext λ i. ap y (let e : b + i * 1 + j ≡ b + i = omega arith in e)
 
 -- one value after the other
-row-lines : (b w : ℕ) (row y : ℕ → ℤ) → patchLines (lineAt b 1) 1 w (λ i j. row i) y ≡ patch b w row y
+pub row-lines : (b w : ℕ) (row y : ℕ → ℤ) → patchLines (lineAt b 1) 1 w (λ i j. row i) y ≡ patch b w row y
 row-lines b w row y = sym (packed-is b 1 w 1 row _ y refl (λ i j p g. ap row (let u : i * 1 + j ≡ i = omega arith in u))) ∙ (λ u. patch b (mul-one w u) row y)
 
 pub row-patch : (pass : OnLine ℤ) (b w : ℕ) (y : ℕ → ℤ) → columnsBy pass 1 b 1 w y ≡ patch b w (pass w (λ i. y (b + i))) y

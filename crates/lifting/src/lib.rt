@@ -663,7 +663,7 @@ fn quick_factor(c: i64, cut: u32) -> Factor
 }
 
 // The form in which a scaling is run.
-fn quickest_factor(g: Factor) -> Factor
+pub fn quickest_factor(g: Factor) -> Factor
     ensures { λ r. ⌜ SameFactor g r ⌝ }
 {
     match g {
@@ -673,7 +673,7 @@ fn quickest_factor(g: Factor) -> Factor
 }
 
 // The forms in which a pair is run.
-fn quickest_pair(pair: Pair) -> Pair
+pub fn quickest_pair(pair: Pair) -> Pair
     ensures { λ r. ⌜ SamePair pair r ⌝ }
 {
     let highs = pair.highs;
@@ -681,26 +681,6 @@ fn quickest_pair(pair: Pair) -> Pair
     Pair {
         highs: quickest(highs),
         lows: quickest(lows),
-    }
-}
-
-// A kernel in the forms in which it is run.
-pub fn readied(kernel: Kernel) -> Kernel
-    ensures { λ r. ⌜ SameKernel kernel r ⌝ }
-{
-    match kernel {
-        Kernel::Two {
-            first,
-            second,
-            low,
-            high,
-        } => Kernel::Two {
-            first: quickest_pair(first),
-            second: quickest_pair(second),
-            low: quickest_factor(low),
-            high: quickest_factor(high),
-        },
-        _ => kernel,
     }
 }
 
@@ -752,7 +732,7 @@ fn raised_scale_run(
 }
 
 // The n values of src from place `from` on, scaled, go to dst from place `to` on.
-fn scale_run(src: &[i32], from: usize, dst: &mut [i32], to: usize, n: usize, g: Factor)
+pub fn scale_run(src: &[i32], from: usize, dst: &mut [i32], to: usize, n: usize, g: Factor)
     requires { ⌜ (from + n ≤ length (now src)) × (to + n ≤ length (now dst)) ⌝ }
     requires { ⌜ ((j : ℕ) → j < n → FactorSafe g (at (now src) (from + j))) ⌝ }
     ensures { λ _. ⌜ at (now (dst .exit)) ≡ patch to n (λ j. scaledBy g (at (now (src .entry)) (from + j))) (at (now (dst .entry))) ⌝ }
@@ -1114,6 +1094,25 @@ fn split_pixels(pixels: &[u16], from: usize, tile: &mut [i32], n: usize, middle:
     if high < low {
         put_pixel(pixels, from + 2 * high, tile, high, middle);
     }
+}
+
+// A line of w pixels, each less the middle of its range, worked on its way to place `from` of a plane.
+pub fn pixel_line(
+    pixels: &[u16],
+    middle: u16,
+    plane: &mut [i32],
+    from: usize,
+    tile: &mut [i32],
+    w: usize,
+    kernel: Kernel,
+)
+    requires { ⌜ (w < 2 ^ 31) × Liftable w × (w ≤ length (now pixels)) × (from + w ≤ length (now plane)) × (w ≤ length (now tile)) × Forward kernel ⌝ }
+    requires { ⌜ SafeKernel kernel w (pixelLine (now pixels) middle 0) ⌝ }
+    ensures plane { λ _. ⌜ at (now (plane .exit)) ≡ patch from w (worked kernel w (pixelLine (now (pixels .entry)) middle 0)) (at (now (plane .entry))) ⌝ }
+    ensures tile { λ _. ⌜ Free (now (tile .entry)) (now (tile .exit)) ⌝ }
+{
+    split_pixels(pixels, 0, tile, w, middle);
+    finish(plane, tile, 1, from, 1, w, kernel);
 }
 
 // h rows of w pixels, each less the middle of its range, worked on their way into a plane as wide.

@@ -1,4 +1,22 @@
 // The rolling scan (document 02, job 5): a one-level 9/7 transform line by line. Definitions in specs/.
+ghost use mathlib.Core.Path.{_≡_};
+ghost use Prim.Native.Nat.{ℕ, _+_, _*_, _<_, _≤_};
+ghost use lib.ListN.{length};
+ghost use Rattle.refusals.specs.Told.{told};
+ghost use Rattle.lifting.specs.Patch.{at};
+ghost use Rattle.lifting.specs.PatchLines.{lineAt};
+ghost use Rattle.width_table.specs.Numbered.{passOf, IsPass};
+ghost use Rattle.width_table.specs.Table.{maxFractionBits};
+ghost use Rattle.pictures.specs.Looks.{Tells};
+ghost use Rattle.irreversible.specs.LevelBits.{IsLevel};
+ghost use Rattle.rolling.specs.SoundLaws.{ColumnsSound};
+ghost use Rattle.rolling.specs.Calls.{heldLines, outLines, heldIn, FiveBits, Sound, KeptFrom, beginAnswer, scanOf, goesOn, lineAnswer, endAnswer, LineCall, EndCall};
+ghost use Rattle.rolling.specs.Told.{toldGiven};
+ghost use Rattle.rolling.specs.Memory.{lineIn, setLine, moved, staged, SafeStage, scaledLine, SafeScaling, Lent, Apart};
+ghost use Rattle.rolling.specs.Rows.{LineRight, rowOf};
+use irreversible::Stages;
+use lifting::Factor;
+use lifting::Step;
 use refusals::Outcome;
 use refusals::Refusal;
 use width_table::WidthTable;
@@ -38,4 +56,125 @@ pub struct Begun {
 pub struct Scanned {
     pub given: Given,
     pub scan: Scan,
+}
+
+// Lines lent to hold, and lines lent for output.
+pub const HELD_LINES: usize = 7;
+pub const OUT_LINES: usize = 4;
+
+// ---- lines in memory
+
+// Line `to` becomes line `from`.
+fn move_line(held: &mut [i32], w: usize, to: usize, from: usize)
+    requires { ⌜ Lent (now held) w × Apart to from ⌝ }
+    ensures { λ _. ⌜ at (now (held .exit)) ≡ moved w to from (at (now (held .entry))) ⌝ }
+{
+    let t = to * w;
+    let f = from * w;
+    for j in 0..w {
+        let v = held[f + j];
+        held[t + j] = v;
+    }
+}
+
+// A stage on line `own`, with lines a and b beside it: `low` in the row-low columns, which stand first, `high` in the row-high ones.
+fn stage_line(
+    held: &mut [i32],
+    w: usize,
+    own: usize,
+    a: usize,
+    b: usize,
+    low: Step,
+    high: Step,
+)
+    requires { ⌜ Lent (now held) w × Apart own a × Apart own b ⌝ }
+    requires { ⌜ SafeStage low high w own a b (at (now held)) ⌝ }
+    ensures { λ _. ⌜ at (now (held .exit)) ≡ staged low high w own a b (at (now (held .entry))) ⌝ }
+{
+    let half = (w + 1) / 2;
+    let t = own * w;
+    let p = a * w;
+    let q = b * w;
+    lifting::lift_run(held, t, p, q, half, low);
+    lifting::lift_run(held, t + half, p + half, q + half, w / 2, high);
+}
+
+// A line of what is held, scaled, becomes line `place` of the output.
+fn scale_line(
+    held: &[i32],
+    w: usize,
+    line: usize,
+    out: &mut [i32],
+    place: usize,
+    low: Factor,
+    high: Factor,
+)
+    requires { ⌜ Lent (now held) w × (line < heldLines) × (place < outLines) × (outLines * w ≤ length (now out)) ⌝ }
+    requires { ⌜ SafeScaling low high w (lineIn w (at (now held)) line) ⌝ }
+    ensures { λ _. ⌜ at (now (out .exit)) ≡ setLine w place (scaledLine low high w (lineIn w (at (now (held .entry))) line)) (at (now (out .entry))) ⌝ }
+{
+    let half = (w + 1) / 2;
+    let from = line * w;
+    let to = place * w;
+    lifting::scale_run(held, from, out, to, half, low);
+    lifting::scale_run(held, from + half, out, to + half, w / 2, high);
+}
+
+// A line of pixels, worked along its row, becomes line `line`.
+fn row_to(table: WidthTable, pixels: &[u16], w: usize, held: &mut [i32], line: usize)
+    requires { ⌜ LineRight table (now pixels) w × Lent (now held) w × (line < heldLines) ⌝ }
+    ensures { λ _. ⌜ at (now (held .exit)) ≡ setLine w line (rowOf table (now (pixels .entry)) w) (at (now (held .entry))) ⌝ }
+{
+    let mut tile = [0i32; pictures::MAX_SIDE];
+    let middle = pictures::middle(table.depth);
+    let kernel = irreversible::kernel_of(table, 1, WidthTable::ROWS);
+    lifting::pixel_line(pixels, middle, held, line * w, &mut tile, w, kernel);
+}
+
+// ---- what is held
+
+// Whether the values in n columns of so many lines, the first from place `from` on, are of five integer bits.
+fn five_bits(held: &[i32], w: usize, from: usize, n: usize, lines: usize, bits: u8) -> bool
+    requires { ⌜ (bits ≤ maxFractionBits) × ((i : ℕ) → i < lines → lineAt from w i + n ≤ length (now held)) ⌝ }
+    ensures { λ r. ⌜ Tells ((i : ℕ) → i < lines → (j : ℕ) → j < n → FiveBits bits (at (now (held .entry)) (lineAt from w i + j))) r ⌝ }
+{
+    let most = irreversible::power(bits + 4);
+    pictures::part_between(held, from, w, n, lines, (-most) as i32, (most - 1) as i32)
+}
+
+// Whether what is held in the n columns from column `from` on, which go by a pass, is sound.
+fn columns_sound(table: WidthTable, held: &[i32], w: usize, from: usize, n: usize, pass: u8) -> bool
+    requires { ⌜ IsLevel table 1 × IsPass pass × Lent (now held) w × (from + n ≤ w) ⌝ }
+    ensures { λ r. ⌜ Tells (ColumnsSound table (passOf pass) w from n (at (now (held .entry)))) r ⌝ }
+{
+    let enters = table.input_bits(1, pass);
+    if five_bits(held, w, from, n, 2, enters) {} else {
+        return false;
+    }
+    let p1 = table.fraction_bits(1, pass, WidthTable::P1);
+    if five_bits(held, w, 2 * w + from, n, 1, p1) {} else {
+        return false;
+    }
+    let u1 = table.fraction_bits(1, pass, WidthTable::U1);
+    if five_bits(held, w, 3 * w + from, n, 1, u1) {} else {
+        return false;
+    }
+    let p2 = table.fraction_bits(1, pass, WidthTable::P2);
+    five_bits(held, w, 4 * w + from, n, 1, p2)
+}
+
+// Makes sure that what is held is sound: memory that no scan left may hold anything, and becomes zeros.
+fn make_sound(table: WidthTable, held: &mut [i32], w: usize)
+    requires { ⌜ IsLevel table 1 × Lent (now held) w ⌝ }
+    ensures sound { λ _. ⌜ Sound table w (heldIn w (now (held .exit))) ⌝ }
+    ensures kept { λ _. ⌜ (Sound table w (heldIn w (now (held .entry))) → now (held .exit) ≡ now (held .entry)) ⌝ }
+    ensures past { λ _. ⌜ KeptFrom (heldLines * w) (now (held .entry)) (now (held .exit)) ⌝ }
+{
+    let half = (w + 1) / 2;
+    if columns_sound(table, held, w, 0, half, WidthTable::LOW_COLUMNS) {
+        if columns_sound(table, held, w, half, w / 2, WidthTable::HIGH_COLUMNS) {
+            return;
+        }
+    }
+    pictures::clear(held, 5 * w);
 }

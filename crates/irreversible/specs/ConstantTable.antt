@@ -1,35 +1,69 @@
--- The constants of all stages at 1 to 24 bits, one after the other, as the code has them.
-use Prim.Native.Nat.{ℕ, _+_, _*_, _-_, _/_, _%_, _<_, _≤_}
+-- The constants of the stages at more bits than a table can ask for, as the code has them. Rounded to 1 to 24 bits they are the nearest.
+use Prim.Native.Nat.{ℕ, _+_, _*_, _-_, _/_, _%_, _^_, _<_, _≤_}
 use mathlib.Core.List.{List}
-use mathlib.Core.Path.{_≡_, _∙_, ap, ap₂}
+use mathlib.Core.Path.{_≡_, refl, sym, _∙_, ap, ap₂}
 use native.Mathlib.Omega.{arith}
+use lib.Dec.{lit≤}
 use lib.ListN.{getD}
-use lib.IntN.{ℤ, pos}
-use mir.Syntax.{w64}
-use mir.Val.{toZ, ofZ}
-use mir.Facts.{toZ-ofZ}
+use lib.IntN.{ℤ, pos, natAbs, _+ℤ_}
+use Rattle.numbers.specs.Floor.{floorDiv}
 use Rattle.lines.specs.Planes.{tabulate}
 use Rattle.lines.specs.RowLaws.{tabulate-at}
 use Rattle.stages.specs.Fixed.{nearest}
 use Rattle.irreversible.specs.Constants.{constantOf}
-use Rattle.width_table.specs.Nodes.{nodesPerPass}
+use Rattle.width_table.specs.Nodes.{Node, P1, U1, P2, U2, G1, G2, nodesPerPass}
 use Rattle.width_table.specs.Numbered.{nodeOf, IsNode}
-use Rattle.irreversible.specs.SafeLaws.{ConstantBits, constant-fits}
+use Rattle.irreversible.specs.SafeLaws.{ConstantBits}
 use Rattle.width_table.specs.Table.{maxConstantBits}
 
--- the nodes' constants, each at 1 to maxConstantBits bits
-unfoldable pub nearestTable : List ℤ
-nearestTable = tabulate (nodesPerPass * maxConstantBits) (λ k. nearest (constantOf (nodeOf (k / maxConstantBits + 1))) (k % maxConstantBits + 1))
+abbrev pub fineBits : ℕ
+fineBits = 32
 
--- what an array that holds the table gives at a stage and so many bits
-pub table-at : (l : List ℤ) → l ≡ nearestTable → (node F : ℕ) → IsNode node → ConstantBits F → toZ w64 (ofZ w64 (getD l ((node - 1) * maxConstantBits + (F - 1)) (pos 0))) ≡ nearest (constantOf (nodeOf node)) F
-unfolding nearestTable
-table-at l e node F i ok =
-    ap (λ (z : ℤ). toZ w64 (ofZ w64 z)) (ap (λ (t : List ℤ). getD t ((node - 1) * maxConstantBits + (F - 1)) (pos 0)) e ∙ tabulate-at (nodesPerPass * maxConstantBits) _ (pos 0) ((node - 1) * maxConstantBits + (F - 1)) (omega arith) ∙ ap₂ (λ (a b : ℕ). nearest (constantOf (nodeOf a)) b) (stage node (F - 1) (i .0) (omega arith)) (place (node - 1) F (ok .0) (ok .1)))
-    ∙ toZ-ofZ {w = w64} {z = nearest (constantOf (nodeOf node)) F} (constant-fits (nodeOf node) F ok)
+-- the constant of a node
+abbrev pub fineAt : ℕ → ℤ
+fineAt node = nearest (constantOf (nodeOf node)) fineBits
+
+-- the constants in order
+unfoldable pub fineTable : List ℤ
+fineTable = tabulate nodesPerPass (λ k. fineAt (k + 1))
+
+pub fine-read : (node : ℕ) → IsNode node → getD fineTable (node - 1) (pos 0) ≡ fineAt node
+unfolding fineTable
+fine-read node i = tabulate-at nodesPerPass _ (pos 0) (node - 1) (omega arith) ∙ ap fineAt {x = node - 1 + 1} {y = node} (omega arith)
+
+pub fine-small : (n : Node) → natAbs (nearest (constantOf n) fineBits) ≤ 2 ^ 33
+unfolding nearest
+fine-small P1 = lit≤ tt
+fine-small U1 = lit≤ tt
+fine-small P2 = lit≤ tt
+fine-small U2 = lit≤ tt
+fine-small G1 = lit≤ tt
+fine-small G2 = lit≤ tt
+
+-- it at F bits, rounded from fineBits
+abbrev pub rounded : ℕ → ℕ → ℤ
+rounded node F = floorDiv (fineAt node +ℤ pos (2 ^ (fineBits - F - 1))) (2 ^ (fineBits - F))
+
+-- of every node at 1 to maxConstantBits bits
+abbrev each : (ℕ → ℕ → ℤ) → List ℤ
+each f = tabulate (nodesPerPass * maxConstantBits) (λ k. f (k / maxConstantBits + 1) (k % maxConstantBits + 1))
+
+-- one computed test of all
+tested : each rounded ≡ each (λ node F. nearest (constantOf (nodeOf node)) F)
+unfolding tabulate nearest
+tested = refl
+
+pub rounded-is : (node F : ℕ) → IsNode node → ConstantBits F → rounded node F ≡ nearest (constantOf (nodeOf node)) F
+rounded-is node F i ok = sym (found rounded) ∙ ap (λ (l : List ℤ). getD l place (pos 0)) tested ∙ found (λ node F. nearest (constantOf (nodeOf node)) F)
   where
+    place : ℕ
+    place = (node - 1) * maxConstantBits + (F - 1)
+
     stage : (a b : ℕ) → 1 ≤ a → b < maxConstantBits → ((a - 1) * maxConstantBits + b) / maxConstantBits + 1 ≡ a
     stage a b h k = omega arith
 
-    place : (a F : ℕ) → 1 ≤ F → F ≤ maxConstantBits → (a * maxConstantBits + (F - 1)) % maxConstantBits + 1 ≡ F
-    place a F h k = omega arith
+    bits : (a F : ℕ) → 1 ≤ F → F ≤ maxConstantBits → (a * maxConstantBits + (F - 1)) % maxConstantBits + 1 ≡ F
+    bits a F h k = omega arith
+
+    found : (f : ℕ → ℕ → ℤ) → getD (each f) place (pos 0) ≡ f node F
+    found f = tabulate-at (nodesPerPass * maxConstantBits) _ (pos 0) place (omega arith) ∙ ap₂ f (stage node (F - 1) (i .0) (omega arith)) (bits (node - 1) F (ok .0) (ok .1))

@@ -23,7 +23,7 @@
 --   StepLaws     a stage as a step or a scaling of that crate
 --   KernelLaws   a pass as a kernel: worked-fixed
 --   SafeLaws     kernel-safe: no number on the way leaves its machine type where the values are sized
---   ConstantTable, LevelBits   the table of constants; the bits of a level
+--   ConstantTable, LevelBits   the constants at 32 bits, which round to the nearest at fewer; the bits of a level
 --   LevelLaws    a level in memory: level-stands, level-safe
 --   LevelsLaws   all levels under an accepted table: after-none, after-more, safe-next, after-all
 --   CallSteps    what the steps of the call ask of each other, and what they leave

@@ -7,6 +7,7 @@ ghost use mir.Val.{SFits};
 ghost use Rattle.lifting.specs.Patch.{at};
 ghost use Rattle.width_table.specs.Table.{maxFractionBits, constantBits};
 ghost use Rattle.lines.specs.Planes.{rowByRow};
+ghost use Rattle.numbers.specs.Floor.{floorDiv};
 ghost use Rattle.numbers.specs.Lists.{over};
 ghost use Rattle.refusals.specs.Told.{told};
 ghost use Rattle.precision.specs.Verdict.{Accepted};
@@ -31,164 +32,18 @@ use lifting::Step;
 use refusals::Outcome;
 use width_table::WidthTable;
 
-// At how many bits a constant may stand: 1 to this.
-const CONSTANT_BITS: usize = WidthTable::MAX_CONSTANT_BITS as usize;
+// The constants of P1, U1, P2, U2, G1 and G2 at so many bits that rounding them once more, to at most MAX_CONSTANT_BITS, gives the
+// nearest.
+const FINE_BITS: u8 = 32;
 
-// The constants of P1, U1, P2, U2, G1 and G2, each at every number of bits.
-const NEAREST: [i64; WidthTable::CONSTANTS * CONSTANT_BITS] = [
-    -3,
-    -6,
-    -13,
-    -25,
-    -51,
-    -102,
-    -203,
-    -406,
-    -812,
-    -1624,
-    -3248,
-    -6497,
-    -12994,
-    -25987,
-    -51974,
-    -103949,
-    -207898,
-    -415796,
-    -831591,
-    -1663182,
-    -3326365,
-    -6652730,
-    -13305459,
-    -26610918,
-    0,
-    0,
-    0,
-    -1,
-    -2,
-    -3,
-    -7,
-    -14,
-    -27,
-    -54,
-    -109,
-    -217,
-    -434,
-    -868,
-    -1736,
-    -3472,
-    -6944,
-    -13888,
-    -27777,
-    -55554,
-    -111107,
-    -222215,
-    -444429,
-    -888859,
-    2,
-    4,
-    7,
-    14,
-    28,
-    57,
-    113,
-    226,
-    452,
-    904,
-    1808,
-    3616,
-    7233,
-    14466,
-    28931,
-    57862,
-    115725,
-    231450,
-    462900,
-    925799,
-    1851599,
-    3703197,
-    7406395,
-    14812790,
-    1,
-    2,
-    4,
-    7,
-    14,
-    28,
-    57,
-    114,
-    227,
-    454,
-    908,
-    1817,
-    3633,
-    7266,
-    14533,
-    29066,
-    58131,
-    116263,
-    232525,
-    465051,
-    930101,
-    1860203,
-    3720405,
-    7440810,
-    2,
-    5,
-    9,
-    18,
-    37,
-    74,
-    147,
-    294,
-    589,
-    1177,
-    2354,
-    4709,
-    9418,
-    18835,
-    37670,
-    75340,
-    150681,
-    301362,
-    602724,
-    1205448,
-    2410895,
-    4821790,
-    9643581,
-    19287161,
-    2,
-    3,
-    7,
-    14,
-    28,
-    56,
-    111,
-    223,
-    445,
-    891,
-    1781,
-    3563,
-    7126,
-    14252,
-    28504,
-    57007,
-    114015,
-    228030,
-    456059,
-    912119,
-    1824238,
-    3648476,
-    7296952,
-    14593904,
+const FINE: [i64; WidthTable::CONSTANTS] = [
+    -6812395126,
+    -227547876,
+    3792074198,
+    1904847426,
+    4937513293,
+    3736039374,
 ];
-
-// The constant of a stage, 1 to 6, at so many bits.
-fn nearest_at(node: u8, bits: u8) -> i64
-    requires { ⌜ IsNode node × ConstantBits bits ⌝ }
-    ensures { λ r. ⌜ r ≡ nearest (constantOf (nodeOf node)) bits ⌝ }
-{
-    NEAREST[(node as usize - 1) * CONSTANT_BITS + (bits as usize - 1)]
-}
 
 // 2 to a power.
 pub fn power(bits: u8) -> i64
@@ -196,6 +51,24 @@ pub fn power(bits: u8) -> i64
     ensures { λ r. ⌜ r ≡ pos (2 ^ bits) ⌝ }
 {
     (1u64 << bits) as i64
+}
+
+// A number over a power of 2, rounded down.
+pub fn lowered(z: i64, cut: u8) -> i64
+    requires { ⌜ cut < 64 ⌝ }
+    ensures { λ r. ⌜ r ≡ floorDiv z (2 ^ cut) ⌝ }
+{
+    z >> cut
+}
+
+// The constant of a stage, 1 to 6, at so many bits: half a step is added, what is below a step cut off.
+fn nearest_at(node: u8, bits: u8) -> i64
+    requires { ⌜ IsNode node × ConstantBits bits ⌝ }
+    ensures { λ r. ⌜ r ≡ nearest (constantOf (nodeOf node)) bits ⌝ }
+{
+    let cut = FINE_BITS - bits;
+    let half = power(cut - 1);
+    lowered(FINE[node as usize - 1] + half, cut)
 }
 
 // The larger of two.

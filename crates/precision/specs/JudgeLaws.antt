@@ -6,24 +6,26 @@ use mathlib.Core.Path.{_≡_, refl, sym, _∙_, ap, subst, subst₂}
 use native.Mathlib.Omega.{arith}
 use native.Mathlib.Nat.{mul-le-mul-right}
 use lib.Dec.{T, eqb, leb, leb→le, le→leb, ltb, lt→ltb}
-use lib.ListN.{getD, set}
+use lib.ListN.{getD}
 use lib.Pow.{pow-mono}
 use borrow.Author.Tests.{lt-leb, le-ltb}
 use Rattle.refusals.specs.Answers.{Answer, passed, refused, asksGiving}
 use Rattle.refusals.specs.AnswerLaws.{asks-done, asks-right, asks-wrong}
 use Rattle.width_table.specs.declared.WidthTable.{WidthTable}
 use Rattle.width_table.specs.Nodes.{Node, G1, G2, Pass, Rows, LowColumns, HighColumns, nodeAt, nodeNumber, passNumber, passNodes}
-use Rattle.width_table.specs.Table.{maxIntegerBits, maxFractionBits, constantBits, integerBits, fractionBits, inputBits}
-use Rattle.width_table.specs.Readers.{integerBitsAt, fractionBitsAt, inputBitsAt}
-use Rattle.width_table.specs.Limits.{in-nodes, form-constants, form-widths, integer-read, fraction-read, input-read}
-use Rattle.stages.specs.Rule.{timesGain}
+use Rattle.width_table.specs.Table.{maxConstantBits, maxIntegerBits, maxFractionBits, nodePlace, constantBits, integerBits, fractionBits, inputBits}
+use Rattle.width_table.specs.Readers.{constantBitsAt, integerBitsAt, fractionBitsAt, inputBitsAt}
+use Rattle.width_table.specs.Limits.{in-nodes, form-constants, form-widths, constant-read, integer-read, fraction-read, input-read}
+use Rattle.stages.specs.Rule.{timesGain, ownLift, ownScale}
 use Rattle.precision.specs.Bounds.{boundAt, rowBound, passBound, boundOf}
 use Rattle.precision.specs.Verdict.{fits, keptColumn, keptAt, judged, firstRefusal}
 use Rattle.precision.specs.Promise.{each-accepts}
-use Rattle.precision.specs.Places.{places, mostFitting, gainAt, carriedTo, multiplied, ownAt, ownsBelow, fed, bitsOf, ownErrorOf, ownsOf, asHeld, judgedAs, boundFrom, boundOfNode, At, Enters}
+use Rattle.precision.specs.Places.{places, mostFitting, gainAt, carriedTo, multiplied, other, fed, bitsOf, ownFrom, ownErrorOf, ownHere, ownsOf, ownBy, asHeld, judgedAs, boundOfNode, At, Limited, Read, Enters, Holds}
 use Rattle.width_table.specs.Numbered.{nodeOf, passOf, IsNode, IsPass, node-number, pass-number}
-use Rattle.precision.specs.PlaceLaws.{largest, by-place, owns-next, own-is, range-is, error-is, total-is, owns-most}
+use Rattle.precision.specs.PlaceLaws.{largest, by-place, multiplied-place, gain-most, times-small, carried-start, carried-next, carried-small, own-is, range-is, error-is, total-is, own-small, owns-most}
 use Rattle.precision.specs.declared.Bound as Code
+use Rattle.precision.specs.declared.PassBounds.{PassBounds}
+use Rattle.precision.specs.declared.Widths.{Widths}
 
 -- ---- passes
 
@@ -51,6 +53,49 @@ module _ {t : WidthTable} {l p : ℕ} (h : At t l p) where
   place-node zero i j = absurd (i refl)
   place-node (suc k) i j = fraction-read t (h .form) l (h .level-from) (h .level-to) p (suc k) (h .pass) (omega arith, omega arith)
 
+-- what the program reads of the table itself
+module _ {t : WidthTable} {l p : ℕ} (h : At t l p) (k : ℕ) (i : IsNode k) where
+  pub constant-at : getD (t .constants) (k - 1) 0 ≡ constantBitsAt t k
+  constant-at = sym (constant-read t (h .form) k i .0 ∙ (λ u. getD (t .constants) (node-number k i u - 1) 0))
+
+  pub integer-at : (m : ℕ) → m ≡ nodePlace l p k → getD (t .nodes) m 0 ≡ integerBitsAt t l p k
+  integer-at m e = ap (λ (m : ℕ). getD (t .nodes) m 0) e ∙ sym (integer-read t (h .form) l (h .level-from) (h .level-to) p k (h .pass) i .0 ∙ (λ u. getD (t .nodes) (nodePlace l (pass-number p (h .pass) u) (node-number k i u)) 0))
+
+  pub fraction-at : (m : ℕ) → m ≡ nodePlace l p k + 1 → getD (t .nodes) m 0 ≡ fractionBitsAt t l p k
+  fraction-at m e = ap (λ (m : ℕ). getD (t .nodes) m 0) e ∙ sym (fraction-read t (h .form) l (h .level-from) (h .level-to) p k (h .pass) i .0 ∙ (λ u. getD (t .nodes) (nodePlace l (pass-number p (h .pass) u) (node-number k i u) + 1) 0))
+
+-- the widths of a pass, as the program holds them
+module _ {t : WidthTable} {l p : ℕ} {w : Widths} (h : Read t l p w) where
+  bits-are : (k : ℕ) → k < places → (getD (w .fractions) k 0 ≡ bitsOf t l (passOf p) k) × (getD (w .fractions) k 0 ≤ maxFractionBits)
+  bits-are zero i =
+      let r = place-input (h .place) 0 refl in
+      (h .input ∙ r .0, omega (arith, h .input, r .1))
+  bits-are (suc k) i =
+      let e = h .fraction (suc k) (omega arith, omega arith) in
+      let r = place-node (h .place) (suc k) (λ q. absurd (omega (arith, q))) i in
+      (e ∙ r .0, omega (arith, e, r .1))
+
+  constant-are : (k : ℕ) → IsNode k → (getD (w .constants) (k - 1) 0 ≡ constantBits t (nodeOf k)) × (getD (w .constants) (k - 1) 0 ≤ maxConstantBits)
+  constant-are k i =
+      let r = constant-read t (h .place .form) k i in
+      (h .constant k i ∙ r .0, omega (arith, h .constant k i, r .2))
+
+  pub limited : Limited w
+  limited = record {
+    constant = λ k i. constant-are k i .1;
+    integer = λ k i. omega (arith, h .integer k i, integer-read t (h .place .form) l (h .place .level-from) (h .place .level-to) p k (h .place .pass) i);
+    fraction = λ k i. bits-are k i .1;
+  }
+
+  pub own-read : (k : ℕ) → IsNode k → (r : ℕ) → ownBy w k r ≡ ownErrorOf t l (passOf p) k r
+  unfolding ownBy ownFrom
+  own-read k i r =
+      let c = constant-are k i .0 in
+      let m = bits-are (multiplied k) (multiplied-place k i) .0 in
+      let o = bits-are (other k) (omega arith) .0 in
+      let f = bits-are k (omega arith) .0 in
+      λ u. elim (ltb k (nodeNumber G1)) [ true ↦ ownLift (c u) (m u) (o u) (f u) r | false ↦ ownScale (c u) (m u) (f u) r ]
+
 -- ---- what is computed for a pass
 
 bound-fed : (t : WidthTable) (l : ℕ) (p : Pass) (n : Node) → boundOf t (nodeAt l p n) ≡ boundAt (constantBits t) (inputBits t l p) (fed t l p) (fractionBits t l p) n
@@ -59,6 +104,21 @@ bound-fed t l Rows n = refl
 bound-fed t l LowColumns n = refl
 bound-fed t l HighColumns n = refl
 
+-- x has what v, that enters the pass, carries to each place
+abbrev pub Carries : ℕ → List ℕ → Type 0
+Carries v x = (i : ℕ) → i < places → getD x i 0 ≡ timesGain v (gainAt 0 i)
+
+-- and what the places below k have of their own
+abbrev pub Errors : WidthTable → ℕ → ℕ → ℕ → List ℕ → Type 0
+Errors t l p k x = (i : ℕ) → i < places → getD x i 0 ≡ carriedTo (ownsOf t l (passOf p) k) i places
+
+-- what the program holds once the pass is entered
+pub record Started (t : WidthTable) (l p : ℕ) (b : Code.Bound) (w : Widths) (ranges errors : List ℕ) : Type 0 where
+  pub enters : Enters t l p b
+  pub read : Read t l p w
+  pub ranges-in : Carries (b .range) ranges
+  pub errors-in : Carries (b .error) errors
+
 abbrev bound : ℕ → ℕ → Code.Bound
 bound r e = record { range = r; error = e }
 
@@ -66,50 +126,64 @@ module _ {t : WidthTable} {l p : ℕ} {b : Code.Bound} (h : Enters t l p b) wher
   range-fed : b .range ≡ fed t l (passOf p) .range
   range-fed = ap (λ (x : Code.Bound). x .range) (h .is)
 
-  -- the own errors so far, and one more
-  pub owns-step : (k : ℕ) → IsNode k → set (ownsOf t l (passOf p) k) k (ownErrorOf t l (passOf p) k (timesGain (b .range) (gainAt 0 (multiplied k)) + carriedTo (ownsOf t l (passOf p) k) (multiplied k) places)) ≡ ownsOf t l (passOf p) (k + 1)
-  owns-step k i =
-      let P = passOf p in
-      let own = ownsOf t l P k in
-      ap (λ (r : ℕ). set own k (ownErrorOf t l P k (timesGain r (gainAt 0 (multiplied k)) + carriedTo own (multiplied k) places))) range-fed
-      ∙ ap (λ (r : ℕ). set own k (ownErrorOf t l P k r)) (total-is (constantBits t) (inputBits t l P) (fed t l P) (fractionBits t l P) k i)
-      ∙ ap (set own k) (sym (own-is (constantBits t) (inputBits t l P) (fed t l P) (fractionBits t l P) k i))
-      ∙ owns-next (constantBits t) (inputBits t l P) (fed t l P) (fractionBits t l P) k i
+  abbrev pub P : Pass
+  P = passOf p
 
-  pub owns-small : (k i : ℕ) → getD (ownsOf t l (passOf p) k) i 0 ≤ largest
-  owns-small =
-      let P = passOf p in
-      owns-most (constantBits t) (inputBits t l P) (fed t l P) (fractionBits t l P) (omega (arith, range-fed, ap (λ (x : Code.Bound). x .error) (h .is), h .small)) (λ n. form-constants t (h .place .form) n .0)
+  small-fed : fed t l P .range + fed t l P .error ≤ mostFitting
+  small-fed = omega (arith, range-fed, ap (λ (x : Code.Bound). x .error) (h .is), h .small)
 
-  pub bound-is : (k : ℕ) → IsNode k → boundFrom (b .range) (ownsOf t l (passOf p) places) k ≡ boundOfNode t l p k
+  owns-small : (k i : ℕ) → getD (ownsOf t l P k) i 0 ≤ largest
+  owns-small = owns-most (constantBits t) (inputBits t l P) (fed t l P) (fractionBits t l P) small-fed (λ n. form-constants t (h .place .form) n .0)
+
+  pub errors-start : (x : List ℕ) → Carries (b .error) x → Errors t l p 1 x
+  errors-start x c i j = c i j ∙ ap (λ (e : Code.Bound). timesGain (e .error) (gainAt 0 i)) (h .is) ∙ sym (carried-start (constantBits t) (inputBits t l P) (fed t l P) (fractionBits t l P) i)
+
+  pub ranges-small : (x : List ℕ) → Carries (b .range) x → (i : ℕ) → i < places → getD x i 0 ≤ 2 ^ 48
+  ranges-small x r i j = omega (arith, r i j, times-small (b .range) (gainAt 0 i) (omega (arith, h .small)) (gain-most 0 i))
+
+  pub errors-small : (k : ℕ) (x : List ℕ) → Errors t l p k x → (i : ℕ) → i < places → getD x i 0 ≤ places * 2 ^ 48
+  errors-small k x e i j = omega (arith, e i j, carried-small (ownsOf t l P k) (owns-small k) i places)
+
+  -- the own error of node k
+  pub own-here : (k : ℕ) → IsNode k → (x y : List ℕ) → Carries (b .range) x → Errors t l p k y → {m own : ℕ} → m ≡ multiplied k → own ≡ ownErrorOf t l P k (getD x m 0 + getD y m 0) → own ≡ ownHere t l P k
+  own-here k i x y r e {m} {own} em eo =
+      let n = multiplied k in
+      let here : n < places = multiplied-place k i in
+      eo
+      ∙ ap (λ (m : ℕ). ownErrorOf t l P k (getD x m 0 + getD y m 0)) em
+      ∙ ap (λ (z : ℕ). ownErrorOf t l P k (z + getD y n 0)) (r n here ∙ ap (λ (z : ℕ). timesGain z (gainAt 0 n)) range-fed)
+      ∙ ap (λ (z : ℕ). ownErrorOf t l P k (timesGain (fed t l P .range) (gainAt 0 n) + z)) (e n here)
+      ∙ ap (ownErrorOf t l P k) (total-is (constantBits t) (inputBits t l P) (fed t l P) (fractionBits t l P) k i)
+      ∙ sym (own-is (constantBits t) (inputBits t l P) (fed t l P) (fractionBits t l P) k i)
+
+  pub own-most : (k : ℕ) → IsNode k → ownHere t l P k ≤ largest
+  own-most = own-small (constantBits t) (inputBits t l P) (fed t l P) (fractionBits t l P) small-fed (λ n. form-constants t (h .place .form) n .0)
+
+  -- one place more
+  pub errors-next : (k : ℕ) → IsNode k → (y z : List ℕ) {own : ℕ} → Errors t l p k y → own ≡ ownHere t l P k → ((i : ℕ) → i < places → getD z i 0 ≡ getD y i 0 + timesGain own (gainAt k i)) → Errors t l p (k + 1) z
+  errors-next k i y z {own} e eo c j q =
+      c j q
+      ∙ (λ u. e j q u + timesGain (eo u) (gainAt k j))
+      ∙ sym (carried-next (constantBits t) (inputBits t l P) (fed t l P) (fractionBits t l P) j k i)
+
+  -- all of them: the bounds
+  bound-is : (k : ℕ) → IsNode k → bound (timesGain (b .range) (gainAt 0 k)) (carriedTo (ownsOf t l P places) k places) ≡ boundOfNode t l p k
   unfolding boundAt
   bound-is k i =
-      let P = passOf p in
       ap (λ (r : ℕ). bound (timesGain r (gainAt 0 k)) (carriedTo (ownsOf t l P places) k places)) range-fed
       ∙ ap (λ (r : ℕ). bound r (carriedTo (ownsOf t l P places) k places)) (range-is (constantBits t) (inputBits t l P) (fed t l P) (fractionBits t l P) k i)
       ∙ ap (bound _) (error-is (constantBits t) (inputBits t l P) (fed t l P) (fractionBits t l P) k i)
       ∙ ap asHeld (sym (bound-fed t l P (nodeOf k)))
 
-  -- before the first node
-  pub owns-start : b .error ∷ 0 ∷ 0 ∷ 0 ∷ 0 ∷ 0 ∷ 0 ∷ [] ≡ ownsOf t l (passOf p) 1
-  unfolding ownsBelow ownAt
-  owns-start = ap (λ (x : Code.Bound). x .error ∷ 0 ∷ 0 ∷ 0 ∷ 0 ∷ 0 ∷ 0 ∷ []) (h .is)
-
-  -- one node more, as the program has it
-  pub owns-again : (k : ℕ) → IsNode k → {own : List ℕ} {m x : ℕ} {o : Code.Bound} → own ≡ ownsOf t l (passOf p) k → m ≡ multiplied k → o ≡ boundFrom (b .range) own m → x ≡ ownErrorOf t l (passOf p) k (o .range + o .error) → set own k x ≡ ownsOf t l (passOf p) (k + 1)
-  owns-again k i {own} {m} {x} {o} e1 e2 e3 e4 =
-      let again : List ℕ → ℕ → List ℕ = λ own m. set own k (ownErrorOf t l (passOf p) k (timesGain (b .range) (gainAt 0 m) + carriedTo own m places)) in
-      ap (set own k) e4
-      ∙ ap (λ (o : Code.Bound). set own k (ownErrorOf t l (passOf p) k (o .range + o .error))) e3
-      ∙ ap (again own) e2
-      ∙ ap (λ (own : List ℕ). again own (multiplied k)) e1
-      ∙ owns-step k i
-
-  pub all-small : (k : ℕ) {own : List ℕ} → own ≡ ownsOf t l (passOf p) k → (i : ℕ) → getD own i 0 ≤ largest
-  all-small k e i = subst (λ (own : List ℕ). getD own i 0 ≤ largest) (sym e) (owns-small k i)
-
-  pub node-bound : (k : ℕ) → IsNode k → {own : List ℕ} → own ≡ ownsOf t l (passOf p) places → boundFrom (b .range) own k ≡ boundOfNode t l p k
-  node-bound k i e = ap (λ (own : List ℕ). boundFrom (b .range) own k) e ∙ bound-is k i
+  pub all-held : (x : PassBounds) → Read t l p (x .widths) → Carries (b .range) (x .ranges) → Errors t l p places (x .errors) → Holds t l p x
+  all-held x w r e = record {
+    widths = w;
+    is = λ k i. (λ u. bound (r k (inside k i) u) (e k (inside k i) u)) ∙ bound-is k i;
+    small = λ k i. omega (arith, ranges-small (x .ranges) r k (inside k i), errors-small places (x .errors) e k (inside k i));
+  }
+    where
+      inside : (k : ℕ) → IsNode k → k < places
+      inside k i = omega arith
 
 -- ---- kept nodes
 

@@ -6,7 +6,7 @@ use mathlib.Core.Path.{_≡_, refl, sym, _∙_, ap}
 use native.Mathlib.Omega.{arith}
 use native.Mathlib.Nat.{div-mul-le-self, mul-le-mul-left, mul-le-mul-right, le-trans}
 use lib.Dec.{T, eqb, ltb, leb, leb→le, lit≤}
-use lib.ListN.{getD, set}
+use lib.ListN.{getD}
 use lib.Pow.{pow-mono}
 use Rattle.numbers.specs.Tests.{every, both, ltb-true, ltb-false}
 use Rattle.exact.specs.Fractions.{upDiv}
@@ -59,22 +59,45 @@ at-any test d h [] e k = h
 at-any test d h (x ∷ xs) e zero = both (test x) (every test xs) e .0
 at-any test d h (x ∷ xs) e (suc k) = at-any test d h xs (both (test x) (every test xs) e .1) k
 
-pub gain-most : (i j : ℕ) → gainAt i j ≤ 273434
+abbrev pub largestGain : ℕ
+largestGain = 273434
+
+pub gain-most : (i j : ℕ) → gainAt i j ≤ largestGain
 unfolding every
 gain-most i j =
-    let small : ℕ → Bool = λ g. leb g 273434 in
+    let small : ℕ → Bool = λ g. leb g largestGain in
     leb→le _ _ (at-any small 0 tt (getD forwardGains i []) (at-any (every small) [] tt forwardGains tt i) j)
 
 -- a product by a gain fits, and stays below 2^48
-pub product-most : (x g : ℕ) → x ≤ largest → g ≤ 273434 → x * g ≤ largest * 273434
+pub product-most : (x g : ℕ) → x ≤ largest → g ≤ largestGain → x * g ≤ largest * largestGain
 product-most x g h k = le-trans (mul-le-mul-right g h) (mul-le-mul-left largest k)
+
+pub times-small : (x g : ℕ) → x ≤ largest → g ≤ largestGain → timesGain x g ≤ 2 ^ 48
+times-small x g h k = omega (arith, times-most x g, product-most x g h k)
+
+pub carried-small : (x : List ℕ) → ((i : ℕ) → getD x i 0 ≤ largest) → (j n : ℕ) → carriedTo x j n ≤ n * 2 ^ 48
+unfolding carriedTo
+carried-small x h j zero = omega arith
+carried-small x h j (suc n) = omega (arith, carried-small x h j n, times-small (getD x n 0) (gainAt n j) (h n) (gain-most n j))
 
 -- ---- the bounds by number
 
 module _ (F : Node → ℕ) (fi : ℕ) (b : Bound) (f : Node → ℕ) where
-  pub owns-next : (k : ℕ) → IsNode k → set (ownsBelow F fi b f k) k (ownAt F fi b f k) ≡ ownsBelow F fi b f (k + 1)
-  unfolding ownsBelow
-  owns-next = by-place _ refl refl refl refl refl refl
+  -- what the input carries, and what one place more does
+  pub carried-start : (j : ℕ) → carriedTo (ownsBelow F fi b f 1) j places ≡ timesGain (b .error) (gainAt 0 j)
+  unfolding carriedTo ownsBelow ownAt
+  carried-start j = simp timesGain-zero (omega arith)
+
+  pub carried-next : (j k : ℕ) → IsNode k → carriedTo (ownsBelow F fi b f (k + 1)) j places ≡ carriedTo (ownsBelow F fi b f k) j places + timesGain (ownAt F fi b f k) (gainAt k j)
+  unfolding carriedTo ownsBelow
+  carried-next j =
+      by-place _
+      (simp timesGain-zero (omega arith))
+      (simp timesGain-zero (omega arith))
+      (simp timesGain-zero (omega arith))
+      (simp timesGain-zero (omega arith))
+      (simp timesGain-zero (omega arith))
+      (simp timesGain-zero (omega arith))
 
   abbrev Fs : ℕ → ℕ
   Fs i = F (nodeOf (suc i))
@@ -131,22 +154,6 @@ module _ (F : Node → ℕ) (fi : ℕ) (b : Bound) (f : Node → ℕ) where
       (simp timesGain-zero (omega (arith, range-is 3 (lit≤ tt, lit≤ tt), error-at 3 (lit≤ tt))))
       (simp timesGain-zero (omega (arith, range-is 4 (lit≤ tt, lit≤ tt), error-at 4 (lit≤ tt))))
       (simp (timesGain-zero, timesGain-none) (omega (arith, range-is 3 (lit≤ tt, lit≤ tt), error-at 3 (lit≤ tt))))
-
--- a stage's own error, from what the program reads
-module _ (F : Node → ℕ) (fi : ℕ) (b : Bound) (f : Node → ℕ) (k r : ℕ) where
-  abbrev chosen : Bool → ℕ
-  chosen t = elim t [
-    | true ↦ ownLift (F (nodeOf k)) (bitsAt F fi b f (multiplied k)) (bitsAt F fi b f (other k)) (bitsAt F fi b f k) r
-    | false ↦ ownScale (F (nodeOf k)) (bitsAt F fi b f (multiplied k)) (bitsAt F fi b f k) r
-  ]
-
-  pub own-lifts : {c m o n : ℕ} → k < nodeNumber G1 → c ≡ F (nodeOf k) → m ≡ bitsAt F fi b f (multiplied k) → o ≡ bitsAt F fi b f (other k) → n ≡ bitsAt F fi b f k → ownLift c m o n r ≡ ownFrom F fi b f k r
-  unfolding ownFrom
-  own-lifts h e1 e2 e3 e4 = simp (e1, e2, e3, e4) (sym (ap chosen (ltb-true k (nodeNumber G1) h)))
-
-  pub own-scales : {c m n : ℕ} → nodeNumber G1 ≤ k → c ≡ F (nodeOf k) → m ≡ bitsAt F fi b f (multiplied k) → n ≡ bitsAt F fi b f k → ownScale c m n r ≡ ownFrom F fi b f k r
-  unfolding ownFrom
-  own-scales h e1 e2 e3 = simp (e1, e2, e3) (sym (ap chosen (ltb-false k (nodeNumber G1) h)))
 
 -- ---- sizes
 
@@ -244,3 +251,6 @@ module _ (F : Node → ℕ) (fi : ℕ) (b : Bound) (f : Node → ℕ) (small : b
   owns-most k (suc (suc (suc (suc (suc zero))))) = held (ltb 5 k) own-5
   owns-most k (suc (suc (suc (suc (suc (suc zero)))))) = held (ltb 6 k) own-6
   owns-most k (suc (suc (suc (suc (suc (suc (suc i))))))) = lit≤ tt
+
+  pub own-small : (k : ℕ) → IsNode k → ownAt F fi b f k ≤ largest
+  own-small = by-place _ (le-trans own-1 (lit≤ tt)) (le-trans own-2 (lit≤ tt)) (le-trans own-3 (lit≤ tt)) (le-trans own-4 (lit≤ tt)) own-5 own-6

@@ -1,21 +1,24 @@
 -- The places of a pass by number, as the program counts them: 0 the input, 1 to 6 the nodes.
-use Prim.Native.Nat.{ℕ, zero, suc, _+_, _*_, _-_, _^_, _≤_}
+use Prim.Native.Nat.{ℕ, zero, suc, _+_, _*_, _-_, _^_, _<_, _≤_}
 use mathlib.Core.Bool.{Bool, true, false}
 use mathlib.Core.List.{List, [], _∷_}
 use lib.Dec.{T, ltb, eqb}
 use mathlib.Core.Path.{_≡_}
 use lib.ListN.{getD}
 use Rattle.refusals.specs.Answers.{Answer}
-use Rattle.width_table.specs.Numbered.{nodeOf, passOf, IsPass}
+use Rattle.width_table.specs.Numbered.{nodeOf, passOf, IsNode, IsPass}
 use Rattle.width_table.specs.Nodes.{Node, P2, G1, G2, nodesPerPass, nodeNumber, Pass, Rows, LowColumns, HighColumns, nodeAt}
 use Rattle.width_table.specs.declared.WidthTable.{WidthTable}
-use Rattle.width_table.specs.Table.{maxIntegerBits, constantBits, fractionBits, inputBits, formRight}
+use Rattle.width_table.specs.Table.{maxConstantBits, maxIntegerBits, maxFractionBits, constantBits, fractionBits, inputBits, formRight}
+use Rattle.width_table.specs.Readers.{constantBitsAt, integerBitsAt, fractionBitsAt, inputBitsAt}
 use Rattle.stages.specs.Stages.{forward}
 use Rattle.stages.specs.GainTable.{forwardGains}
 use Rattle.stages.specs.RuleLaws as RuleLaws
 use Rattle.stages.specs.Rule.{Bound, together, timesGain, ownLift, ownScale}
 use Rattle.precision.specs.Bounds.{boundAt, boundOf, entering}
 use Rattle.precision.specs.declared.Bound as Code
+use Rattle.precision.specs.declared.PassBounds.{PassBounds}
+use Rattle.precision.specs.declared.Widths.{Widths}
 use Rattle.precision.specs.Verdict.{judgedBy}
 use Rattle.precision.specs.BoundCalls.{boundNumbered}
 
@@ -99,8 +102,18 @@ module _ (t : WidthTable) (l : ℕ) (p : Pass) where
   abbrev pub ownErrorOf : ℕ → ℕ → ℕ
   ownErrorOf = ownFrom (constantBits t) (inputBits t l p) (fed t l p) (fractionBits t l p)
 
+  abbrev pub ownHere : ℕ → ℕ
+  ownHere = ownAt (constantBits t) (inputBits t l p) (fed t l p) (fractionBits t l p)
+
   abbrev pub ownsOf : ℕ → List ℕ
   ownsOf = ownsBelow (constantBits t) (inputBits t l p) (fed t l p) (fractionBits t l p)
+
+-- the own error of a place, from a pass's widths as the program holds them, where r is as above
+unfoldable pub ownBy : Widths → ℕ → ℕ → ℕ
+ownBy w k r = elim (ltb k (nodeNumber G1)) [
+  | true ↦ ownLift (getD (w .constants) (k - 1) 0) (getD (w .fractions) (multiplied k) 0) (getD (w .fractions) (other k) 0) (getD (w .fractions) k 0) r
+  | false ↦ ownScale (getD (w .constants) (k - 1) 0) (getD (w .fractions) (multiplied k) 0) (getD (w .fractions) k 0) r
+]
 
 -- a bound as the program holds it
 abbrev pub asHeld : Bound → Code.Bound
@@ -109,9 +122,9 @@ asHeld b = record { range = b .range; error = b .error }
 abbrev pub boundOfNode : WidthTable → ℕ → ℕ → ℕ → Code.Bound
 boundOfNode t l p n = asHeld (boundNumbered t l p n)
 
--- the bound at a place, from the range of what enters the pass and from what each place has of its own
-abbrev pub boundFrom : ℕ → List ℕ → ℕ → Code.Bound
-boundFrom range own place = record { range = timesGain range (gainAt 0 place); error = carriedTo own place places }
+-- the bound that it holds for a place
+abbrev pub heldAt : PassBounds → ℕ → Code.Bound
+heldAt b k = record { range = getD (b .ranges) k 0; error = getD (b .errors) k 0 }
 
 -- the verdict on a node whose bound is so held
 unfoldable pub judgedAs : Code.Bound → ℕ → ℕ → Bool → List ℕ → Answer Unit
@@ -124,11 +137,31 @@ pub record At (t : WidthTable) (l p : ℕ) : Type 0 where
   pub level-to : l ≤ t .levels
   pub pass : IsPass p
 
+-- widths within the limits
+pub record Limited (w : Widths) : Type 0 where
+  pub constant : (k : ℕ) → IsNode k → getD (w .constants) (k - 1) 0 ≤ maxConstantBits
+  pub integer : (k : ℕ) → IsNode k → (1 ≤ getD (w .integers) (k - 1) 0) × (getD (w .integers) (k - 1) 0 ≤ maxIntegerBits)
+  pub fraction : (k : ℕ) → k < places → getD (w .fractions) k 0 ≤ maxFractionBits
+
+-- the program holds the widths of the pass
+pub record Read (t : WidthTable) (l p : ℕ) (w : Widths) : Type 0 where
+  pub place : At t l p
+  pub constant : (k : ℕ) → IsNode k → getD (w .constants) (k - 1) 0 ≡ constantBitsAt t k
+  pub integer : (k : ℕ) → IsNode k → getD (w .integers) (k - 1) 0 ≡ integerBitsAt t l p k
+  pub fraction : (k : ℕ) → IsNode k → getD (w .fractions) k 0 ≡ fractionBitsAt t l p k
+  pub input : getD (w .fractions) 0 0 ≡ inputBitsAt t l p
+
 -- and b is what enters the pass; it is small, since the node that feeds it fits
 pub record Enters (t : WidthTable) (l p : ℕ) (b : Code.Bound) : Type 0 where
   pub place : At t l p
   pub is : b ≡ asHeld (fed t l (passOf p))
   pub small : b .range + b .error ≤ mostFitting
+
+-- the program holds the pass's widths, and the bounds of its nodes
+pub record Holds (t : WidthTable) (l p : ℕ) (b : PassBounds) : Type 0 where
+  pub widths : Read t l p (b .widths)
+  pub is : (k : ℕ) → IsNode k → heldAt b k ≡ boundOfNode t l p k
+  pub small : (k : ℕ) → IsNode k → heldAt b k .range + heldAt b k .error ≤ mostTotal
 
 -- the program holds bound b, and it is small enough to enter a pass
 pub record Reached (b : Bound) (held : Code.Bound) : Type 0 where

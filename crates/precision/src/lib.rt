@@ -10,11 +10,12 @@ ghost use mathlib.Core.List.{[], _∷_};
 ghost use lib.Dec.{T};
 ghost use lib.ListN.{getD, take};
 ghost use Rattle.exact.specs.Fractions.{upDiv};
+ghost use Rattle.stages.specs.GainTable.{forwardGains};
 ghost use Rattle.stages.specs.Rule.{timesGain, loss, ownLift, ownScale};
 ghost use Rattle.precision.specs.Verdict.{keptAt, judged, firstRefusal, verdict};
-ghost use Rattle.precision.specs.Places.{places, mostTotal, asHeld, gainAt, carriedTo, multiplied, other, bitsOf, ownErrorOf, ownsOf, boundOfNode, boundFrom, judgedAs, fedAfter, At, Enters, Reached};
+ghost use Rattle.precision.specs.Places.{places, mostTotal, asHeld, gainAt, multiplied, other, ownBy, heldAt, judgedAs, fedAfter, At, Limited, Read, Enters, Holds, Reached};
 ghost use Rattle.width_table.specs.Numbered.{nodeOf, passOf, IsNode, IsPass};
-ghost use Rattle.precision.specs.PlaceLaws.{largest};
+ghost use Rattle.precision.specs.PlaceLaws.{largest, largestGain};
 ghost use Rattle.precision.specs.Bounds.{entering, boundOf};
 ghost use Rattle.precision.specs.BoundCalls.{nodesBefore, boundable, boundNumbered, rangeTold, errorTold};
 ghost use Rattle.refusals.specs.Answers.{passed, refused, answered};
@@ -69,42 +70,42 @@ fn loss_of(f: u8, full: u8) -> u64
     if f < full { power(32 - f) } else { 0 }
 }
 
-// The gain from one place to another, in whole numbers of 2^-16. Place 0 is the input, places 1 to 6 are the nodes; a line for each
-// place that it comes from.
-fn gain(from: u8, to: u8) -> u64
-    requires { ⌜ (from < places) × (to < places) ⌝ }
-    ensures { λ r. ⌜ r ≡ gainAt from to ⌝ }
+// The gains from a place to each, in whole numbers of 2^-16. Place 0 is the input, places 1 to 6 are the nodes.
+fn gains_from(place: u8) -> [u64; Bound::PLACES as usize]
+    requires { ⌜ place < places ⌝ }
+    ensures { λ r. ⌜ r ≡ getD forwardGains place [] ⌝ }
 {
-    let gains: [[u64; Bound::PLACES as usize]; Bound::PLACES as usize] = [
-        [65536, 273434, 94510, 138260, 111285, 127934, 120267],
-        [0, 65536, 6945, 65536, 45749, 52593, 57008],
-        [0, 0, 65536, 115725, 168186, 193347, 100665],
-        [0, 0, 0, 65536, 58132, 66829, 57008],
-        [0, 0, 0, 0, 65536, 75341, 0],
-        [0, 0, 0, 0, 0, 65536, 0],
-        [0, 0, 0, 0, 0, 0, 65536],
-    ];
-    gains[from as usize][to as usize]
-}
-
-// A product by the gain from one place to another, rounded up by itself.
-fn times_gain(x: u64, from: u8, to: u8) -> u64
-    requires { ⌜ (x ≤ largest) × (from < places) × (to < places) ⌝ }
-    ensures { λ r. ⌜ (r ≡ timesGain x (gainAt from to)) × (r ≤ 2 ^ 48) ⌝ }
-{
-    (x * gain(from, to) + 65535) / 65536
-}
-
-// The error at a place: what each place has of its own, carried to it.
-fn error_at(own: [u64; Bound::PLACES as usize], place: u8) -> u64
-    requires { ⌜ (place < places) × ((i : ℕ) → getD own i 0 ≤ largest) ⌝ }
-    ensures { λ r. ⌜ (r ≡ carriedTo own place places) × (r ≤ places * 2 ^ 48) ⌝ }
-{
-    let mut error = 0;
-    for from in 0..Bound::PLACES {
-        error += times_gain(own[from as usize], from, place);
+    match place {
+        0 => [65536, 273434, 94510, 138260, 111285, 127934, 120267],
+        1 => [0, 65536, 6945, 65536, 45749, 52593, 57008],
+        2 => [0, 0, 65536, 115725, 168186, 193347, 100665],
+        3 => [0, 0, 0, 65536, 58132, 66829, 57008],
+        4 => [0, 0, 0, 0, 65536, 75341, 0],
+        5 => [0, 0, 0, 0, 0, 65536, 0],
+        _ => [0, 0, 0, 0, 0, 0, 65536],
     }
-    error
+}
+
+// A product by a gain, rounded up by itself.
+fn times_gain(x: u64, gain: u64) -> u64
+    requires { ⌜ (x ≤ largest) × (gain ≤ largestGain) ⌝ }
+    ensures { λ r. ⌜ (r ≡ timesGain x gain) × (r ≤ 2 ^ 48) ⌝ }
+{
+    (x * gain + 65535) / 65536
+}
+
+// The sums of all places, to each of which is added what one place has, carried to it.
+fn carry(sums: [u64; Bound::PLACES as usize], x: u64, from: u8) -> [u64; Bound::PLACES as usize]
+    requires { ⌜ (x ≤ largest) × (from < places) × ((i : ℕ) → i < places → getD sums i 0 ≤ mostTotal) ⌝ }
+    ensures { λ r. ⌜ ((i : ℕ) → i < places → getD r i 0 ≡ getD sums i 0 + timesGain x (gainAt from i)) ⌝ }
+{
+    let gains = gains_from(from);
+    let mut carried = sums;
+    for to in 0..Bound::PLACES {
+        let place = to as usize;
+        carried[place] += times_gain(x, gains[place]);
+    }
+    carried
 }
 
 // Own error of a stage P1, U1, P2, U2 whose constant has so many bits; the value that it multiplies has `multiplied` bits and `total`
@@ -125,27 +126,42 @@ fn own_scale(constant: u8, multiplied: u8, f: u8, total: u64) -> u64
     up_div(total, constant + 1) + loss_of(f, constant + multiplied)
 }
 
-// Range and error at a place, from the range of what enters the pass and from what each place has of its own.
-fn bound_at(range: u64, own: [u64; Bound::PLACES as usize], place: u8) -> Bound
-    requires { ⌜ (range ≤ largest) × (place < places) × ((i : ℕ) → getD own i 0 ≤ largest) ⌝ }
-    ensures { λ r. ⌜ (r ≡ boundFrom range own place) × (r .range + r .error ≤ mostTotal) ⌝ }
-{
-    Bound {
-        range: times_gain(range, 0, place),
-        error: error_at(own, place),
-    }
+// The widths of a pass: the bits of its constants and its nodes' integer bits, from P1 on; the fractional bits of its places.
+struct Widths {
+    constants: [u8; WidthTable::CONSTANTS],
+    integers: [u8; WidthTable::NODES as usize],
+    fractions: [u8; Bound::PLACES as usize],
 }
 
-// The fractional bits at a place of a pass.
-fn bits_at(table: WidthTable, level: u8, pass: u8, place: u8) -> u8
+// The widths of a pass, read once: each call of a method of the table would copy the whole table.
+fn widths_of(table: WidthTable, level: u8, pass: u8) -> Widths
     requires { ⌜ At table level pass ⌝ }
-    requires { ⌜ place < places ⌝ }
-    ensures { λ r. ⌜ (r ≡ bitsOf table level (passOf pass) place) × (r ≤ maxFractionBits) ⌝ }
+    ensures { λ r. ⌜ Read table level pass r ⌝ }
 {
-    if place == 0 {
-        return table.input_bits(level, pass);
+    let input = table.input_bits(level, pass);
+    let at = width_table::node_place(level, pass, WidthTable::P1);
+    let constants = table.constants;
+    let nodes = table.nodes;
+    Widths {
+        constants,
+        integers: [
+            nodes[at],
+            nodes[at + 2],
+            nodes[at + 4],
+            nodes[at + 6],
+            nodes[at + 8],
+            nodes[at + 10],
+        ],
+        fractions: [
+            input,
+            nodes[at + 1],
+            nodes[at + 3],
+            nodes[at + 5],
+            nodes[at + 7],
+            nodes[at + 9],
+            nodes[at + 11],
+        ],
     }
-    table.fraction_bits(level, pass, place)
 }
 
 // The place whose value a stage multiplies: P1 the input, G2 P2, any other stage the node before it.
@@ -168,34 +184,59 @@ fn other_place(node: u8) -> u8
 }
 
 // The own error of a stage, where `total` is the range plus error of the value that it multiplies.
-fn own_error(table: WidthTable, level: u8, pass: u8, node: u8, total: u64) -> u64
-    requires { ⌜ At table level pass ⌝ }
+fn own_error(widths: Widths, node: u8, total: u64) -> u64
+    requires { ⌜ Limited widths ⌝ }
     requires { ⌜ IsNode node ⌝ }
     requires { ⌜ total ≤ mostTotal ⌝ }
-    ensures { λ r. ⌜ r ≡ ownErrorOf table level (passOf pass) node total ⌝ }
+    ensures { λ r. ⌜ r ≡ ownBy widths node total ⌝ }
 {
-    let constant = table.constant_bits(node);
-    let multiplied = bits_at(table, level, pass, multiplied_place(node));
-    let f = bits_at(table, level, pass, node);
+    let constant = widths.constants[node as usize - 1];
+    let multiplied = widths.fractions[multiplied_place(node) as usize];
+    let f = widths.fractions[node as usize];
     if node < WidthTable::G1 {
-        let other = bits_at(table, level, pass, other_place(node));
+        let other = widths.fractions[other_place(node) as usize];
         return own_lift(constant, multiplied, other, f, total);
     }
     own_scale(constant, multiplied, f, total)
 }
 
-// What each place of a pass has of its own: the input its error, a node its own error.
-fn own_errors(table: WidthTable, level: u8, pass: u8, input: Bound) -> [u64; Bound::PLACES as usize]
+// The widths of a pass, and the ranges and errors of its places.
+struct PassBounds {
+    widths: Widths,
+    ranges: [u64; Bound::PLACES as usize],
+    errors: [u64; Bound::PLACES as usize],
+}
+
+// The bounds of a pass. What enters it is carried to each place, and so is each node's own error once those before it are.
+fn pass_bounds(table: WidthTable, level: u8, pass: u8, input: Bound) -> PassBounds
     requires { ⌜ Enters table level pass input ⌝ }
-    ensures { λ r. ⌜ r ≡ ownsOf table level (passOf pass) places ⌝ }
+    ensures { λ r. ⌜ Holds table level pass r ⌝ }
 {
-    let mut own = [0u64; Bound::PLACES as usize];
-    own[0] = input.error;
+    let widths = widths_of(table, level, pass);
+    let zeros = [0u64; Bound::PLACES as usize];
+    let ranges = carry(zeros, input.range, 0);
+    let mut errors = carry(zeros, input.error, 0);
     for node in 1..Bound::PLACES {
-        let operand = bound_at(input.range, own, multiplied_place(node));
-        own[node as usize] = own_error(table, level, pass, node, operand.range + operand.error);
+        let operand = multiplied_place(node) as usize;
+        let own = own_error(widths, node, ranges[operand] + errors[operand]);
+        errors = carry(errors, own, node);
     }
-    own
+    PassBounds {
+        widths,
+        ranges,
+        errors,
+    }
+}
+
+// The bound of a node.
+fn bound_at(bounds: PassBounds, node: u8) -> Bound
+    requires { ⌜ IsNode node ⌝ }
+    ensures { λ r. ⌜ r ≡ heldAt bounds node ⌝ }
+{
+    Bound {
+        range: bounds.ranges[node as usize],
+        error: bounds.errors[node as usize],
+    }
 }
 
 // Kept nodes are G1 and G2 of the columns, but G1 of the columns of row-low at the last level only.
@@ -239,38 +280,30 @@ fn judge_bound(bound: Bound, integer: u8, fraction: u8, kept: bool, place: NodeP
 }
 
 // The verdict on one node.
-fn judge_node(table: WidthTable, level: u8, pass: u8, node: u8, bound: Bound) -> Outcome
-    requires { ⌜ At table level pass ⌝ }
+fn judge_node(table: WidthTable, level: u8, pass: u8, node: u8, bounds: PassBounds) -> Outcome
+    requires { ⌜ Holds table level pass bounds ⌝ }
     requires { ⌜ IsNode node ⌝ }
-    requires { ⌜ (bound .range + bound .error ≤ mostTotal) × (bound ≡ boundOfNode table level pass node) ⌝ }
     ensures { λ r. ⌜ told r ≡ judged table (nodeAt level (passOf pass) (nodeOf node)) ⌝ }
 {
+    let widths = bounds.widths;
     judge_bound(
-        bound,
-        table.integer_bits(level, pass, node),
-        table.fraction_bits(level, pass, node),
+        bound_at(bounds, node),
+        widths.integers[node as usize - 1],
+        widths.fractions[node as usize],
         is_kept(table.levels, level, pass, node),
         NodePlace { level, pass, node },
     )
 }
 
 // The verdict on the first nodes of a pass, as many as `count` says; the first refusal first.
-fn judge_nodes(
-    table: WidthTable,
-    level: u8,
-    pass: u8,
-    input: Bound,
-    own: [u64; Bound::PLACES as usize],
-    count: u8,
-) -> Outcome
-    requires { ⌜ Enters table level pass input ⌝ }
-    requires { ⌜ (own ≡ ownsOf table level (passOf pass) places) × (count < places) ⌝ }
+fn judge_nodes(table: WidthTable, level: u8, pass: u8, bounds: PassBounds, count: u8) -> Outcome
+    requires { ⌜ Holds table level pass bounds ⌝ }
+    requires { ⌜ count < places ⌝ }
     ensures { λ r. ⌜ told r ≡ firstRefusal table (take count (passNodes level (passOf pass))) ⌝ }
 {
     for done in 0..count {
         let node = done + 1;
-        let bound = bound_at(input.range, own, node);
-        match judge_node(table, level, pass, node, bound) {
+        match judge_node(table, level, pass, node, bounds) {
             Outcome::Refused(why) => return Outcome::Refused(why),
             Outcome::Done => {}
         }
@@ -292,11 +325,11 @@ fn judge_pass(table: WidthTable, level: u8, pass: u8, input: Bound) -> PassAnswe
     ensures low { λ r. ⌜ r .low ≡ asHeld (boundOf table (nodeAt level (passOf pass) G1)) ⌝ }
     ensures high { λ r. ⌜ r .high ≡ asHeld (boundOf table (nodeAt level (passOf pass) G2)) ⌝ }
 {
-    let own = own_errors(table, level, pass, input);
+    let bounds = pass_bounds(table, level, pass, input);
     PassAnswer {
-        outcome: judge_nodes(table, level, pass, input, own, WidthTable::NODES),
-        low: bound_at(input.range, own, WidthTable::G1),
-        high: bound_at(input.range, own, WidthTable::G2),
+        outcome: judge_nodes(table, level, pass, bounds, WidthTable::NODES),
+        low: bound_at(bounds, WidthTable::G1),
+        high: bound_at(bounds, WidthTable::G2),
     }
 }
 
@@ -441,12 +474,12 @@ fn bound_in(table: WidthTable, level: u8, pass: u8, node: u8) -> BoundAnswer
         Outcome::Done => {}
     }
     let input = entered.bound;
-    let own = own_errors(table, level, pass, input);
-    match judge_nodes(table, level, pass, input, own, node - 1) {
+    let bounds = pass_bounds(table, level, pass, input);
+    match judge_nodes(table, level, pass, bounds, node - 1) {
         Outcome::Refused(why) => return no_bound(why),
         Outcome::Done => {}
     }
-    let bound = bound_at(input.range, own, node);
+    let bound = bound_at(bounds, node);
     BoundAnswer {
         outcome: Outcome::Done,
         range: bound.range,

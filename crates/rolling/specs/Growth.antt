@@ -151,29 +151,29 @@ module _ (F : Node → ℕ) (fi : ℕ) (f : Node → ℕ) (ok : Limits F fi f) w
     pub P1-safe : Within 16 fi own → Within 16 fi x → Within 16 fi y → Safe (sP1 F fi f) own x y
     P1-safe ho hx hy =
         step-safe P1 (F P1) fi (ok .constants P1) (ok .enters) (f P1) (ok .fractions P1) fi (ok .enters) own x y
-        (sized 16 fi own (omega arith) ho) (sized 16 fi x (omega arith) hx) (sized 16 fi y (omega arith) hy) (sized 81 (f P1) _ (omega arith) (P1-grows ho hx hy))
+        (sized 16 fi own (omega arith) ho) (sized 16 fi x (omega arith) hx) (sized 16 fi y (omega arith) hy) (sized 81 (f P1) (step (constantOf P1) (F P1) fi fi (f P1) own x y) (omega arith) (P1-grows ho hx hy))
 
     pub U1-safe : Within 16 fi own → Within 81 (f P1) x → Within 81 (f P1) y → Safe (sU1 F fi f) own x y
     U1-safe ho hx hy =
         step-safe U1 (F U1) (f P1) (ok .constants U1) (ok .fractions P1) (f U1) (ok .fractions U1) fi (ok .enters) own x y
-        (sized 16 fi own (omega arith) ho) (sized 81 (f P1) x (omega arith) hx) (sized 81 (f P1) y (omega arith) hy) (sized 38 (f U1) _ (omega arith) (U1-grows ho hx hy))
+        (sized 16 fi own (omega arith) ho) (sized 81 (f P1) x (omega arith) hx) (sized 81 (f P1) y (omega arith) hy) (sized 38 (f U1) (step (constantOf U1) (F U1) (f P1) fi (f U1) own x y) (omega arith) (U1-grows ho hx hy))
 
     pub P2-safe : Within 81 (f P1) own → Within 38 (f U1) x → Within 38 (f U1) y → Safe (sP2 F fi f) own x y
     P2-safe ho hx hy =
         step-safe P2 (F P2) (f U1) (ok .constants P2) (ok .fractions U1) (f P2) (ok .fractions P2) (f P1) (ok .fractions P1) own x y
-        (sized 81 (f P1) own (omega arith) ho) (sized 38 (f U1) x (omega arith) hx) (sized 38 (f U1) y (omega arith) hy) (sized 158 (f P2) _ (omega arith) (P2-grows ho hx hy))
+        (sized 81 (f P1) own (omega arith) ho) (sized 38 (f U1) x (omega arith) hx) (sized 38 (f U1) y (omega arith) hy) (sized 158 (f P2) (step (constantOf P2) (F P2) (f U1) (f P1) (f P2) own x y) (omega arith) (P2-grows ho hx hy))
 
     pub U2-safe : Within 38 (f U1) own → Within 158 (f P2) x → Within 158 (f P2) y → Safe (sU2 F fi f) own x y
     U2-safe ho hx hy =
         step-safe U2 (F U2) (f P2) (ok .constants U2) (ok .fractions P2) (f U2) (ok .fractions U2) (f U1) (ok .fractions U1) own x y
-        (sized 38 (f U1) own (omega arith) ho) (sized 158 (f P2) x (omega arith) hx) (sized 158 (f P2) y (omega arith) hy) (sized 197 (f U2) _ (omega arith) (U2-grows ho hx hy))
+        (sized 38 (f U1) own (omega arith) ho) (sized 158 (f P2) x (omega arith) hx) (sized 158 (f P2) y (omega arith) hy) (sized 197 (f U2) (step (constantOf U2) (F U2) (f P2) (f U1) (f U2) own x y) (omega arith) (U2-grows ho hx hy))
 
   pub G1-safe : (x : ℤ) → Within 197 (f U2) x → FactorSafe (sG1 F fi f) x
   G1-safe x h =
       scale-safe G1 (F G1) (f U2) (ok .constants G1) (ok .fractions U2) (f G1) (ok .fractions G1) x (sized 197 (f U2) x (omega arith) h)
-      (sized 395 (f G1) _ (omega arith) (scale-grows G1 (F G1) (f U2) (ok .constants G1) (f G1) 197 394 x h (omega arith)))
+      (sized 395 (f G1) (scale (constantOf G1) (F G1) (f U2) (f G1) x) (omega arith) (scale-grows G1 (F G1) (f U2) (ok .constants G1) (f G1) 197 394 x h (omega arith)))
 
   pub G2-safe : (x : ℤ) → Within 158 (f P2) x → FactorSafe (sG2 F fi f) x
   G2-safe x h =
       scale-safe G2 (F G2) (f P2) (ok .constants G2) (ok .fractions P2) (f G2) (ok .fractions G2) x (sized 158 (f P2) x (omega arith) h)
-      (sized 159 (f G2) _ (omega arith) (scale-grows G2 (F G2) (f P2) (ok .constants G2) (f G2) 158 158 x h (omega arith)))
+      (sized 159 (f G2) (scale (constantOf G2) (F G2) (f P2) (f G2) x) (omega arith) (scale-grows G2 (F G2) (f P2) (ok .constants G2) (f G2) 158 158 x h (omega arith)))

@@ -12,3 +12,5 @@ pub mod Memory
 pub mod Growth
 pub mod Rows
 pub mod SoundLaws
+pub mod Program
+pub mod ProgramLaws

@@ -178,3 +178,10 @@ module _ (w c : ℕ) (inside : c < w) where
 pub past-set : (w k : ℕ) (l : Line) (m : ℕ → ℤ) → k < heldLines → (p : ℕ) → heldLines * w ≤ p → setLine w k l m p ≡ m p
 unfolding setLine
 past-set w k l m h p i = patch-above (k * w) w l m p (omega (arith, mul-le-mul-right {m = suc k} {n = heldLines} w h))
+
+-- a line that is replaced, and another, in one column
+pub line-own : (w c : ℕ) → c < w → (k : ℕ) (l : Line) (m : ℕ → ℤ) → lineIn w (setLine w k l m) k c ≡ l c
+line-own w c i k l m = ap (λ (u : ℕ → ℤ). u k) (column-set w c i k l m) ∙ put-own k (l c) (column w c m)
+
+pub line-other : (w c : ℕ) → c < w → (j k : ℕ) (l : Line) (m : ℕ → ℤ) → ¬ (j ≡ k) → lineIn w (setLine w k l m) j c ≡ lineIn w m j c
+line-other w c i j k l m off = ap (λ (u : ℕ → ℤ). u j) (column-set w c i k l m) ∙ put-other j k (l c) (column w c m) off

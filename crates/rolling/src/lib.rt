@@ -10,6 +10,7 @@ ghost use Rattle.width_table.specs.Table.{maxFractionBits};
 ghost use Rattle.pictures.specs.Looks.{Tells};
 ghost use Rattle.irreversible.specs.LevelBits.{IsLevel};
 ghost use Rattle.rolling.specs.SoundLaws.{ColumnsSound};
+ghost use Rattle.rolling.specs.Program.{AsColumns, FirstFits, SecondFits, GiveFits, firstDone, secondDone, twoGiven, firstKept};
 ghost use Rattle.rolling.specs.Calls.{heldLines, outLines, heldIn, FiveBits, Sound, KeptFrom, beginAnswer, scanOf, goesOn, lineAnswer, endAnswer, LineCall, EndCall};
 ghost use Rattle.rolling.specs.Told.{toldGiven};
 ghost use Rattle.rolling.specs.Memory.{lineIn, setLine, moved, staged, SafeStage, scaledLine, SafeScaling, Lent, Apart};
@@ -177,4 +178,87 @@ fn make_sound(table: WidthTable, held: &mut [i32], w: usize)
         }
     }
     pictures::clear(held, 5 * w);
+}
+
+// ---- the stages of the columns
+
+// A table of one level, and its stages in row-low and in row-high columns.
+struct Columns {
+    table: WidthTable,
+    low: Stages,
+    high: Stages,
+}
+
+// The stages of the columns under a table.
+fn columns_of(table: WidthTable) -> Columns
+    requires { ⌜ IsLevel table 1 ⌝ }
+    ensures { λ r. ⌜ AsColumns r × (r .table ≡ table) ⌝ }
+{
+    Columns {
+        table,
+        low: irreversible::stages_of(table, 1, WidthTable::LOW_COLUMNS),
+        high: irreversible::stages_of(table, 1, WidthTable::HIGH_COLUMNS),
+    }
+}
+
+// P1 of the high line, whose low line after it is in line 5, and U1 of the low line before it: its P1 before is in line 2, or, of the
+// first line, is the new one in line 6.
+fn first_stages(columns: Columns, held: &mut [i32], w: usize, before: usize)
+    requires { ⌜ Lent (now held) w × AsColumns columns × FirstFits (columns .table) w before (at (now held)) ⌝ }
+    ensures { λ _. ⌜ at (now (held .exit)) ≡ firstDone (columns .table) w before (at (now (held .entry))) ⌝ }
+{
+    let low = columns.low;
+    let high = columns.high;
+    let low_pair = low.first;
+    let high_pair = high.first;
+    let low_p1 = low_pair.highs;
+    let high_p1 = high_pair.highs;
+    let low_u1 = low_pair.lows;
+    let high_u1 = high_pair.lows;
+    move_line(held, w, 6, 1);
+    stage_line(held, w, 6, 0, 5, low_p1, high_p1);
+    stage_line(held, w, 0, before, 6, low_u1, high_u1);
+}
+
+// P2 and U2 of the lines before those: the U1 after is in line `after`, the P2 before in line 4 or, of the first line, the new one in
+// line 2.
+fn second_stages(columns: Columns, held: &mut [i32], w: usize, after: usize, before: usize)
+    requires { ⌜ Lent (now held) w × AsColumns columns × SecondFits (columns .table) w after before (at (now held)) ⌝ }
+    ensures { λ _. ⌜ at (now (held .exit)) ≡ secondDone (columns .table) w after before (at (now (held .entry))) ⌝ }
+{
+    let low = columns.low;
+    let high = columns.high;
+    let low_pair = low.second;
+    let high_pair = high.second;
+    let low_p2 = low_pair.highs;
+    let high_p2 = high_pair.highs;
+    let low_u2 = low_pair.lows;
+    let high_u2 = high_pair.lows;
+    stage_line(held, w, 2, 3, after, low_p2, high_p2);
+    stage_line(held, w, 3, before, 2, low_u2, high_u2);
+}
+
+// A low line and a high line go out, to lines `place` and `place` + 1.
+fn give_two(columns: Columns, held: &[i32], out: &mut [i32], w: usize, place: usize)
+    requires { ⌜ Lent (now held) w × AsColumns columns × GiveFits (columns .table) w (at (now held)) × (place + 2 ≤ outLines) × (outLines * w ≤ length (now out)) ⌝ }
+    ensures { λ _. ⌜ at (now (out .exit)) ≡ twoGiven (columns .table) w place (at (now (held .entry))) (at (now (out .entry))) ⌝ }
+{
+    let low = columns.low;
+    let high = columns.high;
+    let low_g1 = low.low;
+    let high_g1 = high.low;
+    let low_g2 = low.high;
+    let high_g2 = high.high;
+    scale_line(held, w, 3, out, place, low_g1, high_g1);
+    scale_line(held, w, 2, out, place + 1, low_g2, high_g2);
+}
+
+// P1, U1 and the low line go to their places.
+fn keep_first(held: &mut [i32], w: usize)
+    requires { ⌜ Lent (now held) w ⌝ }
+    ensures { λ _. ⌜ at (now (held .exit)) ≡ firstKept w (at (now (held .entry))) ⌝ }
+{
+    move_line(held, w, 2, 6);
+    move_line(held, w, 3, 0);
+    move_line(held, w, 0, 5);
 }

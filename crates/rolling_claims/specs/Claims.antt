@@ -1,5 +1,5 @@
 -- The claim over calls of a rolling scan (document 02, job 5): from the start, with scan and held memory handed on as left.
-use Prim.Native.Nat.{ℕ, zero, suc, _+_, _*_, _-_, _/_, _<_, _≤_}
+use Prim.Native.Nat.{ℕ, suc, _+_, _*_, _-_, _/_, _<_, _≤_}
 use mathlib.Core.Bool.{Bool, true, false, _&&_}
 use mathlib.Core.List.{List, [], _++_}
 use mathlib.Core.Logic.{_↔_, _⊎_}
@@ -7,7 +7,7 @@ use mathlib.Core.Path.{_≡_}
 use lib.Dec.{T, ltb}
 use lib.ListN.{length, take}
 use lib.IntN.{ℤ}
-use Rattle.refusals.specs.Answers.{Reason, Answer, done, refused, passed}
+use Rattle.refusals.specs.Answers.{Reason, done, refused, passed}
 use Rattle.lines.specs.Lines.{lows, highBefore, interleaved}
 use Rattle.lines.specs.Planes.{Plane, rowByRow}
 use Rattle.width_table.specs.declared.WidthTable.{WidthTable}

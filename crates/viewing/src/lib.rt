@@ -3,7 +3,6 @@ ghost use mathlib.Core.Path.{_≡_};
 ghost use Prim.Native.Nat.{ℕ, _+_, _*_, _-_, _<_, _≤_, _^_};
 ghost use lib.IntN.{pos, negℤ, natAbs, _-ℤ_};
 ghost use lib.ListN.{length, getD};
-ghost use Rattle.numbers.specs.Floor.{floorDiv};
 ghost use Rattle.numbers.specs.Lists.{over};
 ghost use Rattle.refusals.specs.Told.{told};
 ghost use Rattle.lines.specs.Planes.{rowByRow};
@@ -160,14 +159,6 @@ fn coefficients_right(table: WidthTable, plane: &[i32], w: usize, h: usize) -> O
     }
 }
 
-// A number over a power of 2, rounded down.
-fn lowered(z: i64, cut: u8) -> i64
-    requires { ⌜ cut < 64 ⌝ }
-    ensures { λ r. ⌜ r ≡ floorDiv z (2 ^ cut) ⌝ }
-{
-    z >> cut
-}
-
 // A value in greys, rounded to the nearest, halves up: half a grey is added, what is below a grey cut off, and the middle added.
 fn greys(v: i64, depth: u8) -> i64
     requires { ⌜ (1 ≤ depth) × (depth ≤ maxDepth) × (natAbs v ≤ limit) ⌝ }
@@ -175,7 +166,7 @@ fn greys(v: i64, depth: u8) -> i64
 {
     let cut = VALUE_BITS - depth;
     let half = irreversible::power(cut - 1);
-    let whole = lowered(v + half, cut);
+    let whole = irreversible::lowered(v + half, cut);
     whole + irreversible::power(depth - 1)
 }
 

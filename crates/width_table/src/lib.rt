@@ -494,7 +494,7 @@ pub fn has_node(levels: u8, level: u8, pass: u8, node: u8) -> bool
 }
 
 // Where a node's integer bits lie.
-fn node_place(level: u8, pass: u8, node: u8) -> usize
+pub fn node_place(level: u8, pass: u8, node: u8) -> usize
     requires { ⌜ (1 ≤ level) × (level ≤ maxLevels) × IsPass pass × IsNode node ⌝ }
     ensures { λ r. ⌜ (r ≡ nodePlace level pass node) × (r + widthBytes ≤ nodeBytes maxLevels) ⌝ }
 {

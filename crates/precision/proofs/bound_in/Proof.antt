@@ -5,8 +5,8 @@ use lib.Dec.{lit≤}
 use Rattle.refusals.specs.Answers.{passed}
 use Rattle.refusals.specs.Told.{told}
 use Rattle.precision.specs.declared.Bound.{Bound}
-use Rattle.precision.specs.Places.{places, Enters}
-use Rattle.precision.specs.JudgeLaws.{at-pass, all-small, node-bound}
+use Rattle.precision.specs.Places.{Enters}
+use Rattle.precision.specs.JudgeLaws.{at-pass}
 use Rattle.precision.specs.OrderLaws.{enters, enters-level, tells, level-refuses, pass-refuses, node-answers}
 use Rattle.precision.proofs.bound_in.Statement.{statement}
 use Rattle.precision.proofs.bound_in.Tie as tie
@@ -42,7 +42,7 @@ entered c =
     enters (s .pre .0) (q .enter-pass .ensures .1 (ap told (c .enum-told2 .given .1)))
 
 judge-nodes-requires : tie.Need-judge-nodes-requires
-judge-nodes-requires c κs = (entered (c .before .before), (c .own-errors .ensures, omega arith))
+judge-nodes-requires c κs = (c .pass-bounds .ensures, omega arith)
 
 returns-3 : tie.Need-returns-3
 returns-3 c =
@@ -54,12 +54,6 @@ returns-3 c =
     let s = e .before in
     tells _ (node-answers (s .pre .0) (s .args .node) (s .pre .1) (sym (e .enter-level .ensures .0) ∙ ap told (d .enum-told .given .1)) _ (sym (q .enter-pass .ensures .0) ∙ ap told (k .enum-told2 .given .1)) (sym (j .judge-nodes .ensures) ∙ ap told (c .before .before .why .given .1))) (c .no-bound3 .ensures)
 
-bound-at-requires : tie.Need-bound-at-requires
-bound-at-requires c κs =
-    let o = c .before .before .before in
-    let h = entered (o .before .before) in
-    (omega (arith, h .small), omega arith, all-small h places (o .own-errors .ensures))
-
 returns-4 : tie.Need-returns-4
 returns-4 c =
     let j = c .before .before .before in
@@ -69,7 +63,7 @@ returns-4 c =
     let d = q .before in
     let e = d .before .before in
     let s = e .before in
-    let is = c .bound-at .ensures .0 ∙ node-bound (entered k) (s .args .node) (s .pre .1) (o .own-errors .ensures) in
+    let is = c .bound-at .ensures ∙ o .pass-bounds .ensures .is (s .args .node) (s .pre .1) in
     tells _ (node-answers (s .pre .0) (s .args .node) (s .pre .1) (sym (e .enter-level .ensures .0) ∙ ap told (d .enum-told .given .1)) passed (sym (q .enter-pass .ensures .0) ∙ ap told (k .enum-told2 .given .1)) (sym (j .judge-nodes .ensures) ∙ ap told (c .before .enum-told3 .given .1)))
     (refl, (ap (λ (b : Bound). b .range) is, ap (λ (b : Bound). b .error) is))
 
@@ -96,5 +90,5 @@ bound-in-spec =
     (λ c κs. tt)
     returns-3
     (λ c. search needs)
-    bound-at-requires
+    (λ c κs. omega arith)
     returns-4)

@@ -8,44 +8,31 @@ use Rattle.refusals.specs.Told.{told}
 use Rattle.width_table.specs.Nodes.{passNodes}
 use Rattle.width_table.specs.Numbered.{passOf}
 use Rattle.precision.specs.Verdict.{firstRefusal}
-use Rattle.precision.specs.Places.{places}
-use Rattle.precision.specs.JudgeLaws.{all-small, node-bound}
 use Rattle.precision.specs.OrderLaws.{node-next, stays}
 use Rattle.precision.proofs.judge_nodes.Statement.{statement}
 use Rattle.precision.proofs.judge_nodes.Tie as tie
 
 abbrev Inv-loop : tie.InvT-loop
-Inv-loop table level pass input own count done₀ done = (done ≤ count) × (firstRefusal table (take done (passNodes level (passOf pass))) ≡ passed)
+Inv-loop table level pass bounds count done₀ done = (done ≤ count) × (firstRefusal table (take done (passNodes level (passOf pass))) ≡ passed)
 
 abbrev μ-loop : tie.MeasureT-loop
-μ-loop table level pass input own count done₀ done = count - done
+μ-loop table level pass bounds count done₀ done = count - done
 
 loop-holds : tie.Need-loop-holds Inv-loop μ-loop
 unfolding firstRefusal
 loop-holds c = (omega arith, refl)
 
-bound-at-requires : tie.Need-bound-at-requires Inv-loop μ-loop
-bound-at-requires c κs =
-    let s = c .before .before in
-    (omega (arith, s .pre .0 .small), omega arith, all-small (s .pre .0) places (s .pre .1 .0))
-
-judge-node-requires : tie.Need-judge-node-requires Inv-loop μ-loop
-judge-node-requires c κs =
-    let i = c .before .before in
-    let s = i .before in
-    (s .pre .0 .place, (omega arith, (c .bound-at .ensures .1, c .bound-at .ensures .0 ∙ node-bound (s .pre .0) _ (omega arith) (s .pre .1 .0))))
-
 returns : tie.Need-returns Inv-loop μ-loop
 returns c =
     let n = c .before .before .before in
-    let i = n .before .before .before in
+    let i = n .before .before in
     let a = i .before .args in
     sym (stays (a .table) _ (passNodes (a .level) (passOf (a .pass))) (i .loop .done + 1) (a .count) (omega arith) (node-next (a .table) (a .level) (passOf (a .pass)) (i .loop .done) (omega arith) (i .loop .inv .1) ∙ sym (n .judge-node .ensures) ∙ ap told (c .before .why .given .1)))
 
 loop-again : tie.Need-loop-again Inv-loop μ-loop
 loop-again c =
     let n = c .before .before in
-    let i = n .before .before .before in
+    let i = n .before .before in
     let a = i .before .args in
     (omega arith, node-next (a .table) (a .level) (passOf (a .pass)) (i .loop .done) (omega arith) (i .loop .inv .1) ∙ sym (n .judge-node .ensures) ∙ ap told (c .enum-told .given .1))
 
@@ -63,8 +50,7 @@ judge-nodes-spec =
     μ-loop
     loop-holds
     (λ c. omega arith)
-    bound-at-requires
-    judge-node-requires
+    (λ c κs. (c .before .before .pre .0, omega arith))
     (λ c. search needs)
     returns
     (λ c. search needs)

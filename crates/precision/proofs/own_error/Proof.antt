@@ -1,70 +1,80 @@
-use mathlib.Core.Path.{_∙_, ap}
+use Prim.Native.Nat.{ℕ, _-_, _<_}
+use mathlib.Core.Bool.{Bool, true, false}
+use mathlib.Core.Path.{_≡_, sym, _∙_, ap, ap₂}
 use native.Mathlib.Omega.{arith}
-use Rattle.width_table.specs.Table.{constantBits, fractionBits, inputBits}
-use Rattle.precision.specs.Places.{fed, bitsOf}
-use Rattle.width_table.specs.Numbered.{passOf}
-use Rattle.precision.specs.PlaceLaws.{own-lifts, own-scales, multiplied-place}
-use Rattle.width_table.specs.Limits.{constant-read}
+use borrow.Author.Needs.{needs}
+use lib.Dec.{ltb}
+use lib.ListN.{getD}
+use Rattle.numbers.specs.Tests.{ltb-true, ltb-false}
+use Rattle.width_table.specs.Nodes.{G1, nodeNumber}
+use Rattle.stages.specs.Rule.{ownLift, ownScale}
+use Rattle.precision.specs.declared.Widths.{Widths}
+use Rattle.precision.specs.Places.{places, multiplied, other, ownBy}
+use Rattle.precision.specs.PlaceLaws.{multiplied-place}
 use Rattle.precision.proofs.own_error.Statement.{statement}
 use Rattle.precision.proofs.own_error.Tie as tie
 
-bits-at-requires : tie.Need-bits-at-requires
-bits-at-requires c κs =
-    let s = c .before .before in
-    (s .pre .0, omega (arith, c .multiplied-place .ensures, multiplied-place (s .args .node) (s .pre .1 .0)))
+-- the own error by the test of its node
+module _ (w : Widths) (k r : ℕ) where
+  abbrev chosen : Bool → ℕ
+  chosen t = elim t [
+    | true ↦ ownLift (getD (w .constants) (k - 1) 0) (getD (w .fractions) (multiplied k) 0) (getD (w .fractions) (other k) 0) (getD (w .fractions) k 0) r
+    | false ↦ ownScale (getD (w .constants) (k - 1) 0) (getD (w .fractions) (multiplied k) 0) (getD (w .fractions) k 0) r
+  ]
 
-bits-at-requires-3 : tie.Need-bits-at-requires-3
-bits-at-requires-3 c κs = (c .before .before .before .before .before .before .pre .0, omega arith)
+  chosen-is : (t : Bool) → ltb k (nodeNumber G1) ≡ t → chosen t ≡ ownBy w k r
+  unfolding ownBy
+  chosen-is t e = sym (ap chosen e)
+
+operand : (c : tie.After-multiplied-place) → c .multiplied-place .result < places
+operand c = let s = c .before .before in omega (arith, c .multiplied-place .ensures, multiplied-place (s .args .node) (s .pre .1 .0))
 
 own-lift-requires : tie.Need-own-lift-requires
 own-lift-requires c κs =
-    let s = c .before .before .before .before .before .before .before in
-    omega (arith, s .pre, c .before .before .before .before .before .before .constant-bits .ensures, constant-read (s .args .table) (s .pre .0 .form) (s .args .node) (s .pre .1 .0))
+    let m = c .before .before .before .before .before in
+    let s = m .before .before in
+    let l = s .pre .0 in
+    (l .constant (s .args .node) (s .pre .1 .0), l .fraction (m .multiplied-place .result) (operand m), l .fraction (s .args .node) (omega arith), s .pre .1 .1)
 
 returns : tie.Need-returns
 returns c =
-    let m = c .before .before .before .before .before in
-    let k = m .before .before in
-    let s = k .before in
-    let a = s .args in
-    let bits = bitsOf (a .table) (a .level) (passOf (a .pass)) in
+    let o = c .before .before in
+    let m = o .before .before .before .before in
+    let a = m .before .before .args in
+    let f : ℕ → ℕ = λ k. getD (a .t1 .fractions) k 0 in
     c .own-lift .ensures
-    ∙ own-lifts (constantBits (a .table)) (inputBits (a .table) (a .level) (passOf (a .pass))) (fed (a .table) (a .level) (passOf (a .pass))) (fractionBits (a .table) (a .level) (passOf (a .pass))) (a .node) (a .total)
-    (c .before .before .before .if1 .taken)
-    (k .constant-bits .ensures ∙ constant-read (a .table) (s .pre .0 .form) (a .node) (s .pre .1 .0) .0)
-    (m .bits-at .ensures .0 ∙ ap bits (m .before .multiplied-place .ensures))
-    (c .before .bits-at3 .ensures .0 ∙ ap bits (c .before .before .other-place .ensures))
-    (c .before .before .before .before .bits-at2 .ensures .0)
+    ∙ ap₂ (λ (x y : ℕ). ownLift (getD (a .t1 .constants) (a .node - 1) 0) (f x) (f y) (f (a .node)) (a .total)) (m .multiplied-place .ensures) (o .other-place .ensures)
+    ∙ chosen-is (a .t1) (a .node) (a .total) true (ltb-true (a .node) (nodeNumber G1) (o .before .if1 .taken))
 
 own-scale-requires : tie.Need-own-scale-requires
 own-scale-requires c κs =
-    let s = c .before .before .before .before .before in
-    omega (arith, s .pre, c .before .before .before .before .constant-bits .ensures, constant-read (s .args .table) (s .pre .0 .form) (s .args .node) (s .pre .1 .0))
+    let m = c .before .before .before in
+    let s = m .before .before in
+    let l = s .pre .0 in
+    (l .constant (s .args .node) (s .pre .1 .0), l .fraction (m .multiplied-place .result) (operand m), l .fraction (s .args .node) (omega arith), s .pre .1 .1)
 
 returns-2 : tie.Need-returns-2
 returns-2 c =
-    let m = c .before .before .before in
-    let k = m .before .before in
-    let s = k .before in
-    let a = s .args in
-    let bits = bitsOf (a .table) (a .level) (passOf (a .pass)) in
+    let m = c .before .before .before .before in
+    let a = m .before .before .args in
+    let f : ℕ → ℕ = λ k. getD (a .t1 .fractions) k 0 in
     c .own-scale .ensures
-    ∙ own-scales (constantBits (a .table)) (inputBits (a .table) (a .level) (passOf (a .pass))) (fed (a .table) (a .level) (passOf (a .pass))) (fractionBits (a .table) (a .level) (passOf (a .pass))) (a .node) (a .total)
-    (c .before .if1 .left)
-    (k .constant-bits .ensures ∙ constant-read (a .table) (s .pre .0 .form) (a .node) (s .pre .1 .0) .0)
-    (m .bits-at .ensures .0 ∙ ap bits (m .before .multiplied-place .ensures))
-    (c .before .before .bits-at2 .ensures .0)
+    ∙ ap (λ (x : ℕ). ownScale (getD (a .t1 .constants) (a .node - 1) 0) (f x) (f (a .node)) (a .total)) (m .multiplied-place .ensures)
+    ∙ chosen-is (a .t1) (a .node) (a .total) false (ltb-false (a .node) (nodeNumber G1) (c .before .if1 .left))
 
 pub own-error-spec : {M : Type 1} → statement M
 own-error-spec =
     tie.close
     (tie.spec
-    (λ c κs. tt)
-    (λ c κs. omega arith)
-    bits-at-requires
-    (λ c κs. (c .before .before .before .pre .0, omega arith))
-    (λ c κs. tt)
-    bits-at-requires-3
+    (λ c. search needs)
+    (λ c. search needs)
+    (λ c κs. search needs)
+    (λ c. search needs)
+    (λ c. omega (arith, operand c))
+    (λ c. search needs)
+    (λ c κs. search needs)
+    (λ c. search needs)
+    (λ c. search needs)
     own-lift-requires
     returns
     own-scale-requires

@@ -1,19 +1,17 @@
 use Prim.Native.Nat.{_*_, _≤_}
-use mathlib.Core.Path.{ap}
 use native.Mathlib.Omega.{arith}
 use Rattle.exact.specs.Fractions.{upDiv}
 use Rattle.stages.specs.Rule.{timesGain}
-use Rattle.precision.specs.PlaceLaws.{gain-most, product-most, largest}
+use Rattle.precision.specs.PlaceLaws.{product-most, largest, largestGain}
 use Rattle.precision.proofs.times_gain.Statement.{statement}
 use Rattle.precision.proofs.times_gain.Tie as tie
 
--- the product is that of a gain
-product : (c : tie.After-gain) → c .before .args .x * c .gain .result ≤ largest * 273434
-product c = product-most (c .before .args .x) (c .gain .result) (c .before .pre .0) (omega (arith, gain-most (c .before .args .from) (c .before .args .to)))
+product : (c : tie.Start) → c .args .x * c .args .gain ≤ largest * largestGain
+product c = product-most (c .args .x) (c .args .gain) (c .pre .0) (c .pre .1)
 
 returns : tie.Need-returns
 unfolding timesGain upDiv
-returns c = omega (arith, product c, ap (λ g. c .before .args .x * g) (c .gain .ensures))
+returns c = omega (arith, product c)
 
 pub times-gain-spec : {M : Type 1} → statement M
-times-gain-spec = tie.close (tie.spec (λ c κs. omega arith) (λ c. omega (arith, product c)) (λ c. omega (arith, product c)) returns)
+times-gain-spec = tie.close (tie.spec (λ c. omega (arith, product c)) (λ c. omega (arith, product c)) returns)

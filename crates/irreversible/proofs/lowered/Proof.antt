@@ -1,5 +1,3 @@
--- `viewing::lowered` meets its contract: what the shift leaves is no larger.
--- Assumes nothing.
 use mathlib.Core.Path.{_∙_, ap}
 use Prim.Native.Nat.{_^_}
 use borrow.Author.Needs.{needs}
@@ -9,9 +7,10 @@ use mir.Syntax.{w64}
 use mir.ValLaws.{sfits-le}
 use mir.Facts.{toZ-ofZ}
 use Rattle.numbers.specs.Auto.{rd}
-use Rattle.viewing.proofs.lowered.Statement.{statement}
-use Rattle.viewing.proofs.lowered.Tie as tie
+use Rattle.irreversible.proofs.lowered.Statement.{statement}
+use Rattle.irreversible.proofs.lowered.Tie as tie
 
+-- what the shift leaves is no larger
 returns : tie.Need-returns
 returns c =
     let m = 2 ^ c .args .cut in

@@ -1,0 +1,218 @@
+-- For the code: the stages of a low line and of the end as changes of lines in memory, and that each may be taken.
+use Prim.Native.Nat.{ℕ, _+_, _*_, _<_, _≤_}
+use mathlib.Core.Bool.{Bool, true, false, cond}
+use mathlib.Core.Logic.{_⊎_, inl, inr}
+use mathlib.Core.Path.{_≡_, sym, _∙_, ap, subst, fun-ext}
+use native.Mathlib.Omega.{arith}
+use lib.Dec.{ltb}
+use lib.IntN.{ℤ, natAbs}
+use Rattle.exact.specs.Exact.{alpha, beta, gamma, delta, zeta, zetaInverse}
+use Rattle.lines.specs.Lines.{lows}
+use Rattle.width_table.specs.Nodes.{Node, P1, U1, P2, U2, G1, G2, Pass, LowColumns, HighColumns, columnPass}
+use Rattle.width_table.specs.declared.WidthTable.{WidthTable}
+use Rattle.width_table.specs.Table.{constantBits, fractionBits, inputBits}
+use Rattle.lifting.specs.declared.Step.{Step}
+use Rattle.lifting.specs.declared.Factor.{Factor}
+use Rattle.lifting.specs.Steps.{Same, SameFactor}
+use Rattle.precision.specs.Promise.{promise}
+use Rattle.irreversible.specs.StepLaws.{step-applied, scale-applied}
+use Rattle.irreversible.specs.KernelLaws.{sP1, sU1, sP2, sU2, sG1, sG2}
+use Rattle.irreversible.specs.SafeLaws.{Limits}
+use Rattle.irreversible.specs.StagesLaws.{AsStages}
+use Rattle.irreversible.specs.LevelBits.{IsLevel}
+use Rattle.irreversible.specs.LevelsLaws.{bits-right}
+use Rattle.rolling.specs.declared.Columns.{Columns}
+use Rattle.rolling.specs.Schedule.{Line, passOf, lineP1, lineU1, lineP2, lineU2, lineG1, lineG2}
+use Rattle.rolling.specs.Growth.{Within, P1-grows, U1-grows, P2-grows, U2-grows, P1-safe, U1-safe, P2-safe, U2-safe, G1-safe, G2-safe}
+use Rattle.rolling.specs.Memory.{lineIn, setLine, moved, pick, onLines, SafeLines, scaledLine, SafeScaling, line-own, line-other}
+
+-- the stages of both kinds of columns are those of a table of one level
+pub record AsColumns (c : Columns) : Type 0 where
+  pub is-level : IsLevel (c .table) 1
+  pub low : AsStages (c .table) 1 LowColumns (c .low)
+  pub high : AsStages (c .table) 1 HighColumns (c .high)
+
+-- ---- lines within limits
+
+-- at most b in magnitude, at bits that go by the column's pass
+abbrev pub LineWithin : ℕ → (Pass → ℕ) → ℕ → Line → Type 0
+LineWithin b f w l = (c : ℕ) → c < w → Within b (f (passOf w c)) (l c)
+
+module _ (t : WidthTable) (w : ℕ) where
+  -- lines that enter the columns, and lines that a stage left
+  abbrev pub Enters : Line → Type 0
+  Enters = LineWithin 16 (inputBits t 1) w
+
+  abbrev pub FromP1 : Line → Type 0
+  FromP1 = LineWithin 81 (λ p. fractionBits t 1 p P1) w
+
+  abbrev pub FromU1 : Line → Type 0
+  FromU1 = LineWithin 38 (λ p. fractionBits t 1 p U1) w
+
+  abbrev pub FromP2 : Line → Type 0
+  FromP2 = LineWithin 158 (λ p. fractionBits t 1 p P2) w
+
+  abbrev pub FromU2 : Line → Type 0
+  FromU2 = LineWithin 197 (λ p. fractionBits t 1 p U2) w
+
+-- of lines in memory: the one that is replaced, and another
+module _ (b : ℕ) (f : Pass → ℕ) (w k : ℕ) (l : Line) (m : ℕ → ℤ) where
+  pub own-within : LineWithin b f w l → LineWithin b f w (lineIn w (setLine w k l m) k)
+  own-within h c i = subst (Within b (f (passOf w c))) (sym (line-own w c i k l m)) (h c i)
+
+  pub other-within : (j : ℕ) → ¬ (j ≡ k) → LineWithin b f w (lineIn w m j) → LineWithin b f w (lineIn w (setLine w k l m) j)
+  other-within j off h c i = subst (Within b (f (passOf w c))) (sym (line-other w c i j k l m off)) (h c i)
+
+-- ---- the stages
+
+-- the form of either kind of columns does what the stage of the column's pass does
+same-at : (stage : Pass → Step) (low high : Step) → Same (stage LowColumns) low → Same (stage HighColumns) high → (q : Bool) → Same (stage (columnPass q)) (cond q low high)
+same-at stage low high a b true = a
+same-at stage low high a b false = b
+
+same-factor-at : (stage : Pass → Factor) (low high : Factor) → SameFactor (stage LowColumns) low → SameFactor (stage HighColumns) high → (q : Bool) → SameFactor (stage (columnPass q)) (cond q low high)
+same-factor-at stage low high a b true = a
+same-factor-at stage low high a b false = b
+
+module _ (cs : Columns) (stages : AsColumns cs) (w : ℕ) where
+  abbrev t : WidthTable
+  t = cs .table
+
+  abbrev F : Node → ℕ
+  F = constantBits t
+
+  limits : (p : Pass) → Limits F (inputBits t 1 p) (fractionBits t 1 p)
+  limits p = bits-right t (promise t (stages .is-level .accepted)) 1 (stages .is-level .least) (stages .is-level .most) p
+
+  module _ (own a b : Line) where
+    pub P1-within : Enters t w own → Enters t w a → Enters t w b → FromP1 t w (lineP1 t w own a b)
+    unfolding lineP1
+    P1-within ho ha hb c i = P1-grows F _ _ (limits (passOf w c)) (own c) (a c) (b c) (ho c i) (ha c i) (hb c i)
+
+    pub U1-within : Enters t w own → FromP1 t w a → FromP1 t w b → FromU1 t w (lineU1 t w own a b)
+    unfolding lineU1
+    U1-within ho ha hb c i = U1-grows F _ _ (limits (passOf w c)) (own c) (a c) (b c) (ho c i) (ha c i) (hb c i)
+
+    pub P2-within : FromP1 t w own → FromU1 t w a → FromU1 t w b → FromP2 t w (lineP2 t w own a b)
+    unfolding lineP2
+    P2-within ho ha hb c i = P2-grows F _ _ (limits (passOf w c)) (own c) (a c) (b c) (ho c i) (ha c i) (hb c i)
+
+    pub U2-within : FromU1 t w own → FromP2 t w a → FromP2 t w b → FromU2 t w (lineU2 t w own a b)
+    unfolding lineU2
+    U2-within ho ha hb c i = U2-grows F _ _ (limits (passOf w c)) (own c) (a c) (b c) (ho c i) (ha c i) (hb c i)
+
+    -- what the forms make of lines, and that they may be taken
+    pub P1-line : onLines (cs .low .first .highs) (cs .high .first .highs) w own a b ≡ lineP1 t w own a b
+    unfolding lineP1
+    P1-line = fun-ext λ c.
+        same-at (λ p. sP1 F (inputBits t 1 p) (fractionBits t 1 p)) _ _ (stages .low .first .on-highs) (stages .high .first .on-highs) (ltb c (lows w)) .same (own c) (a c) (b c)
+        ∙ step-applied alpha (F P1) _ _ _ (own c) (a c) (b c)
+
+    pub P1-may : Enters t w own → Enters t w a → Enters t w b → SafeLines (cs .low .first .highs) (cs .high .first .highs) w own a b
+    P1-may ho ha hb c i =
+        same-at (λ p. sP1 F (inputBits t 1 p) (fractionBits t 1 p)) _ _ (stages .low .first .on-highs) (stages .high .first .on-highs) (ltb c (lows w)) .safe (own c) (a c) (b c)
+        (P1-safe F _ _ (limits (passOf w c)) (own c) (a c) (b c) (ho c i) (ha c i) (hb c i))
+
+    pub U1-line : onLines (cs .low .first .lows) (cs .high .first .lows) w own a b ≡ lineU1 t w own a b
+    unfolding lineU1
+    U1-line = fun-ext λ c.
+        same-at (λ p. sU1 F (inputBits t 1 p) (fractionBits t 1 p)) _ _ (stages .low .first .on-lows) (stages .high .first .on-lows) (ltb c (lows w)) .same (own c) (a c) (b c)
+        ∙ step-applied beta (F U1) _ _ _ (own c) (a c) (b c)
+
+    pub U1-may : Enters t w own → FromP1 t w a → FromP1 t w b → SafeLines (cs .low .first .lows) (cs .high .first .lows) w own a b
+    U1-may ho ha hb c i =
+        same-at (λ p. sU1 F (inputBits t 1 p) (fractionBits t 1 p)) _ _ (stages .low .first .on-lows) (stages .high .first .on-lows) (ltb c (lows w)) .safe (own c) (a c) (b c)
+        (U1-safe F _ _ (limits (passOf w c)) (own c) (a c) (b c) (ho c i) (ha c i) (hb c i))
+
+    pub P2-line : onLines (cs .low .second .highs) (cs .high .second .highs) w own a b ≡ lineP2 t w own a b
+    unfolding lineP2
+    P2-line = fun-ext λ c.
+        same-at (λ p. sP2 F (inputBits t 1 p) (fractionBits t 1 p)) _ _ (stages .low .second .on-highs) (stages .high .second .on-highs) (ltb c (lows w)) .same (own c) (a c) (b c)
+        ∙ step-applied gamma (F P2) _ _ _ (own c) (a c) (b c)
+
+    pub P2-may : FromP1 t w own → FromU1 t w a → FromU1 t w b → SafeLines (cs .low .second .highs) (cs .high .second .highs) w own a b
+    P2-may ho ha hb c i =
+        same-at (λ p. sP2 F (inputBits t 1 p) (fractionBits t 1 p)) _ _ (stages .low .second .on-highs) (stages .high .second .on-highs) (ltb c (lows w)) .safe (own c) (a c) (b c)
+        (P2-safe F _ _ (limits (passOf w c)) (own c) (a c) (b c) (ho c i) (ha c i) (hb c i))
+
+    pub U2-line : onLines (cs .low .second .lows) (cs .high .second .lows) w own a b ≡ lineU2 t w own a b
+    unfolding lineU2
+    U2-line = fun-ext λ c.
+        same-at (λ p. sU2 F (inputBits t 1 p) (fractionBits t 1 p)) _ _ (stages .low .second .on-lows) (stages .high .second .on-lows) (ltb c (lows w)) .same (own c) (a c) (b c)
+        ∙ step-applied delta (F U2) _ _ _ (own c) (a c) (b c)
+
+    pub U2-may : FromU1 t w own → FromP2 t w a → FromP2 t w b → SafeLines (cs .low .second .lows) (cs .high .second .lows) w own a b
+    U2-may ho ha hb c i =
+        same-at (λ p. sU2 F (inputBits t 1 p) (fractionBits t 1 p)) _ _ (stages .low .second .on-lows) (stages .high .second .on-lows) (ltb c (lows w)) .safe (own c) (a c) (b c)
+        (U2-safe F _ _ (limits (passOf w c)) (own c) (a c) (b c) (ho c i) (ha c i) (hb c i))
+
+  module _ (x : Line) where
+    pub G1-line : scaledLine (cs .low .low) (cs .high .low) w x ≡ lineG1 t w x
+    unfolding lineG1
+    G1-line = fun-ext λ c.
+        same-factor-at (λ p. sG1 F (inputBits t 1 p) (fractionBits t 1 p)) _ _ (stages .low .low) (stages .high .low) (ltb c (lows w)) .same (x c) ∙ scale-applied zeta (F G1) _ _ (x c)
+
+    pub G1-may : FromU2 t w x → SafeScaling (cs .low .low) (cs .high .low) w x
+    G1-may h c i =
+        same-factor-at (λ p. sG1 F (inputBits t 1 p) (fractionBits t 1 p)) _ _ (stages .low .low) (stages .high .low) (ltb c (lows w)) .safe (x c) (G1-safe F _ _ (limits (passOf w c)) (x c) (h c i))
+
+    pub G2-line : scaledLine (cs .low .high) (cs .high .high) w x ≡ lineG2 t w x
+    unfolding lineG2
+    G2-line = fun-ext λ c.
+        same-factor-at (λ p. sG2 F (inputBits t 1 p) (fractionBits t 1 p)) _ _ (stages .low .high) (stages .high .high) (ltb c (lows w)) .same (x c) ∙ scale-applied zetaInverse (F G2) _ _ (x c)
+
+    pub G2-may : FromP2 t w x → SafeScaling (cs .low .high) (cs .high .high) w x
+    G2-may h c i =
+        same-factor-at (λ p. sG2 F (inputBits t 1 p) (fractionBits t 1 p)) _ _ (stages .low .high) (stages .high .high) (ltb c (lows w)) .safe (x c) (G2-safe F _ _ (limits (passOf w c)) (x c) (h c i))
+
+-- ---- lines in memory
+
+-- P1, U1 and the low line go to their places
+abbrev pub firstKept : ℕ → (ℕ → ℤ) → ℕ → ℤ
+firstKept w m = moved w 0 5 (moved w 3 0 (moved w 2 6 m))
+
+module _ (t : WidthTable) (w : ℕ) where
+  -- line `own` becomes what a stage makes of it, with lines a and b beside it
+  abbrev pub setP1 : ℕ → ℕ → ℕ → (ℕ → ℤ) → ℕ → ℤ
+  setP1 own a b m = setLine w own (lineP1 t w (lineIn w m own) (lineIn w m a) (lineIn w m b)) m
+
+  abbrev pub setU1 : ℕ → ℕ → ℕ → (ℕ → ℤ) → ℕ → ℤ
+  setU1 own a b m = setLine w own (lineU1 t w (lineIn w m own) (lineIn w m a) (lineIn w m b)) m
+
+  abbrev pub setP2 : ℕ → ℕ → ℕ → (ℕ → ℤ) → ℕ → ℤ
+  setP2 own a b m = setLine w own (lineP2 t w (lineIn w m own) (lineIn w m a) (lineIn w m b)) m
+
+  abbrev pub setU2 : ℕ → ℕ → ℕ → (ℕ → ℤ) → ℕ → ℤ
+  setU2 own a b m = setLine w own (lineU2 t w (lineIn w m own) (lineIn w m a) (lineIn w m b)) m
+
+  -- P1 of the high line, in line 6, with the low line in line 5 after it; U1 of the low line before it, whose P1 before is in line `before`
+  abbrev pub firstDone : ℕ → (ℕ → ℤ) → ℕ → ℤ
+  firstDone before m = setU1 0 before 6 (setP1 6 0 5 (moved w 6 1 m))
+
+  -- P2 in line 2, whose U1 after is in line `after`; U2 in line 3, whose P2 before is in line `before`
+  abbrev pub secondDone : ℕ → ℕ → (ℕ → ℤ) → ℕ → ℤ
+  secondDone after before m = setU2 3 before 2 (setP2 2 3 after m)
+
+  -- lines 3 and 2, scaled, become lines `place` and `place` + 1 of the output
+  abbrev pub twoGiven : ℕ → (ℕ → ℤ) → (ℕ → ℤ) → ℕ → ℤ
+  twoGiven place m out = setLine w (place + 1) (lineG2 t w (lineIn w m 2)) (setLine w place (lineG1 t w (lineIn w m 3)) out)
+
+  -- what the first stages, the second ones and the scalings take
+  pub record FirstFits (before : ℕ) (m : ℕ → ℤ) : Type 0 where
+    pub low : Enters t w (lineIn w m 0)
+    pub high : Enters t w (lineIn w m 1)
+    pub row : Enters t w (lineIn w m 5)
+    pub p1 : FromP1 t w (lineIn w m 2)
+    pub which : (before ≡ 2) ⊎ (before ≡ 6)
+
+  pub record SecondFits (after before : ℕ) (m : ℕ → ℤ) : Type 0 where
+    pub p1 : FromP1 t w (lineIn w m 2)
+    pub u1 : FromU1 t w (lineIn w m 3)
+    pub next : FromU1 t w (lineIn w m after)
+    pub p2 : FromP2 t w (lineIn w m 4)
+    pub after-is : (after ≡ 0) ⊎ (after ≡ 3)
+    pub before-is : (before ≡ 2) ⊎ (before ≡ 4)
+
+  pub record GiveFits (m : ℕ → ℤ) : Type 0 where
+    pub u2 : FromU2 t w (lineIn w m 3)
+    pub p2 : FromP2 t w (lineIn w m 2)

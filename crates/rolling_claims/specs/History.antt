@@ -1,0 +1,485 @@
+-- What a call says that is accepted, and what holds after any calls of a scan, by induction over them (`facts`).
+use Prim.Native.Nat.{ℕ, zero, suc, _+_, _*_, _-_, _/_, _%_, _^_, _<_, _≤_}
+use mathlib.Core.Bool.{Bool, true, false, not, _&&_, _||_}
+use mathlib.Core.List.{List, [], _++_, append-assoc, append-nil}
+use mathlib.Core.Path.{_≡_, refl, sym, _∙_, ap, subst}
+use native.Mathlib.Omega.{arith}
+use native.Mathlib.Nat.{mul-comm}
+use native.Mathlib.Decide.{decLt}
+use lib.Dec.{T, eqb, eqb→eq, eqb-refl}
+use lib.ListN.{length, getD, take, length-append, List·getD-append, List·getD-eq-default}
+use lib.Seq.{getD-append-add, getD-take, length-take-le}
+use lib.Pow.{pow-pos}
+use lib.IntN.{ℤ}
+use Rattle.numbers.specs.Tests.{both, and-intro}
+use Rattle.refusals.specs.Answers.{Reason, Answer, done, refused, passed, answered}
+use Rattle.refusals.specs.AnswerLaws.{asks-done, asks-right, then-done, then-right, gives-done, gives-refused, answered-done, answered-refused}
+use Rattle.lines.specs.Planes.{Plane, tabulate, rowByRow}
+use Rattle.lines.specs.RowLaws.{rows-length}
+use Rattle.width_table.specs.declared.WidthTable.{WidthTable}
+use Rattle.pictures.specs.Pictures.{sideRight, Admitted, holds}
+use Rattle.pictures.specs.PictureLaws.{side-is, side-right, holds-done, holds-right, pixels-done, pixels-right, pixel-below, over-take}
+use Rattle.precision.specs.Verdict.{Accepted}
+use Rattle.irreversible.specs.Claims.{Strip}
+use Rattle.irreversible.specs.Transforms.{fixedPlane}
+use Rattle.rolling.specs.declared.Taken.{Taken}
+use Rattle.rolling.specs.declared.Taken.the-variants.{Zero, One, Two, Three, Four, OddMany, EvenMany}
+use Rattle.rolling.specs.declared.Scan.{Scan}
+use Rattle.rolling.specs.Schedule.{Line, Held, next, anyTaken, twoTaken, evenTaken, stacked, heldAfter, lineGives, endGives}
+use Rattle.rolling.specs.Calls.{SameHeld, Sound, beginAnswer, scanOf, goesOn, heldLines, outLines, heldIn, outAfter, lineAnswer, workedRow, givenByLine, scanAfter, LineCall, endAnswer, givenByEnd, scanEnded, EndCall}
+use Rattle.rolling.specs.Small.{strip-one, row-five, column-five}
+use Rattle.rolling_claims.specs.Claims.{Calls, begun, line, line-refused, end, end-refused, ready, inTurn, firstLines}
+use Rattle.rolling_claims.specs.Column.{Holding, zero-lines, holding-same, holding-next, line-due, end-due, SoundAt, holding-sound}
+use Rattle.rolling_claims.specs.Turns.{rows-join, rowsOf, row-is, turn-is}
+
+-- ---- how many lines
+
+-- n lines, as far as it matters
+pub data Count : ℕ → Taken → Type 0 where
+  no-line : Count 0 Zero
+  first-line : Count 1 One
+  second-line : Count 2 Two
+  third-line : Count 3 Three
+  fourth-line : Count 4 Four
+  odd-count : (m n : ℕ) → n ≡ 2 * m + 5 → Count n OddMany
+  even-count : (m n : ℕ) → n ≡ 2 * m + 6 → Count n EvenMany
+
+count-next : {n : ℕ} {k : Taken} → Count n k → Count (suc n) (next k)
+count-next no-line = first-line
+count-next first-line = second-line
+count-next second-line = third-line
+count-next third-line = fourth-line
+count-next fourth-line = odd-count 0 5 refl
+count-next (odd-count m n e) = even-count m (suc n) (omega arith)
+count-next (even-count m n e) = odd-count (suc m) (suc n) (omega arith)
+
+-- the first line decides
+pub count-some : {n : ℕ} {k : Taken} → Count n k → 1 ≤ n → T (anyTaken k)
+count-some no-line i = absurd (omega arith)
+count-some first-line i = tt
+count-some second-line i = tt
+count-some third-line i = tt
+count-some fourth-line i = tt
+count-some (odd-count m n e) i = tt
+count-some (even-count m n e) i = tt
+
+pub count-two : {n : ℕ} {k : Taken} → Count n k → T (twoTaken k) → 2 ≤ n
+count-two no-line i = absurd i
+count-two first-line i = absurd i
+count-two second-line i = omega arith
+count-two third-line i = omega arith
+count-two fourth-line i = omega arith
+count-two (odd-count m n e) i = omega arith
+count-two (even-count m n e) i = omega arith
+
+pub some-count : {n : ℕ} {k : Taken} → Count n k → T (anyTaken k) → 1 ≤ n
+some-count no-line i = absurd i
+some-count first-line i = omega arith
+some-count second-line i = omega arith
+some-count third-line i = omega arith
+some-count fourth-line i = omega arith
+some-count (odd-count m n e) i = omega arith
+some-count (even-count m n e) i = omega arith
+
+pub two-count : {n : ℕ} {k : Taken} → Count n k → 2 ≤ n → T (twoTaken k)
+two-count no-line i = absurd (omega arith)
+two-count first-line i = absurd (omega arith)
+two-count second-line i = tt
+two-count third-line i = tt
+two-count fourth-line i = tt
+two-count (odd-count m n e) i = tt
+two-count (even-count m n e) i = tt
+
+even-some : {n : ℕ} {k : Taken} → Count n k → T (evenTaken k) → 1 ≤ n
+even-some no-line i = absurd i
+even-some first-line i = absurd i
+even-some second-line i = omega arith
+even-some third-line i = omega arith
+even-some fourth-line i = omega arith
+even-some (odd-count m n e) i = omega arith
+even-some (even-count m n e) i = omega arith
+
+-- a line gives what it makes ready, an end what is left
+module _ (t : WidthTable) (w : ℕ) (held : Held) where
+  pub line-count : (row : Line) (n : ℕ) (k : Taken) → Count n k → (ready n + length (lineGives t w k held row) ≡ ready (suc n)) × (length (lineGives t w k held row) ≤ 4)
+  unfolding lineGives
+  line-count row n k no-line = (refl, omega arith)
+  line-count row n k first-line = (refl, omega arith)
+  line-count row n k second-line = (refl, omega arith)
+  line-count row n k third-line = (refl, omega arith)
+  line-count row n k fourth-line = (refl, omega arith)
+  line-count row n k (odd-count m n′ e) = (omega arith, omega arith)
+  line-count row n k (even-count m n′ e) = (omega arith, omega arith)
+
+  pub end-count : (n : ℕ) (k : Taken) → Count n k → 2 ≤ n → (ready n + length (endGives t w k held) ≡ n) × (length (endGives t w k held) ≤ 4)
+  unfolding endGives lineGives
+  end-count n k no-line i = absurd (omega arith)
+  end-count n k first-line i = absurd (omega arith)
+  end-count n k second-line i = (refl, omega arith)
+  end-count n k third-line i = (refl, omega arith)
+  end-count n k fourth-line i = (refl, omega arith)
+  end-count n k (odd-count m n′ e) i = (omega arith, omega arith)
+  end-count n k (even-count m n′ e) i = (omega arith, omega arith)
+
+ready-few : (n : ℕ) → ready n ≤ n
+ready-few n = omega arith
+
+-- ---- a scan that goes on
+
+true-false : {A : Type 0} {b : Bool} → b ≡ false → b ≡ true → A
+true-false p q = absurd (subst T (sym q ∙ p) tt)
+
+is-false : (b : Bool) → T (not b) → b ≡ false
+is-false true h = absurd h
+is-false false h = refl
+
+-- a test that is asked only where another holds
+unless : (a b : Bool) → (T a → T b) → T (not a || b)
+unless true b f = f tt
+unless false b f = tt
+
+of-unless : (a b : Bool) → T (not a || b) → T a → T b
+of-unless true b h i = h
+of-unless false b h i = absurd i
+
+module _ (t : WidthTable) (e : beginAnswer t ≡ passed) where
+  pub begun-one : t .levels ≡ 1
+  unfolding beginAnswer
+  begun-one = eqb→eq (t .levels) 1 (asks-done (eqb (t .levels) 1) _ _ e .0)
+
+  pub begun-accepted : Accepted t
+  unfolding beginAnswer
+  begun-accepted = asks-done (eqb (t .levels) 1) _ _ e .1
+
+pub goes-on : (s : Scan) → beginAnswer (s .table) ≡ passed → s .ended ≡ false → (T (anyTaken (s .taken)) → Admitted 1 (s .width)) → T (goesOn s)
+unfolding goesOn
+goes-on s e running side =
+    let begins = answered (beginAnswer (s .table)) true false in
+    and-intro (begins && not (s .ended)) (not (anyTaken (s .taken)) || sideRight 1 (s .width))
+    (and-intro begins (not (s .ended)) (subst T (sym (answered-done {o = beginAnswer (s .table)} true false e)) tt) (subst (λ (b : Bool). T (not b)) (sym running) tt))
+    (unless (anyTaken (s .taken)) (sideRight 1 (s .width)) (λ i. side-right 1 (s .width) (side i)))
+
+module _ (s : Scan) (goes : T (goesOn s)) where
+  tested : T (answered (beginAnswer (s .table)) true false && not (s .ended)) × T (not (anyTaken (s .taken)) || sideRight 1 (s .width))
+  unfolding goesOn
+  tested = both (answered (beginAnswer (s .table)) true false && not (s .ended)) (not (anyTaken (s .taken)) || sideRight 1 (s .width)) goes
+
+  pub goes-running : s .ended ≡ false
+  goes-running = is-false (s .ended) (both (answered (beginAnswer (s .table)) true false) (not (s .ended)) (tested .0) .1)
+
+  pub goes-side : T (anyTaken (s .taken)) → Admitted 1 (s .width)
+  goes-side i = side-is 1 (s .width) (of-unless (anyTaken (s .taken)) (sideRight 1 (s .width)) (tested .1) i)
+
+-- ---- a line that is accepted, and an end
+
+pub record LineRight (s : Scan) (pixels : List ℕ) (w : ℕ) (held out : List ℤ) : Type 0 where
+  pub goes : T (goesOn s)
+  pub width : T (anyTaken (s .taken)) → w ≡ s .width
+  pub side : Admitted 1 w
+  pub long : w ≤ length pixels
+  pub held-room : heldLines * w ≤ length held
+  pub out-room : outLines * w ≤ length out
+  pub below : (k : ℕ) → k < w → getD pixels k 0 < 2 ^ s .table .depth
+
+module _ (s : Scan) (pixels : List ℕ) (w : ℕ) (held out : List ℤ) where
+  abbrev in-turn : Bool
+  in-turn = not (anyTaken (s .taken)) || eqb w (s .width)
+
+  pub line-right : lineAnswer s pixels w held out ≡ passed → LineRight s pixels w held out
+  unfolding lineAnswer
+  line-right e =
+      let a = asks-done (goesOn s && in-turn) _ _ e in
+      let b = asks-done (sideRight 1 w) _ _ (a .1) in
+      let p = then-done (holds w (length pixels)) _ (b .1) in
+      let q = then-done (holds (heldLines * w) (length held)) _ (p .1) in
+      let r = then-done (holds (outLines * w) (length out)) _ (q .1) in
+      let turn = both (goesOn s) in-turn (a .0) in
+      let long = holds-done w (length pixels) (p .0) in
+      record {
+        goes = turn .0;
+        width = λ i. eqb→eq w (s .width) (of-unless (anyTaken (s .taken)) (eqb w (s .width)) (turn .1) i);
+        side = side-is 1 w (b .0);
+        long = long;
+        held-room = holds-done (heldLines * w) (length held) (q .0);
+        out-room = holds-done (outLines * w) (length out) (r .0);
+        below = λ k i. pixel-below (s .table .depth) w 1 pixels (omega arith) (pixels-done (s .table .depth) w 1 pixels (r .1)) k (omega arith);
+      }
+
+  pub right-line : LineRight s pixels w held out → lineAnswer s pixels w held out ≡ passed
+  unfolding lineAnswer
+  right-line right =
+      asks-right (goesOn s && in-turn) _ _ (and-intro (goesOn s) in-turn (right .goes) (unless (anyTaken (s .taken)) (eqb w (s .width)) (λ i. subst (λ (k : ℕ). T (eqb w k)) (right .width i) (eqb-refl w))))
+      ∙ asks-right (sideRight 1 w) _ _ (side-right 1 w (right .side))
+      ∙ then-right (holds w (length pixels)) _ (holds-right _ _ (right .long))
+      ∙ then-right (holds (heldLines * w) (length held)) _ (holds-right _ _ (right .held-room))
+      ∙ then-right (holds (outLines * w) (length out)) _ (holds-right _ _ (right .out-room))
+      ∙ pixels-right (s .table .depth) w 1 pixels (omega (arith, right .long)) (λ k i. right .below k (omega arith))
+
+pub record EndRight (s : Scan) (held out : List ℤ) : Type 0 where
+  pub goes : T (goesOn s)
+  pub two : T (twoTaken (s .taken))
+  pub held-room : heldLines * s .width ≤ length held
+  pub out-room : outLines * s .width ≤ length out
+
+module _ (s : Scan) (held out : List ℤ) where
+  pub end-right : endAnswer s held out ≡ passed → EndRight s held out
+  unfolding endAnswer
+  end-right e =
+      let a = asks-done (goesOn s && twoTaken (s .taken)) _ _ e in
+      let p = then-done (holds (heldLines * s .width) (length held)) _ (a .1) in
+      let turn = both (goesOn s) (twoTaken (s .taken)) (a .0) in
+      record {
+        goes = turn .0;
+        two = turn .1;
+        held-room = holds-done (heldLines * s .width) (length held) (p .0);
+        out-room = holds-done (outLines * s .width) (length out) (p .1);
+      }
+
+  pub right-end : EndRight s held out → endAnswer s held out ≡ passed
+  unfolding endAnswer
+  right-end right =
+      asks-right (goesOn s && twoTaken (s .taken)) _ _ (and-intro (goesOn s) (twoTaken (s .taken)) (right .goes) (right .two))
+      ∙ then-right (holds (heldLines * s .width) (length held)) _ (holds-right _ _ (right .held-room))
+      ∙ holds-right _ _ (right .out-room)
+
+-- ---- what holds after any calls
+
+-- Before the end, of a strip `all` of h lines of w pixels whose first n were accepted: what is held, and what was given.
+pub record Run (t : WidthTable) (k : Taken) (held : List ℤ) (w n : ℕ) (all : List ℕ) (h : ℕ) (given : List ℤ) : Type 0 where
+  pub holding : (c : ℕ) → c < w → Holding t w h c (λ r. rowsOf t all w r c) (heldIn w held) n k
+  pub given-is : given ≡ firstLines t all w h (ready n)
+
+pub record Facts (s : Scan) (held : List ℤ) (n : ℕ) (strip : List ℕ) (given : List ℤ) : Type 0 where
+  pub begun : beginAnswer (s .table) ≡ passed
+  pub count : Count n (s .taken)
+  pub side : 1 ≤ n → Admitted 1 (s .width)
+  pub size : length strip ≡ n * s .width
+  pub below : (k : ℕ) → k < n * s .width → getD strip k 0 < 2 ^ s .table .depth
+  pub before-end : s .ended ≡ false → (w : ℕ) → (1 ≤ n → w ≡ s .width) → (more : List ℕ) (h : ℕ) → 2 ≤ h → n ≤ h → Run (s .table) (s .taken) held w n (strip ++ more) h given
+  pub after-end : s .ended ≡ true → (2 ≤ n) × (given ≡ firstLines (s .table) strip (s .width) n n)
+
+same-size : (n v w : ℕ) → (1 ≤ n → w ≡ v) → n * v ≡ n * w
+same-size zero v w e = omega arith
+same-size (suc n) v w e = ap (λ (k : ℕ). suc n * k) (sym (e (omega arith)))
+
+-- one line more, and all pixels are still below B
+below-more : (strip pixels : List ℕ) (n w B : ℕ) → length strip ≡ n * w → w ≤ length pixels → ((k : ℕ) → k < n * w → getD strip k 0 < B) → ((k : ℕ) → k < w → getD pixels k 0 < B)
+    → (k : ℕ) → k < suc n * w → getD (strip ++ take w pixels) k 0 < B
+below-more strip pixels n w B size long old new k i = go (decLt k (n * w))
+  where
+    later : ¬ (k < n * w) → (length strip + (k - n * w) ≡ k) × (k - n * w < w)
+    later j = (omega (arith, size), omega arith)
+
+    go : Dec (k < n * w) → getD (strip ++ take w pixels) k 0 < B
+    go (yes j) = subst (λ (a : ℕ). a < B) (sym (List·getD-append strip (take w pixels) 0 k (subst (λ (m : ℕ). k < m) (sym size) j))) (old k j)
+    go (no j) =
+        let b = later j in
+        subst (λ (a : ℕ). a < B)
+        (sym (ap (λ (m : ℕ). getD (strip ++ take w pixels) m 0) (sym (b .0)) ∙ getD-append-add strip (take w pixels) (k - n * w) 0 ∙ getD-take w pixels (k - n * w) 0 (b .1)))
+        (new (k - n * w) (b .1))
+
+size-more : (strip pixels : List ℕ) (n w : ℕ) → length strip ≡ n * w → w ≤ length pixels → length (strip ++ take w pixels) ≡ suc n * w
+size-more strip pixels n w size long = length-append strip (take w pixels) ∙ more-size (length strip) (length (take w pixels)) n w size (length-take-le w pixels long)
+  where
+    more-size : (a b n w : ℕ) → a ≡ n * w → b ≡ w → a + b ≡ suc n * w
+    more-size a b n w p q = omega arith
+
+-- ---- what is held is sound
+
+module _ (s : Scan) (held : List ℤ) (n : ℕ) (strip : List ℕ) (given : List ℤ) (f : Facts s held n strip given) where
+  -- the lines accepted, and any number of lines of zeros after them
+  pub strip-now : (h : ℕ) → 1 ≤ n → 2 ≤ h → Strip (s .table) strip (s .width) h
+  strip-now h some tall = strip-one (s .table) (begun-one (s .table) (f .begun)) strip (s .width) h (omega (arith, f .side some .0)) tall (λ k i. go k (decLt k (n * s .width)))
+    where
+      go : (k : ℕ) → Dec (k < n * s .width) → getD strip k 0 < 2 ^ s .table .depth
+      go k (yes j) = f .below k j
+      go k (no j) = subst (λ (a : ℕ). a < 2 ^ s .table .depth) (sym (List·getD-eq-default strip 0 (omega (arith, f .size)))) (pow-pos (s .table .depth))
+
+  module _ (running : s .ended ≡ false) (some : 1 ≤ n) where
+    sound-at : (c : ℕ) → c < s .width → SoundAt (s .table) (s .width) (suc n) c (λ r. rowsOf (s .table) strip (s .width) r c) (heldIn (s .width) held)
+    sound-at c j =
+        let t = s .table in
+        let w = s .width in
+        let accepted = begun-accepted t (f .begun) in
+        let right = strip-now (suc n) some (omega arith) in
+        holding-sound t w (suc n) c (λ r. rowsOf t strip w r c) (λ k i. row-five t accepted strip w (suc n) right k c i j) (column-five t accepted strip w (suc n) right c j) (heldIn w held) n (s .taken)
+        (subst (λ (all : List ℕ). Holding t w (suc n) c (λ r. rowsOf t all w r c) (heldIn w held) n (s .taken)) (append-nil strip) (f .before-end running w (λ i. refl) [] (suc n) (omega arith) (omega arith) .holding c j))
+        some (omega arith)
+
+    pub sound-now : Sound (s .table) (s .width) (heldIn (s .width) held)
+    sound-now = record { low = λ c j. sound-at c j .low; high = λ c j. sound-at c j .high; p1 = λ c j. sound-at c j .p1; u1 = λ c j. sound-at c j .u1; p2 = λ c j. sound-at c j .p2 }
+
+module _ (s : Scan) (held : List ℤ) (n : ℕ) (strip : List ℕ) (given : List ℤ) (f : Facts s held n strip given) where
+  -- ---- a line
+
+  module _ (pixels : List ℕ) (w : ℕ) (out held′ : List ℤ) (e : lineAnswer s pixels w held out ≡ passed)
+      (same : SameHeld w (heldIn w held′) (heldAfter (s .table) w (s .taken) (heldIn w held) (workedRow s pixels w held out))) where
+    right : LineRight s pixels w held out
+    right = line-right s pixels w held out e
+
+    running : s .ended ≡ false
+    running = goes-running s (right .goes)
+
+    fits : 1 ≤ n → w ≡ s .width
+    fits i = right .width (count-some (f .count) i)
+
+    size-now : length strip ≡ n * w
+    size-now = f .size ∙ same-size n (s .width) w fits
+
+    two-wide : 2 ≤ w
+    two-wide = omega (arith, right .side .0)
+
+    gives : List Line
+    gives = givenByLine s pixels w held out
+
+    run-next : (more : List ℕ) (h : ℕ) → 2 ≤ h → suc n ≤ h → Run (s .table) (next (s .taken)) held′ w (suc n) (strip ++ (take w pixels ++ more)) h (given ++ rowByRow w (length gives) (stacked gives))
+    unfolding workedRow givenByLine gives
+    run-next more h two room =
+        let t = s .table in
+        let all = strip ++ (take w pixels ++ more) in
+        let row = workedRow s pixels w held out in
+        let r = f .before-end running w fits (take w pixels ++ more) h two (omega arith) in
+        let P = inTurn h (fixedPlane t all w h) in
+        let row-now : (c : ℕ) → c < w → row c ≡ rowsOf t all w n c = row-is t strip pixels more w n size-now (right .long) two-wide in
+        let count = line-count t w (heldIn w held) row n (s .taken) (f .count) in
+        let few = ready-few (suc n) in
+        record {
+          holding = λ c i. holding-same t w h c (λ r. rowsOf t all w r c) (heldIn w held′) (heldAfter t w (s .taken) (heldIn w held) row) (suc n) (next (s .taken)) i same
+              (holding-next t w h c (λ r. rowsOf t all w r c) (heldIn w held) row n (s .taken) (r .holding c i) room (row-now c i));
+          given-is =
+              ap (λ (l : List ℤ). l ++ rowByRow w (length gives) (stacked gives)) (r .given-is)
+              ∙ rows-join w (ready n) (length gives) (omega (arith, two-wide)) P (stacked gives)
+              (λ q c i j. line-due t w h c (λ r. rowsOf t all w r c) (heldIn w held) row n (s .taken) (r .holding c j) room (row-now c j) q i ∙ sym (turn-is t (begun-one t (f .begun)) all w h (ready n + q) c (omega arith) j))
+              ∙ ap (λ (m : ℕ). rowByRow w m P) (count .0);
+        }
+
+    line-facts : Facts (scanAfter s pixels w held out) held′ (suc n) (strip ++ take w pixels) (given ++ rowByRow w (length gives) (stacked gives))
+    unfolding scanAfter
+    line-facts = record {
+      begun = f .begun;
+      count = count-next (f .count);
+      side = λ i. right .side;
+      size = size-more strip pixels n w size-now (right .long);
+      below = below-more strip pixels n w (2 ^ s .table .depth) size-now (right .long) (λ k i. f .below k (subst (λ (m : ℕ). k < m) (sym (same-size n (s .width) w fits)) i)) (right .below);
+      before-end = λ r v fits′ more h two room.
+          subst (λ (v : ℕ). Run (s .table) (next (s .taken)) held′ v (suc n) (strip ++ take w pixels ++ more) h (given ++ rowByRow w (length gives) (stacked gives))) (sym (fits′ (omega arith)))
+          (subst (λ (all : List ℕ). Run (s .table) (next (s .taken)) held′ w (suc n) all h (given ++ rowByRow w (length gives) (stacked gives))) (sym (append-assoc strip (take w pixels) more)) (run-next more h two room));
+      after-end = λ r. true-false running r;
+    }
+
+  -- ---- an end
+
+  module _ (out held′ : List ℤ) (e : endAnswer s held out ≡ passed) where
+    ends : EndRight s held out
+    ends = end-right s held out e
+
+    pub two-lines-in : 2 ≤ n
+    two-lines-in = count-two (f .count) (ends .two)
+
+    rest : List Line
+    rest = givenByEnd s held out
+
+    whole-given : given ++ rowByRow (s .width) (length rest) (stacked rest) ≡ firstLines (s .table) strip (s .width) n n
+    unfolding rest givenByEnd
+    whole-given =
+        let t = s .table in
+        let w = s .width in
+        let P = inTurn n (fixedPlane t strip w n) in
+        let r = subst (λ (all : List ℕ). Run t (s .taken) held w n all n given) (append-nil strip) (f .before-end (goes-running s (ends .goes)) w (λ i. refl) [] n two-lines-in (omega arith)) in
+        let count = end-count t w (heldIn w held) n (s .taken) (f .count) two-lines-in in
+        ap (λ (l : List ℤ). l ++ rowByRow w (length rest) (stacked rest)) (r .given-is)
+        ∙ rows-join w (ready n) (length rest) (omega (arith, f .side (omega (arith, two-lines-in)) .0)) P (stacked rest)
+        (λ q c i j. end-due t w n c (λ r. rowsOf t strip w r c) (heldIn w held) n (s .taken) (r .holding c j) refl two-lines-in q i ∙ sym (turn-is t (begun-one t (f .begun)) strip w n (ready n + q) c (omega arith) j))
+        ∙ ap (λ (m : ℕ). rowByRow w m P) (count .0)
+
+    end-facts : Facts (scanEnded s held out) held′ n strip (given ++ rowByRow (s .width) (length rest) (stacked rest))
+    unfolding scanEnded
+    end-facts = record {
+      begun = f .begun;
+      count = f .count;
+      side = f .side;
+      size = f .size;
+      below = f .below;
+      before-end = λ r. true-false r refl;
+      after-end = λ r. (two-lines-in, whole-given);
+    }
+
+-- ---- calls
+
+-- what stands first in the output
+front : (w m : ℕ) (lines : List Line) (out out′ : List ℤ) → 1 ≤ w → m ≡ length lines → out′ ≡ outAfter w lines out → take (m * w) out′ ≡ rowByRow w (length lines) (stacked lines)
+front w m lines out out′ some e o =
+    ap (take (m * w)) o
+    ∙ over-take (m * w) (rowByRow w (length lines) (stacked lines)) out (rows-length w (length lines) some (stacked lines) ∙ mul-comm w (length lines) ∙ ap (λ (k : ℕ). k * w) (sym e))
+
+begun-facts : (t : WidthTable) (held : List ℤ) → beginAnswer t ≡ passed → Facts (scanOf t) held 0 [] []
+unfolding scanOf rowByRow tabulate
+begun-facts t held e = record {
+  begun = e;
+  count = no-line;
+  side = λ i. absurd (omega arith);
+  size = refl;
+  below = λ k i. absurd (omega arith);
+  before-end = λ r w same more h two room. record { holding = λ c i. zero-lines; given-is = none w (inTurn h (fixedPlane t ([] ++ more) w h)) };
+  after-end = λ r. true-false (answered-done {o = beginAnswer t} false true e) r;
+}
+  where
+    none : (w : ℕ) (p : Plane ℤ) → [] ≡ rowByRow w 0 p
+    none w p = ap (λ (n : ℕ). tabulate n (λ k. p (k / w) (k % w))) (nothing w)
+      where
+        nothing : (w : ℕ) → 0 ≡ w * 0
+        nothing w = omega arith
+
+module _ (s : Scan) (held : List ℤ) (n : ℕ) (strip : List ℕ) (given : List ℤ) (f : Facts s held n strip given) where
+  after-line : (pixels : List ℕ) (w m : ℕ) (out : List ℤ) (s′ : Scan) (held′ out′ : List ℤ) → LineCall s pixels w held out (done m) s′ held′ out′
+      → Facts s′ held′ (suc n) (strip ++ take w pixels) (given ++ take (m * w) out′)
+  unfolding gives
+  after-line pixels w m out s′ held′ out′ call =
+      let lines = givenByLine s pixels w held out in
+      let (passes, counted) = gives-done (lineAnswer s pixels w held out) (length lines) (sym (call .answer-is)) in
+      let right = line-right s pixels w held out passes in
+      let works = call .works passes (λ even. let some = even-some (f .count) even in subst (λ (v : ℕ). Sound (s .table) v (heldIn v held)) (sym (right .width (count-some (f .count) some))) (sound-now s held n strip given f (goes-running s (right .goes)) some)) in
+      subst (λ (l : List ℤ). Facts s′ held′ (suc n) (strip ++ take w pixels) (given ++ l)) (sym (front w m lines out out′ (omega (arith, right .side .0)) (sym counted) (works .1)))
+      (subst (λ (s : Scan). Facts s held′ (suc n) (strip ++ take w pixels) (given ++ rowByRow w (length lines) (stacked lines))) (sym (call .scan-is ∙ answered-done (scanAfter s pixels w held out) s passes))
+      (line-facts s held n strip given f pixels w out held′ passes (works .0)))
+
+  after-end-call : (m : ℕ) (out : List ℤ) (s′ : Scan) (held′ out′ : List ℤ) → EndCall s held out (done m) s′ held′ out′ → Facts s′ held′ n strip (given ++ take (m * s .width) out′)
+  unfolding rest
+  after-end-call m out s′ held′ out′ call =
+      let lines = givenByEnd s held out in
+      let (passes, counted) = gives-done (endAnswer s held out) (length lines) (sym (call .answer-is)) in
+      let some : 1 ≤ n = omega (arith, two-lines-in s held n strip given f out held′ passes) in
+      let sound = sound-now s held n strip given f (goes-running s (end-right s held out passes .goes)) some in
+      subst (λ (l : List ℤ). Facts s′ held′ n strip (given ++ l)) (sym (front (s .width) m lines out out′ (omega (arith, f .side some .0)) (sym counted) (call .works passes sound)))
+      (subst (λ (s′ : Scan). Facts s′ held′ n strip (given ++ rowByRow (s .width) (length lines) (stacked lines))) (sym (call .scan-is ∙ answered-done (scanEnded s held out) s passes))
+      (end-facts s held n strip given f out held′ passes))
+
+-- a refused call changes nothing
+line-same-scan : (s : Scan) (pixels : List ℕ) (w : ℕ) (other out : List ℤ) (r : Reason) (s′ : Scan) (other′ out′ : List ℤ) → LineCall s pixels w other out (refused r) s′ other′ out′ → s ≡ s′
+line-same-scan s pixels w other out r s′ other′ out′ call = sym (call .scan-is ∙ answered-refused (scanAfter s pixels w other out) s (gives-refused (lineAnswer s pixels w other out) _ r (sym (call .answer-is))))
+
+end-same-scan : (s : Scan) (other out : List ℤ) (r : Reason) (s′ : Scan) (other′ out′ : List ℤ) → EndCall s other out (refused r) s′ other′ out′ → s ≡ s′
+end-same-scan s other out r s′ other′ out′ call = sym (call .scan-is ∙ answered-refused (scanEnded s other out) s (gives-refused (endAnswer s other out) _ r (sym (call .answer-is))))
+
+pub facts : (t : WidthTable) {s : Scan} {held : List ℤ} {n : ℕ} {strip : List ℕ} {given : List ℤ} → Calls t s held n strip given → Facts s held n strip given
+facts t (begun held e) = begun-facts t held e
+facts t (line {s = s} {held = held} {n = n} {strip = strip} {given = given} c call) = after-line s held n strip given (facts t c) _ _ _ _ _ _ _ call
+facts t (line-refused {s = s} {held = held} {n = n} {strip = strip} {given = given} c call) = subst (λ (s : Scan). Facts s held n strip given) (line-same-scan s _ _ _ _ _ _ _ _ call) (facts t c)
+facts t (end {s = s} {held = held} {n = n} {strip = strip} {given = given} c call) = after-end-call s held n strip given (facts t c) _ _ _ _ _ call
+facts t (end-refused {s = s} {held = held} {n = n} {strip = strip} {given = given} c call) = subst (λ (s : Scan). Facts s held n strip given) (end-same-scan s _ _ _ _ _ _ call) (facts t c)
+
+-- either way the scan has the same table
+kept : (o : Answer Unit) (a b : Scan) → a .table ≡ b .table → answered o a b .table ≡ b .table
+kept (done u) a b e = e
+kept (refused r) a b e = refl
+
+-- the scan keeps its table
+pub table-kept : (t : WidthTable) {s : Scan} {held : List ℤ} {n : ℕ} {strip : List ℕ} {given : List ℤ} → Calls t s held n strip given → s .table ≡ t
+unfolding scanOf scanAfter scanEnded
+table-kept t (begun held e) = refl
+table-kept t (line {s = s} {held = held} {pixels = pixels} {w = w} {out = out} c call) =
+    ap (λ (s : Scan). s .table) (call .scan-is) ∙ kept (lineAnswer s pixels w held out) (scanAfter s pixels w held out) s refl ∙ table-kept t c
+table-kept t (line-refused {s = s} c call) = ap (λ (s : Scan). s .table) (sym (line-same-scan s _ _ _ _ _ _ _ _ call)) ∙ table-kept t c
+table-kept t (end {s = s} {held = held} {out = out} c call) =
+    ap (λ (s : Scan). s .table) (call .scan-is) ∙ kept (endAnswer s held out) (scanEnded s held out) s refl ∙ table-kept t c
+table-kept t (end-refused {s = s} c call) = ap (λ (s : Scan). s .table) (sym (end-same-scan s _ _ _ _ _ _ call)) ∙ table-kept t c

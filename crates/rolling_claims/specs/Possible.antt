@@ -1,0 +1,273 @@
+-- What is promised of the calls can be kept: whatever is lent, there is an outcome that meets the promise (`line-possible`,
+-- `end-possible`). So the claims over calls speak of something: every strip of at least two lines can be scanned to its end (`scanned`).
+use Prim.Native.Nat.{ℕ, zero, suc, _+_, _*_, _-_, _^_, _<_, _≤_}
+use mathlib.Core.Bool.{true, false}
+use mathlib.Core.List.{List, [], _∷_, _++_}
+use mathlib.Core.Path.{_≡_, refl, sym, _∙_, ap, subst}
+use native.Mathlib.Omega.{arith}
+use native.Mathlib.Nat.{mul-le-mul-right}
+use lib.Dec.{T}
+use lib.ListN.{length, getD, take, drop, replicate, List·getD-append}
+use lib.Seq.{drop-append-add, drop-drop, length-front, length-take-le}
+use lib.IntN.{ℤ, pos}
+use Rattle.numbers.specs.Lists.{over}
+use Rattle.refusals.specs.Answers.{Answer, done, passed, _then_, answered}
+use Rattle.refusals.specs.AnswerLaws.{answered-done}
+use Rattle.lines.specs.Planes.{rowByRow}
+use Rattle.lines.specs.RowLaws.{place-in, rows-length, rows-at}
+use Rattle.width_table.specs.declared.WidthTable.{WidthTable}
+use Rattle.pictures.specs.Pictures.{Admitted, planeOf}
+use Rattle.precision.specs.Examples.{usual, usual-accepted}
+use Rattle.rolling.specs.declared.Taken.{Taken}
+use Rattle.rolling.specs.declared.Taken.the-variants.{Zero, One, Two, Three, Four, OddMany, EvenMany}
+use Rattle.rolling.specs.declared.Scan.{Scan}
+use Rattle.rolling.specs.Schedule.{Line, Held, anyTaken, twoTaken, stacked, heldAfter, lineGives, endGives}
+use Rattle.rolling.specs.Calls.{beginAnswer, scanOf, heldLines, outLines, heldIn, outAfter, SameHeld, KeptFrom, lineAnswer, workedRow, givenByLine, scanAfter, LineCall, endAnswer, givenByEnd, scanEnded, EndCall}
+use Rattle.rolling_claims.specs.Claims.{Calls, begun, line, end}
+use Rattle.rolling_claims.specs.History.{facts, table-kept, some-count, two-count, goes-on, goes-side, line-right, right-line, end-right, right-end}
+
+-- ---- lent memory
+
+-- what is written over the front of a slice, up to place n at most, keeps the rest
+over-kept : (n : ℕ) (new old : List ℤ) → length new ≤ n → n ≤ length old → KeptFrom n old (over new old)
+over-kept n new old few room =
+    let k = length new in
+    record {
+      length-kept = length-front old new k (sym (length-take-le k old (omega arith)));
+      past-kept = ap (λ (m : ℕ). drop m (new ++ drop k old)) (split k few) ∙ drop-append-add new (drop k old) (n - k) ∙ drop-drop (n - k) k old ∙ ap (λ (m : ℕ). drop m old) (sym (split k few));
+    }
+  where
+    split : (k : ℕ) → k ≤ n → n ≡ k + (n - k)
+    split k i = omega arith
+
+-- the five lines in their places
+abbrev five : Held → List Line
+five h = h .low ∷ h .high ∷ h .p1 ∷ h .u1 ∷ h .p2 ∷ []
+
+unfoldable pub heldWith : ℕ → Held → List ℤ → List ℤ
+heldWith w h held = over (rowByRow w 5 (stacked (five h))) held
+
+module _ (w : ℕ) (h : Held) (held : List ℤ) (some : 1 ≤ w) where
+  at-line : (r c : ℕ) → r < 5 → c < w → planeOf w (heldWith w h held) r c ≡ stacked (five h) r c
+  unfolding heldWith
+  at-line r c i j =
+      let p = rowByRow w 5 (stacked (five h)) in
+      List·getD-append p (drop (length p) held) (pos 0) (r * w + c) (subst (λ (n : ℕ). r * w + c < n) (sym (rows-length w 5 some (stacked (five h)))) (place-in w 5 some r c i j))
+      ∙ rows-at w 5 some (stacked (five h)) (pos 0) r c i j
+
+  same-held : SameHeld w (heldIn w (heldWith w h held)) h
+  unfolding heldIn
+  same-held = record {
+    low = λ c j. at-line 0 c (omega arith) j;
+    high = λ c j. at-line 1 c (omega arith) j;
+    p1 = λ c j. at-line 2 c (omega arith) j;
+    u1 = λ c j. at-line 3 c (omega arith) j;
+    p2 = λ c j. at-line 4 c (omega arith) j;
+  }
+
+  held-kept : heldLines * w ≤ length held → KeptFrom (heldLines * w) held (heldWith w h held)
+  unfolding heldWith
+  held-kept room = over-kept (heldLines * w) (rowByRow w 5 (stacked (five h))) held (omega (arith, rows-length w 5 some (stacked (five h)))) room
+
+out-kept : (w : ℕ) (lines : List Line) (out : List ℤ) → 1 ≤ w → length lines ≤ outLines → outLines * w ≤ length out → KeptFrom (length lines * w) out (outAfter w lines out)
+out-kept w lines out some few room =
+    let m = length lines in
+    over-kept (m * w) (rowByRow w m (stacked lines)) out (omega (arith, rows-length w m some (stacked lines))) (omega (arith, mul-le-mul-right w few))
+
+-- ---- at most four lines are given
+
+line-few : (t : WidthTable) (w : ℕ) (k : Taken) (held : Held) (x : Line) → length (lineGives t w k held x) ≤ outLines
+unfolding lineGives
+line-few t w Zero held x = omega arith
+line-few t w One held x = omega arith
+line-few t w Two held x = omega arith
+line-few t w Three held x = omega arith
+line-few t w Four held x = omega arith
+line-few t w OddMany held x = omega arith
+line-few t w EvenMany held x = omega arith
+
+end-few : (t : WidthTable) (w : ℕ) (k : Taken) (held : Held) → length (endGives t w k held) ≤ outLines
+unfolding endGives lineGives
+end-few t w Zero held = omega arith
+end-few t w One held = omega arith
+end-few t w Two held = omega arith
+end-few t w Three held = omega arith
+end-few t w Four held = omega arith
+end-few t w OddMany held = omega arith
+end-few t w EvenMany held = omega arith
+
+-- ---- a line
+
+module _ (s : Scan) (pixels : List ℕ) (w : ℕ) (held out : List ℤ) where
+  unfoldable pub lineHeld : Answer Unit → List ℤ
+  lineHeld o = answered o (heldWith w (heldAfter (s .table) w (s .taken) (heldIn w held) (workedRow s pixels w held out)) held) held
+
+  unfoldable pub lineOut : Answer Unit → List ℤ
+  lineOut o = answered o (outAfter w (givenByLine s pixels w held out) out) out
+
+  pub line-possible : (let o = lineAnswer s pixels w held out in LineCall s pixels w held out (o then done (length (givenByLine s pixels w held out))) (answered o (scanAfter s pixels w held out) s) (lineHeld o) (lineOut o))
+  unfolding lineHeld lineOut givenByLine
+  line-possible =
+      let want = heldAfter (s .table) w (s .taken) (heldIn w held) (workedRow s pixels w held out) in
+      let lines = givenByLine s pixels w held out in
+      record {
+        answer-is = refl;
+        scan-is = refl;
+        refused-kept = λ r e. (ap lineHeld e, ap lineOut e);
+        past-kept = λ e.
+            let right = line-right s pixels w held out e in
+            let some : 1 ≤ w = omega (arith, right .side .0) in
+            subst (λ (o : Answer Unit). KeptFrom (heldLines * w) held (lineHeld o) × KeptFrom (length lines * w) out (lineOut o)) (sym e)
+            (held-kept w want held some (right .held-room), out-kept w lines out some (line-few (s .table) w (s .taken) (heldIn w held) (workedRow s pixels w held out)) (right .out-room));
+        works = λ e sound.
+            let some : 1 ≤ w = omega (arith, line-right s pixels w held out e .side .0) in
+            subst (λ (o : Answer Unit). SameHeld w (heldIn w (lineHeld o)) want × (lineOut o ≡ outAfter w lines out)) (sym e) (same-held w want held some, refl);
+      }
+
+-- ---- an end
+
+two-any : (k : Taken) → T (twoTaken k) → T (anyTaken k)
+two-any Zero i = absurd i
+two-any One i = tt
+two-any Two i = tt
+two-any Three i = tt
+two-any Four i = tt
+two-any OddMany i = tt
+two-any EvenMany i = tt
+
+module _ (s : Scan) (held out : List ℤ) where
+  unfoldable pub endOut : Answer Unit → List ℤ
+  endOut o = answered o (outAfter (s .width) (givenByEnd s held out) out) out
+
+  pub end-possible : (let o = endAnswer s held out in EndCall s held out (o then done (length (givenByEnd s held out))) (answered o (scanEnded s held out) s) held (endOut o))
+  unfolding endOut givenByEnd
+  end-possible =
+      let w = s .width in
+      let lines = givenByEnd s held out in
+      record {
+        answer-is = refl;
+        scan-is = refl;
+        refused-kept = λ r e. (refl, ap endOut e);
+        past-kept = λ e.
+            let right = end-right s held out e in
+            let some : 1 ≤ w = omega (arith, goes-side s (right .goes) (two-any (s .taken) (right .two)) .0) in
+            (record { length-kept = refl; past-kept = refl }, subst (λ (o : Answer Unit). KeptFrom (length lines * w) out (endOut o)) (sym e) (out-kept w lines out some (end-few (s .table) w (s .taken) (heldIn w held)) (right .out-room)));
+        works = λ e sound. subst (λ (o : Answer Unit). endOut o ≡ outAfter w lines out) (sym e) refl;
+      }
+
+-- ---- calls go on
+
+-- a line of w pixels for a table
+pub record LineFor (t : WidthTable) (w : ℕ) (pixels : List ℕ) : Type 0 where
+  pub long : w ≤ length pixels
+  pub below : (k : ℕ) → k < w → getD pixels k 0 < 2 ^ t .depth
+
+-- n lines of w pixels accepted, and the scan goes on
+record Going (t : WidthTable) (w n : ℕ) (strip : List ℕ) : Type 0 where
+  scan : Scan
+  held : List ℤ
+  given : List ℤ
+  calls : Calls t scan held n strip given
+  running : scan .ended ≡ false
+  width : 1 ≤ n → w ≡ scan .width
+  room : heldLines * w ≤ length held
+
+-- n lines accepted, and then the end
+pub record Scanned (t : WidthTable) (n : ℕ) (strip : List ℕ) : Type 0 where
+  pub scan : Scan
+  pub held : List ℤ
+  pub given : List ℤ
+  pub calls : Calls t scan held n strip given
+  pub ended : scan .ended ≡ true
+
+-- the strip of lines
+abbrev pub stripOf : ℕ → List ℕ → List (List ℕ) → List ℕ
+stripOf w strip [] = strip
+stripOf w strip (pixels ∷ lines) = stripOf w (strip ++ take w pixels) lines
+
+module _ (t : WidthTable) (w : ℕ) (side : Admitted 1 w) (out : List ℤ) (room : outLines * w ≤ length out) where
+  line-on : {n : ℕ} {strip : List ℕ} → Going t w n strip → (pixels : List ℕ) → LineFor t w pixels → Going t w (suc n) (strip ++ take w pixels)
+  unfolding scanAfter lineHeld
+  line-on g pixels l =
+      let s = g .scan in
+      let held = g .held in
+      let f = facts t (g .calls) in
+      let e : lineAnswer s pixels w held out ≡ passed = right-line s pixels w held out (record {
+        goes = goes-on s (f .begun) (g .running) (λ i. f .side (some-count (f .count) i));
+        width = λ i. g .width (some-count (f .count) i);
+        side = side;
+        long = l .long;
+        held-room = g .room;
+        out-room = room;
+        below = λ k i. subst (λ (t : WidthTable). getD pixels k 0 < 2 ^ t .depth) (sym (table-kept t (g .calls))) (l .below k i);
+      }) in
+      let m = length (givenByLine s pixels w held out) in
+      let call = subst (λ (o : Answer Unit). LineCall s pixels w held out (o then done m) (answered o (scanAfter s pixels w held out) s) (lineHeld s pixels w held out o) (lineOut s pixels w held out o)) e (line-possible s pixels w held out) in
+      record {
+        scan = scanAfter s pixels w held out;
+        held = lineHeld s pixels w held out passed;
+        given = _;
+        calls = line (g .calls) call;
+        running = g .running;
+        width = λ i. refl;
+        room = omega (arith, g .room, call .past-kept e .0 .length-kept);
+      }
+
+  end-on : {n : ℕ} {strip : List ℕ} → Going t w n strip → 2 ≤ n → Scanned t n strip
+  unfolding scanEnded
+  end-on g two =
+      let s = g .scan in
+      let held = g .held in
+      let f = facts t (g .calls) in
+      let fits : w ≡ s .width = g .width (omega arith) in
+      let e : endAnswer s held out ≡ passed = right-end s held out (record {
+        goes = goes-on s (f .begun) (g .running) (λ i. f .side (some-count (f .count) i));
+        two = two-count (f .count) two;
+        held-room = subst (λ (v : ℕ). heldLines * v ≤ length held) fits (g .room);
+        out-room = subst (λ (v : ℕ). outLines * v ≤ length out) fits room;
+      }) in
+      let m = length (givenByEnd s held out) in
+      let call = subst (λ (o : Answer Unit). EndCall s held out (o then done m) (answered o (scanEnded s held out) s) held (endOut s held out o)) e (end-possible s held out) in
+      record { scan = scanEnded s held out; held = held; given = _; calls = end (g .calls) call; ended = refl }
+
+  lines-on : (lines : List (List ℕ)) → ((k : ℕ) → k < length lines → LineFor t w (getD lines k [])) → {n : ℕ} {strip : List ℕ} → Going t w n strip → 2 ≤ n + length lines → Scanned t (n + length lines) (stripOf w strip lines)
+  lines-on [] each {n} {strip} g two = subst (λ (m : ℕ). Scanned t m strip) (none n) (end-on g (omega arith))
+    where
+      none : (n : ℕ) → n ≡ n + 0
+      none n = omega arith
+  lines-on (pixels ∷ lines) each {n} {strip} g two =
+      subst (λ (m : ℕ). Scanned t m (stripOf w (strip ++ take w pixels) lines)) (more n (length lines))
+      (lines-on lines (λ k i. each (suc k) (omega arith)) (line-on g pixels (each 0 (omega arith))) (omega arith))
+    where
+      more : (n k : ℕ) → suc n + k ≡ n + suc k
+      more n k = omega arith
+
+-- Every strip of at least two lines of admitted width can be scanned, in whatever memory is lent.
+pub scanned : (t : WidthTable) → beginAnswer t ≡ passed → (w : ℕ) → Admitted 1 w → (held out : List ℤ) → heldLines * w ≤ length held → outLines * w ≤ length out
+    → (lines : List (List ℕ)) → 2 ≤ length lines → ((k : ℕ) → k < length lines → LineFor t w (getD lines k []))
+    → Scanned t (0 + length lines) (stripOf w [] lines)
+unfolding scanOf
+scanned t e w side held out held-room out-room lines two each =
+    lines-on t w side out out-room lines each
+    (record { scan = scanOf t; held = held; given = []; calls = begun held e; running = answered-done {o = beginAnswer t} false true e; width = λ i. absurd (omega arith); room = held-room })
+    (omega arith)
+
+-- and there are tables with which a scan begins
+pub usual-begins : beginAnswer (usual 1) ≡ passed
+unfolding beginAnswer
+usual-begins = usual-accepted 1 (omega arith) (omega arith)
+
+pub two-scanned : Scanned (usual 1) 2 (10 ∷ 200 ∷ 7 ∷ 255 ∷ [])
+two-scanned =
+    scanned (usual 1) usual-begins 2 (omega arith, omega arith) (replicate 14 (pos 0)) (replicate 8 (pos 0)) (omega arith) (omega arith)
+    ((10 ∷ 200 ∷ []) ∷ (7 ∷ 255 ∷ []) ∷ []) (omega arith) each
+  where
+    two-below : (a b : ℕ) → a < 256 → b < 256 → (k : ℕ) → k < 2 → getD (a ∷ b ∷ []) k 0 < 256
+    two-below a b i j zero h = i
+    two-below a b i j (suc zero) h = j
+    two-below a b i j (suc (suc k)) h = absurd (omega arith)
+
+    each : (k : ℕ) → k < 2 → LineFor (usual 1) 2 (getD ((10 ∷ 200 ∷ []) ∷ (7 ∷ 255 ∷ []) ∷ []) k [])
+    each zero i = record { long = omega arith; below = two-below 10 200 (omega arith) (omega arith) }
+    each (suc zero) i = record { long = omega arith; below = two-below 7 255 (omega arith) (omega arith) }
+    each (suc (suc k)) i = absurd (omega arith)

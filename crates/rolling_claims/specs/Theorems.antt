@@ -1,0 +1,210 @@
+-- The claims over calls, proved.
+use Prim.Native.Nat.{ℕ, suc, _+_, _*_, _^_, _<_, _≤_}
+use mathlib.Core.Bool.{Bool, true, false, not, _&&_, _||_}
+use mathlib.Core.List.{List, [], _++_}
+use mathlib.Core.Logic.{_↔_, _⊎_, inl, inr, ⊎-elim}
+use mathlib.Core.Path.{_≡_, refl, sym, _∙_, ap, subst}
+use native.Mathlib.Omega.{arith}
+use native.Mathlib.Decide.{decLt}
+use lib.Dec.{T, ltb, leb, eqb, ltb→lt, lt→ltb, eqb→eq, eqb-refl}
+use lib.ListN.{length, take}
+use lib.IntN.{ℤ}
+use Rattle.numbers.specs.Tests.{both, and-intro, every}
+use Rattle.refusals.specs.Answers.{Reason, Answer, done, refused, asks, _then_}
+use Rattle.refusals.specs.AnswerLaws.{asks-wrong, gives-done, gives-refused, answered-done, answered-refused}
+use Rattle.lines.specs.Lines.{highBefore, interleaved}
+use Rattle.lines.specs.LineLaws.{even-place, odd-place, by-parity}
+use Rattle.lines.specs.Planes.{levels, side}
+use Rattle.width_table.specs.declared.WidthTable.{WidthTable}
+use Rattle.pictures.specs.Pictures.{sample, sideRight, holds, pixelsRight}
+use Rattle.exact.specs.Picture.{exactPlane}
+use Rattle.irreversible.specs.Transforms.{fixedAfter, fixedPlane}
+use Rattle.irreversible.specs.Claims.{LevelInWidth, Near, bitsPlane}
+use Rattle.irreversible.specs.Demand3.{two-steps-strip, widths-strip}
+use Rattle.rolling.specs.declared.Scan.{Scan}
+use Rattle.rolling.specs.Schedule.{anyTaken, twoTaken}
+use Rattle.rolling.specs.Calls.{Sound, goesOn, heldLines, outLines, heldIn, lineAnswer, workedRow, givenByLine, scanAfter, endAnswer, givenByEnd, scanEnded}
+use Rattle.rolling_claims.specs.Claims.{readyP1, readyU1, readyP2, readyU2, lineReady, ready, ReadyLines, firstLines, BeforeEnd, AfterEnd, Counts, OneWidth, Fourteen, RefusedKeeps, SoundLeft, InWidths, NearExact}
+use Rattle.rolling_claims.specs.History.{Facts, facts, table-kept, count-some, some-count, count-two, two-count, line-count, end-count, begun-one, begun-accepted, goes-on, goes-running, line-right, two-lines-in, strip-now, sound-now}
+
+-- ---- ready lines
+
+module _ (n : ℕ) where
+  -- P1 and U1 at i wait for line 2 i + 2, P2 and U2 for line 2 i + 4
+  p1-ready : (i : ℕ) → T (readyP1 n i) ↔ (2 * i + 2 < n)
+  unfolding readyP1
+  p1-ready i = (
+    (λ h. ltb→lt _ _ (both (ltb (2 * i + 1) n && ltb (2 * i) n) (ltb (2 * i + 2) n) h .1)),
+    (λ h. and-intro (ltb (2 * i + 1) n && ltb (2 * i) n) (ltb (2 * i + 2) n) (and-intro (ltb (2 * i + 1) n) (ltb (2 * i) n) (lt→ltb (2 * i + 1) n (omega arith)) (lt→ltb (2 * i) n (omega arith))) (lt→ltb _ _ h)),
+  )
+
+  u1-ready : (i : ℕ) → T (readyU1 n i) ↔ (2 * i + 2 < n)
+  unfolding readyU1 highBefore
+  u1-ready i = (
+    (λ h. p1-ready i .0 (both (ltb (2 * i) n && readyP1 n (highBefore i)) (readyP1 n i) h .1)),
+    (λ h. and-intro (ltb (2 * i) n && readyP1 n (highBefore i)) (readyP1 n i) (and-intro (ltb (2 * i) n) (readyP1 n (highBefore i)) (lt→ltb (2 * i) n (omega arith)) (p1-ready (highBefore i) .1 (omega arith))) (p1-ready i .1 h)),
+  )
+
+  p2-ready : (i : ℕ) → T (readyP2 n i) ↔ (2 * i + 4 < n)
+  unfolding readyP2
+  p2-ready i = (
+    (λ h. let a = u1-ready (i + 1) .0 (both (readyP1 n i && readyU1 n i) (readyU1 n (i + 1)) h .1) in omega arith),
+    (λ h. and-intro (readyP1 n i && readyU1 n i) (readyU1 n (i + 1)) (and-intro (readyP1 n i) (readyU1 n i) (p1-ready i .1 (omega arith)) (u1-ready i .1 (omega arith))) (u1-ready (i + 1) .1 (omega arith))),
+  )
+
+  u2-ready : (i : ℕ) → T (readyU2 n i) ↔ (2 * i + 4 < n)
+  unfolding readyU2 highBefore
+  u2-ready i = (
+    (λ h. p2-ready i .0 (both (readyU1 n i && readyP2 n (highBefore i)) (readyP2 n i) h .1)),
+    (λ h. and-intro (readyU1 n i && readyP2 n (highBefore i)) (readyP2 n i) (and-intro (readyU1 n i) (readyP2 n (highBefore i)) (u1-ready i .1 (omega arith)) (p2-ready (highBefore i) .1 (omega arith))) (p2-ready i .1 h)),
+  )
+
+pub ready-lines : ReadyLines
+unfolding lineReady
+ready-lines n k =
+    by-parity (λ k. (k < ready n) ↔ T (interleaved (readyU2 n) (readyP2 n) k)) (suc k)
+    (λ i r. subst (λ (b : Bool). (2 * i < ready n) ↔ T b) (sym (even-place (readyU2 n) (readyP2 n) i)) ((λ h. u2-ready n i .1 (omega arith)), (λ h. let a = u2-ready n i .0 h in omega arith)))
+    (λ i r. subst (λ (b : Bool). (2 * i + 1 < ready n) ↔ T b) (sym (odd-place (readyU2 n) (readyP2 n) i)) ((λ h. p2-ready n i .1 (omega arith)), (λ h. let a = p2-ready n i .0 h in omega arith)))
+    k (omega arith)
+
+-- ---- what came out
+
+pub before-end : BeforeEnd
+before-end t s held n strip given calls e more h two room =
+    subst (λ (t : WidthTable). given ≡ firstLines t (strip ++ more) (s .width) h (ready n)) (table-kept t calls)
+    (facts t calls .before-end e (s .width) (λ i. refl) more h two room .given-is)
+
+pub after-end : AfterEnd
+after-end t s held h strip given calls e =
+    subst (λ (t : WidthTable). (2 ≤ h) × (given ≡ firstLines t strip (s .width) h h)) (table-kept t calls) (facts t calls .after-end e)
+
+pub counts : Counts
+unfolding givenByLine givenByEnd
+counts t s held n strip given calls = (
+  (λ pixels w m out s′ held′ out′ call.
+      let (passes, counted) = gives-done (lineAnswer s pixels w held out) (length (givenByLine s pixels w held out)) (sym (call .answer-is)) in
+      subst (λ (m : ℕ). (ready n + m ≡ ready (suc n)) × (m ≤ 4)) counted (line-count (s .table) w (heldIn w held) (workedRow s pixels w held out) n (s .taken) (facts t calls .count))),
+  (λ m out s′ held′ out′ call.
+      let (passes, counted) = gives-done (endAnswer s held out) (length (givenByEnd s held out)) (sym (call .answer-is)) in
+      subst (λ (m : ℕ). (ready n + m ≡ n) × (m ≤ 4)) counted (end-count (s .table) (s .width) (heldIn (s .width) held) n (s .taken) (facts t calls .count) (two-lines-in s held n strip given (facts t calls) out held′ passes))),
+)
+
+-- ---- one width, and 14
+
+pub one-width : OneWidth
+unfolding scanAfter
+one-width t s held n strip given calls = (
+  facts t calls .size,
+  λ pixels w m out s′ held′ out′ call.
+      let (passes, counted) = gives-done (lineAnswer s pixels w held out) (length (givenByLine s pixels w held out)) (sym (call .answer-is)) in
+      (ap (λ (s : Scan). s .width) (call .scan-is ∙ answered-done (scanAfter s pixels w held out) s passes), λ i. line-right s pixels w held out passes .width (count-some (facts t calls .count) i)),
+)
+
+-- an answer that is not 14
+abbrev Other : Answer Unit → Type 0
+Other o = ¬ (o ≡ refused (14, []))
+
+asks-other : (b : Bool) (m : ℕ) (o : Answer Unit) → ¬ (m ≡ 14) → Other o → Other (asks b m o)
+asks-other true m o p q = q
+asks-other false m o p q = λ e. let z : _≡_ {A = Reason} (m, []) (14, []) = cc in p (ap (λ (r : Reason). r .0) z)
+
+then-other : (a b : Answer Unit) → Other a → Other b → Other (a then b)
+then-other (done u) b p q = q
+then-other (refused r) b p q = p
+
+asks-first : (b : Bool) (o : Answer Unit) → Other o → asks b 14 o ≡ refused (14, []) → b ≡ false
+asks-first true o q e = absurd (q e)
+asks-first false o q e = refl
+
+done-other : Other (done tt)
+done-other e = let z : _≡_ {A = ℕ} 0 1 = cc in omega arith
+
+holds-other : (n k : ℕ) → Other (holds n k)
+unfolding holds
+holds-other n k = asks-other (leb n k) 9 _ (λ e. omega arith) done-other
+
+pixels-other : (B w h : ℕ) (pixels : List ℕ) → Other (pixelsRight B w h pixels)
+unfolding pixelsRight
+pixels-other B w h pixels = asks-other (every (λ p. ltb p (2 ^ B)) (take (w * h) pixels)) 10 _ (λ e. omega arith) done-other
+
+-- the test of a line, and of an end
+line-test : (ended low same : Bool) (n : ℕ) (W : Type 0) → (1 ≤ n → T low) → (T low → 1 ≤ n) → (T same → W) → (W → T same)
+    → ((not ended && (not low || same)) ≡ false) ↔ (T ended ⊎ ((1 ≤ n) × ¬ W))
+line-test true low same n W a b d e = ((λ q. inl tt), (λ q. refl))
+line-test false true true n W a b d e = ((λ q. absurd (subst T q tt)), ⊎-elim (λ i. absurd i) (λ i. absurd (i .1 (d tt))))
+line-test false true false n W a b d e = ((λ q. inr (b tt, e)), (λ q. refl))
+line-test false false same n W a b d e = ((λ q. absurd (subst T q tt)), ⊎-elim (λ i. absurd i) (λ i. absurd (a (i .0))))
+
+end-test : (ended some : Bool) (n : ℕ) → (2 ≤ n → T some) → (T some → 2 ≤ n) → ((not ended && some) ≡ false) ↔ (T ended ⊎ (n < 2))
+end-test true some n a b = ((λ q. inl tt), (λ q. refl))
+end-test false true n a b = ((λ q. absurd (subst T q tt)), ⊎-elim (λ i. absurd i) (λ i. let z = b tt in absurd (omega arith)))
+end-test false false n a b = ((λ q. inr (few (decLt n 2))), (λ q. refl))
+  where
+    few : Dec (n < 2) → n < 2
+    few (yes i) = i
+    few (no i) = absurd (a (omega arith))
+
+-- a scan goes on until its end
+goes-is : (s : Scan) (held : List ℤ) (n : ℕ) (strip : List ℕ) (given : List ℤ) → Facts s held n strip given → goesOn s ≡ not (s .ended)
+goes-is s held n strip given f = go (goesOn s) (s .ended) (λ running. goes-on s (f .begun) running (λ i. f .side (some-count (f .count) i))) (goes-running s)
+  where
+    go : (goes ended : Bool) → (ended ≡ false → T goes) → (T goes → ended ≡ false) → goes ≡ not ended
+    go true true p q = absurd (subst T (q tt) tt)
+    go true false p q = refl
+    go false true p q = refl
+    go false false p q = absurd (p refl)
+
+pub fourteen : Fourteen
+unfolding lineAnswer endAnswer
+fourteen t s held n strip given calls = (on-line, on-end)
+  where
+    f : Facts s held n strip given
+    f = facts t calls
+
+    on-line : (pixels : List ℕ) (w : ℕ) (other out : List ℤ) → (lineAnswer s pixels w other out ≡ refused (14, [])) ↔ (T (s .ended) ⊎ ((1 ≤ n) × ¬ (w ≡ s .width)))
+    on-line pixels w other out =
+        let same = not (anyTaken (s .taken)) || eqb w (s .width) in
+        let test = subst (λ (goes : Bool). ((goes && same) ≡ false) ↔ (T (s .ended) ⊎ ((1 ≤ n) × ¬ (w ≡ s .width)))) (sym (goes-is s held n strip given f))
+        (line-test (s .ended) (anyTaken (s .taken)) (eqb w (s .width)) n (w ≡ s .width) (count-some (f .count)) (some-count (f .count)) (eqb→eq w (s .width)) (λ e. subst (λ (k : ℕ). T (eqb w k)) e (eqb-refl w))) in (
+          (λ e. test .0 (asks-first (goesOn s && same) _
+              (asks-other (sideRight 1 w) 8 _ (λ e. omega arith)
+              (then-other (holds w (length pixels)) _ (holds-other _ _) (then-other (holds (heldLines * w) (length other)) _ (holds-other _ _) (then-other (holds (outLines * w) (length out)) _ (holds-other _ _) (pixels-other (s .table .depth) w 1 pixels))))) e)),
+          (λ q. asks-wrong (goesOn s && same) _ _ (test .1 q)),
+        )
+
+    on-end : (other out : List ℤ) → (endAnswer s other out ≡ refused (14, [])) ↔ (T (s .ended) ⊎ (n < 2))
+    on-end other out =
+        let test = subst (λ (goes : Bool). ((goes && twoTaken (s .taken)) ≡ false) ↔ (T (s .ended) ⊎ (n < 2))) (sym (goes-is s held n strip given f))
+        (end-test (s .ended) (twoTaken (s .taken)) n (two-count (f .count)) (count-two (f .count))) in (
+          (λ e. test .0 (asks-first (goesOn s && twoTaken (s .taken)) _ (then-other (holds (heldLines * s .width) (length other)) _ (holds-other _ _) (holds-other _ _)) e)),
+          (λ q. asks-wrong (goesOn s && twoTaken (s .taken)) _ _ (test .1 q)),
+        )
+
+pub refused-keeps : RefusedKeeps
+refused-keeps s held out r s′ held′ out′ = (
+  (λ pixels w call.
+      let e = gives-refused (lineAnswer s pixels w held out) (length (givenByLine s pixels w held out)) r (sym (call .answer-is)) in
+      (call .scan-is ∙ answered-refused (scanAfter s pixels w held out) s e, call .refused-kept r e .0, call .refused-kept r e .1)),
+  (λ call.
+      let e = gives-refused (endAnswer s held out) (length (givenByEnd s held out)) r (sym (call .answer-is)) in
+      (call .scan-is ∙ answered-refused (scanEnded s held out) s e, call .refused-kept r e .0, call .refused-kept r e .1)),
+)
+
+pub sound-left : SoundLeft
+sound-left t s held n strip given calls running some =
+    subst (λ (t : WidthTable). Sound t (s .width) (heldIn (s .width) held)) (table-kept t calls) (sound-now s held n strip given (facts t calls) running some)
+
+-- ---- demand 3
+
+pub in-widths : InWidths
+unfolding fixedAfter levels side
+in-widths t s held n strip given calls two =
+    let f = facts t calls in
+    subst (λ (t : WidthTable). LevelInWidth t 1 (s .width) n (sample strip (t .depth) (s .width))) (table-kept t calls)
+    (widths-strip (s .table) strip (s .width) n (begun-accepted (s .table) (f .begun)) (strip-now s held n strip given f n (omega arith) two) 0 (omega (arith, begun-one (s .table) (f .begun))))
+
+pub near-exact : NearExact
+near-exact t s held n strip given calls two r c i j =
+    let f = facts t calls in
+    subst (λ (t : WidthTable). Near (fixedPlane t strip (s .width) n r c) (bitsPlane t (s .width) n r c) (exactPlane strip (t .depth) (t .levels) (s .width) n r c)) (table-kept t calls)
+    (two-steps-strip (s .table) strip (s .width) n (begun-accepted (s .table) (f .begun)) (strip-now s held n strip given f n (omega arith) two) r c i j)

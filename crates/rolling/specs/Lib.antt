@@ -14,3 +14,4 @@ pub mod Rows
 pub mod SoundLaws
 pub mod Program
 pub mod ProgramLaws
+pub mod ColumnLaws

@@ -22,6 +22,7 @@ use Rattle.irreversible.specs.StagesLaws.{AsStages}
 use Rattle.irreversible.specs.LevelBits.{IsLevel}
 use Rattle.irreversible.specs.LevelsLaws.{bits-right}
 use Rattle.rolling.specs.declared.Columns.{Columns}
+use Rattle.rolling.specs.Calls.{heldLines}
 use Rattle.rolling.specs.Schedule.{Line, passOf, lineP1, lineU1, lineP2, lineU2, lineG1, lineG2}
 use Rattle.rolling.specs.Growth.{Within, P1-grows, U1-grows, P2-grows, U2-grows, P1-safe, U1-safe, P2-safe, U2-safe, G1-safe, G2-safe}
 use Rattle.rolling.specs.Memory.{lineIn, setLine, moved, pick, onLines, SafeLines, scaledLine, SafeScaling, line-own, line-other}
@@ -216,3 +217,53 @@ module _ (t : WidthTable) (w : ℕ) where
   pub record GiveFits (m : ℕ → ℤ) : Type 0 where
     pub u2 : FromU2 t w (lineIn w m 3)
     pub p2 : FromP2 t w (lineIn w m 2)
+
+  -- a low line after four lines or more: all stages, and what is kept then
+  abbrev pub laterDone : ℕ → (ℕ → ℤ) → ℕ → ℤ
+  laterDone before m = secondDone 0 before (firstDone 2 m)
+
+  abbrev pub laterKept : ℕ → (ℕ → ℤ) → ℕ → ℤ
+  laterKept before m = firstKept w (moved w 4 2 (laterDone before m))
+
+  pub record LaterFits (before : ℕ) (m : ℕ → ℤ) : Type 0 where
+    pub first : FirstFits 2 m
+    pub u1 : FromU1 t w (lineIn w m 3)
+    pub p2 : FromP2 t w (lineIn w m 4)
+    pub before-is : (before ≡ 2) ⊎ (before ≡ 4)
+
+  -- ---- the end
+
+  -- lines that are held, each within the limit of what it is
+  pub record HeldFits (m : ℕ → ℤ) : Type 0 where
+    pub low : Enters t w (lineIn w m 0)
+    pub high : Enters t w (lineIn w m 1)
+    pub p1 : FromP1 t w (lineIn w m 2)
+    pub u1 : FromU1 t w (lineIn w m 3)
+    pub p2 : FromP2 t w (lineIn w m 4)
+
+  -- what goes out after two lines: the last low line comes once more
+  abbrev pub twoEnded : (ℕ → ℤ) → (ℕ → ℤ) → ℕ → ℤ
+  twoEnded m out = twoGiven 0 (secondDone 3 2 (firstKept w (firstDone 6 (moved w 5 0 m)))) out
+
+  -- after an even number from four on
+  abbrev pub evenEnded : ℕ → (ℕ → ℤ) → (ℕ → ℤ) → ℕ → ℤ
+  evenEnded before m out = twoGiven 2 (secondDone 3 4 (laterKept before (moved w 5 0 m))) (twoGiven 0 (laterDone before (moved w 5 0 m)) out)
+
+  -- after an odd number
+  abbrev pub oddDone : ℕ → (ℕ → ℤ) → ℕ → ℤ
+  oddDone before m = secondDone 0 before (setU1 0 2 2 m)
+
+  -- U2 of the last low line
+  abbrev pub lastGiven : (ℕ → ℤ) → (ℕ → ℤ) → ℕ → ℤ
+  lastGiven m out = setLine w 2 (lineG1 t w (lineIn w (setU2 0 2 2 m) 0)) out
+
+  pub record LastFits (m : ℕ → ℤ) : Type 0 where
+    pub u1 : FromU1 t w (lineIn w m 0)
+    pub p2 : FromP2 t w (lineIn w m 2)
+
+  abbrev pub oddEnded : ℕ → (ℕ → ℤ) → (ℕ → ℤ) → ℕ → ℤ
+  oddEnded before m out = lastGiven (oddDone before m) (twoGiven 0 (oddDone before m) out)
+
+-- nothing past seven lines changes
+abbrev pub PastSame : ℕ → (ℕ → ℤ) → (ℕ → ℤ) → Type 0
+PastSame w m m′ = (p : ℕ) → heldLines * w ≤ p → m′ p ≡ m p

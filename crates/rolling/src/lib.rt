@@ -1,6 +1,7 @@
 // The rolling scan (document 02, job 5): a one-level 9/7 transform line by line. Definitions in specs/.
 ghost use mathlib.Core.Path.{_≡_};
 ghost use Prim.Native.Nat.{ℕ, _+_, _*_, _<_, _≤_};
+ghost use mathlib.Core.Logic.{_⊎_};
 ghost use lib.ListN.{length};
 ghost use Rattle.refusals.specs.Told.{told};
 ghost use Rattle.lifting.specs.Patch.{at};
@@ -10,7 +11,7 @@ ghost use Rattle.width_table.specs.Table.{maxFractionBits};
 ghost use Rattle.pictures.specs.Looks.{Tells};
 ghost use Rattle.irreversible.specs.LevelBits.{IsLevel};
 ghost use Rattle.rolling.specs.SoundLaws.{ColumnsSound};
-ghost use Rattle.rolling.specs.Program.{AsColumns, FirstFits, SecondFits, GiveFits, firstDone, secondDone, twoGiven, firstKept};
+ghost use Rattle.rolling.specs.Program.{AsColumns, FirstFits, SecondFits, GiveFits, firstDone, secondDone, twoGiven, firstKept, LaterFits, laterDone, laterKept, HeldFits, LastFits, setU2, lastGiven, twoEnded, evenEnded, oddEnded, PastSame};
 ghost use Rattle.rolling.specs.Calls.{heldLines, outLines, heldIn, FiveBits, Sound, KeptFrom, beginAnswer, scanOf, goesOn, lineAnswer, endAnswer, LineCall, EndCall};
 ghost use Rattle.rolling.specs.Told.{toldGiven};
 ghost use Rattle.rolling.specs.Memory.{lineIn, setLine, moved, staged, SafeStage, scaledLine, SafeScaling, Lent, Apart};
@@ -253,6 +254,24 @@ fn give_two(columns: Columns, held: &[i32], out: &mut [i32], w: usize, place: us
     scale_line(held, w, 2, out, place + 1, low_g2, high_g2);
 }
 
+// The second stages, and the two lines that they make ready go out.
+fn second_given(
+    columns: Columns,
+    held: &mut [i32],
+    out: &mut [i32],
+    w: usize,
+    after: usize,
+    before: usize,
+    place: usize,
+)
+    requires { ⌜ Lent (now held) w × AsColumns columns × SecondFits (columns .table) w after before (at (now held)) × (place + 2 ≤ outLines) × (outLines * w ≤ length (now out)) ⌝ }
+    ensures held { λ _. ⌜ at (now (held .exit)) ≡ secondDone (columns .table) w after before (at (now (held .entry))) ⌝ }
+    ensures out { λ _. ⌜ at (now (out .exit)) ≡ twoGiven (columns .table) w place (secondDone (columns .table) w after before (at (now (held .entry)))) (at (now (out .entry))) ⌝ }
+{
+    second_stages(columns, held, w, after, before);
+    give_two(columns, held, out, w, place);
+}
+
 // P1, U1 and the low line go to their places.
 fn keep_first(held: &mut [i32], w: usize)
     requires { ⌜ Lent (now held) w ⌝ }
@@ -261,4 +280,86 @@ fn keep_first(held: &mut [i32], w: usize)
     move_line(held, w, 2, 6);
     move_line(held, w, 3, 0);
     move_line(held, w, 0, 5);
+}
+
+// ---- low lines
+
+// A low line in line 5, after two lines: the first P1 and U1.
+fn first_low(columns: Columns, held: &mut [i32], w: usize)
+    requires { ⌜ Lent (now held) w × AsColumns columns × FirstFits (columns .table) w 6 (at (now held)) ⌝ }
+    ensures { λ _. ⌜ at (now (held .exit)) ≡ firstKept w (firstDone (columns .table) w 6 (at (now (held .entry)))) ⌝ }
+{
+    first_stages(columns, held, w, 6);
+    keep_first(held, w);
+}
+
+// A low line in line 5, after four lines or more: all stages, and two lines go out.
+fn later_low(columns: Columns, held: &mut [i32], out: &mut [i32], w: usize, before: usize)
+    requires { ⌜ Lent (now held) w × AsColumns columns × LaterFits (columns .table) w before (at (now held)) × (outLines * w ≤ length (now out)) ⌝ }
+    ensures held { λ _. ⌜ at (now (held .exit)) ≡ laterKept (columns .table) w before (at (now (held .entry))) ⌝ }
+    ensures out { λ _. ⌜ at (now (out .exit)) ≡ twoGiven (columns .table) w 0 (laterDone (columns .table) w before (at (now (held .entry)))) (at (now (out .entry))) ⌝ }
+{
+    first_stages(columns, held, w, 2);
+    second_given(columns, held, out, w, 0, before, 0);
+    move_line(held, w, 4, 2);
+    keep_first(held, w);
+}
+
+// ---- the end
+
+// After two lines: the last low line comes once more, and the last U1 serves as the one past it.
+fn end_two(columns: Columns, held: &mut [i32], out: &mut [i32], w: usize)
+    requires { ⌜ Lent (now held) w × AsColumns columns × HeldFits (columns .table) w (at (now held)) × (outLines * w ≤ length (now out)) ⌝ }
+    ensures held { λ _. ⌜ PastSame w (at (now (held .entry))) (at (now (held .exit))) ⌝ }
+    ensures out { λ _. ⌜ at (now (out .exit)) ≡ twoEnded (columns .table) w (at (now (held .entry))) (at (now (out .entry))) ⌝ }
+{
+    move_line(held, w, 5, 0);
+    first_low(columns, held, w);
+    second_given(columns, held, out, w, 3, 2, 0);
+}
+
+// After an even number of lines, from four on.
+fn end_even(columns: Columns, held: &mut [i32], out: &mut [i32], w: usize, before: usize)
+    requires { ⌜ Lent (now held) w × AsColumns columns × HeldFits (columns .table) w (at (now held)) × (outLines * w ≤ length (now out)) × ((before ≡ 2) ⊎ (before ≡ 4)) ⌝ }
+    ensures held { λ _. ⌜ PastSame w (at (now (held .entry))) (at (now (held .exit))) ⌝ }
+    ensures out { λ _. ⌜ at (now (out .exit)) ≡ evenEnded (columns .table) w before (at (now (held .entry))) (at (now (out .entry))) ⌝ }
+{
+    move_line(held, w, 5, 0);
+    later_low(columns, held, out, w, before);
+    second_given(columns, held, out, w, 3, 4, 2);
+}
+
+// U2 of the last low line of an odd number, whose U1 is in line 0 and whose P2 is in line 2: the third line that goes out.
+fn last_given(columns: Columns, held: &mut [i32], out: &mut [i32], w: usize)
+    requires { ⌜ Lent (now held) w × AsColumns columns × LastFits (columns .table) w (at (now held)) × (outLines * w ≤ length (now out)) ⌝ }
+    ensures held { λ _. ⌜ at (now (held .exit)) ≡ setU2 (columns .table) w 0 2 2 (at (now (held .entry))) ⌝ }
+    ensures out { λ _. ⌜ at (now (out .exit)) ≡ lastGiven (columns .table) w (at (now (held .entry))) (at (now (out .entry))) ⌝ }
+{
+    let low = columns.low;
+    let high = columns.high;
+    let low_second = low.second;
+    let high_second = high.second;
+    let low_u2 = low_second.lows;
+    let high_u2 = high_second.lows;
+    let low_g1 = low.low;
+    let high_g1 = high.low;
+    stage_line(held, w, 0, 2, 2, low_u2, high_u2);
+    scale_line(held, w, 0, out, 2, low_g1, high_g1);
+}
+
+// After an odd number of lines: the last P1 serves as the one past the last low line, and so does the last P2.
+fn end_odd(columns: Columns, held: &mut [i32], out: &mut [i32], w: usize, before: usize)
+    requires { ⌜ Lent (now held) w × AsColumns columns × HeldFits (columns .table) w (at (now held)) × (outLines * w ≤ length (now out)) × ((before ≡ 2) ⊎ (before ≡ 4)) ⌝ }
+    ensures held { λ _. ⌜ PastSame w (at (now (held .entry))) (at (now (held .exit))) ⌝ }
+    ensures out { λ _. ⌜ at (now (out .exit)) ≡ oddEnded (columns .table) w before (at (now (held .entry))) (at (now (out .entry))) ⌝ }
+{
+    let low = columns.low;
+    let high = columns.high;
+    let low_first = low.first;
+    let high_first = high.first;
+    let low_u1 = low_first.lows;
+    let high_u1 = high_first.lows;
+    stage_line(held, w, 0, 2, 2, low_u1, high_u1);
+    second_given(columns, held, out, w, 0, before, 0);
+    last_given(columns, held, out, w);
 }

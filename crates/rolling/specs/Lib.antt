@@ -15,3 +15,4 @@ pub mod SoundLaws
 pub mod Program
 pub mod ProgramLaws
 pub mod ColumnLaws
+pub mod Works

@@ -12,10 +12,13 @@ ghost use Rattle.pictures.specs.Looks.{Tells};
 ghost use Rattle.irreversible.specs.LevelBits.{IsLevel};
 ghost use Rattle.rolling.specs.SoundLaws.{ColumnsSound};
 ghost use Rattle.rolling.specs.Program.{AsColumns, FirstFits, SecondFits, GiveFits, firstDone, secondDone, twoGiven, firstKept, LaterFits, laterDone, laterKept, HeldFits, LastFits, setU2, lastGiven, twoEnded, evenEnded, oddEnded, PastSame};
-ghost use Rattle.rolling.specs.Calls.{heldLines, outLines, heldIn, FiveBits, Sound, KeptFrom, beginAnswer, scanOf, goesOn, lineAnswer, endAnswer, LineCall, EndCall};
+ghost use Rattle.rolling.specs.Calls.{heldLines, outLines, heldIn, FiveBits, Sound, KeptFrom, beginAnswer, scanOf, goesOn, LineCall, EndCall};
 ghost use Rattle.rolling.specs.Told.{toldGiven};
 ghost use Rattle.rolling.specs.Memory.{lineIn, setLine, moved, staged, SafeStage, scaledLine, SafeScaling, Lent, Apart};
 ghost use Rattle.rolling.specs.Rows.{LineRight, rowOf};
+ghost use Rattle.rolling.specs.Works.{lineAnswerOf, endAnswerOf, HeldWorked, LineWorked, LowReady, EndWorked};
+ghost use Rattle.rolling.specs.Schedule.{next, anyTaken, twoTaken, lineGives, endGives};
+ghost use Rattle.pictures.specs.Pictures.{Admitted};
 use irreversible::Stages;
 use lifting::Factor;
 use lifting::Step;
@@ -362,4 +365,320 @@ fn end_odd(columns: Columns, held: &mut [i32], out: &mut [i32], w: usize, before
     stage_line(held, w, 0, 2, 2, low_u1, high_u1);
     second_given(columns, held, out, w, 0, before, 0);
     last_given(columns, held, out, w);
+}
+
+// ---- one line
+
+// The first line: its row is the first low line; nothing else is held.
+fn first_row(table: WidthTable, pixels: &[u16], w: usize, held: &mut [i32])
+    requires { ⌜ LineRight table (now pixels) w × Lent (now held) w ⌝ }
+    ensures { λ _. ⌜ HeldWorked table w Taken.Zero (rowOf table (now (pixels .entry)) w) (now (held .entry)) (now (held .exit)) ⌝ }
+{
+    pictures::clear(held, 5 * w);
+    row_to(table, pixels, w, held, 0);
+}
+
+// What is held, made sound, and a low line in line 5.
+fn low_row(table: WidthTable, pixels: &[u16], w: usize, held: &mut [i32])
+    requires { ⌜ LineRight table (now pixels) w × Lent (now held) w ⌝ }
+    ensures { λ _. ⌜ LowReady table w (rowOf table (now (pixels .entry)) w) (now (held .entry)) (now (held .exit)) ⌝ }
+{
+    make_sound(table, held, w);
+    row_to(table, pixels, w, held, 5);
+}
+
+// The third line.
+fn third_row(table: WidthTable, pixels: &[u16], w: usize, held: &mut [i32])
+    requires { ⌜ LineRight table (now pixels) w × Lent (now held) w ⌝ }
+    ensures { λ _. ⌜ HeldWorked table w Taken.Two (rowOf table (now (pixels .entry)) w) (now (held .entry)) (now (held .exit)) ⌝ }
+{
+    low_row(table, pixels, w, held);
+    first_low(columns_of(table), held, w);
+}
+
+// The fifth line.
+fn fifth_row(table: WidthTable, pixels: &[u16], w: usize, held: &mut [i32], out: &mut [i32])
+    requires { ⌜ LineRight table (now pixels) w × Lent (now held) w × (outLines * w ≤ length (now out)) ⌝ }
+    ensures { λ _. ⌜ LineWorked table w Taken.Four (rowOf table (now (pixels .entry)) w) (now (held .entry)) (now (out .entry)) (now (held .exit)) (now (out .exit)) ⌝ }
+{
+    low_row(table, pixels, w, held);
+    later_low(columns_of(table), held, out, w, 2);
+}
+
+// Any low line after it.
+fn later_row(table: WidthTable, pixels: &[u16], w: usize, held: &mut [i32], out: &mut [i32])
+    requires { ⌜ LineRight table (now pixels) w × Lent (now held) w × (outLines * w ≤ length (now out)) ⌝ }
+    ensures { λ _. ⌜ LineWorked table w Taken.EvenMany (rowOf table (now (pixels .entry)) w) (now (held .entry)) (now (out .entry)) (now (held .exit)) (now (out .exit)) ⌝ }
+{
+    low_row(table, pixels, w, held);
+    later_low(columns_of(table), held, out, w, 4);
+}
+
+// A line, by how many came before it: so many lines go out.
+fn work_line(
+    table: WidthTable,
+    taken: Taken,
+    pixels: &[u16],
+    w: usize,
+    held: &mut [i32],
+    out: &mut [i32],
+) -> usize
+    requires { ⌜ LineRight table (now pixels) w × Lent (now held) w × (outLines * w ≤ length (now out)) ⌝ }
+    ensures count { λ r. ⌜ r ≡ length (lineGives table w taken (heldIn w (now (held .entry))) (rowOf table (now (pixels .entry)) w)) ⌝ }
+    ensures work { λ _. ⌜ LineWorked table w taken (rowOf table (now (pixels .entry)) w) (now (held .entry)) (now (out .entry)) (now (held .exit)) (now (out .exit)) ⌝ }
+{
+    match taken {
+        Taken::Zero => {
+            first_row(table, pixels, w, held);
+            0
+        }
+        Taken::Two => {
+            third_row(table, pixels, w, held);
+            0
+        }
+        Taken::Four => {
+            fifth_row(table, pixels, w, held, out);
+            2
+        }
+        Taken::EvenMany => {
+            later_row(table, pixels, w, held, out);
+            2
+        }
+        Taken::One => {
+            row_to(table, pixels, w, held, 1);
+            0
+        }
+        Taken::Three => {
+            row_to(table, pixels, w, held, 1);
+            0
+        }
+        Taken::OddMany => {
+            row_to(table, pixels, w, held, 1);
+            0
+        }
+    }
+}
+
+// The end, by how many lines came: so many lines go out.
+fn work_end(table: WidthTable, taken: Taken, w: usize, held: &mut [i32], out: &mut [i32]) -> usize
+    requires { ⌜ IsLevel table 1 × Admitted 1 w × Lent (now held) w × (outLines * w ≤ length (now out)) ⌝ }
+    ensures count { λ r. ⌜ r ≡ length (endGives table w taken (heldIn w (now (held .entry)))) ⌝ }
+    ensures work { λ _. ⌜ EndWorked table w taken (now (held .entry)) (now (out .entry)) (now (held .exit)) (now (out .exit)) ⌝ }
+{
+    make_sound(table, held, w);
+    let columns = columns_of(table);
+    match taken {
+        Taken::Two => {
+            end_two(columns, held, out, w);
+            2
+        }
+        Taken::Four => {
+            end_even(columns, held, out, w, 2);
+            4
+        }
+        Taken::EvenMany => {
+            end_even(columns, held, out, w, 4);
+            4
+        }
+        Taken::Three => {
+            end_odd(columns, held, out, w, 2);
+            3
+        }
+        Taken::OddMany => {
+            end_odd(columns, held, out, w, 4);
+            3
+        }
+        _ => 0,
+    }
+}
+
+// ---- the calls
+
+// One line more.
+fn next(taken: Taken) -> Taken
+    ensures { λ r. ⌜ r ≡ next taken ⌝ }
+{
+    match taken {
+        Taken::Zero => Taken::One,
+        Taken::One => Taken::Two,
+        Taken::Two => Taken::Three,
+        Taken::Three => Taken::Four,
+        Taken::Four => Taken::OddMany,
+        Taken::OddMany => Taken::EvenMany,
+        Taken::EvenMany => Taken::OddMany,
+    }
+}
+
+// Whether any line was taken.
+fn any_taken(taken: Taken) -> bool
+    ensures { λ r. ⌜ r ≡ anyTaken taken ⌝ }
+{
+    match taken {
+        Taken::Zero => false,
+        _ => true,
+    }
+}
+
+// Whether two lines or more were taken.
+fn two_taken(taken: Taken) -> bool
+    ensures { λ r. ⌜ r ≡ twoTaken taken ⌝ }
+{
+    match taken {
+        Taken::Zero => false,
+        Taken::One => false,
+        _ => true,
+    }
+}
+
+// 14 for a table that is not of one level, then 4, then 6 and 7.
+fn begin_answer(table: WidthTable) -> Outcome
+    ensures { λ r. ⌜ told r ≡ beginAnswer table ⌝ }
+{
+    if table.levels == 1 {
+        precision::judge(table)
+    } else {
+        Outcome::Refused(Refusal::OutOfTurn)
+    }
+}
+
+// Whether a scan goes on.
+fn goes_on(scan: Scan) -> bool
+    ensures { λ r. ⌜ r ≡ goesOn scan ⌝ }
+{
+    if scan.ended {
+        return false;
+    }
+    let taken = scan.taken;
+    if any_taken(taken) {
+        if pictures::side_admitted(1, scan.width) {} else {
+            return false;
+        }
+    }
+    let table = scan.table;
+    match begin_answer(table) {
+        Outcome::Done => true,
+        Outcome::Refused(_) => false,
+    }
+}
+
+// The answer of a line, for a held slice and an output of so many elements.
+fn line_answer(scan: Scan, pixels: &[u16], w: usize, held: usize, out: usize) -> Outcome
+    ensures { λ r. ⌜ told r ≡ lineAnswerOf scan (now (pixels .entry)) w held out ⌝ }
+{
+    if goes_on(scan) {} else {
+        return Outcome::Refused(Refusal::OutOfTurn);
+    }
+    let taken = scan.taken;
+    if any_taken(taken) {
+        if w == scan.width {} else {
+            return Outcome::Refused(Refusal::OutOfTurn);
+        }
+    }
+    if pictures::side_admitted(1, w) {} else {
+        return Outcome::Refused(Refusal::SideNotAdmitted);
+    }
+    if w <= pixels.len() {} else {
+        return Outcome::Refused(Refusal::SliceTooShort);
+    }
+    if HELD_LINES * w <= held {} else {
+        return Outcome::Refused(Refusal::SliceTooShort);
+    }
+    if OUT_LINES * w <= out {} else {
+        return Outcome::Refused(Refusal::SliceTooShort);
+    }
+    let table = scan.table;
+    pictures::pixels_right(table.depth, w, 1, pixels)
+}
+
+// The answer of an end.
+fn end_answer(scan: Scan, held: usize, out: usize) -> Outcome
+    ensures { λ r. ⌜ told r ≡ endAnswerOf scan held out ⌝ }
+{
+    if goes_on(scan) {} else {
+        return Outcome::Refused(Refusal::OutOfTurn);
+    }
+    let taken = scan.taken;
+    if two_taken(taken) {} else {
+        return Outcome::Refused(Refusal::OutOfTurn);
+    }
+    if HELD_LINES * scan.width <= held {} else {
+        return Outcome::Refused(Refusal::SliceTooShort);
+    }
+    if OUT_LINES * scan.width <= out {} else {
+        return Outcome::Refused(Refusal::SliceTooShort);
+    }
+    Outcome::Done
+}
+
+// Begins a scan under a table of one level: 14, then 4, then 6 and 7. A scan that is refused counts as ended.
+pub fn begin(table: WidthTable) -> Begun
+    ensures outcome { λ r. ⌜ told (r .outcome) ≡ beginAnswer table ⌝ }
+    ensures scan { λ r. ⌜ r .scan ≡ scanOf table ⌝ }
+{
+    let outcome = begin_answer(table);
+    let ended = match outcome {
+        Outcome::Done => false,
+        Outcome::Refused(_) => true,
+    };
+    Begun {
+        outcome,
+        scan: Scan {
+            table,
+            width: 0,
+            taken: Taken::Zero,
+            ended,
+        },
+    }
+}
+
+// Takes a line of pixels: 14, 8, 9, 10. Lines that it makes ready stand first in the output.
+pub fn line(scan: Scan, pixels: &[u16], w: usize, held: &mut [i32], out: &mut [i32]) -> Scanned
+    ensures { λ r. ⌜ LineCall scan (now (pixels .entry)) w (now (held .entry)) (now (out .entry)) (toldGiven (r .given)) (r .scan) (now (held .exit)) (now (out .exit)) ⌝ }
+{
+    match line_answer(scan, pixels, w, held.len(), out.len()) {
+        Outcome::Refused(why) => Scanned {
+            given: Given::NotGiven(why),
+            scan,
+        },
+        Outcome::Done => {
+            let table = scan.table;
+            let taken = scan.taken;
+            let lines = work_line(table, taken, pixels, w, held, out);
+            Scanned {
+                given: Given::Lines(lines),
+                scan: Scan {
+                    table,
+                    width: w,
+                    taken: next(taken),
+                    ended: scan.ended,
+                },
+            }
+        }
+    }
+}
+
+// Announces the end: 14, 9. The lines that are left stand first in the output.
+pub fn end(scan: Scan, held: &mut [i32], out: &mut [i32]) -> Scanned
+    ensures { λ r. ⌜ EndCall scan (now (held .entry)) (now (out .entry)) (toldGiven (r .given)) (r .scan) (now (held .exit)) (now (out .exit)) ⌝ }
+{
+    match end_answer(scan, held.len(), out.len()) {
+        Outcome::Refused(why) => Scanned {
+            given: Given::NotGiven(why),
+            scan,
+        },
+        Outcome::Done => {
+            let table = scan.table;
+            let taken = scan.taken;
+            let lines = work_end(table, taken, scan.width, held, out);
+            Scanned {
+                given: Given::Lines(lines),
+                scan: Scan {
+                    table,
+                    width: scan.width,
+                    taken,
+                    ended: true,
+                },
+            }
+        }
+    }
 }

@@ -192,7 +192,7 @@ module _ (t : WidthTable) (w : ℕ) (held : List ℤ) where
 
 -- in the five lines that are held
 module _ (w : ℕ) (held : List ℤ) where
-  zero-at : (k : ℕ) → k < 5 * w → at (zeroed (5 * w) held) k ≡ pos 0
+  pub zero-at : (k : ℕ) → k < 5 * w → at (zeroed (5 * w) held) k ≡ pos 0
   zero-at k h =
       List·getD-append (replicate (5 * w) (pos 0)) _ (pos 0) k (omega (arith, length-replicate (5 * w) (pos 0))) ∙ getD-replicate (5 * w) k (pos 0) (pos 0) h
 

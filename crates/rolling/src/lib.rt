@@ -488,7 +488,8 @@ fn work_end(table: WidthTable, taken: Taken, w: usize, held: &mut [i32], out: &m
             end_odd(columns, held, out, w, 4);
             3
         }
-        _ => 0,
+        Taken::Zero => 0,
+        Taken::One => 0,
     }
 }
 
@@ -515,7 +516,12 @@ fn any_taken(taken: Taken) -> bool
 {
     match taken {
         Taken::Zero => false,
-        _ => true,
+        Taken::One => true,
+        Taken::Two => true,
+        Taken::Three => true,
+        Taken::Four => true,
+        Taken::OddMany => true,
+        Taken::EvenMany => true,
     }
 }
 
@@ -526,7 +532,11 @@ fn two_taken(taken: Taken) -> bool
     match taken {
         Taken::Zero => false,
         Taken::One => false,
-        _ => true,
+        Taken::Two => true,
+        Taken::Three => true,
+        Taken::Four => true,
+        Taken::OddMany => true,
+        Taken::EvenMany => true,
     }
 }
 

@@ -1,0 +1,61 @@
+-- `rolling::fifth_row` meets its contract.
+-- Assumes nothing.
+use mathlib.Core.Path.{_≡_, refl, sym, _∙_, ap, subst}
+use mathlib.Core.Logic.{inl}
+use Prim.Native.Nat.{ℕ, _*_}
+use native.Mathlib.Omega.{arith}
+use borrow.Author.Needs.{needs}
+use lib.IntN.{ℤ}
+use Rattle.width_table.specs.declared.WidthTable.{WidthTable}
+use Rattle.lifting.specs.Patch.{at}
+use Rattle.rolling.specs.Schedule.{lineGives}
+use Rattle.rolling.specs.Calls.{heldLines}
+use Rattle.rolling.specs.Program.{LaterFits, laterDone, laterKept, twoGiven}
+use Rattle.rolling.specs.ProgramLaws.{past-later}
+use Rattle.rolling.specs.Rows.{rowOf}
+use Rattle.rolling.specs.WorkLaws.{kept-from, kept-then, four-same, four-out, two-kept, later-fits}
+use Rattle.rolling.proofs.fifth_row.Statement.{statement}
+use Rattle.rolling.proofs.fifth_row.Tie as tie
+
+later-low-requires : tie.Need-later-low-requires
+later-low-requires c κs =
+    let f = c .before .before in
+    let l = f .before .before in
+    let s = l .before .before .before in
+    let a = s .args in
+    let (stages, table) = f .columns-of .ensures in
+    (search needs, stages, subst (λ (t : WidthTable). LaterFits t (a .w) 2 (at (l .low-row .last .1 .1 .1 .0))) (sym table) (later-fits (a .table) (a .w) _ (l .low-row .ensures .fits) (l .low-row .ensures .enters) 2 (inl refl)), s .pre .2)
+
+returns : tie.Need-returns
+unfolding lineGives
+returns c =
+    let e = c .before .before in
+    let f = e .before .before .before in
+    let l = f .before .before in
+    let s = l .before .before .before in
+    let a = s .args in
+    let row = rowOf (a .table) (a .pixels .now) (a .w) in
+    let ready = l .low-row .ensures in
+    let m = at (l .low-row .last .1 .1 .1 .0) in
+    let done = e .later-low .ensures .0 ∙ ap (λ (t : WidthTable). laterKept t (a .w) 2 m) (f .columns-of .ensures .1) in
+    let given = e .later-low .ensures .1 ∙ ap (λ (t : WidthTable). twoGiven t (a .w) 0 (laterDone t (a .w) 2 m) (at (a .out .now))) (f .columns-of .ensures .1) in (
+      record {
+        past = kept-then (heldLines * a .w) (a .held .now) _ _ (ready .past) (kept-from (heldLines * a .w) _ _ (search needs) (λ p i. ap (λ (m : ℕ → ℤ). m p) done ∙ past-later (a .w) (a .table) 2 m p i));
+        works = λ sound. four-same (a .table) (a .w) row (a .held .now) _ (done ∙ ap (laterKept (a .table) (a .w) 2) (ready .same (sound tt)));
+      },
+      record {
+        past = two-kept (a .table) (a .w) row (a .held .now) (omega (arith, s .pre .0 .side .0)) (a .out .now) _ (s .pre .2) (search needs) (laterDone (a .table) (a .w) 2 m) given;
+        works = λ sound. four-out (a .table) (a .w) row (a .held .now) (omega (arith, s .pre .0 .side .0)) (a .out .now) _ (s .pre .2) (search needs) (given ∙ ap (λ (m : ℕ → ℤ). twoGiven (a .table) (a .w) 0 (laterDone (a .table) (a .w) 2 m) (at (a .out .now))) (ready .same (sound tt)));
+      },
+    )
+
+pub fifth-row-spec : {M : Type 1} → statement M
+fifth-row-spec =
+    tie.close
+    (tie.spec
+    (λ c κs. search needs)
+    (λ c κs. let s = c .before .before .before .before in record { accepted = s .pre .0 .accepted; least = omega arith; most = omega (arith, s .pre .0 .one) })
+    later-low-requires
+    (λ c. search needs)
+    (λ c. search needs)
+    returns)

@@ -1,0 +1,195 @@
+-- `rolling::work_end` meets its contract.
+-- Assumes nothing.
+use mathlib.Core.Path.{_≡_, refl, sym, _∙_, ap, subst}
+use mathlib.Core.List.{List}
+use mathlib.Core.Logic.{inl, inr}
+use Prim.Native.Nat.{ℕ, _*_, _≤_}
+use native.Mathlib.Omega.{arith}
+use borrow.Author.Needs.{needs}
+use lib.IntN.{ℤ}
+use lib.ListN.{length}
+use Rattle.width_table.specs.declared.WidthTable.{WidthTable}
+use Rattle.lifting.specs.Patch.{at}
+use Rattle.rolling.specs.declared.Taken.{Taken}
+use Rattle.rolling.specs.declared.Taken.the-variants.{Zero, One, Two, Three, Four, OddMany, EvenMany}
+use Rattle.rolling.specs.Schedule.{lineGives, endGives}
+use Rattle.rolling.specs.Calls.{heldLines, heldIn, Sound, KeptFrom}
+use Rattle.rolling.specs.Program.{HeldFits, PastSame, firstDone, firstKept, secondDone, twoGiven, twoEnded, evenEnded, oddEnded}
+use Rattle.rolling.specs.Memory.{moved}
+use Rattle.rolling.specs.Works.{EndWorked}
+use Rattle.rolling.specs.WorkLaws.{kept-from, kept-then, sound-fits, two-end-kept, two-ended, even-end-kept, four-ended, many-ended, odd-end-kept, three-ended, odd-ended, quiet-end}
+use Rattle.rolling.proofs.work_end.Statement.{statement}
+use Rattle.rolling.proofs.work_end.Tie as tie
+
+-- what is said of an end by how many lines came
+abbrev Said : tie.Start → ℕ → List ℤ → List ℤ → Taken → Type 0
+Said s n held′ out′ k =
+    let a = s .args in
+    (n ≡ length (endGives (a .table) (a .w) k (heldIn (a .w) (a .held .now)))) × EndWorked (a .table) (a .w) k (a .held .now) (a .out .now) held′ out′
+
+some : (s : tie.Start) → 1 ≤ s .args .w
+some s = omega (arith, s .pre .1 .0)
+
+-- what is held is sound, and fits the stages
+module _ (c : tie.After-columns-of) where
+  abbrev start : tie.Start
+  start = c .before .before .before .before
+
+  abbrev sounded : List ℤ
+  sounded = c .before .before .make-sound .last .1 .0
+
+  table-is : c .columns-of .result .table ≡ start .args .table
+  table-is = c .columns-of .ensures .1
+
+  fits : HeldFits (c .columns-of .result .table) (start .args .w) (at sounded)
+  fits = subst (λ (t : WidthTable). HeldFits t (start .args .w) (at sounded)) (sym table-is) (sound-fits (start .args .table) (start .args .w) sounded (c .before .before .make-sound .ensures .0))
+
+  -- nothing past seven lines changes
+  past-all : (held′ : List ℤ) → length held′ ≡ length sounded → PastSame (start .args .w) (at sounded) (at held′) → KeptFrom (heldLines * start .args .w) (start .args .held .now) held′
+  past-all held′ e past = kept-then (heldLines * start .args .w) (start .args .held .now) sounded held′ (c .before .before .make-sound .ensures .1 .1) (kept-from (heldLines * start .args .w) sounded held′ e past)
+
+  -- sound memory stays as it was
+  as-held : Sound (start .args .table) (start .args .w) (heldIn (start .args .w) (start .args .held .now)) → sounded ≡ start .args .held .now
+  as-held = c .before .before .make-sound .ensures .1 .0
+
+returns : tie.Need-returns
+unfolding endGives lineGives
+returns c =
+    let f = c .before .before in
+    let e = f .before .before .before in
+    let q = e .before .before in
+    let a = start q .args in
+    let given = f .end-two .ensures .1 ∙ ap (λ (t : WidthTable). twoEnded t (a .w) (at (sounded q)) (at (a .out .now))) (table-is q) in
+    subst (Said (start q) 2 _ _) (sym (e .enum-told .given .1))
+    (
+      refl,
+      record {
+        held-past = past-all q _ (search needs) (f .end-two .ensures .0);
+        out-past = two-end-kept (a .table) (a .w) (a .held .now) (some (start q)) (a .out .now) _ (start q .pre .3) (search needs) (moved (a .w) 5 0 (at (sounded q))) given;
+        works = λ sound. two-ended (a .table) (a .w) (a .held .now) (some (start q)) (a .out .now) _ (start q .pre .3) (search needs) (given ∙ ap (λ (l : List ℤ). twoEnded (a .table) (a .w) (at l) (at (a .out .now))) (as-held q sound));
+      },
+    )
+
+returns-2 : tie.Need-returns-2
+unfolding endGives lineGives
+returns-2 c =
+    let f = c .before .before in
+    let e = f .before .before .before in
+    let q = e .before .before in
+    let a = start q .args in
+    let given = f .end-even .ensures .1 ∙ ap (λ (t : WidthTable). evenEnded t (a .w) 2 (at (sounded q)) (at (a .out .now))) (table-is q) in
+    subst (Said (start q) 4 _ _) (sym (e .enum-told2 .given .1))
+    (
+      refl,
+      record {
+        held-past = past-all q _ (search needs) (f .end-even .ensures .0);
+        out-past = even-end-kept (a .table) (a .w) (a .held .now) (some (start q)) (a .out .now) _ (start q .pre .3) (search needs) 2 (at (sounded q)) given;
+        works = λ sound. four-ended (a .table) (a .w) (a .held .now) (some (start q)) (a .out .now) _ (start q .pre .3) (search needs) (given ∙ ap (λ (l : List ℤ). evenEnded (a .table) (a .w) 2 (at l) (at (a .out .now))) (as-held q sound));
+      },
+    )
+
+returns-3 : tie.Need-returns-3
+unfolding endGives lineGives
+returns-3 c =
+    let f = c .before .before in
+    let e = f .before .before .before in
+    let q = e .before .before in
+    let a = start q .args in
+    let given = f .end-even2 .ensures .1 ∙ ap (λ (t : WidthTable). evenEnded t (a .w) 4 (at (sounded q)) (at (a .out .now))) (table-is q) in
+    subst (Said (start q) 4 _ _) (sym (e .enum-told3 .given .1))
+    (
+      refl,
+      record {
+        held-past = past-all q _ (search needs) (f .end-even2 .ensures .0);
+        out-past = even-end-kept (a .table) (a .w) (a .held .now) (some (start q)) (a .out .now) _ (start q .pre .3) (search needs) 4 (at (sounded q)) given;
+        works = λ sound. many-ended (a .table) (a .w) (a .held .now) (some (start q)) (a .out .now) _ (start q .pre .3) (search needs) (given ∙ ap (λ (l : List ℤ). evenEnded (a .table) (a .w) 4 (at l) (at (a .out .now))) (as-held q sound));
+      },
+    )
+
+returns-4 : tie.Need-returns-4
+unfolding endGives lineGives
+returns-4 c =
+    let f = c .before .before in
+    let e = f .before .before .before in
+    let q = e .before .before in
+    let a = start q .args in
+    let given = f .end-odd .ensures .1 ∙ ap (λ (t : WidthTable). oddEnded t (a .w) 2 (at (sounded q)) (at (a .out .now))) (table-is q) in
+    subst (Said (start q) 3 _ _) (sym (e .enum-told4 .given .1))
+    (
+      refl,
+      record {
+        held-past = past-all q _ (search needs) (f .end-odd .ensures .0);
+        out-past = odd-end-kept (a .table) (a .w) (a .held .now) (some (start q)) (a .out .now) _ (start q .pre .3) (search needs) 2 (at (sounded q)) given;
+        works = λ sound. three-ended (a .table) (a .w) (a .held .now) (some (start q)) (a .out .now) _ (start q .pre .3) (search needs) (given ∙ ap (λ (l : List ℤ). oddEnded (a .table) (a .w) 2 (at l) (at (a .out .now))) (as-held q sound));
+      },
+    )
+
+returns-5 : tie.Need-returns-5
+unfolding endGives lineGives
+returns-5 c =
+    let f = c .before .before in
+    let e = f .before .before .before in
+    let q = e .before .before in
+    let a = start q .args in
+    let given = f .end-odd2 .ensures .1 ∙ ap (λ (t : WidthTable). oddEnded t (a .w) 4 (at (sounded q)) (at (a .out .now))) (table-is q) in
+    subst (Said (start q) 3 _ _) (sym (e .enum-told5 .given .1))
+    (
+      refl,
+      record {
+        held-past = past-all q _ (search needs) (f .end-odd2 .ensures .0);
+        out-past = odd-end-kept (a .table) (a .w) (a .held .now) (some (start q)) (a .out .now) _ (start q .pre .3) (search needs) 4 (at (sounded q)) given;
+        works = λ sound. odd-ended (a .table) (a .w) (a .held .now) (some (start q)) (a .out .now) _ (start q .pre .3) (search needs) (given ∙ ap (λ (l : List ℤ). oddEnded (a .table) (a .w) 4 (at l) (at (a .out .now))) (as-held q sound));
+      },
+    )
+
+returns-6 : tie.Need-returns-6
+unfolding endGives
+returns-6 c =
+    let q = c .before .before in
+    let a = start q .args in
+    subst (Said (start q) 0 _ _) (sym (c .enum-told6 .given .1)) (refl, quiet-end (a .table) (a .w) Zero (a .held .now) _ (a .out .now) (some (start q)) (q .before .before .make-sound .ensures .1 .1) refl)
+
+returns-7 : tie.Need-returns-7
+unfolding endGives
+returns-7 c =
+    let q = c .before .before in
+    let a = start q .args in
+    subst (Said (start q) 0 _ _) (sym (c .enum-told7 .given .1)) (refl, quiet-end (a .table) (a .w) One (a .held .now) _ (a .out .now) (some (start q)) (q .before .before .make-sound .ensures .1 .1) refl)
+
+pub work-end-spec : {M : Type 1} → statement M
+work-end-spec =
+    tie.close
+    (tie.spec
+    (λ c κs. (c .before .pre .0, c .before .pre .2))
+    (λ c κs. c .before .before .before .pre .0)
+    (λ c. search needs)
+    (λ c κs. let q = c .before .before .before .before in (search needs, q .columns-of .ensures .0, fits q, start q .pre .3))
+    (λ c. search needs)
+    (λ c κs. let q = c .before .before .before .before in (search needs, q .columns-of .ensures .0, fits q, start q .pre .3, inl refl))
+    (λ c. search needs)
+    (λ c κs. let q = c .before .before .before .before in (search needs, q .columns-of .ensures .0, fits q, start q .pre .3, inr refl))
+    (λ c. search needs)
+    (λ c κs. let q = c .before .before .before .before in (search needs, q .columns-of .ensures .0, fits q, start q .pre .3, inl refl))
+    (λ c. search needs)
+    (λ c κs. let q = c .before .before .before .before in (search needs, q .columns-of .ensures .0, fits q, start q .pre .3, inr refl))
+    (λ c. search needs)
+    (λ c. search needs)
+    (λ c. search needs)
+    (λ c. search needs)
+    returns
+    (λ c. search needs)
+    (λ c. search needs)
+    returns-2
+    (λ c. search needs)
+    (λ c. search needs)
+    returns-3
+    (λ c. search needs)
+    (λ c. search needs)
+    returns-4
+    (λ c. search needs)
+    (λ c. search needs)
+    returns-5
+    (λ c. search needs)
+    returns-6
+    (λ c. search needs)
+    returns-7)

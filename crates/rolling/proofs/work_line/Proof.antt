@@ -1,0 +1,137 @@
+-- `rolling::work_line` meets its contract.
+-- Assumes nothing.
+use mathlib.Core.Path.{_≡_, refl, sym, _∙_, ap, subst}
+use mathlib.Core.List.{List, []}
+use Prim.Native.Nat.{ℕ, _*_, _≤_}
+use native.Mathlib.Omega.{arith}
+use borrow.Author.Needs.{needs}
+use lib.IntN.{ℤ}
+use lib.ListN.{length}
+use Rattle.rolling.specs.declared.Taken.{Taken}
+use Rattle.rolling.specs.declared.Taken.the-variants.{Zero, One, Two, Three, Four, OddMany, EvenMany}
+use Rattle.rolling.specs.Schedule.{lineGives}
+use Rattle.rolling.specs.Calls.{heldLines, heldIn}
+use Rattle.rolling.specs.Memory.{past-set}
+use Rattle.rolling.specs.Rows.{rowOf}
+use Rattle.rolling.specs.Works.{LineWorked}
+use Rattle.rolling.specs.WorkLaws.{kept-from, quiet, one-same, three-same, odd-same}
+use Rattle.rolling.proofs.work_line.Statement.{statement}
+use Rattle.rolling.proofs.work_line.Tie as tie
+
+-- what is said of a line by how many came before it
+abbrev Said : tie.Start → ℕ → List ℤ → List ℤ → Taken → Type 0
+Said s n held′ out′ k =
+    let a = s .args in
+    let row = rowOf (a .table) (a .pixels .now) (a .w) in
+    (n ≡ length (lineGives (a .table) (a .w) k (heldIn (a .w) (a .held .now)) row)) × LineWorked (a .table) (a .w) k row (a .held .now) (a .out .now) held′ out′
+
+some : (s : tie.Start) → 1 ≤ s .args .w
+some s = omega (arith, s .pre .0 .side .0)
+
+returns : tie.Need-returns
+unfolding lineGives
+returns c =
+    let f = c .before in
+    let e = f .before .before in
+    let s = e .before .before .before in
+    let a = s .args in
+    let row = rowOf (a .table) (a .pixels .now) (a .w) in
+    subst (Said s 0 _ _) (sym (e .enum-told .given .1)) (refl, (f .first-row .ensures, quiet (a .table) (a .w) Zero row (a .held .now) (a .out .now) (some s) refl))
+
+returns-2 : tie.Need-returns-2
+unfolding lineGives
+returns-2 c =
+    let f = c .before in
+    let e = f .before .before in
+    let s = e .before .before .before in
+    let a = s .args in
+    let row = rowOf (a .table) (a .pixels .now) (a .w) in
+    subst (Said s 0 _ _) (sym (e .enum-told2 .given .1)) (refl, (f .third-row .ensures, quiet (a .table) (a .w) Two row (a .held .now) (a .out .now) (some s) refl))
+
+returns-3 : tie.Need-returns-3
+unfolding lineGives
+returns-3 c =
+    let f = c .before .before in
+    let e = f .before .before .before in
+    subst (Said (e .before .before .before) 2 _ _) (sym (e .enum-told3 .given .1)) (refl, f .fifth-row .ensures)
+
+returns-4 : tie.Need-returns-4
+unfolding lineGives
+returns-4 c =
+    let f = c .before .before in
+    let e = f .before .before .before in
+    subst (Said (e .before .before .before) 2 _ _) (sym (e .enum-told4 .given .1)) (refl, f .later-row .ensures)
+
+returns-5 : tie.Need-returns-5
+unfolding lineGives
+returns-5 c =
+    let f = c .before in
+    let e = f .before .before in
+    let s = e .before .before .before in
+    let a = s .args in
+    let row = rowOf (a .table) (a .pixels .now) (a .w) in
+    subst (Said s 0 _ _) (sym (e .enum-told5 .given .1)) (refl, (record {
+      past = kept-from (heldLines * a .w) (a .held .now) _ (search needs) (λ p i. ap (λ (m : ℕ → ℤ). m p) (f .row-to .ensures) ∙ past-set (a .w) 1 row _ (omega arith) p i);
+      works = λ sound. one-same (a .table) (a .w) row (a .held .now) _ (f .row-to .ensures);
+    }, quiet (a .table) (a .w) One row (a .held .now) (a .out .now) (some s) refl))
+
+returns-6 : tie.Need-returns-6
+unfolding lineGives
+returns-6 c =
+    let f = c .before in
+    let e = f .before .before in
+    let s = e .before .before .before in
+    let a = s .args in
+    let row = rowOf (a .table) (a .pixels .now) (a .w) in
+    subst (Said s 0 _ _) (sym (e .enum-told6 .given .1)) (refl, (record {
+      past = kept-from (heldLines * a .w) (a .held .now) _ (search needs) (λ p i. ap (λ (m : ℕ → ℤ). m p) (f .row-to2 .ensures) ∙ past-set (a .w) 1 row _ (omega arith) p i);
+      works = λ sound. three-same (a .table) (a .w) row (a .held .now) _ (f .row-to2 .ensures);
+    }, quiet (a .table) (a .w) Three row (a .held .now) (a .out .now) (some s) refl))
+
+returns-7 : tie.Need-returns-7
+unfolding lineGives
+returns-7 c =
+    let f = c .before in
+    let e = f .before .before in
+    let s = e .before .before .before in
+    let a = s .args in
+    let row = rowOf (a .table) (a .pixels .now) (a .w) in
+    subst (Said s 0 _ _) (sym (e .enum-told7 .given .1)) (refl, (record {
+      past = kept-from (heldLines * a .w) (a .held .now) _ (search needs) (λ p i. ap (λ (m : ℕ → ℤ). m p) (f .row-to3 .ensures) ∙ past-set (a .w) 1 row _ (omega arith) p i);
+      works = λ sound. odd-same (a .table) (a .w) row (a .held .now) _ (f .row-to3 .ensures);
+    }, quiet (a .table) (a .w) OddMany row (a .held .now) (a .out .now) (some s) refl))
+
+pub work-line-spec : {M : Type 1} → statement M
+work-line-spec =
+    tie.close
+    (tie.spec
+    (λ c. search needs)
+    (λ c κs. search needs)
+    (λ c. search needs)
+    (λ c κs. search needs)
+    (λ c. search needs)
+    (λ c κs. search needs)
+    (λ c. search needs)
+    (λ c κs. search needs)
+    (λ c. search needs)
+    (λ c κs. search needs)
+    (λ c. search needs)
+    (λ c κs. search needs)
+    (λ c. search needs)
+    (λ c κs. search needs)
+    (λ c. search needs)
+    returns
+    (λ c. search needs)
+    returns-2
+    (λ c. search needs)
+    (λ c. search needs)
+    returns-3
+    (λ c. search needs)
+    (λ c. search needs)
+    returns-4
+    (λ c. search needs)
+    returns-5
+    (λ c. search needs)
+    returns-6
+    (λ c. search needs)
+    returns-7)

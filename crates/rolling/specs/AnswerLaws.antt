@@ -1,0 +1,302 @@
+-- For the code: what the answers of the calls say of the rules that led to them, and the answer by the rule that does not hold.
+-- Assumes nothing.
+use Prim.Native.Nat.{ℕ, _*_, _<_, _≤_}
+use mathlib.Core.Bool.{Bool, true, false, not, _&&_, _||_}
+use mathlib.Core.List.{List, []}
+use mathlib.Core.Path.{_≡_, refl, sym, _∙_, ap, subst}
+use native.Mathlib.Omega.{arith}
+use lib.Dec.{T, eqb, eqb→eq, eqb-refl}
+use lib.ListN.{length}
+use lib.IntN.{ℤ}
+use Rattle.numbers.specs.Tests.{is-true, both, left-false, right-false}
+use Rattle.refusals.specs.Answers.{Reason, Answer, done, refused, passed, asks, _then_, answered}
+use Rattle.refusals.specs.AnswerLaws.{asks-done, asks-wrong, then-done, then-right, then-refused, answered-done, answered-refused}
+use Rattle.width_table.specs.declared.WidthTable.{WidthTable}
+use Rattle.pictures.specs.Pictures.{sideRight, Admitted, holds, pixelsRight}
+use Rattle.pictures.specs.PictureLaws.{side-is, holds-done, holds-right, pixels-done, pixel-below}
+use Rattle.pictures.specs.PixelLaws.{slice-short}
+use Rattle.precision.specs.Verdict.{verdict, Accepted}
+use Rattle.irreversible.specs.LevelBits.{IsLevel}
+use Rattle.rolling.specs.declared.Taken.{Taken}
+use Rattle.rolling.specs.declared.Taken.the-variants.{Zero, One, Two, Three, Four, OddMany, EvenMany}
+use Rattle.rolling.specs.declared.Scan.{Scan}
+use Rattle.rolling.specs.Schedule.{next, anyTaken, twoTaken, lineGives, endGives}
+use Rattle.rolling.specs.Calls.{beginAnswer, scanOf, goesOn, heldLines, outLines, heldIn, lineAnswer, workedRow, givenByLine, scanAfter, LineCall, endAnswer, givenByEnd, scanEnded, EndCall}
+use Rattle.rolling.specs.Memory.{Lent}
+use Rattle.rolling.specs.Rows.{LineRight, rowOf}
+use Rattle.rolling.specs.Works.{lineAnswerOf, endAnswerOf, LineWorked, EndWorked}
+
+-- ---- tests
+
+not-eqb : (a b : ℕ) → ¬ (a ≡ b) → eqb a b ≡ false
+not-eqb a b f = go (eqb a b) (eqb→eq a b)
+  where
+    go : (t : Bool) → (T t → a ≡ b) → t ≡ false
+    go true h = absurd (f (h tt))
+    go false h = refl
+
+-- a test that is asked only where another holds
+of-unless : (a b : Bool) → T (not a || b) → T a → T b
+of-unless true b h i = h
+of-unless false b h i = absurd i
+
+pub unasked : (a b : Bool) → a ≡ false → not a || b ≡ true
+unasked a b e = ap (λ (t : Bool). not t || b) e
+
+pub asked-right : (a b : Bool) → b ≡ true → not a || b ≡ true
+asked-right true b e = e
+asked-right false b e = refl
+
+pub eqb-true : (a b : ℕ) → a ≡ b → eqb a b ≡ true
+eqb-true a b e = is-true (eqb a b) (subst (λ (n : ℕ). T (eqb a n)) e (eqb-refl a))
+
+pub as-test : {b : Bool} → b ≡ true → T b
+as-test e = subst T (sym e) tt
+
+answered-passed : (o : Answer Unit) → T (answered o true false) → o ≡ passed
+answered-passed (done tt) i = refl
+answered-passed (refused r) i = absurd i
+
+not-refused : {r : Reason} → refused r ≡ passed → ⊥
+not-refused e = subst T (ap (λ (o : Answer Unit). answered o false true) e) tt
+
+-- more than one line is a line
+two-any : (k : Taken) → T (twoTaken k) → T (anyTaken k)
+two-any Zero h = absurd h
+two-any One h = absurd h
+two-any Two h = tt
+two-any Three h = tt
+two-any Four h = tt
+two-any OddMany h = tt
+two-any EvenMany h = tt
+
+-- ---- begin
+
+module _ (t : WidthTable) where
+  pub other-levels : ¬ (t .levels ≡ 1) → beginAnswer t ≡ refused (14, [])
+  unfolding beginAnswer
+  other-levels f = asks-wrong (eqb (t .levels) 1) _ _ (not-eqb (t .levels) 1 f)
+
+  pub one-level : t .levels ≡ 1 → beginAnswer t ≡ verdict t
+  unfolding beginAnswer
+  one-level e = ap (λ (b : Bool). asks b 14 (verdict t)) (eqb-true (t .levels) 1 e)
+
+  -- the scan that begins, or does not
+  pub scan-begun : beginAnswer t ≡ passed → record { table = t; width = 0; taken = Zero; ended = false } ≡ scanOf t
+  unfolding scanOf
+  scan-begun e = λ i. record { table = t; width = 0; taken = Zero; ended = sym (answered-done {o = beginAnswer t} false true e) i }
+
+  pub scan-refused : {r : Reason} → beginAnswer t ≡ refused r → record { table = t; width = 0; taken = Zero; ended = true } ≡ scanOf t
+  unfolding scanOf
+  scan-refused e = λ i. record { table = t; width = 0; taken = Zero; ended = sym (answered-refused {o = beginAnswer t} false true e) i }
+
+  -- a table with which a scan begins
+  pub begun : beginAnswer t ≡ passed → Accepted t × (t .levels ≡ 1)
+  unfolding beginAnswer
+  begun e = let a = asks-done (eqb (t .levels) 1) _ _ e in (a .1, eqb→eq (t .levels) 1 (a .0))
+
+-- ---- a scan that goes on
+
+module _ (s : Scan) where
+  -- each test that does not hold
+  pub ended-on : s .ended ≡ true → goesOn s ≡ false
+  unfolding goesOn
+  ended-on e = left-false _ _ (right-false (answered (beginAnswer (s .table)) true false) _ (ap not e))
+
+  pub side-on : anyTaken (s .taken) ≡ true → sideRight 1 (s .width) ≡ false → goesOn s ≡ false
+  unfolding goesOn
+  side-on a e = right-false (answered (beginAnswer (s .table)) true false && not (s .ended)) _ (λ i. not (a i) || e i)
+
+  pub refused-on : {r : Reason} → beginAnswer (s .table) ≡ refused r → goesOn s ≡ false
+  unfolding goesOn
+  refused-on e = left-false _ _ (left-false _ (not (s .ended)) (answered-refused {o = beginAnswer (s .table)} true false e))
+
+  -- all of them hold
+  pub goes : s .ended ≡ false → not (anyTaken (s .taken)) || sideRight 1 (s .width) ≡ true → beginAnswer (s .table) ≡ passed → goesOn s ≡ true
+  unfolding goesOn
+  goes e a b = λ i. answered-done {o = beginAnswer (s .table)} true false b i && not (e i) && a i
+
+  module _ (h : T (goesOn s)) where
+    tests : T (answered (beginAnswer (s .table)) true false && not (s .ended)) × T (not (anyTaken (s .taken)) || sideRight 1 (s .width))
+    unfolding goesOn
+    tests = both (answered (beginAnswer (s .table)) true false && not (s .ended)) (not (anyTaken (s .taken)) || sideRight 1 (s .width)) h
+
+    pub on-begun : beginAnswer (s .table) ≡ passed
+    on-begun = answered-passed (beginAnswer (s .table)) (both (answered (beginAnswer (s .table)) true false) (not (s .ended)) (tests .0) .0)
+
+    pub on-side : T (anyTaken (s .taken)) → Admitted 1 (s .width)
+    on-side i = side-is 1 (s .width) (of-unless (anyTaken (s .taken)) (sideRight 1 (s .width)) (tests .1) i)
+
+    pub on-two : T (twoTaken (s .taken)) → Admitted 1 (s .width)
+    on-two i = on-side (two-any (s .taken) i)
+
+-- ---- the answer of a line, by lengths
+
+module _ (s : Scan) (pixels : List ℕ) (w held out : ℕ) where
+  abbrev in-turn : Bool
+  in-turn = not (anyTaken (s .taken)) || eqb w (s .width)
+
+  pub line-ended : goesOn s ≡ false → lineAnswerOf s pixels w held out ≡ refused (14, [])
+  unfolding lineAnswerOf
+  line-ended e = asks-wrong (goesOn s && in-turn) _ _ (left-false (goesOn s) in-turn e)
+
+  pub line-other : anyTaken (s .taken) ≡ true → ¬ (w ≡ s .width) → lineAnswerOf s pixels w held out ≡ refused (14, [])
+  unfolding lineAnswerOf
+  line-other a f = asks-wrong (goesOn s && in-turn) _ _ (right-false (goesOn s) in-turn (λ i. not (a i) || not-eqb w (s .width) f i))
+
+  -- it is its turn
+  module _ (on : goesOn s ≡ true) (turn : in-turn ≡ true) where
+    abbrev room : Answer Unit
+    room = holds w (length pixels) then holds (heldLines * w) held then holds (outLines * w) out then pixelsRight (s .table .depth) w 1 pixels
+
+    turned : lineAnswerOf s pixels w held out ≡ asks (sideRight 1 w) 8 room
+    unfolding lineAnswerOf
+    turned = λ i. asks (on i && turn i) 14 (asks (sideRight 1 w) 8 room)
+
+    pub line-side : sideRight 1 w ≡ false → lineAnswerOf s pixels w held out ≡ refused (8, [])
+    line-side e = turned ∙ asks-wrong (sideRight 1 w) _ _ e
+
+    -- the side is admitted
+    module _ (side : sideRight 1 w ≡ true) where
+      sided-line : lineAnswerOf s pixels w held out ≡ room
+      sided-line = turned ∙ ap (λ (b : Bool). asks b 8 room) side
+
+      pub line-short : length pixels < w → lineAnswerOf s pixels w held out ≡ refused (9, [])
+      line-short h = sided-line ∙ then-refused (holds w (length pixels)) _ _ (slice-short _ _ h)
+
+      -- the pixels are long enough
+      module _ (long : w ≤ length pixels) where
+        long-line : lineAnswerOf s pixels w held out ≡ holds (heldLines * w) held then holds (outLines * w) out then pixelsRight (s .table .depth) w 1 pixels
+        long-line = sided-line ∙ then-right (holds w (length pixels)) _ (holds-right _ _ long)
+
+        pub line-held : held < heldLines * w → lineAnswerOf s pixels w held out ≡ refused (9, [])
+        line-held h = long-line ∙ then-refused (holds (heldLines * w) held) _ _ (slice-short _ _ h)
+
+        pub line-out : heldLines * w ≤ held → out < outLines * w → lineAnswerOf s pixels w held out ≡ refused (9, [])
+        line-out g h = long-line ∙ then-right (holds (heldLines * w) held) _ (holds-right _ _ g) ∙ then-refused (holds (outLines * w) out) _ _ (slice-short _ _ h)
+
+        pub line-pixels : heldLines * w ≤ held → outLines * w ≤ out → lineAnswerOf s pixels w held out ≡ pixelsRight (s .table .depth) w 1 pixels
+        line-pixels g h = long-line ∙ then-right (holds (heldLines * w) held) _ (holds-right _ _ g) ∙ then-right (holds (outLines * w) out) _ (holds-right _ _ h)
+
+-- ---- the answer of an end, by lengths
+
+module _ (s : Scan) (held out : ℕ) where
+  pub end-ended : goesOn s ≡ false → endAnswerOf s held out ≡ refused (14, [])
+  unfolding endAnswerOf
+  end-ended e = asks-wrong (goesOn s && twoTaken (s .taken)) _ _ (left-false (goesOn s) (twoTaken (s .taken)) e)
+
+  pub end-few : twoTaken (s .taken) ≡ false → endAnswerOf s held out ≡ refused (14, [])
+  unfolding endAnswerOf
+  end-few e = asks-wrong (goesOn s && twoTaken (s .taken)) _ _ (right-false (goesOn s) (twoTaken (s .taken)) e)
+
+  -- it is its turn
+  module _ (on : goesOn s ≡ true) (two : twoTaken (s .taken) ≡ true) where
+    turned-end : endAnswerOf s held out ≡ holds (heldLines * s .width) held then holds (outLines * s .width) out
+    unfolding endAnswerOf
+    turned-end = λ i. asks (on i && two i) 14 (holds (heldLines * s .width) held then holds (outLines * s .width) out)
+
+    pub end-held : held < heldLines * s .width → endAnswerOf s held out ≡ refused (9, [])
+    end-held h = turned-end ∙ then-refused (holds (heldLines * s .width) held) _ _ (slice-short _ _ h)
+
+    pub end-out : heldLines * s .width ≤ held → out < outLines * s .width → endAnswerOf s held out ≡ refused (9, [])
+    end-out g h = turned-end ∙ then-right (holds (heldLines * s .width) held) _ (holds-right _ _ g) ∙ slice-short _ _ h
+
+    pub end-done : heldLines * s .width ≤ held → outLines * s .width ≤ out → endAnswerOf s held out ≡ passed
+    end-done g h = turned-end ∙ then-right (holds (heldLines * s .width) held) _ (holds-right _ _ g) ∙ holds-right _ _ h
+
+-- ---- what an accepted line is
+
+module _ (s : Scan) (pixels : List ℕ) (w : ℕ) (held out : List ℤ) where
+  pub line-is : lineAnswer s pixels w held out ≡ lineAnswerOf s pixels w (length held) (length out)
+  unfolding lineAnswer lineAnswerOf
+  line-is = refl
+
+  module _ (e : lineAnswer s pixels w held out ≡ passed) where
+    pub line-right : LineRight (s .table) pixels w × Lent held w × (outLines * w ≤ length out)
+    unfolding lineAnswer
+    line-right =
+        let turn = not (anyTaken (s .taken)) || eqb w (s .width) in
+        let a = asks-done (goesOn s && turn) _ _ e in
+        let b = asks-done (sideRight 1 w) _ _ (a .1) in
+        let p = then-done (holds w (length pixels)) _ (b .1) in
+        let q = then-done (holds (heldLines * w) (length held)) _ (p .1) in
+        let r = then-done (holds (outLines * w) (length out)) _ (q .1) in
+        let (ok, one) = begun (s .table) (on-begun s (both (goesOn s) turn (a .0) .0)) in
+        let side = side-is 1 w (b .0) in
+        let long = holds-done w (length pixels) (p .0) in (
+          record {
+            accepted = ok;
+            one = one;
+            side = side;
+            long = long;
+            below = λ k i. pixel-below (s .table .depth) w 1 pixels (omega arith) (pixels-done (s .table .depth) w 1 pixels (r .1)) k (omega arith);
+          },
+          record { narrow = side .1; room = holds-done (heldLines * w) (length held) (q .0) },
+          holds-done (outLines * w) (length out) (r .0),
+        )
+
+    -- what the work leaves is what the call leaves
+    pub line-worked : {n : ℕ} {k : Taken} {held′ out′ : List ℤ} → n ≡ length (lineGives (s .table) w (s .taken) (heldIn w held) (rowOf (s .table) pixels w)) → k ≡ next (s .taken)
+        → LineWorked (s .table) w (s .taken) (rowOf (s .table) pixels w) held out held′ out′
+        → LineCall s pixels w held out (done n) (record { table = s .table; width = w; taken = k; ended = s .ended }) held′ out′
+    unfolding givenByLine workedRow scanAfter
+    line-worked {n} {k} count more work = record {
+      answer-is = (λ i. done (count i)) ∙ sym (then-right (lineAnswer s pixels w held out) _ e);
+      scan-is = (λ i. record { table = s .table; width = w; taken = more i; ended = s .ended }) ∙ sym (answered-done {o = lineAnswer s pixels w held out} _ _ e);
+      refused-kept = λ r x. absurd (not-refused (sym x ∙ e));
+      past-kept = λ x. (work .0 .past, work .1 .past);
+      works = λ x sound. (work .0 .works sound, work .1 .works sound);
+    }
+
+  -- a line that is refused leaves all as it was
+  pub line-kept : {r : Reason} → lineAnswer s pixels w held out ≡ refused r → LineCall s pixels w held out (refused r) s held out
+  line-kept {r} e = record {
+    answer-is = sym (then-refused (lineAnswer s pixels w held out) _ r e);
+    scan-is = sym (answered-refused {o = lineAnswer s pixels w held out} _ _ e);
+    refused-kept = λ r x. (refl, refl);
+    past-kept = λ x. absurd (not-refused (sym e ∙ x));
+    works = λ x sound. absurd (not-refused (sym e ∙ x));
+  }
+
+-- ---- what an accepted end is
+
+module _ (s : Scan) (held out : List ℤ) where
+  pub end-is : endAnswer s held out ≡ endAnswerOf s (length held) (length out)
+  unfolding endAnswer endAnswerOf
+  end-is = refl
+
+  module _ (e : endAnswer s held out ≡ passed) where
+    pub end-right : IsLevel (s .table) 1 × Admitted 1 (s .width) × Lent held (s .width) × (outLines * s .width ≤ length out)
+    unfolding endAnswer
+    end-right =
+        let a = asks-done (goesOn s && twoTaken (s .taken)) _ _ e in
+        let p = then-done (holds (heldLines * s .width) (length held)) _ (a .1) in
+        let (on, two) = both (goesOn s) (twoTaken (s .taken)) (a .0) in
+        let (ok, one) = begun (s .table) (on-begun s on) in
+        let side = on-two s on two in (
+          record { accepted = ok; least = omega arith; most = omega arith },
+          side,
+          record { narrow = side .1; room = holds-done (heldLines * s .width) (length held) (p .0) },
+          holds-done (outLines * s .width) (length out) (p .1),
+        )
+
+    pub end-worked : {n : ℕ} {held′ out′ : List ℤ} → n ≡ length (endGives (s .table) (s .width) (s .taken) (heldIn (s .width) held))
+        → EndWorked (s .table) (s .width) (s .taken) held out held′ out′
+        → EndCall s held out (done n) (record { table = s .table; width = s .width; taken = s .taken; ended = true }) held′ out′
+    unfolding givenByEnd scanEnded
+    end-worked {n} count work = record {
+      answer-is = (λ i. done (count i)) ∙ sym (then-right (endAnswer s held out) _ e);
+      scan-is = sym (answered-done {o = endAnswer s held out} _ _ e);
+      refused-kept = λ r x. absurd (not-refused (sym x ∙ e));
+      past-kept = λ x. (work .held-past, work .out-past);
+      works = λ x sound. work .works sound;
+    }
+
+  pub end-kept : {r : Reason} → endAnswer s held out ≡ refused r → EndCall s held out (refused r) s held out
+  end-kept {r} e = record {
+    answer-is = sym (then-refused (endAnswer s held out) _ r e);
+    scan-is = sym (answered-refused {o = endAnswer s held out} _ _ e);
+    refused-kept = λ r x. (refl, refl);
+    past-kept = λ x. absurd (not-refused (sym e ∙ x));
+    works = λ x sound. absurd (not-refused (sym e ∙ x));
+  }

@@ -3,7 +3,8 @@
  *
  * Link with libengine.a. Every function is total: it takes any pointers to
  * memory of the stated lengths and any numbers, needs no setup, keeps no state
- * between calls, and ends.
+ * between calls (that of a rolling scan stands in the caller's memory), and
+ * ends.
  *
  * POINTERS. Where a length is 0 its pointer is not used and may be NULL; a
  * pointer without a length must point to what its type says. Every pointer is
@@ -46,6 +47,8 @@
  *           (in the order of rows and columns that the call undoes)
  *   12      a coefficient is outside its node's width
  *   13      viewing is not accurate to half a grey, or a value may pass 2^15
+ *   14      a table not of one level, a line or an end out of turn, or a line
+ *           of another width (rolling scan)
  *
  * STACK. No call takes memory but on the stack, and no call calls itself. In
  * the library for x86-64 each stays within so many KiB, beside what memcpy and
@@ -55,7 +58,8 @@
  *   260   suz_inverse53, suz_inverse53_rows_first
  *    80   suz_view97
  *     4   suz_forward53, suz_forward97, suz_table_check, suz_table_bound,
- *         suz_table_view, suz_view_distance
+ *         suz_table_view, suz_view_distance, suz_scan_begin, suz_scan_line,
+ *         suz_scan_end
  *     2   suz_table_change, suz_table_change_constant
  *     1   suz_table_form, suz_table_value, suz_table_write
  *
@@ -83,10 +87,10 @@
  * a copy of the other kind, a call refuses it 11, or answers 0 and gives, as a
  * rule, another picture.
  *
- * LENT MEMORY. Each transform takes pixels, plane and a work area. All three
- * need width * height elements. Elements past that count are never written.
- * The work area is 32-bit, that of suz_view97 64-bit, and may hold anything
- * before the call.
+ * LENT MEMORY. Each transform of a whole picture takes pixels, plane and a work
+ * area. All three need width * height elements. Elements past that count are
+ * never written. The work area is 32-bit, that of suz_view97 64-bit, and may
+ * hold anything before the call.
  *
  *   done         the output (plane, or pixels for the way back and for viewing)
  *                has its first width * height elements written; the work area's
@@ -132,6 +136,53 @@
  * three up to 9, four up to 7, five up to 5 bits; beyond that every table is
  * refused 13. Integer bits of kept nodes that are more than the judge asks for
  * make it harder.
+ *
+ * ROLLING SCAN: the 9/7 transform of one level, of a strip that comes line by
+ * line. The strip may have any number of lines from 2, past 4,096 too; a line
+ * has 2 to 4,096 pixels. suz_scan_begin takes the table, suz_scan_line each
+ * line of pixels, and suz_scan_end says that there are no more. Lines of
+ * coefficients, as wide as the strip, are given as soon as they are ready. With
+ * lines of pixels counted from 0:
+ *
+ *   call                                      gives
+ *   line 2n + 4                               low n, high n
+ *   every other line                          none
+ *   the end after 2 lines                     low 0, high 0
+ *   the end after 2m + 1 lines (m from 1)     low m - 1, high m - 1, low m
+ *   the end after 2m lines (m from 2)         low m - 2, high m - 2,
+ *                                             low m - 1, high m - 1
+ *
+ * So they come as low 0, high 0, low 1, high 1, and so on, each once. They are
+ * the rows of the plane of the whole strip, the one that suz_forward97 gives
+ * where the strip is no higher than 4,096: low n is its row n, and high n its
+ * row (height + 1) / 2 + n.
+ *
+ * A scan has memory of the caller, and any number of scans may go on at once:
+ *
+ *   state   SUZ_SCAN_LENGTH bytes
+ *   held    SUZ_SCAN_HELD_LINES * width elements
+ *   out     SUZ_SCAN_OUT_LINES * width elements
+ *
+ * State and held lines go from call to call as the last one that was done left
+ * them; what they hold is the library's own. They may lie elsewhere at each
+ * call, and held may hold anything before the first line. Lines given stand
+ * first in out, in their order, and *given tells how many. All that is past
+ * them in out, past those lines in held and past those bytes in state is never
+ * written. The pixels of a line are read in its own call only.
+ *
+ *   done      state is written, for a line or an end also *given, the lines
+ *             given, and held as far as it goes
+ *   refused   nothing is touched; but a begin that is refused by another
+ *             number than 9 leaves a state that counts as ended: zeros, where
+ *             there is room for one
+ *
+ * A line or an end is refused 9 at once where the state is too short, and 14
+ * where its bytes are not those of a scan that began and has not ended. A
+ * refused line counts as not there: the scan goes on with the next one. So that
+ * bytes that no scan left do no harm, each line and each end reads and judges
+ * the table in the state anew, at the cost of suz_table_check. Held lines that
+ * no scan left do no harm either: the call does what it does otherwise, but
+ * which values it gives is not said.
  */
 #ifndef SUZDREPA_H
 #define SUZDREPA_H
@@ -168,6 +219,12 @@ extern "C" {
 #define SUZ_TABLE_CONSTANTS 6
 #define SUZ_TABLE_WIDTHS (SUZ_TABLE_LEVEL * SUZ_MAX_LEVELS)
 
+/* The bytes of a scan's state, and the lines that a call is lent to hold and
+ * for output. */
+#define SUZ_SCAN_LENGTH 60
+#define SUZ_SCAN_HELD_LINES 7
+#define SUZ_SCAN_OUT_LINES 4
+
 /* A short text for the number of an answer. */
 static inline const char *suz_refusal_text(uint32_t answer)
 {
@@ -186,6 +243,7 @@ static inline const char *suz_refusal_text(uint32_t answer)
     case 11: return "the 5/3 plane is the transform of no picture of that depth and size";
     case 12: return "a coefficient is outside its node's width";
     case 13: return "viewing is not accurate to half a grey, or a value may pass 2^15";
+    case 14: return "a table not of one level, a line or an end out of turn, or a line of another width";
     default: return "unknown";
     }
 }
@@ -314,6 +372,42 @@ uint32_t suz_view97(const uint8_t *table, size_t table_len,
                     size_t width, size_t height,
                     uint16_t *pixels, size_t pixels_len,
                     int64_t *work, size_t work_len);
+
+/*
+ * Begins a rolling scan under a width table of one level (see ROLLING SCAN).
+ * Reads table, writes state.
+ * 0: the state is that of a scan without a line.
+ * Refused 1 to 5 of the table's bytes, then 14 where it has more levels than
+ * one, 6 and 7, and 9 where the state is shorter than SUZ_SCAN_LENGTH.
+ */
+uint32_t suz_scan_begin(const uint8_t *table, size_t table_len,
+                        uint8_t *state, size_t state_len);
+
+/*
+ * The next line of a rolling scan; the first one that is taken settles the
+ * width. Reads pixels, reads and writes state and held, writes out and *given.
+ * 0: the line is taken; *given is 0 or 2, and so many lines stand in out.
+ * Refused 9 where the state is too short, then 14 where no scan began, where it
+ * has ended, or where the width is not that of the first line, 8 where the
+ * width is outside 2 to 4,096, 9 where pixels, held or out are too short, and
+ * 10.
+ */
+uint32_t suz_scan_line(uint8_t *state, size_t state_len,
+                       const uint16_t *pixels, size_t pixels_len, size_t width,
+                       int32_t *held, size_t held_len,
+                       int32_t *out, size_t out_len, uint32_t *given);
+
+/*
+ * The end of a rolling scan. Reads and writes state and held, writes out and
+ * *given.
+ * 0: the scan has ended; *given is 2, 3 or 4, and so many lines stand in out.
+ * Refused 9 where the state is too short, then 14 where no scan began, where it
+ * has ended, or where fewer than 2 lines were taken, and 9 where held or out
+ * are too short.
+ */
+uint32_t suz_scan_end(uint8_t *state, size_t state_len,
+                      int32_t *held, size_t held_len,
+                      int32_t *out, size_t out_len, uint32_t *given);
 
 /*
  * 5/3 forward: the exact copy of a picture, in the order of JPEG 2000 Part 1.

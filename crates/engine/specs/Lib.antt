@@ -4,8 +4,14 @@
 --   Zero         an answer of 0 says that the call was done
 --   EarlierOrder what document 02, job 3, changed of each call
 --   AnswerLaws   what the answers of the calls below say of them
+--   ScanAnswers  the calls of a rolling scan, whose scan is bytes of the caller
+--   ScanLaws     what the answers of the calls below say of them
+--   ScanClaims   the claim over calls of a rolling scan, at the bytes
 pub mod Answers
 pub mod Zero
 pub mod Promises
 pub mod AnswerLaws
 pub mod EarlierOrder
+pub mod ScanAnswers
+pub mod ScanLaws
+pub mod ScanClaims

@@ -2,13 +2,13 @@
 use Prim.Native.Nat.{ℕ, _+_, _*_, _-_, _^_, _≤_}
 use mathlib.Core.Bool.{Bool, _&&_, _||_, not}
 use mathlib.Core.List.{List, [], _∷_}
-use mathlib.Core.Path.{_≡_}
+use mathlib.Core.Path.{_≡_, refl, sym, _∙_, ap}
 use native.Mathlib.Omega.{arith}
 use lib.Dec.{leb, ltb, eqb}
 use lib.ListN.{length, getD, take, drop}
 use lib.IntN.{ℤ}
 use Rattle.numbers.specs.Tests.{every}
-use Rattle.refusals.specs.Answers.{passed, asks, code}
+use Rattle.refusals.specs.Answers.{Answer, done, refused, passed, asks, _then_, code}
 use Rattle.refusals.specs.AnswerLaws.{FromOne, done-from-one, asks-from-one, then-from-one, code-zero}
 use Rattle.width_table.specs.declared.WidthTable.{WidthTable}
 use Rattle.width_table.specs.Nodes.{TableNode, bookOrder}
@@ -24,7 +24,12 @@ use Rattle.lines.specs.Planes.{rowByRow}
 use Rattle.pictures.specs.Pictures.{planeOf}
 use Rattle.view_precision.specs.Bounds.{viewable, viewVerdict}
 use Rattle.viewing.specs.Calls.{inWidth, coefficientsRight, viewAnswer}
+use Rattle.rolling.specs.declared.Scan.{Scan}
+use Rattle.rolling.specs.Schedule.{anyTaken, twoTaken}
+use Rattle.rolling.specs.Calls.{beginAnswer, goesOn, heldLines, outLines, lineAnswer, endAnswer}
+use Rattle.scan_bytes.specs.ScanBytes.{scanLength}
 use Rattle.engine.specs.Answers.{checked, answer97, viewChecked, viewAnswer97}
+use Rattle.engine.specs.ScanAnswers.{begins, scanBeginAnswer}
 
 -- one rule and nothing after it
 last-from-one : (t : Bool) (n : ℕ) → 1 ≤ n → FromOne (asks {A = Unit} t n passed)
@@ -111,3 +116,36 @@ unfolding viewAnswer97
 view-zero97 bytes w h plane pixels work =
     code-zero (viewAnswer97 bytes w h plane pixels work)
     (then-from-one (form bytes) (viewAnswer (tableIn bytes) w h plane pixels work) (form-from-one bytes) (view-from-one (tableIn bytes) w h plane pixels work))
+
+-- ---- a rolling scan
+
+pub scan-begin-zero : (bytes state : List ℕ) → code (scanBeginAnswer bytes state) ≡ 0 → scanBeginAnswer bytes state ≡ passed
+unfolding scanBeginAnswer begins beginAnswer
+scan-begin-zero bytes state =
+    code-zero (scanBeginAnswer bytes state)
+    (then-from-one (begins bytes) _
+    (then-from-one (form bytes) _ (form-from-one bytes) (asks-from-one (eqb (tableIn bytes .levels) 1) (14, []) _ (omega arith) (verdict-from-one (tableIn bytes))))
+    (last-from-one (leb scanLength (length state)) 9 (omega arith)))
+
+pub line-from-one : (s : Scan) (pixels : List ℕ) (w : ℕ) (held out : List ℤ) → FromOne (lineAnswer s pixels w held out)
+unfolding lineAnswer pixelsRight
+line-from-one s pixels w held out =
+    asks-from-one (goesOn s && (not (anyTaken (s .taken)) || eqb w (s .width))) (14, []) _ (omega arith)
+    (asks-from-one (sideRight 1 w) (8, []) _ (omega arith)
+    (then-from-one (holds w (length pixels)) _ (holds-from-one _ _)
+    (then-from-one (holds (heldLines * w) (length held)) _ (holds-from-one _ _)
+    (then-from-one (holds (outLines * w) (length out)) _ (holds-from-one _ _)
+    (last-from-one (every (λ p. ltb p (2 ^ s .table .depth)) (take (w * 1) pixels)) 10 (omega arith))))))
+
+pub end-from-one : (s : Scan) (held out : List ℤ) → FromOne (endAnswer s held out)
+unfolding endAnswer
+end-from-one s held out =
+    asks-from-one (goesOn s && twoTaken (s .taken)) (14, []) _ (omega arith)
+    (then-from-one (holds (heldLines * s .width) (length held)) _ (holds-from-one _ _) (holds-from-one _ _))
+
+-- an answer of 0 that gives something
+pub gives-zero : {B : Type 0} (a : Answer Unit) (x : B) {o : Answer B} → FromOne a → o ≡ a then done x → code o ≡ 0 → o ≡ done x
+gives-zero (done tt) x h e q = e
+gives-zero {B} (refused r) x {o} h e q =
+    let z : code {A = B} (refused r) ≡ 0 = sym (ap (λ (o : Answer B). code o) e) ∙ q in
+    absurd (omega (arith, h .least r refl))

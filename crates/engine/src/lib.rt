@@ -1,14 +1,25 @@
 // The C interface (include/suzdrepa.h): thin functions over the layers below. Every definition that the contracts cite is in specs/.
 ghost use mathlib.Core.Path.{_≡_};
-ghost use Rattle.refusals.specs.Answers.{_then_, answered, code};
+ghost use Prim.Native.Nat.{ℕ, _≤_};
+ghost use lib.Dec.{leb};
+ghost use lib.ListN.{length};
+ghost use Rattle.refusals.specs.Answers.{done, passed, asks, _then_, answered, code};
 ghost use Rattle.refusals.specs.Told.{told};
 ghost use Rattle.width_table.specs.Bytes.{form, writable, bytesAfter};
 ghost use Rattle.width_table.specs.Names.{nameable};
 ghost use Rattle.reversible.specs.Reversible.{columnsThenRows, rowsThenColumns};
 ghost use Rattle.reversible.specs.Calls.{forwardAnswer, forwardPlane, forwardWork, backAnswer, backPixels, backWork};
 ghost use Rattle.engine.specs.Answers.{checked, boundAnswered, rangeAfter, errorAfter, startAfter, lengthAfter, changeAnswer, changeOut, constantChangeAnswer, constantChangeOut, tableFrom, answer97, plane97, work97, viewChecked, distanceAfter, viewAnswer97, viewPixels97, viewWork97};
+ghost use Rattle.rolling.specs.Calls.{outLines};
+ghost use Rattle.rolling.specs.Told.{toldGiven};
+ghost use Rattle.scan_bytes.specs.ScanBytes.{scanLength, stateWith, stateAfter, noScan};
+ghost use Rattle.engine.specs.ScanAnswers.{scanBeginAnswer, scanBeginState, givenAfter, LineOnBytes, EndOnBytes};
 use refusals::Outcome;
+use refusals::Refusal;
 use refusals::refusal_code;
+use rolling::Begun;
+use rolling::Given;
+use rolling::Scanned;
 use width_table::Named;
 use width_table::TableAnswer;
 use width_table::WidthTable;
@@ -313,6 +324,111 @@ pub extern "C" fn suz_view97(
         Outcome::Done => {
             let held = read.table;
             refusals::code(viewing::view(held, plane, width, height, pixels, work))
+        }
+    }
+}
+
+// The state of a scan that begins: 9. One that is refused leaves zeros.
+fn scan_begun(begun: Begun, state: &mut [u8]) -> u32
+    ensures answer { λ r. ⌜ r ≡ code (told (begun .outcome) then asks (leb scanLength (length (now (state .entry)))) 9 passed) ⌝ }
+    ensures state { λ _. ⌜ now (state .exit) ≡ answered (told (begun .outcome)) (stateAfter (begun .scan) (now (state .entry))) (stateWith noScan (now (state .entry))) ⌝ }
+{
+    let outcome = begun.outcome;
+    match outcome {
+        Outcome::Refused(why) => {
+            scan_bytes::clear(state);
+            refusal_code(why)
+        }
+        Outcome::Done => {
+            let scan = begun.scan;
+            scan_bytes::write(scan, state);
+            if state.len() < scan_bytes::SCAN_LENGTH {
+                return refusal_code(Refusal::SliceTooShort);
+            }
+            0
+        }
+    }
+}
+
+// Begins a rolling scan, which the state holds: 1 to 5 of the table's bytes, 14, 6 and 7, 9.
+#[no_mangle]
+pub extern "C" fn suz_scan_begin(table: &[u8], state: &mut [u8]) -> u32
+    ensures answer { λ r. ⌜ r ≡ code (scanBeginAnswer (now (table .entry)) (now (state .entry))) ⌝ }
+    ensures state { λ _. ⌜ now (state .exit) ≡ scanBeginState (now (table .entry)) (now (state .entry)) ⌝ }
+{
+    let read = WidthTable::read(table);
+    let outcome = read.outcome;
+    match outcome {
+        Outcome::Refused(why) => {
+            scan_bytes::clear(state);
+            refusal_code(why)
+        }
+        Outcome::Done => {
+            let held = read.table;
+            scan_begun(rolling::begin(held), state)
+        }
+    }
+}
+
+// What a line or an end left goes to the state, and how many lines it gave.
+fn scan_went(scanned: Scanned, state: &mut [u8], given: &mut u32) -> u32
+    requires { ⌜ ((m : ℕ) → toldGiven (scanned .given) ≡ done m → m ≤ outLines) ⌝ }
+    ensures answer { λ r. ⌜ r ≡ code (toldGiven (scanned .given)) ⌝ }
+    ensures state { λ _. ⌜ now (state .exit) ≡ answered (toldGiven (scanned .given)) (stateAfter (scanned .scan) (now (state .entry))) (now (state .entry)) ⌝ }
+    ensures given { λ _. ⌜ now (given .exit) ≡ givenAfter (toldGiven (scanned .given)) (now (given .entry)) ⌝ }
+{
+    let answer = scanned.given;
+    match answer {
+        Given::NotGiven(why) => refusal_code(why),
+        Given::Lines(lines) => {
+            let scan = scanned.scan;
+            scan_bytes::write(scan, state);
+            *given = lines as u32;
+            0
+        }
+    }
+}
+
+// Takes a line of pixels; the lines that it makes ready stand first in out, and given says how many: 9 for the state, 14, 8, 9, 10.
+#[no_mangle]
+pub extern "C" fn suz_scan_line(
+    state: &mut [u8],
+    pixels: &[u16],
+    width: usize,
+    held: &mut [i32],
+    out: &mut [i32],
+    given: &mut u32,
+) -> u32
+    ensures { λ r. ⌜ LineOnBytes (now (state .entry)) (now (pixels .entry)) width (now (held .entry)) (now (out .entry)) (now (given .entry)) r (now (state .exit)) (now (held .exit)) (now (out .exit)) (now (given .exit)) ⌝ }
+{
+    let read = scan_bytes::read(state);
+    let outcome = read.outcome;
+    match outcome {
+        Outcome::Refused(why) => refusal_code(why),
+        Outcome::Done => {
+            let scan = read.scan;
+            scan_went(rolling::line(scan, pixels, width, held, out), state, given)
+        }
+    }
+}
+
+// Announces the end; the lines that are left stand first in out, and given says how many: 9 for the state, 14, 9.
+#[no_mangle]
+pub extern "C" fn suz_scan_end(
+    state: &mut [u8],
+    held: &mut [i32],
+    out: &mut [i32],
+    given: &mut u32,
+) -> u32
+    ensures { λ r. ⌜ EndOnBytes (now (state .entry)) (now (held .entry)) (now (out .entry)) (now (given .entry)) r (now (state .exit)) (now (held .exit)) (now (out .exit)) (now (given .exit)) ⌝ }
+{
+    let read = scan_bytes::read(state);
+    let outcome = read.outcome;
+    match outcome {
+        Outcome::Refused(why) => refusal_code(why),
+        Outcome::Done => {
+            let scan = read.scan;
+            scan_went(rolling::end(scan, held, out), state, given)
         }
     }
 }

@@ -65,6 +65,7 @@ pub struct Scanned {
 
 // Lines lent to hold, and lines lent for output.
 pub const HELD_LINES: usize = 7;
+
 pub const OUT_LINES: usize = 4;
 
 // ---- lines in memory
@@ -83,15 +84,7 @@ fn move_line(held: &mut [i32], w: usize, to: usize, from: usize)
 }
 
 // A stage on line `own`, with lines a and b beside it: `low` in the row-low columns, which stand first, `high` in the row-high ones.
-fn stage_line(
-    held: &mut [i32],
-    w: usize,
-    own: usize,
-    a: usize,
-    b: usize,
-    low: Step,
-    high: Step,
-)
+fn stage_line(held: &mut [i32], w: usize, own: usize, a: usize, b: usize, low: Step, high: Step)
     requires { ⌜ Lent (now held) w × Apart own a × Apart own b ⌝ }
     requires { ⌜ SafeStage low high w own a b (at (now held)) ⌝ }
     ensures { λ _. ⌜ at (now (held .exit)) ≡ staged low high w own a b (at (now (held .entry))) ⌝ }

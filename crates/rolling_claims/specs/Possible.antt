@@ -76,7 +76,7 @@ out-kept w lines out some few room =
 
 -- ---- at most four lines are given
 
-line-few : (t : WidthTable) (w : ℕ) (k : Taken) (held : Held) (x : Line) → length (lineGives t w k held x) ≤ outLines
+pub line-few : (t : WidthTable) (w : ℕ) (k : Taken) (held : Held) (x : Line) → length (lineGives t w k held x) ≤ outLines
 unfolding lineGives
 line-few t w Zero held x = omega arith
 line-few t w One held x = omega arith
@@ -86,7 +86,7 @@ line-few t w Four held x = omega arith
 line-few t w OddMany held x = omega arith
 line-few t w EvenMany held x = omega arith
 
-end-few : (t : WidthTable) (w : ℕ) (k : Taken) (held : Held) → length (endGives t w k held) ≤ outLines
+pub end-few : (t : WidthTable) (w : ℕ) (k : Taken) (held : Held) → length (endGives t w k held) ≤ outLines
 unfolding endGives lineGives
 end-few t w Zero held = omega arith
 end-few t w One held = omega arith
@@ -126,7 +126,7 @@ module _ (s : Scan) (pixels : List ℕ) (w : ℕ) (held out : List ℤ) where
 
 -- ---- an end
 
-two-any : (k : Taken) → T (twoTaken k) → T (anyTaken k)
+pub two-any : (k : Taken) → T (twoTaken k) → T (anyTaken k)
 two-any Zero i = absurd i
 two-any One i = tt
 two-any Two i = tt

@@ -1,14 +1,16 @@
 //! The commands.
 
-use crate::container::{Kind, Order, Plane};
-use crate::pgm::Picture;
+use crate::container::{self, Kind, Order, Plane};
+use crate::pgm::{Picture, Rows};
 use crate::progress::Progress;
+use crate::whole::Unfinished;
 use crate::{counted, png, sample, show, suggest, text, Failure};
 use std::ffi::{OsStr, OsString};
-use std::io::Write;
+use std::fs::File;
+use std::io::{BufRead, BufReader, Write};
 use std::os::unix::fs::MetadataExt;
 use std::path::Path;
-use suzdrepa::{Bound, Node, Pass, Place, Refusal, Width, WidthTable, MAX_SIDE};
+use suzdrepa::{Bound, GivenLine, Node, Pass, Place, Refusal, Scan, Width, WidthTable, MAX_SIDE};
 
 const HELP: &str = "\
 roll - works scanned pictures of punched rolls
@@ -30,6 +32,9 @@ roll - works scanned pictures of punched rolls
   roll constant TABLE NODE F OUT        the constant of a node with other
                                         fractional bits F
   roll forward97 TABLE IN.pgm OUT       9/7 coefficients under a width table
+  roll scan TABLE IN.pgm OUT            the same line by line, of a strip of any
+                                        height; TABLE has one level, and - for
+                                        IN.pgm is standard input
   roll view [TABLE] PLANE OUT.pgm       9/7 coefficients as a picture; a TABLE
                                         that is named must be the one in PLANE
   roll difference ONE.pgm OTHER.pgm OUT.pgm
@@ -67,6 +72,13 @@ not accepted: what they were asked for is done. Ask `check` before it is used.
 Viewing is right to half a grey of what is stored, or it is refused 13. Tables
 that can be viewed exist with 1 level at any depth, 2 levels up to 11 bits, 3
 up to 9, 4 up to 7, 5 up to 5 bits; there `suggest --view` gives one.
+
+`scan` holds a few lines and no more, however high the strip is, so that it may
+come from a pipe while the paper moves. OUT is the file that `forward97` writes,
+where that takes the strip. Rows are written where they stand, not in order: OUT
+is a file and no pipe. It has its name once it is whole (OUT.part-N before);
+where something fails, what had that name stays. Planes higher than 4096 are
+kept, but not viewed or drawn.
 
 No command writes over a file that it reads: OUT is another file.
 
@@ -152,6 +164,7 @@ fn command(arguments: &[OsString], out: &mut dyn Write) -> Result<(), Failure> {
             change_constant(table, node, bits, to, out)
         }
         ("forward97", [table, from, to]) => forward97(table, from, to, out),
+        ("scan", [table, from, to]) => scan(table, from, to, out),
         ("view", [from, to]) => view97(None, from, to, out),
         ("view", [table, from, to]) => view97(Some(table), from, to, out),
         ("difference", [one, other, to]) => difference(one, other, to, out),
@@ -161,7 +174,7 @@ fn command(arguments: &[OsString], out: &mut dyn Write) -> Result<(), Failure> {
         ("sample", [folder]) => write_sample(folder, out),
         (
             "check" | "show" | "suggest" | "text" | "table" | "change" | "constant" | "forward97"
-            | "view" | "difference" | "copy" | "restore" | "picture" | "sample",
+            | "scan" | "view" | "difference" | "copy" | "restore" | "picture" | "sample",
             _,
         ) => Err(Failure::Usage(format!(
             "`{name}` takes other arguments than these"
@@ -232,8 +245,13 @@ fn shown(path: &OsStr) -> String {
     path.to_string_lossy().into_owned()
 }
 
+/// A file that cannot be read or written.
+fn failed(path: &OsStr) -> impl Fn(std::io::Error) -> Failure + '_ {
+    move |error| Failure::File(format!("{}: {error}", shown(path)))
+}
+
 fn read(path: &OsStr) -> Result<Vec<u8>, Failure> {
-    std::fs::read(path).map_err(|error| Failure::File(format!("{}: {error}", shown(path))))
+    std::fs::read(path).map_err(failed(path))
 }
 
 /// Whether both names lead to one file, by whatever path or link.
@@ -257,7 +275,7 @@ fn apart(inputs: &[&OsStr], to: &OsStr) -> Result<(), Failure> {
 }
 
 fn write(path: &OsStr, bytes: &[u8]) -> Result<(), Failure> {
-    std::fs::write(path, bytes).map_err(|error| Failure::File(format!("{}: {error}", shown(path))))
+    std::fs::write(path, bytes).map_err(failed(path))
 }
 
 fn not_understood(path: &OsStr) -> impl Fn(String) -> Failure + '_ {
@@ -509,6 +527,89 @@ fn forward97(
     )
 }
 
+/// What stands for standard input among the arguments.
+const STANDARD_INPUT: &str = "-";
+
+fn scan(table_path: &OsStr, from: &OsStr, to: &OsStr, out: &mut dyn Write) -> Result<(), Failure> {
+    if to == STANDARD_INPUT {
+        return Err(Failure::Usage(
+            "OUT of `scan` is a file: rows are written where they stand, not in order".into(),
+        ));
+    }
+    let piped = from == STANDARD_INPUT;
+    let inputs = [table_path, from];
+    apart(if piped { &inputs[..1] } else { &inputs }, to)?;
+    let table = WidthTable::from_bytes(&read(table_path)?).map_err(refused(table_path))?;
+    let (depth, levels) = (table.depth(), counted(table.levels(), "level"));
+    let mut scan = Scan::begin(table.as_bytes()).map_err(out_of_turn(
+        table_path,
+        &format!("it has {levels}, a scan takes 1"),
+    ))?;
+
+    let (name, strip): (_, Box<dyn BufRead>) = match piped {
+        true => (
+            OsStr::new("standard input"),
+            Box::new(std::io::stdin().lock()),
+        ),
+        false => {
+            let file = File::open(from).map_err(failed(from))?;
+            (from, Box::new(BufReader::new(file)))
+        }
+    };
+    let mut rows = Rows::new(strip).map_err(not_understood(name))?;
+    let (width, height) = (rows.width(), rows.height());
+    // A row that no scan takes is not read, however long it is said to be.
+    if !(2..=MAX_SIDE).contains(&width) {
+        return Err(refused(name)(Refusal::SideNotAdmitted));
+    }
+    let head = container::head(&Kind::Fixed(table), depth, 1, width, height);
+    let file = Unfinished::create(to).map_err(failed(to))?;
+    file.write_at(0, &head).map_err(failed(to))?;
+    let put = |line: GivenLine| {
+        let place = head.len() as u64 + 4 * width as u64 * line.row(height as u64);
+        let bytes: Vec<u8> = container::coefficients(line.values).collect();
+        file.write_at(place, &bytes).map_err(failed(to))
+    };
+    let progress = Progress::new();
+    while let Some(pixels) = rows.next_row().map_err(not_understood(name))? {
+        let row = scan.lines();
+        if row % 256 == 0 {
+            progress.tell(&format!("scanning row {row} of {height}"));
+        }
+        let given = scan.line(&pixels).map_err(|refusal| {
+            Failure::Refused(format!("{}: {refusal} (row {row})", shown(name)))
+        })?;
+        for line in given {
+            put(line)?;
+        }
+    }
+    let lines = counted(scan.lines(), "line");
+    let given = scan.end().map_err(out_of_turn(
+        name,
+        &format!("the strip has {lines}, a scan takes 2 or more"),
+    ))?;
+    for line in given {
+        put(line)?;
+    }
+    file.finish().map_err(failed(to))?;
+    drop(progress);
+    tell(
+        out,
+        &format!(
+            "{}: 9/7 coefficients, {width} x {height}, {levels}\n",
+            shown(to)
+        ),
+    )
+}
+
+/// As [`refused`], with what it is that is out of turn.
+fn out_of_turn<'a>(path: &'a OsStr, what: &'a str) -> impl Fn(Refusal) -> Failure + 'a {
+    move |refusal| match refusal {
+        Refusal::OutOfTurn => Failure::Refused(format!("{}: {refusal}; {what}", shown(path))),
+        _ => refused(path)(refusal),
+    }
+}
+
 fn view97(
     named: Option<&OsStr>,
     from: &OsStr,
@@ -744,7 +845,7 @@ fn picture(from: &OsStr, to: &OsStr, out: &mut dyn Write) -> Result<(), Failure>
             .all(|&side| side > 1 << (plane.levels - 1) && side <= MAX_SIDE);
     if !drawn {
         return Err(Failure::File(format!(
-            "{}: no plane has {} and {} x {} coefficients",
+            "{}: a plane of {} and {} x {} coefficients is not drawn",
             shown(from),
             counted(plane.levels, "level"),
             plane.width,
@@ -762,8 +863,7 @@ fn picture(from: &OsStr, to: &OsStr, out: &mut dyn Write) -> Result<(), Failure>
 }
 
 fn write_sample(folder: &OsStr, out: &mut dyn Write) -> Result<(), Failure> {
-    std::fs::create_dir_all(folder)
-        .map_err(|error| Failure::File(format!("{}: {error}", shown(folder))))?;
+    std::fs::create_dir_all(folder).map_err(failed(folder))?;
     let files =
         sample::files(&Progress::new()).map_err(|refusal| Failure::Refused(refusal.to_string()))?;
     for (name, bytes) in files {

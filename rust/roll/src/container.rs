@@ -9,7 +9,8 @@
 //! WIDTH * HEIGHT coefficients, 32-bit signed, low byte first, row by row
 //! ```
 //!
-//! Nothing follows the last coefficient.
+//! Nothing follows the last coefficient. HEIGHT is any number: where a rolling
+//! scan gave the plane (suzdrepa-97 with one level) it may be above 4096.
 //!
 //! The numbers of an exact copy do not tell in which order rows and columns
 //! were worked, so its first line does. Files written before there were two
@@ -76,6 +77,21 @@ fn number<T: std::str::FromStr>(text: Option<&str>) -> Option<T> {
         .ok()
 }
 
+/// What stands before the coefficients.
+pub fn head(kind: &Kind, depth: u8, levels: u8, width: usize, height: usize) -> Vec<u8> {
+    let first = kind.first_line();
+    let mut bytes = format!("{first}\n{depth} {levels} {width} {height}\n").into_bytes();
+    if let Kind::Fixed(table) = kind {
+        bytes.extend(table.as_bytes());
+    }
+    bytes
+}
+
+/// The bytes of coefficients.
+pub fn coefficients(values: &[i32]) -> impl Iterator<Item = u8> + '_ {
+    values.iter().flat_map(|value| value.to_le_bytes())
+}
+
 impl Plane {
     pub fn read(bytes: &[u8]) -> Result<Plane, String> {
         let unknown = "not a file of coefficients \
@@ -137,21 +153,8 @@ impl Plane {
     }
 
     pub fn write(&self) -> Vec<u8> {
-        let mut bytes = format!(
-            "{}\n{} {} {} {}\n",
-            self.kind.first_line(),
-            self.depth,
-            self.levels,
-            self.width,
-            self.height
-        )
-        .into_bytes();
-        if let Kind::Fixed(table) = &self.kind {
-            bytes.extend(table.as_bytes());
-        }
-        for value in &self.values {
-            bytes.extend(value.to_le_bytes());
-        }
+        let mut bytes = head(&self.kind, self.depth, self.levels, self.width, self.height);
+        bytes.extend(coefficients(&self.values));
         bytes
     }
 }

@@ -14,6 +14,7 @@ pub mod suggest;
 pub mod text;
 
 mod command;
+mod whole;
 
 pub use command::run;
 

@@ -2,6 +2,7 @@
 //! 255, two bytes, high byte first, up to 4095.
 
 use crate::counted;
+use std::io::{BufRead, ErrorKind, Read};
 use suzdrepa::WidthTable;
 
 /// The maximum of a pixel.
@@ -23,67 +24,178 @@ fn bits(value: u32) -> u8 {
     (32 - value.leading_zeros()) as u8
 }
 
-/// Reads the numbers of a head, with white space and comments between them.
-struct Head<'a> {
-    bytes: &'a [u8],
-    at: usize,
+/// The next byte, which is not taken.
+fn peek(from: &mut impl BufRead) -> Result<Option<u8>, String> {
+    loop {
+        match from.fill_buf() {
+            Ok(bytes) => return Ok(bytes.first().copied()),
+            Err(error) if error.kind() == ErrorKind::Interrupted => {}
+            Err(error) => return Err(error.to_string()),
+        }
+    }
 }
 
-impl Head<'_> {
-    fn skip_space(&mut self) {
-        while let Some(&byte) = self.bytes.get(self.at) {
-            if byte == b'#' {
-                while self.bytes.get(self.at).is_some_and(|&b| b != b'\n') {
-                    self.at += 1;
-                }
-            } else if byte.is_ascii_whitespace() {
-                self.at += 1;
-            } else {
-                return;
+/// Skips white space and comments.
+fn skip_space(from: &mut impl BufRead) -> Result<(), String> {
+    let mut comment = false;
+    while let Some(byte) = peek(from)? {
+        match byte {
+            b'#' => comment = true,
+            b'\n' => comment = false,
+            _ if comment || byte.is_ascii_whitespace() => {}
+            _ => return Ok(()),
+        }
+        from.consume(1);
+    }
+    Ok(())
+}
+
+/// The next number of a head.
+fn number(from: &mut impl BufRead, name: &str) -> Result<u32, String> {
+    let wrong = || format!("the PGM head has no right {name}");
+    skip_space(from)?;
+    let mut number: Option<u32> = None;
+    while let Some(digit) = peek(from)?.filter(u8::is_ascii_digit) {
+        let tens = number.unwrap_or(0).checked_mul(10);
+        let next = tens.and_then(|tens| tens.checked_add(u32::from(digit - b'0')));
+        number = Some(next.ok_or_else(wrong)?);
+        from.consume(1);
+    }
+    number.ok_or_else(wrong)
+}
+
+/// What stands before the pixels.
+#[derive(Clone, Copy)]
+struct Head {
+    width: usize,
+    height: usize,
+    largest: u32,
+}
+
+impl Head {
+    /// Reads the head and the white space that parts it from the pixels.
+    fn read(from: &mut impl BufRead) -> Result<Head, String> {
+        let other = "not a PGM file (P5)";
+        for due in *b"P5" {
+            if peek(from)? != Some(due) {
+                return Err(other.into());
             }
+            from.consume(1);
         }
-    }
-
-    fn number(&mut self, name: &str) -> Result<u32, String> {
-        self.skip_space();
-        let start = self.at;
-        while self.bytes.get(self.at).is_some_and(u8::is_ascii_digit) {
-            self.at += 1;
+        if !peek(from)?.is_some_and(|b| b.is_ascii_whitespace()) {
+            return Err(other.into());
         }
-        let digits = std::str::from_utf8(&self.bytes[start..self.at]).unwrap_or("");
-        digits
-            .parse()
-            .map_err(|_| format!("the PGM head has no right {name}"))
-    }
-}
-
-impl Picture {
-    pub fn read(bytes: &[u8]) -> Result<Picture, String> {
-        if !bytes.starts_with(b"P5") {
-            return Err("not a PGM file (P5)".into());
-        }
-        let mut head = Head { bytes, at: 2 };
-        if !head.bytes.get(2).is_some_and(u8::is_ascii_whitespace) {
-            return Err("not a PGM file (P5)".into());
-        }
-        let width = head.number("width")? as usize;
-        let height = head.number("height")? as usize;
-        let largest = head.number("largest value")?;
+        let width = number(from, "width")? as usize;
+        let height = number(from, "height")? as usize;
+        let largest = number(from, "largest value")?;
         if !(1..=MAX_PIXEL).contains(&largest) {
             return Err(format!(
                 "the PGM's largest value is {largest}; 1 to {MAX_PIXEL} ({} bits) are read",
                 WidthTable::MAX_DEPTH
             ));
         }
-        if !bytes.get(head.at).is_some_and(u8::is_ascii_whitespace) {
+        if !peek(from)?.is_some_and(|b| b.is_ascii_whitespace()) {
             return Err("the PGM ends within its head".into());
         }
-        let body = &bytes[head.at + 1..];
-        let wide = largest > 255;
-        let due = width
-            .checked_mul(height)
-            .and_then(|n| n.checked_mul(if wide { 2 } else { 1 }));
-        match due {
+        from.consume(1);
+        Ok(Head {
+            width,
+            height,
+            largest,
+        })
+    }
+
+    /// The bytes of so many pixels.
+    fn bytes_of(&self, pixels: usize) -> Option<usize> {
+        pixels.checked_mul(if self.largest > 255 { 2 } else { 1 })
+    }
+
+    /// Pixels from their bytes, the first one at the start of a row; none is
+    /// above the largest value.
+    fn pixels(&self, bytes: &[u8], row: usize) -> Result<Vec<u16>, String> {
+        let pixels: Vec<u16> = if self.largest > 255 {
+            bytes
+                .chunks_exact(2)
+                .map(|pair| u16::from_be_bytes([pair[0], pair[1]]))
+                .collect()
+        } else {
+            bytes.iter().map(|&byte| u16::from(byte)).collect()
+        };
+        if let Some(place) = pixels.iter().position(|&p| u32::from(p) > self.largest) {
+            return Err(format!(
+                "pixel {} in row {} of the PGM is above its largest value {}",
+                place % self.width,
+                row + place / self.width,
+                self.largest
+            ));
+        }
+        Ok(pixels)
+    }
+}
+
+/// A PGM that is read row by row, with memory for one; its height may be any.
+pub struct Rows<R> {
+    from: R,
+    head: Head,
+    next: usize,
+    bytes: Vec<u8>,
+}
+
+impl<R: BufRead> Rows<R> {
+    /// Reads the head.
+    pub fn new(mut from: R) -> Result<Rows<R>, String> {
+        let head = Head::read(&mut from)?;
+        Ok(Rows {
+            from,
+            head,
+            next: 0,
+            bytes: Vec::new(),
+        })
+    }
+
+    pub fn width(&self) -> usize {
+        self.head.width
+    }
+
+    pub fn height(&self) -> usize {
+        self.head.height
+    }
+
+    /// The pixels of the next row, nothing after the last. A row that is not
+    /// whole is named, and so is what follows the last one.
+    pub fn next_row(&mut self) -> Result<Option<Vec<u16>>, String> {
+        let row = self.next;
+        if row == self.head.height {
+            return match peek(&mut self.from)? {
+                None => Ok(None),
+                Some(_) => Err("bytes follow the PGM's pixels".into()),
+            };
+        }
+        let due = self.head.bytes_of(self.head.width);
+        let most = due.map_or(u64::MAX, |due| due as u64);
+        self.bytes.clear();
+        // No more memory is taken than there are bytes.
+        let mut bytes = self.from.by_ref().take(most);
+        bytes
+            .read_to_end(&mut self.bytes)
+            .map_err(|error| error.to_string())?;
+        if due != Some(self.bytes.len()) {
+            return Err(format!(
+                "the PGM ends before its last pixel: row {row} of its {} is not whole",
+                self.head.height
+            ));
+        }
+        self.next += 1;
+        self.head.pixels(&self.bytes, row).map(Some)
+    }
+}
+
+impl Picture {
+    pub fn read(bytes: &[u8]) -> Result<Picture, String> {
+        let mut body = bytes;
+        let head = Head::read(&mut body)?;
+        let pixels = head.width.checked_mul(head.height);
+        match pixels.and_then(|pixels| head.bytes_of(pixels)) {
             Some(due) if body.len() == due => {}
             Some(due) if body.len() > due => {
                 return Err(format!(
@@ -93,25 +205,11 @@ impl Picture {
             }
             _ => return Err("the PGM ends before its last pixel".into()),
         }
-        let pixels: Vec<u16> = if wide {
-            body.chunks_exact(2)
-                .map(|pair| u16::from_be_bytes([pair[0], pair[1]]))
-                .collect()
-        } else {
-            body.iter().map(|&byte| u16::from(byte)).collect()
-        };
-        if let Some(place) = pixels.iter().position(|&p| u32::from(p) > largest) {
-            return Err(format!(
-                "pixel {} in row {} of the PGM is above its largest value {largest}",
-                place % width,
-                place / width
-            ));
-        }
         Ok(Picture {
-            width,
-            height,
-            depth: bits(largest),
-            pixels,
+            width: head.width,
+            height: head.height,
+            depth: bits(head.largest),
+            pixels: head.pixels(body, 0)?,
         })
     }
 
@@ -244,6 +342,77 @@ mod tests {
         for length in 0..whole.len() {
             assert!(Picture::read(&whole[..length]).is_err());
         }
+    }
+
+    /// Every row, or why there is none.
+    fn rows(from: impl BufRead) -> Result<Vec<Vec<u16>>, String> {
+        let mut rows = Rows::new(from)?;
+        let mut read = Vec::new();
+        while let Some(row) = rows.next_row()? {
+            assert_eq!(row.len(), rows.width());
+            read.push(row);
+        }
+        assert_eq!(read.len(), rows.height());
+        assert_eq!(rows.next_row(), Ok(None));
+        Ok(read)
+    }
+
+    /// A reader that gives one byte at a time, and is interrupted before each.
+    struct Halting<'a>(&'a [u8], bool);
+
+    impl std::io::Read for Halting<'_> {
+        fn read(&mut self, into: &mut [u8]) -> std::io::Result<usize> {
+            self.1 = !self.1;
+            if self.1 {
+                return Err(ErrorKind::Interrupted.into());
+            }
+            let count = into.len().min(1);
+            self.0.read(&mut into[..count])
+        }
+    }
+
+    #[test]
+    fn rows_are_those_of_the_picture() {
+        for bytes in [
+            &b"P5 # paper\n3 # wide\n2\n#high\n255\n\x00\x01\x02\xfd\xfe\xff"[..],
+            b"P5\n2 3\n4095\n\x0f\xff\x01\x02\0\0\0\x01\0\x02\0\x03",
+            b"P5 1 1 1\n\x01",
+            b"P5 4 0 1\n",
+            b"P5 0 2 1\n",
+        ] {
+            let picture = Picture::read(bytes).unwrap();
+            let read = rows(bytes).unwrap();
+            assert_eq!(read.concat(), picture.pixels);
+            assert_eq!(read.len(), picture.height);
+            let halting = std::io::BufReader::with_capacity(1, Halting(bytes, false));
+            assert_eq!(rows(halting), Ok(read));
+        }
+    }
+
+    /// What is told of a picture is told of its rows, but where it says more.
+    #[test]
+    fn damaged_rows_are_told() {
+        let whole = b"P5\n2 3\n255\n\x00\x01\x02\x03\x04\x05";
+        let head = whole.len() - 6;
+        for length in 0..whole.len() {
+            let error = rows(&whole[..length]).unwrap_err();
+            if length < head {
+                assert_eq!(Err(error), Picture::read(&whole[..length]).map(|_| ()));
+                continue;
+            }
+            let row = (length - head) / 2;
+            let due = "the PGM ends before its last pixel: row ";
+            assert_eq!(error, format!("{due}{row} of its 3 is not whole"));
+        }
+        let long = [&whole[..], b"\n"].concat();
+        assert_eq!(rows(&long[..]), Err("bytes follow the PGM's pixels".into()));
+        let light = b"P5\n2 2\n200\n\x00\x00\x00\xff";
+        let error = rows(&light[..]).unwrap_err();
+        assert!(error.starts_with("pixel 1 in row 1 "), "{error}");
+        assert_eq!(Err(error), Picture::read(light).map(|_| ()));
+        // A width that is only announced takes no memory.
+        let wide = b"P5\n4294967295 4294967295\n4095\n\x00";
+        assert!(rows(&wide[..]).unwrap_err().contains("row 0 of its 42949"));
     }
 
     #[test]

@@ -1,7 +1,10 @@
 //! The tool from its arguments to its exit status.
 
 use std::ffi::OsString;
+use std::io::Write;
+use std::os::unix::fs::PermissionsExt;
 use std::path::PathBuf;
+use std::process::{Command, Stdio};
 use suzdrepa::{Width, WidthTable};
 
 /// A folder of its own for each test.
@@ -10,6 +13,8 @@ struct Folder(PathBuf);
 impl Folder {
     fn new(name: &str) -> Folder {
         let path = PathBuf::from(env!("CARGO_TARGET_TMPDIR")).join(name);
+        // What a run before left, if there was one.
+        let _ = std::fs::remove_dir_all(&path);
         std::fs::create_dir_all(&path).unwrap();
         Folder(path)
     }
@@ -67,6 +72,7 @@ fn help() {
         "change",
         "constant",
         "forward97",
+        "scan",
         "view",
         "difference",
         "copy",
@@ -111,6 +117,8 @@ fn wrong_command_lines() {
         "`check` and `suggest` alone",
     );
     fails(&["check", "--view"], 2, "`check` takes other arguments");
+    fails(&["scan", "a", "b"], 2, "`scan` takes other arguments");
+    fails(&["scan", "a", "b", "-"], 2, "OUT of `scan` is a file");
     fails(&["view", "a"], 2, "`view` takes other arguments");
     fails(&["view", "a", "b", "c", "d"], 2, "`view` takes other");
     fails(&["difference", "a", "b"], 2, "`difference` takes other");
@@ -186,12 +194,17 @@ fn files_that_are_not_there() {
     fails(&["view", &missing, "x"], 2, "missing: ");
     fails(&["picture", &missing, "x"], 2, "missing: ");
     fails(&["forward97", &missing, "x", "y"], 2, "missing: ");
+    fails(&["scan", &missing, "x", "y"], 2, "missing: ");
+    let single = folder.path("single.table");
+    succeeds(&["suggest", "8", "1", &single]);
+    fails(&["scan", &single, &missing, "y"], 2, "missing: ");
     let picture = folder.file("p.pgm", b"P5\n2 2\n255\n\x01\x02\x03\x04");
     for pair in [[&missing, &picture], [&picture, &missing]] {
         fails(&["difference", pair[0], pair[1], "x"], 2, "missing: ");
     }
     let nowhere = folder.path("no/such/folder/out");
     fails(&["copy", &picture, &nowhere], 2, "out: ");
+    fails(&["scan", &single, &picture, &nowhere], 2, "out: ");
 }
 
 #[test]
@@ -411,10 +424,13 @@ fn a_file_that_is_read_is_not_written() {
                     &["change", &table, "1", "rows", "P1", "12", "20", to],
                     &["constant", &table, "P1", "24", to],
                     &["forward97", &table, &picture, to],
+                    &["scan", &table, &picture, to],
+                    &["scan", &table, "-", to],
                 ],
                 "t.txt" => &[&["table", &text, to]],
                 "p.pgm" => &[
                     &["forward97", &table, &picture, to],
+                    &["scan", &table, &picture, to],
                     &["copy", &picture, to],
                     &["difference", &picture, &other, to],
                     &["difference", &other, &picture, to],
@@ -660,6 +676,277 @@ fn coefficients_under_a_table() {
     assert_eq!(bytes.len(), 22 + 20 + 108 + 4 * 21 * 14);
     succeeds(&["picture", &plane, &folder.path("plane.png")]);
     fails(&["restore", &plane, "x"], 2, "9/7 coefficients");
+}
+
+/// Runs the program itself with these bytes at its standard input.
+fn piped(arguments: &[&str], input: &[u8]) -> (Option<i32>, String, String) {
+    let mut child = Command::new(env!("CARGO_BIN_EXE_roll"))
+        .args(arguments)
+        .stdin(Stdio::piped())
+        .stdout(Stdio::piped())
+        .stderr(Stdio::piped())
+        .spawn()
+        .unwrap();
+    // It may stop reading once the answer is settled.
+    let written = child.stdin.take().unwrap().write_all(input);
+    let output = child.wait_with_output().unwrap();
+    assert!(written.is_ok() || !output.status.success());
+    (
+        output.status.code(),
+        String::from_utf8(output.stdout).unwrap(),
+        String::from_utf8(output.stderr).unwrap(),
+    )
+}
+
+/// The names in a folder that a scan left half-way.
+fn parts(folder: &Folder) -> Vec<OsString> {
+    std::fs::read_dir(&folder.0)
+        .unwrap()
+        .map(|entry| entry.unwrap().file_name())
+        .filter(|name| name.to_string_lossy().contains(".part"))
+        .collect()
+}
+
+/// From a file and from a pipe, to a new file and over an old one.
+#[test]
+fn a_scan_writes_what_forward97_writes() {
+    let folder = Folder::new("scanned");
+    for (width, height, largest, depth) in [
+        (2, 2, 1, "1"),
+        (3, 2, 255, "8"),
+        (2, 3, 255, "8"),
+        (5, 4, 255, "8"),
+        (21, 14, 255, "8"),
+        (40, 31, 4095, "12"),
+        (7, 601, 1023, "10"),
+        (2, 4096, 15, "4"),
+        (4096, 5, 15, "4"),
+    ] {
+        let (table, plane, out) = (
+            folder.path("t.table"),
+            folder.path("plane"),
+            folder.path("out"),
+        );
+        succeeds(&["suggest", "--view", depth, "1", &table]);
+        let whole = pgm(width, height, largest);
+        let picture = folder.file("p.pgm", &whole);
+        succeeds(&["forward97", &table, &picture, &plane]);
+        let told = succeeds(&["scan", &table, &picture, &out]);
+        let due = format!("{out}: 9/7 coefficients, {width} x {height}, 1 level\n");
+        assert_eq!(told, due);
+        assert!(folder.bytes("out") == folder.bytes("plane"));
+        for before in [&b"something else"[..], &[7; 70_000]] {
+            folder.file("out", before);
+            let given = piped(&["scan", &table, "-", &out], &whole);
+            assert_eq!(given, (Some(0), due.clone(), String::new()));
+            assert!(folder.bytes("out") == folder.bytes("plane"));
+        }
+        let (viewed, again) = (folder.path("viewed.pgm"), folder.path("again.pgm"));
+        succeeds(&["view", &plane, &viewed]);
+        succeeds(&["view", &out, &again]);
+        assert_eq!(folder.bytes("again.pgm"), folder.bytes("viewed.pgm"));
+        std::fs::remove_file(&out).unwrap();
+    }
+    assert_eq!(parts(&folder), [""; 0]);
+}
+
+/// A strip higher than any picture is scanned, and only that.
+#[test]
+fn a_scan_of_a_high_strip() {
+    let folder = Folder::new("high_strip");
+    let (table, plane, out) = (
+        folder.path("t.table"),
+        folder.path("plane"),
+        folder.path("out"),
+    );
+    succeeds(&["suggest", "--view", "8", "1", &table]);
+    for height in [4097, 5002] {
+        let whole = pgm(3, height, 255);
+        let picture = folder.file("p.pgm", &whole);
+        let told = succeeds(&["scan", &table, &picture, &plane]);
+        assert!(
+            told.ends_with(&format!("3 x {height}, 1 level\n")),
+            "{told}"
+        );
+        let stored = roll::container::Plane::read(&folder.bytes("plane")).unwrap();
+        assert_eq!((stored.width, stored.height), (3, height));
+        let pixels = roll::pgm::Picture::read(&whole).unwrap().pixels;
+        let mut due = vec![0; 3 * height];
+        let bytes = folder.bytes("t.table");
+        let scanned = suzdrepa::Scan::over(&bytes, pixels.chunks(3), |line| {
+            let row = line.row(height as u64) as usize;
+            due[3 * row..][..3].copy_from_slice(line.values);
+        });
+        assert_eq!((scanned, stored.values), (Ok(height as u64), due));
+        fails(&["forward97", &table, &picture, &out], 1, "refused 8");
+        fails(&["view", &plane, &out], 1, "refused 8");
+        let drawn = format!("1 level and 3 x {height} coefficients is not drawn");
+        fails(&["picture", &plane, &out], 2, &drawn);
+    }
+    assert!(!std::path::Path::new(&out).exists());
+}
+
+/// Nothing is left where a scan fails, and what was there stays.
+#[test]
+fn scans_that_fail() {
+    let folder = Folder::new("failed_scan");
+    let (table, out) = (folder.path("t.table"), folder.path("out"));
+    succeeds(&["suggest", "8", "1", &table]);
+    let three = folder.path("three.table");
+    succeeds(&["suggest", "8", "3", &three]);
+    let mut narrow = folder.bytes("t.table");
+    narrow[20] = 2;
+    let narrow = folder.file("narrow.table", &narrow);
+    let out_of_turn = "refused 14: a table not of one level, a line or an end out of turn, \
+                       or a line of another width; ";
+    let whole = pgm(5, 7, 255);
+    let head = whole.len() - 35;
+    let picture = folder.file("p.pgm", &whole);
+    let mut light = b"P5\n5 7\n511\n".to_vec();
+    light.extend([0; 2 * 35]);
+    // The high byte of the first pixel of row 4.
+    light[11 + 2 * 5 * 4] = 1;
+    let with = |bytes: &[u8], status: u8, text: &str| {
+        let damaged = folder.file("damaged.pgm", bytes);
+        fails(
+            &["scan", &table, &damaged, &out],
+            status,
+            &format!("damaged.pgm: {text}"),
+        );
+        let (given, told, err) = piped(&["scan", &table, "-", &out], bytes);
+        assert_eq!((given, told), (Some(status.into()), String::new()));
+        assert!(
+            err.starts_with(&format!("roll: standard input: {text}")),
+            "{err}"
+        );
+    };
+    for before in [None, Some(b"what was there")] {
+        let _ = std::fs::remove_file(&out);
+        if let Some(before) = before {
+            folder.file("out", before);
+        }
+        let levels = format!("{out_of_turn}it has 3 levels, a scan takes 1");
+        fails(&["scan", &three, &picture, &out], 1, &levels);
+        fails(
+            &["scan", &narrow, &picture, &out],
+            1,
+            "narrow.table: refused 6",
+        );
+        fails(&["scan", &picture, &table, &out], 1, "p.pgm: refused 2");
+        fails(&["scan", &table, &table, &out], 2, "t.table: not a PGM");
+        fails(
+            &["scan", &table, folder.0.to_str().unwrap(), &out],
+            2,
+            "directory",
+        );
+        with(&light, 1, "refused 10: a pixel is 2^B or more (row 4)");
+        with(&pgm(1, 7, 255), 1, "refused 8: a side is not admitted");
+        with(&pgm(4097, 2, 255), 1, "refused 8: a side is not admitted");
+        with(b"P5 4294967295 2 255\n", 1, "refused 8");
+        for (height, lines) in [(0, "0 lines"), (1, "1 line")] {
+            let few = format!("{out_of_turn}the strip has {lines}, a scan takes 2 or more");
+            with(&pgm(5, height, 255), 1, &few);
+        }
+        for length in head..whole.len() {
+            let row = (length - head) / 5;
+            let text = format!("the PGM ends before its last pixel: row {row} of its 7");
+            with(&whole[..length], 2, &text);
+        }
+        with(
+            &[&whole[..], &[0]].concat(),
+            2,
+            "bytes follow the PGM's pixels",
+        );
+        with(&whole[..head - 1], 2, "the PGM ends within its head");
+        assert_eq!(std::fs::read(&out).ok().as_deref(), before.map(|b| &b[..]));
+        assert_eq!(parts(&folder), [""; 0]);
+    }
+}
+
+/// What is no file is not written; a link is written through, and a file that
+/// is replaced keeps its permissions.
+#[test]
+fn where_a_scan_is_written() {
+    let folder = Folder::new("scan_to");
+    let table = folder.path("t.table");
+    succeeds(&["suggest", "8", "1", &table]);
+    let picture = folder.file("p.pgm", &pgm(5, 7, 255));
+    let no_file = "no file: rows are written where they stand, not in order";
+    for to in [folder.0.to_str().unwrap(), "/dev/null"] {
+        fails(
+            &["scan", &table, &picture, to],
+            2,
+            &format!("{to}: {no_file}"),
+        );
+    }
+    let (out, link) = (folder.file("out", b"before"), folder.path("link"));
+    let permissions = std::fs::Permissions::from_mode(0o640);
+    std::fs::set_permissions(&out, permissions.clone()).unwrap();
+    let _ = std::fs::remove_file(&link);
+    std::os::unix::fs::symlink("out", &link).unwrap();
+    succeeds(&["scan", &table, &picture, &link]);
+    assert!(std::fs::symlink_metadata(&link).unwrap().is_symlink());
+    let plane = folder.path("plane");
+    succeeds(&["forward97", &table, &picture, &plane]);
+    assert_eq!(folder.bytes("out"), folder.bytes("plane"));
+    let mode = std::fs::metadata(&out).unwrap().permissions().mode();
+    assert_eq!(mode & 0o777, permissions.mode());
+    assert_eq!(parts(&folder), [""; 0]);
+}
+
+/// A damaged picture is scanned where it can be worked in whole, with the same
+/// coefficients.
+#[test]
+fn scans_of_damaged_pictures() {
+    let folder = Folder::new("damaged_scan");
+    let mut state = 0x9E37_79B9_7F4A_7C15u64;
+    let mut below = |n: usize| {
+        state ^= state << 13;
+        state ^= state >> 7;
+        state ^= state << 17;
+        (state % n as u64) as usize
+    };
+    let (table, plane, out) = (
+        folder.path("t.table"),
+        folder.path("plane"),
+        folder.path("out"),
+    );
+    succeeds(&["suggest", "7", "1", &table]);
+    // Pixels of seven bits, though the head allows eight.
+    let mut whole = pgm(6, 5, 127);
+    whole[7..10].copy_from_slice(b"255");
+    let mut seen = [0usize; 3];
+    for _ in 0..1000 {
+        let mut bytes = whole.clone();
+        for _ in 0..=below(2) {
+            let at = below(bytes.len());
+            match below(5) {
+                0 => {
+                    bytes.remove(at);
+                }
+                1 => bytes.insert(at, below(256) as u8),
+                2 => bytes[at.min(11)] = b"0123456789 \n#P"[below(14)],
+                3 => bytes.truncate(at),
+                _ => bytes[at] = below(256) as u8,
+            }
+            if bytes.is_empty() {
+                break;
+            }
+        }
+        let damaged = folder.file("damaged.pgm", &bytes);
+        let (due, _, _) = roll(&["forward97", &table, &damaged, &plane]);
+        let (status, _, err) = roll(&["scan", &table, &damaged, &out]);
+        assert_eq!(status != 0, !err.is_empty());
+        assert_eq!(status == 0, due == 0, "{err}");
+        if status == 0 {
+            assert_eq!(folder.bytes("out"), folder.bytes("plane"));
+            std::fs::remove_file(&out).unwrap();
+        }
+        assert!(!std::path::Path::new(&out).exists());
+        seen[usize::from(status)] += 1;
+    }
+    assert!(seen.iter().all(|&n| n > 20), "{seen:?}");
+    assert_eq!(parts(&folder), [""; 0]);
 }
 
 /// A number and what it counts, in words.

@@ -13,12 +13,13 @@
 //! * a pointer and the length after it name memory that is the caller's, in
 //!   whole elements; where the length is 0 the pointer is not used and may be
 //!   null,
-//! * `start`, `length`, `range`, `error` and `distance` each point to one
-//!   number, `constants` and `widths` to an array,
+//! * `start`, `length`, `range`, `error`, `distance` and `given` each point to
+//!   one number, `constants` and `widths` to an array,
 //! * every pointer is aligned as its type asks (null is aligned),
 //! * what the call writes (`*mut`) overlaps nothing else that it is given.
 //!
-//! No call keeps a pointer, unwinds, or has any state between calls.
+//! No call keeps a pointer, unwinds, or has any state between calls: that of a
+//! rolling scan is memory of the caller.
 //!
 //! ```
 //! let pixels = [5u16, 7, 4, 4];
@@ -53,6 +54,12 @@ pub const SUZ_TABLE_LEVEL: usize = 36;
 // How many numbers the constants and the widths of a table have, all levels.
 pub const SUZ_TABLE_CONSTANTS: usize = 6;
 pub const SUZ_TABLE_WIDTHS: usize = SUZ_TABLE_LEVEL * SUZ_MAX_LEVELS as usize;
+
+// The bytes of a scan's state, and the lines that a call is lent to hold and
+// for output.
+pub const SUZ_SCAN_LENGTH: usize = 60;
+pub const SUZ_SCAN_HELD_LINES: usize = 7;
+pub const SUZ_SCAN_OUT_LINES: usize = 4;
 
 extern "C" {
     /// Reads a width table and judges it: 1 to 5, then 6 and 7.
@@ -150,6 +157,39 @@ extern "C" {
         pixels_len: usize,
         work: *mut i64,
         work_len: usize,
+    ) -> u32;
+
+    /// Begins a rolling scan: 1 to 5, 14, 6 and 7, 9.
+    pub fn suz_scan_begin(
+        table: *const u8,
+        table_len: usize,
+        state: *mut u8,
+        state_len: usize,
+    ) -> u32;
+
+    /// The next line of a rolling scan: 9 of the state, 14, 8, 9, 10.
+    pub fn suz_scan_line(
+        state: *mut u8,
+        state_len: usize,
+        pixels: *const u16,
+        pixels_len: usize,
+        width: usize,
+        held: *mut i32,
+        held_len: usize,
+        out: *mut i32,
+        out_len: usize,
+        given: *mut u32,
+    ) -> u32;
+
+    /// The end of a rolling scan: 9 of the state, 14, 9.
+    pub fn suz_scan_end(
+        state: *mut u8,
+        state_len: usize,
+        held: *mut i32,
+        held_len: usize,
+        out: *mut i32,
+        out_len: usize,
+        given: *mut u32,
     ) -> u32;
 
     /// 5/3 forward, columns first: 4, 8, 9, 10.

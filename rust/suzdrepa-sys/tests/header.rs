@@ -140,6 +140,9 @@ fn the_same_limits() {
         ("SUZ_TABLE_LEVEL", suzdrepa_sys::SUZ_TABLE_LEVEL),
         ("SUZ_TABLE_CONSTANTS", suzdrepa_sys::SUZ_TABLE_CONSTANTS),
         ("SUZ_TABLE_WIDTHS", suzdrepa_sys::SUZ_TABLE_WIDTHS),
+        ("SUZ_SCAN_LENGTH", suzdrepa_sys::SUZ_SCAN_LENGTH),
+        ("SUZ_SCAN_HELD_LINES", suzdrepa_sys::SUZ_SCAN_HELD_LINES),
+        ("SUZ_SCAN_OUT_LINES", suzdrepa_sys::SUZ_SCAN_OUT_LINES),
     ];
     let compiled = compiled.map(|(name, value)| (name.to_owned(), value as u64));
     assert_eq!(declared, BTreeMap::from(compiled));

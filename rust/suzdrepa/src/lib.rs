@@ -5,6 +5,8 @@
 //!
 //! * the **9/7 transform** in fixed point, under a *width table* that says how
 //!   many bits every intermediate value has ([`forward97`]),
+//! * the **rolling scan**, the same with one level for strips of any length that
+//!   come line by line ([`Scan`]),
 //! * **viewing**, which shows a stored 9/7 plane as a picture ([`view97`]),
 //! * the **5/3 transform**, an exact copy that goes back to the same picture
 //!   ([`forward53`], [`inverse53`]; [`inverse53_rows_first`] for copies made
@@ -80,6 +82,25 @@
 //! # Ok::<(), suzdrepa::Refusal>(())
 //! ```
 //!
+//! # Strips that come line by line
+//!
+//! A [`Scan`] takes the lines of a strip one by one, however many they are, with
+//! memory for eleven lines, and gives the rows of its plane as soon as they are
+//! ready:
+//!
+//! ```
+//! use suzdrepa::{Scan, Width, WidthTable};
+//!
+//! let table = WidthTable::kept_and_others(3, 1, 24, Width::new(12, 10), Width::new(12, 20))?;
+//! let mut scan = Scan::begin(table.as_bytes())?;
+//! assert_eq!(scan.line(&[5, 7])?.len(), 0);
+//! assert_eq!(scan.line(&[4, 4])?.len(), 0);
+//! let plane: Vec<i32> = scan.end()?.flat_map(|line| line.values).copied().collect();
+//! let pixels = [5, 7, 4, 4];
+//! assert_eq!(plane, suzdrepa::forward97_to_vec(table.as_bytes(), &pixels, 2, 2)?);
+//! # Ok::<(), suzdrepa::Refusal>(())
+//! ```
+//!
 //! # Viewing
 //!
 //! A stored plane is shown as a picture under a table that
@@ -108,10 +129,12 @@
 
 mod place;
 mod refusal;
+mod scan;
 mod table;
 
 pub use place::{Bound, Node, Pass, Place, Width};
 pub use refusal::Refusal;
+pub use scan::{Given, GivenLine, LineKind, Scan};
 pub use table::{
     change_constant, change_constant_into, change_width, change_width_into, check_table,
     table_bound, table_form, table_value, table_view, view_distance, write_table, WidthTable,
@@ -119,7 +142,8 @@ pub use table::{
 
 use suzdrepa_sys as sys;
 
-/// The maximum side of a picture.
+/// The maximum side of a picture, and of a line of a rolling scan; a scan may
+/// have more lines.
 pub const MAX_SIDE: usize = sys::SUZ_MAX_SIDE;
 
 /// Works a picture into 9/7 coefficients under a width table.

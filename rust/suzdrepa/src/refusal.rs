@@ -80,6 +80,7 @@ refusals! {
     11 NoPicture "the 5/3 plane is the transform of no picture of that depth and size";
     12 OutsideWidth "a coefficient is outside its node's width";
     13 NotViewable "viewing is not accurate to half a grey, or a value may pass 2^15";
+    14 OutOfTurn "a table not of one level, a line or an end out of turn, or a line of another width";
 }
 
 impl Refusal {

@@ -13,7 +13,12 @@ pub const MIN_SIDE: usize = (1 << (LEVELS - 1)) + 1;
 
 /// All nodes (12, 20), kept ones (12, 2), constants with 24 bits.
 pub fn wide_table() -> WidthTable {
-    WidthTable::kept_and_others(DEPTH, LEVELS, 24, Width::new(12, 2), Width::new(12, 20))
+    wide_table_of(LEVELS)
+}
+
+/// The same with other levels.
+pub fn wide_table_of(levels: u8) -> WidthTable {
+    WidthTable::kept_and_others(DEPTH, levels, 24, Width::new(12, 2), Width::new(12, 20))
         .expect("the numbers are within their limits")
 }
 
@@ -40,7 +45,12 @@ fn pushed(
 /// Constants with 16 bits, inner nodes 16 to 12 fractional bits, kept ones as
 /// many as are accepted up to 12, integer bits as few as are accepted.
 pub fn tight_table() -> WidthTable {
-    let mut table = WidthTable::uniform(DEPTH, LEVELS, 16, Width::new(12, 0)).expect("in limits");
+    tight_table_of(LEVELS)
+}
+
+/// The same with other levels.
+pub fn tight_table_of(levels: u8) -> WidthTable {
+    let mut table = WidthTable::uniform(DEPTH, levels, 16, Width::new(12, 0)).expect("in limits");
     let places: Vec<Place> = table.places().collect();
     for &place in &places {
         if !table.is_kept(place) {
@@ -85,10 +95,15 @@ pub fn view_table() -> WidthTable {
 
 /// Paper with a dense row of holes and some noise.
 pub fn picture(side: usize) -> Vec<u16> {
+    strip(side, side)
+}
+
+/// The same with sides of their own.
+pub fn strip(width: usize, height: usize) -> Vec<u16> {
     let mut state = 0x2545_F491_4F6C_DD1Du64;
-    let mut pixels = Vec::with_capacity(side * side);
-    for y in 0..side {
-        for x in 0..side {
+    let mut pixels = Vec::with_capacity(width * height);
+    for y in 0..height {
+        for x in 0..width {
             state ^= state << 13;
             state ^= state >> 7;
             state ^= state << 17;

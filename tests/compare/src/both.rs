@@ -214,13 +214,16 @@ pub fn table_write(
 
 /// Lends a copy of `out` to a call; gives the answer and what the call left.
 /// Asserts that the memory on both sides of it is as it was.
-fn lend<T>(out: &[u8], call: impl FnOnce(&mut [u8]) -> T) -> (T, Vec<u8>) {
-    const BESIDE: [u8; 16] = [0x5A; 16];
-    let mut memory = [&BESIDE, out, &BESIDE].concat();
-    let lent = BESIDE.len()..BESIDE.len() + out.len();
+pub(crate) fn lend<E, T>(out: &[E], call: impl FnOnce(&mut [E]) -> T) -> (T, Vec<E>)
+where
+    E: Copy + From<u8> + PartialEq + std::fmt::Debug,
+{
+    let beside = [E::from(0x5A); 16];
+    let mut memory = [&beside, out, &beside].concat();
+    let lent = beside.len()..beside.len() + out.len();
     let answer = call(&mut memory[lent.clone()]);
-    assert_eq!(memory[..lent.start], BESIDE, "memory before what was lent");
-    assert_eq!(memory[lent.end..], BESIDE, "memory after what was lent");
+    assert_eq!(memory[..lent.start], beside, "memory before what was lent");
+    assert_eq!(memory[lent.end..], beside, "memory after what was lent");
     (answer, memory[lent].to_vec())
 }
 

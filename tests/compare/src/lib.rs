@@ -10,6 +10,7 @@ pub mod chance;
 pub mod farthest;
 pub mod hostile;
 pub mod program;
+pub mod scan;
 pub mod tables;
 
 use std::path::{Path, PathBuf};

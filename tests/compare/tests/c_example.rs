@@ -59,6 +59,19 @@ fn the_view_runs() {
 }
 
 #[test]
+fn the_scan_runs() {
+    prints("scan", &[
+        "a line of another width: refused 14: a table not of one level, a line or an end out of turn, or a line of another width",
+        "a line too light: refused 10: a pixel is 2^B or more",
+        "line 4 gives low 0, high 0",
+        "line 6 gives low 1, high 1",
+        "the end gives low 2, high 2, low 3",
+        "a second end: refused 14: a table not of one level, a line or an end out of turn, or a line of another width",
+        "7 lines of coefficients came, those of the whole strip",
+    ]);
+}
+
+#[test]
 fn the_macros_take_an_answer_apart() {
     let source = Path::new(env!("CARGO_TARGET_TMPDIR")).join("macros.c");
     std::fs::write(
@@ -83,5 +96,10 @@ fn the_macros_take_an_answer_apart() {
     assert_eq!(lines[1], "done");
     assert_eq!(lines[8], "a kept node's error is not below two steps");
     assert_eq!(lines[13], "a coefficient is outside its node's width");
+    assert_eq!(
+        lines[15],
+        "a table not of one level, a line or an end out of turn, or a line of another width"
+    );
+    assert_eq!(lines[16], "unknown");
     assert_eq!(lines[256], "unknown");
 }

@@ -21,11 +21,14 @@ const RED_ZONE: i64 = 128;
 
 /// The exported calls, and the stack in KiB that each stays within, its return
 /// address included, but not what `memcpy` and `memset` of the C library take.
-const CALLS: [(&str, i64); 14] = [
+const CALLS: [(&str, i64); 17] = [
     ("suz_forward53", 4),
     ("suz_forward97", 4),
     ("suz_inverse53", 260),
     ("suz_inverse53_rows_first", 260),
+    ("suz_scan_begin", 4),
+    ("suz_scan_end", 4),
+    ("suz_scan_line", 4),
     ("suz_table_bound", 4),
     ("suz_table_change", 2),
     ("suz_table_change_constant", 2),

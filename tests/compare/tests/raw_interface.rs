@@ -8,10 +8,10 @@ use reference::reversible53::{self, Order};
 use reference::{calls, Refusal, Width};
 use std::ptr::{null, null_mut};
 use suzdrepa_sys::{
-    suz_forward53, suz_forward97, suz_inverse53, suz_inverse53_rows_first, suz_table_bound,
-    suz_table_change, suz_table_change_constant, suz_table_check, suz_table_form, suz_table_value,
-    suz_table_view, suz_table_write, suz_view97, suz_view_distance, SUZ_TABLE_CONSTANTS,
-    SUZ_TABLE_WIDTHS,
+    suz_forward53, suz_forward97, suz_inverse53, suz_inverse53_rows_first, suz_scan_begin,
+    suz_scan_end, suz_scan_line, suz_table_bound, suz_table_change, suz_table_change_constant,
+    suz_table_check, suz_table_form, suz_table_value, suz_table_view, suz_table_write, suz_view97,
+    suz_view_distance, SUZ_SCAN_LENGTH, SUZ_TABLE_CONSTANTS, SUZ_TABLE_WIDTHS,
 };
 
 fn some_table(chance: &mut Chance) -> Vec<u8> {
@@ -324,7 +324,9 @@ fn null_pointers_of_length_0() {
     let table = narrow(8, 1).bytes().unwrap();
     let (at, len) = (table.as_ptr(), table.len());
     let (mut start, mut length, mut range, mut error) = (5, 6, 7, 8);
-    let mut distance = 9;
+    let (mut distance, mut given) = (9, 10);
+    let mut state = [0; SUZ_SCAN_LENGTH];
+    let state_at = state.as_mut_ptr();
     let (constants, widths) = ([24; SUZ_TABLE_CONSTANTS], [0; SUZ_TABLE_WIDTHS]);
     // SAFETY: what is null has length 0; the rest are a vector's and its own.
     unsafe {
@@ -354,6 +356,29 @@ fn null_pointers_of_length_0() {
             assert_eq!(suz_view97(at, len, null(), 0, w, h, o, 0, long, 0), due);
             assert_eq!(suz_view97(null(), 0, null(), 0, w, h, o, 0, long, 0), 1);
         }
+
+        let (i, none) = (null_mut::<i32>(), null_mut::<u8>());
+        let line = |state, length, width, given| {
+            suz_scan_line(state, length, null(), 0, width, i, 0, i, 0, given)
+        };
+        let length = SUZ_SCAN_LENGTH;
+        assert_eq!(suz_scan_begin(null(), 0, none, 0), 1);
+        assert_eq!(suz_scan_begin(at, len, none, 0), 9);
+        assert_eq!(suz_scan_begin(null(), 0, state_at, length), 1);
+        assert_eq!(line(none, 0, 4, &mut given), 9);
+        assert_eq!(line(state_at, length, 4, &mut given), 14);
+        assert_eq!(suz_scan_end(none, 0, i, 0, i, 0, &mut given), 9);
+        assert_eq!(suz_scan_end(state_at, length, i, 0, i, 0, &mut given), 14);
+        assert_eq!(suz_scan_begin(at, len, state_at, length), 0);
+        assert_eq!(line(state_at, length, 4, &mut given), 9);
+        assert_eq!(line(state_at, length, 0, &mut given), 8);
+        assert_eq!(line(state_at, length, usize::MAX, &mut given), 8);
+        // After two lines of four pixels: an end gets as far as its memory.
+        state[length - 4..].copy_from_slice(&[0, 4, 2, 0]);
+        let state_at = state.as_mut_ptr();
+        assert_eq!(line(state_at, length, 0, &mut given), 14);
+        assert_eq!(suz_scan_end(state_at, length, i, 0, i, 0, &mut given), 9);
     }
-    assert_eq!((start, length, range, error, distance), (5, 6, 7, 8, 9));
+    assert_eq!((start, length, range, error), (5, 6, 7, 8));
+    assert_eq!((distance, given), (9, 10));
 }

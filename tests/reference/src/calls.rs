@@ -1,6 +1,7 @@
-//! Every call, with its order of refusals and what it leaves in lent memory.
-//! A refused call leaves everything untouched, but 11 zeroes the work area's
-//! first width times height elements, as success of any transform does.
+//! Every call but those of the rolling scan, with its order of refusals and what
+//! it leaves in lent memory. A refused call leaves everything untouched, but 11
+//! zeroes the work area's first width times height elements, as success of any
+//! transform does.
 
 use crate::places::{kept_node, side_admitted};
 use crate::precision::{bound_of, verdict};
@@ -241,7 +242,7 @@ fn sides(width: usize, height: usize, levels: u8) -> Result<usize, Refusal> {
     }
 }
 
-fn lengths(count: usize, lent: &[usize]) -> Result<(), Refusal> {
+pub(crate) fn lengths(count: usize, lent: &[usize]) -> Result<(), Refusal> {
     if lent.iter().all(|&n| n >= count) {
         Ok(())
     } else {
@@ -249,7 +250,7 @@ fn lengths(count: usize, lent: &[usize]) -> Result<(), Refusal> {
     }
 }
 
-fn depth_of_pixels(pixels: &[u16], depth: u8) -> Result<(), Refusal> {
+pub(crate) fn depth_of_pixels(pixels: &[u16], depth: u8) -> Result<(), Refusal> {
     if pixels.iter().all(|&p| p < 1 << depth) {
         Ok(())
     } else {

@@ -5,7 +5,7 @@
 //! documents, whole numbers have no limit that a picture could reach, and
 //! fractions are exact. Nothing here is made for speed.
 //!
-//! * [`refusal`]: the numbers 1 to 13
+//! * [`refusal`]: the numbers 1 to 14
 //! * [`table`]: width tables (document 01: books) and their bytes
 //! * [`constants`], [`gains`], [`precision`]: the precision analysis and its
 //!   verdict (document 01: the judge)
@@ -14,10 +14,12 @@
 //!   the bound between the two
 //! * [`reversible53`]: the 5/3 transform forward and back, columns first as new
 //!   copies have it and rows first as copies made earlier
+//! * [`rolling`]: the rolling scan, line by line, and the one-level 9/7 transform
+//!   of a strip of any height
 //! * [`papers`]: a third reading, the passes as source documents 003 and 004
 //!   print them, the ends of a line apart from its middle
 //! * [`places`]: sides, low and high parts, kept nodes
-//! * [`calls`]: every call with its order of refusals and what it leaves in
+//! * [`calls`]: every other call with its order of refusals and what it leaves in
 //!   lent memory
 //! * [`exact_copy`]: the exact-copy program, bytes to text
 //! * [`tag_value`]: the tag program, bytes to bytes
@@ -38,6 +40,7 @@ pub mod places;
 pub mod precision;
 pub mod refusal;
 pub mod reversible53;
+pub mod rolling;
 pub mod table;
 pub mod tag_value;
 pub mod viewing;

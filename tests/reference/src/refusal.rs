@@ -17,7 +17,7 @@ pub struct Refusal {
 
 impl Refusal {
     pub fn plain(number: u8) -> Refusal {
-        assert!((1..=13).contains(&number) && number != 6 && number != 7);
+        assert!((1..=14).contains(&number) && number != 6 && number != 7);
         Refusal {
             number,
             place: None,

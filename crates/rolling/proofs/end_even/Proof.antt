@@ -44,9 +44,9 @@ returns c =
     let m = at (a .held .now) in
     let done = low-again f in (
       subst (PastSame (a .w) m) (sym (g .second-given .ensures .0 ∙ ap (secondDone (a .columns .table) (a .w) 3 4) done))
-      (past-then (a .w) (past-then (a .w) (past-one (a .w) 5 _ m (omega arith)) (past-later (a .w) (a .columns .table) (a .before) _)) (past-second (a .w) (a .columns .table) 3 4 _)),
+          (past-then (a .w) (past-then (a .w) (past-one (a .w) 5 _ m (omega arith)) (past-later (a .w) (a .columns .table) (a .before) _)) (past-second (a .w) (a .columns .table) 3 4 _)),
       g .second-given .ensures .1
-      ∙ (λ u. twoGiven (a .columns .table) (a .w) 2 (secondDone (a .columns .table) (a .w) 3 4 (done u)) ((f .later-low .ensures .1 ∙ ap (λ (m : ℕ → ℤ). twoGiven (a .columns .table) (a .w) 0 (laterDone (a .columns .table) (a .w) (a .before) m) (at (a .out .now))) (v .move-line .ensures)) u)),
+          ∙ (λ u. twoGiven (a .columns .table) (a .w) 2 (secondDone (a .columns .table) (a .w) 3 4 (done u)) ((f .later-low .ensures .1 ∙ ap (λ (m : ℕ → ℤ). twoGiven (a .columns .table) (a .w) 0 (laterDone (a .columns .table) (a .w) (a .before) m) (at (a .out .now))) (v .move-line .ensures)) u)),
     )
 
 pub end-even-spec : {M : Type 1} → statement M

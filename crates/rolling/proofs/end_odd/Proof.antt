@@ -55,9 +55,9 @@ returns c =
     let a = f .before .before .before .before .before .before .args in
     let m = at (a .held .now) in (
       subst (PastSame (a .w) m) (sym (e .last-given .ensures .0 ∙ ap (setU2 (a .columns .table) (a .w) 0 2 2) (second-there d)))
-      (past-then (a .w) (past-then (a .w) (past-one (a .w) 0 _ m (omega arith)) (past-second (a .w) (a .columns .table) 0 (a .before) _)) (past-one (a .w) 0 _ _ (omega arith))),
+          (past-then (a .w) (past-then (a .w) (past-one (a .w) 0 _ m (omega arith)) (past-second (a .w) (a .columns .table) 0 (a .before) _)) (past-one (a .w) 0 _ _ (omega arith))),
       e .last-given .ensures .1
-      ∙ (λ u. lastGiven (a .columns .table) (a .w) (second-there d u) ((d .second-given .ensures .1 ∙ ap (λ (m : ℕ → ℤ). twoGiven (a .columns .table) (a .w) 0 (secondDone (a .columns .table) (a .w) 0 (a .before) m) (at (a .out .now))) (u1-there f)) u)),
+          ∙ (λ u. lastGiven (a .columns .table) (a .w) (second-there d u) ((d .second-given .ensures .1 ∙ ap (λ (m : ℕ → ℤ). twoGiven (a .columns .table) (a .w) 0 (secondDone (a .columns .table) (a .w) 0 (a .before) m) (at (a .out .now))) (u1-there f)) u)),
     )
 
 pub end-odd-spec : {M : Type 1} → statement M

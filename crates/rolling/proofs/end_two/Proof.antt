@@ -43,7 +43,7 @@ returns c =
     let m = at (a .held .now) in
     let done = low-again f in (
       subst (PastSame (a .w) m) (sym (g .second-given .ensures .0 ∙ ap (secondDone (a .columns .table) (a .w) 3 2) done))
-      (past-then (a .w) (past-then (a .w) (past-then (a .w) (past-one (a .w) 5 _ m (omega arith)) (past-first (a .w) (a .columns .table) 6 _)) (past-kept (a .w) _)) (past-second (a .w) (a .columns .table) 3 2 _)),
+          (past-then (a .w) (past-then (a .w) (past-then (a .w) (past-one (a .w) 5 _ m (omega arith)) (past-first (a .w) (a .columns .table) 6 _)) (past-kept (a .w) _)) (past-second (a .w) (a .columns .table) 3 2 _)),
       g .second-given .ensures .1 ∙ ap (λ (m : ℕ → ℤ). twoGiven (a .columns .table) (a .w) 0 (secondDone (a .columns .table) (a .w) 3 2 m) (at (a .out .now))) done,
     )
 

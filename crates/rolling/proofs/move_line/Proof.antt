@@ -24,12 +24,11 @@ loop-again c =
     let t = c .before .before .loop in
     let s = c .before .before .before in
     let a = s .args in
-    let (lent, apart) = s .pre in
-    (
+    let (lent, apart) = s .pre in (
       omega arith,
       simp length-set (t .inv .1),
       patch-set (a .to * a .w) (t .j) (λ i. at (a .held .now) (a .from * a .w + i)) (at (a .held .now)) (t .held) (pos 0) (t .inv .2) (omega (arith, t .inv .1, in-lent lent (a .to) (apart .one))) _
-      (toZ-ofZ (sfits-of (c .v .given)) ∙ side-as-was (a .to * a .w) (t .j) _ _ _ (t .inv .2) (a .from * a .w) (a .w) (λ i j p q e. lines-apart (a .w) (a .to) (a .from) (apart .apart) i j p q e) (omega arith)),
+          (toZ-ofZ (sfits-of (c .v .given)) ∙ side-as-was (a .to * a .w) (t .j) _ _ _ (t .inv .2) (a .from * a .w) (a .w) (λ i j p q e. lines-apart (a .w) (a .to) (a .from) (apart .apart) i j p q e) (omega arith)),
     )
 
 returns : tie.Need-returns Inv-loop μ-loop

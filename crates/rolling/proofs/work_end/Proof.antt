@@ -60,8 +60,7 @@ returns c =
     let q = e .before .before in
     let a = start q .args in
     let given = f .end-two .ensures .1 ∙ ap (λ (t : WidthTable). twoEnded t (a .w) (at (sounded q)) (at (a .out .now))) (table-is q) in
-    subst (Said (start q) 2 _ _) (sym (e .enum-told .given .1))
-    (
+    subst (Said (start q) 2 _ _) (sym (e .enum-told .given .1)) (
       refl,
       record {
         held-past = past-all q _ (search needs) (f .end-two .ensures .0);
@@ -78,8 +77,7 @@ returns-2 c =
     let q = e .before .before in
     let a = start q .args in
     let given = f .end-even .ensures .1 ∙ ap (λ (t : WidthTable). evenEnded t (a .w) 2 (at (sounded q)) (at (a .out .now))) (table-is q) in
-    subst (Said (start q) 4 _ _) (sym (e .enum-told2 .given .1))
-    (
+    subst (Said (start q) 4 _ _) (sym (e .enum-told2 .given .1)) (
       refl,
       record {
         held-past = past-all q _ (search needs) (f .end-even .ensures .0);
@@ -96,8 +94,7 @@ returns-3 c =
     let q = e .before .before in
     let a = start q .args in
     let given = f .end-even2 .ensures .1 ∙ ap (λ (t : WidthTable). evenEnded t (a .w) 4 (at (sounded q)) (at (a .out .now))) (table-is q) in
-    subst (Said (start q) 4 _ _) (sym (e .enum-told3 .given .1))
-    (
+    subst (Said (start q) 4 _ _) (sym (e .enum-told3 .given .1)) (
       refl,
       record {
         held-past = past-all q _ (search needs) (f .end-even2 .ensures .0);
@@ -114,8 +111,7 @@ returns-4 c =
     let q = e .before .before in
     let a = start q .args in
     let given = f .end-odd .ensures .1 ∙ ap (λ (t : WidthTable). oddEnded t (a .w) 2 (at (sounded q)) (at (a .out .now))) (table-is q) in
-    subst (Said (start q) 3 _ _) (sym (e .enum-told4 .given .1))
-    (
+    subst (Said (start q) 3 _ _) (sym (e .enum-told4 .given .1)) (
       refl,
       record {
         held-past = past-all q _ (search needs) (f .end-odd .ensures .0);
@@ -132,8 +128,7 @@ returns-5 c =
     let q = e .before .before in
     let a = start q .args in
     let given = f .end-odd2 .ensures .1 ∙ ap (λ (t : WidthTable). oddEnded t (a .w) 4 (at (sounded q)) (at (a .out .now))) (table-is q) in
-    subst (Said (start q) 3 _ _) (sym (e .enum-told5 .given .1))
-    (
+    subst (Said (start q) 3 _ _) (sym (e .enum-told5 .given .1)) (
       refl,
       record {
         held-past = past-all q _ (search needs) (f .end-odd2 .ensures .0);

@@ -70,10 +70,16 @@ returns-5 c =
     let s = e .before .before .before in
     let a = s .args in
     let row = rowOf (a .table) (a .pixels .now) (a .w) in
-    subst (Said s 0 _ _) (sym (e .enum-told5 .given .1)) (refl, (record {
-      past = kept-from (heldLines * a .w) (a .held .now) _ (search needs) (λ p i. ap (λ (m : ℕ → ℤ). m p) (f .row-to .ensures) ∙ past-set (a .w) 1 row _ (omega arith) p i);
-      works = λ sound. one-same (a .table) (a .w) row (a .held .now) _ (f .row-to .ensures);
-    }, quiet (a .table) (a .w) One row (a .held .now) (a .out .now) (some s) refl))
+    subst (Said s 0 _ _) (sym (e .enum-told5 .given .1)) (
+      refl,
+      (
+        record {
+          past = kept-from (heldLines * a .w) (a .held .now) _ (search needs) (λ p i. ap (λ (m : ℕ → ℤ). m p) (f .row-to .ensures) ∙ past-set (a .w) 1 row _ (omega arith) p i);
+          works = λ sound. one-same (a .table) (a .w) row (a .held .now) _ (f .row-to .ensures);
+        },
+        quiet (a .table) (a .w) One row (a .held .now) (a .out .now) (some s) refl,
+      ),
+    )
 
 returns-6 : tie.Need-returns-6
 unfolding lineGives
@@ -83,10 +89,16 @@ returns-6 c =
     let s = e .before .before .before in
     let a = s .args in
     let row = rowOf (a .table) (a .pixels .now) (a .w) in
-    subst (Said s 0 _ _) (sym (e .enum-told6 .given .1)) (refl, (record {
-      past = kept-from (heldLines * a .w) (a .held .now) _ (search needs) (λ p i. ap (λ (m : ℕ → ℤ). m p) (f .row-to2 .ensures) ∙ past-set (a .w) 1 row _ (omega arith) p i);
-      works = λ sound. three-same (a .table) (a .w) row (a .held .now) _ (f .row-to2 .ensures);
-    }, quiet (a .table) (a .w) Three row (a .held .now) (a .out .now) (some s) refl))
+    subst (Said s 0 _ _) (sym (e .enum-told6 .given .1)) (
+      refl,
+      (
+        record {
+          past = kept-from (heldLines * a .w) (a .held .now) _ (search needs) (λ p i. ap (λ (m : ℕ → ℤ). m p) (f .row-to2 .ensures) ∙ past-set (a .w) 1 row _ (omega arith) p i);
+          works = λ sound. three-same (a .table) (a .w) row (a .held .now) _ (f .row-to2 .ensures);
+        },
+        quiet (a .table) (a .w) Three row (a .held .now) (a .out .now) (some s) refl,
+      ),
+    )
 
 returns-7 : tie.Need-returns-7
 unfolding lineGives
@@ -96,10 +108,16 @@ returns-7 c =
     let s = e .before .before .before in
     let a = s .args in
     let row = rowOf (a .table) (a .pixels .now) (a .w) in
-    subst (Said s 0 _ _) (sym (e .enum-told7 .given .1)) (refl, (record {
-      past = kept-from (heldLines * a .w) (a .held .now) _ (search needs) (λ p i. ap (λ (m : ℕ → ℤ). m p) (f .row-to3 .ensures) ∙ past-set (a .w) 1 row _ (omega arith) p i);
-      works = λ sound. odd-same (a .table) (a .w) row (a .held .now) _ (f .row-to3 .ensures);
-    }, quiet (a .table) (a .w) OddMany row (a .held .now) (a .out .now) (some s) refl))
+    subst (Said s 0 _ _) (sym (e .enum-told7 .given .1)) (
+      refl,
+      (
+        record {
+          past = kept-from (heldLines * a .w) (a .held .now) _ (search needs) (λ p i. ap (λ (m : ℕ → ℤ). m p) (f .row-to3 .ensures) ∙ past-set (a .w) 1 row _ (omega arith) p i);
+          works = λ sound. odd-same (a .table) (a .w) row (a .held .now) _ (f .row-to3 .ensures);
+        },
+        quiet (a .table) (a .w) OddMany row (a .held .now) (a .out .now) (some s) refl,
+      ),
+    )
 
 pub work-line-spec : {M : Type 1} → statement M
 work-line-spec =

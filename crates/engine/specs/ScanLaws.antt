@@ -1,0 +1,143 @@
+-- What the answers of the calls below say of the C interface's calls of a rolling scan.
+use Prim.Native.Nat.{ℕ, _<_, _≤_}
+use mathlib.Core.Bool.{true, false, not, _&&_, _||_}
+use mathlib.Core.List.{List, []}
+use mathlib.Core.Path.{_≡_, refl, sym, _∙_, ap, subst}
+use native.Mathlib.Omega.{arith}
+use lib.Dec.{T, leb, leb→le, le→leb}
+use lib.ListN.{length}
+use lib.IntN.{ℤ}
+use Rattle.numbers.specs.Lists.{over}
+use Rattle.numbers.specs.Tests.{both}
+use Rattle.refusals.specs.Answers.{Reason, Answer, done, refused, passed, asks, _then_, answered, code}
+use Rattle.refusals.specs.AnswerLaws.{asks-done, asks-right, asks-wrong, gives-done, then-right, then-refused, answered-done}
+use Rattle.width_table.specs.Bytes.{form, tableIn}
+use Rattle.precision.specs.Promise.{promise}
+use Rattle.pictures.specs.Pictures.{sideRight}
+use Rattle.rolling.specs.declared.Scan.{Scan}
+use Rattle.rolling.specs.Schedule.{anyTaken}
+use Rattle.rolling.specs.Calls.{beginAnswer, scanOf, goesOn, outLines, lineAnswer, givenByLine, scanAfter, LineCall, endAnswer, givenByEnd, scanEnded, EndCall}
+use Rattle.rolling_claims.specs.History.{begun-one, begun-accepted, goes-side, line-right, end-right}
+use Rattle.rolling_claims.specs.Possible.{line-few, two-any, end-few}
+use Rattle.scan_bytes.specs.ScanBytes.{scanLength, stateBytes, keepable, scanIn, stateWith, stateAfter, noScan}
+use Rattle.scan_bytes.specs.ByteLaws.{can-keep, kept, room, read-long}
+use borrow.Author.Tests.{lt-leb}
+use Rattle.engine.specs.ScanAnswers.{begins, scanBeginAnswer, scanBeginState, givenAfter, OnScan, OnBytes}
+
+-- ---- scans that bytes can hold
+
+module _ (s : Scan) (begun : beginAnswer (s .table) ≡ passed) (narrow : s .width < 65536) where
+  pub begun-kept : keepable s ≡ true
+  begun-kept = can-keep s (promise (s .table) (begun-accepted (s .table) begun) .form) (begun-one (s .table) begun) narrow
+
+passed-is : (o : Answer Unit) → T (answered o true false) → o ≡ passed
+passed-is (done tt) h = refl
+passed-is (refused r) h = absurd h
+
+goes-begun : (s : Scan) → T (goesOn s) → beginAnswer (s .table) ≡ passed
+unfolding goesOn
+goes-begun s goes =
+    let begins = answered (beginAnswer (s .table)) true false in
+    let running = both (begins && not (s .ended)) (not (anyTaken (s .taken)) || sideRight 1 (s .width)) goes .0 in
+    passed-is (beginAnswer (s .table)) (both begins (not (s .ended)) running .0)
+
+module _ (s : Scan) (pixels : List ℕ) (w : ℕ) (held out : List ℤ) {o : Answer ℕ} {s′ : Scan} {held′ out′ : List ℤ} (call : LineCall s pixels w held out o s′ held′ out′) (m : ℕ) (e : o ≡ done m) where
+  line-passes : (lineAnswer s pixels w held out ≡ passed) × (length (givenByLine s pixels w held out) ≡ m)
+  line-passes = gives-done (lineAnswer s pixels w held out) (length (givenByLine s pixels w held out)) (sym (call .answer-is) ∙ e)
+
+  pub line-gives-few : m ≤ outLines
+  unfolding givenByLine
+  line-gives-few = subst (λ (k : ℕ). k ≤ outLines) (line-passes .1) (line-few (s .table) w (s .taken) _ _)
+
+  pub line-kept : keepable s′ ≡ true
+  unfolding scanAfter
+  line-kept =
+      let right = line-right s pixels w held out (line-passes .0) in
+      subst (λ (s : Scan). keepable s ≡ true) (sym (call .scan-is ∙ answered-done (scanAfter s pixels w held out) s (line-passes .0)))
+      (begun-kept (scanAfter s pixels w held out) (goes-begun s (right .goes)) (omega (arith, right .side .1)))
+
+module _ (s : Scan) (held out : List ℤ) {o : Answer ℕ} {s′ : Scan} {held′ out′ : List ℤ} (call : EndCall s held out o s′ held′ out′) (m : ℕ) (e : o ≡ done m) where
+  end-passes : (endAnswer s held out ≡ passed) × (length (givenByEnd s held out) ≡ m)
+  end-passes = gives-done (endAnswer s held out) (length (givenByEnd s held out)) (sym (call .answer-is) ∙ e)
+
+  pub end-gives-few : m ≤ outLines
+  unfolding givenByEnd
+  end-gives-few = subst (λ (k : ℕ). k ≤ outLines) (end-passes .1) (end-few (s .table) (s .width) (s .taken) _)
+
+  pub end-kept : keepable s′ ≡ true
+  unfolding scanEnded
+  end-kept =
+      let right = end-right s held out (end-passes .0) in
+      subst (λ (s : Scan). keepable s ≡ true) (sym (call .scan-is ∙ answered-done (scanEnded s held out) s (end-passes .0)))
+      (begun-kept (scanEnded s held out) (goes-begun s (right .goes)) (omega (arith, goes-side s (right .goes) (two-any (s .taken) (right .two)) .1)))
+
+-- ---- begin
+
+module _ (state : List ℕ) where
+  -- 9 for a state too short for a scan
+  abbrev pub roomy : Answer Unit
+  roomy = asks (leb scanLength (length state)) 9 passed
+
+  pub not-roomy : length state < scanLength → roomy ≡ refused (9, [])
+  not-roomy h = asks-wrong (leb scanLength (length state)) _ _ (lt-leb scanLength (length state) h)
+
+  pub is-roomy : scanLength ≤ length state → roomy ≡ passed
+  is-roomy h = asks-right (leb scanLength (length state)) _ _ (le→leb scanLength (length state) h)
+
+  pub roomy-long : roomy ≡ passed → scanLength ≤ length state
+  roomy-long e = leb→le scanLength (length state) (asks-done (leb scanLength (length state)) _ _ e .0)
+
+module _ (bytes state : List ℕ) where
+  -- what the call gives
+  pub record GivesScan (o : Answer Unit) (l : List ℕ) : Type 0 where
+    pub answers : scanBeginAnswer bytes state ≡ o
+    pub leaves : l ≡ scanBeginState bytes state
+
+  abbrev written : Answer Unit → List ℕ
+  written o = stateWith (answered o (stateBytes (scanOf (tableIn bytes))) noScan) state
+
+  gives-scan : (o : Answer Unit) → begins bytes ≡ o → GivesScan (o then roomy state) (written o)
+  unfolding scanBeginAnswer scanBeginState
+  gives-scan o e = record { answers = ap (λ (o : Answer Unit). o then roomy state) e; leaves = sym (ap written e) }
+
+  pub begin-unread : (r : Reason) → form bytes ≡ refused r → GivesScan (refused r) (stateWith noScan state)
+  unfolding begins
+  begin-unread r e = gives-scan (refused r) (then-refused (form bytes) (beginAnswer (tableIn bytes)) r e)
+
+  pub begin-read : form bytes ≡ passed → (o : Answer Unit) (s : Scan) → o ≡ beginAnswer (tableIn bytes) → s ≡ scanOf (tableIn bytes)
+      → GivesScan (o then roomy state) (answered o (stateAfter s state) (stateWith noScan state))
+  unfolding begins scanOf
+  begin-read e o s answer scan = go o answer (gives-scan o (then-right (form bytes) (beginAnswer (tableIn bytes)) e ∙ sym answer))
+    where
+      go : (o : Answer Unit) → o ≡ beginAnswer (tableIn bytes) → GivesScan (o then roomy state) (written o) → GivesScan (o then roomy state) (answered o (stateAfter s state) (stateWith noScan state))
+      go (done tt) q g =
+          let can = begun-kept (scanOf (tableIn bytes)) (sym q) (omega arith) in
+          subst (λ (l : List ℕ). GivesScan (passed then roomy state) l) (kept (scanOf (tableIn bytes)) state can ∙ ap (λ (s : Scan). stateAfter s state) (sym scan)) g
+      go (refused r) q g = g
+
+-- ---- a line, and the end
+
+module _ (Call : Scan → Answer ℕ → Scan → List ℤ → List ℤ → Type 0) (state : List ℕ) (held out : List ℤ) (given r : ℕ) where
+  never : (why : Reason) (s : Scan) → scanIn state ≡ refused why → scanIn state ≡ done s → ⊥
+  never why s e q = let z : _≡_ {A = ℕ} 0 1 = cc in omega arith
+
+  -- a state that holds no scan
+  pub on-none : (why : Reason) → scanIn state ≡ refused why → r ≡ code {A = Unit} (refused why) → OnBytes Call state held out given r state held out given
+  on-none why e answer = record {
+    no-scan = λ other q. let z : why ≡ other = cc in (subst (λ (why : Reason). r ≡ code {A = Unit} (refused why)) z answer, refl, refl, refl, refl);
+    on-scan = λ s q. absurd (never why s e q);
+  }
+
+  -- a state that holds one
+  pub on-some : (s : Scan) → scanIn state ≡ done s → (answer : Answer ℕ) (after : Scan) {state′ : List ℕ} {held′ out′ : List ℤ} {given′ : ℕ} → Call s answer after held′ out′
+      → ((m : ℕ) → answer ≡ done m → keepable after ≡ true)
+      → r ≡ code answer → state′ ≡ answered answer (stateAfter after state) state → given′ ≡ givenAfter answer given
+      → OnBytes Call state held out given r state′ held′ out′ given′
+  on-some s e answer after {state′} {held′} {out′} {given′} call can r-is state-is given-is = record {
+    no-scan = λ why q. absurd (never why s q e);
+    on-scan = λ other q. let z : s ≡ other = cc in subst (λ (s : Scan). OnScan (Call s) state given r state′ held′ out′ given′) z (record { answer = answer; after = after; call = call; answer-is = r-is; state-is = state-is ∙ put answer can; given-is = given-is });
+  }
+    where
+      put : (o : Answer ℕ) → ((m : ℕ) → o ≡ done m → keepable after ≡ true) → answered o (stateAfter after state) state ≡ answered o (over (stateBytes after) state) state
+      put (done m) can = sym (kept after state (can m refl)) ∙ sym (room (stateBytes after) state (read-long state s e))
+      put (refused why) can = refl

@@ -1,0 +1,70 @@
+use Prim.Native.Nat.{ℕ, _+_, _/_, _%_}
+use mathlib.Core.List.{List}
+use mathlib.Core.Path.{sym, _∙_, ap, ap₂}
+use native.Mathlib.Omega.{arith}
+use lib.ListN.{set, length-set, length-map}
+use Rattle.width_table.specs.Bytes.{bytesAfter}
+use Rattle.width_table.specs.FormLists.{Sized}
+use Rattle.scan_bytes.specs.ScanBytes.{tableLength, takenNumber, stateBytes}
+use Rattle.scan_bytes.specs.ByteLaws.{Keepable, kept-is, no-room, room, not-kept, kept, numbers-put}
+use borrow.Author.Needs.{needs}
+use Rattle.scan_bytes.proofs.write.Statement.{statement}
+use Rattle.scan_bytes.proofs.write.Tie as tie
+
+-- what its type says of the table
+sized : (s : tie.Start) → Sized (s .args .scan .table)
+sized s = record {
+  constants = sym (length-map (s .args .scan .table .constants) (λ v. v)) ∙ s .good .0 .1 .1 .0 .1 .1 .1 .1 .0 .1 .0 .1;
+  nodes = sym (length-map (s .args .scan .table .nodes) (λ v. v)) ∙ s .good .0 .1 .1 .0 .1 .1 .1 .1 .1 .0 .1 .0 .1;
+}
+
+returns : tie.Need-returns
+returns c = not-kept _ _ (sym (c .before .keepable .ensures) ∙ c .if1 .left)
+
+returns-2 : tie.Need-returns-2
+returns-2 c =
+    let i = c .before in
+    let a = i .before .before .before .args in
+    no-room (stateBytes (a .scan)) (a .state .now) (omega arith) ∙ kept (a .scan) (a .state .now) (sym (i .before .keepable .ensures) ∙ i .if1 .taken)
+
+-- the scan is one that bytes can hold
+can : (i : tie.Then1) → Keepable (i .before .before .before .args .scan)
+can i = kept-is _ (sized (i .before .before .before)) (sym (i .before .keepable .ensures) ∙ i .if1 .taken)
+
+cast-state : tie.Need-cast-state
+cast-state c = omega (arith, can (c .before .before .before .before .before .before .before) .narrow)
+
+returns-3 : tie.Need-returns-3
+returns-3 c =
+    let k = c .before in
+    let w = k .before .before .before .before .before in
+    let i = w .before .before .before .before in
+    let a = i .before .before .before .args in
+    let n = a .scan .width in
+    ap₂ (λ (l : List ℕ) (m : ℕ). set (set (set (set l tableLength (n / 256)) (tableLength + 1) (n % 256)) (tableLength + 2) m) (tableLength + 3) (c .ended-number .result)) (w .write .ensures .1) (k .taken-number .ensures)
+    ∙ ap (λ (m : ℕ). set (set (set (set (bytesAfter (a .scan .table) (a .state .now)) tableLength (n / 256)) (tableLength + 1) (n % 256)) (tableLength + 2) (takenNumber (a .scan .taken))) (tableLength + 3) m) (c .ended-number .ensures)
+    ∙ numbers-put (a .scan) (can i) (a .state .now) (omega arith)
+    ∙ room (stateBytes (a .scan)) (a .state .now) (omega arith)
+    ∙ kept (a .scan) (a .state .now) (sym (i .before .keepable .ensures) ∙ i .if1 .taken)
+
+pub write-spec : {M : Type 1} → statement M
+write-spec =
+    tie.close
+    (tie.spec
+    (λ c κs. search needs)
+    returns
+    returns-2
+    (λ c κs. search needs)
+    cast-state
+    (λ c. search needs)
+    (λ c. search needs)
+    (λ c. search needs)
+    (λ c. simp length-set (omega arith))
+    (λ c κs. search needs)
+    (λ c. search needs)
+    (λ c. simp length-set (omega arith))
+    (λ c κs. search needs)
+    (λ c. search needs)
+    (λ c. simp length-set (omega arith))
+    (λ c. search needs)
+    returns-3)

@@ -1,0 +1,93 @@
+-- A rolling scan as bytes of the caller: its table's bytes, of one level; the width of its lines, high byte first; the number of lines
+-- taken; whether it has ended.
+use Prim.Native.Nat.{ℕ, _+_, _*_, _/_, _%_}
+use mathlib.Core.Bool.{Bool, true, false, _&&_}
+use mathlib.Core.List.{List, [], _∷_, _++_}
+use lib.Dec.{leb, ltb, eqb}
+use lib.ListN.{length, getD, take, replicate}
+use Rattle.numbers.specs.Lists.{over}
+use Rattle.refusals.specs.Answers.{Answer, done, asks, answered}
+use Rattle.width_table.specs.declared.WidthTable.{WidthTable}
+use Rattle.width_table.specs.Table.{formRight}
+use Rattle.width_table.specs.Fields.{tableSize}
+use Rattle.width_table.specs.Bytes.{form, tableIn, tableBytes}
+use Rattle.rolling.specs.declared.Taken.{Taken}
+use Rattle.rolling.specs.declared.Taken.the-variants.{Zero, One, Two, Three, Four, OddMany, EvenMany}
+use Rattle.rolling.specs.declared.Scan.{Scan}
+
+-- bytes of a table of one level, 56, and of a scan, 60
+abbrev pub tableLength : ℕ
+tableLength = tableSize 1
+
+abbrev pub scanLength : ℕ
+scanLength = tableLength + 4
+
+-- ---- the bytes of a scan
+
+-- lines taken: 0 to 4, 5 for an odd number above four, 6 for an even one
+abbrev pub takenNumber : Taken → ℕ
+takenNumber Zero = 0
+takenNumber One = 1
+takenNumber Two = 2
+takenNumber Three = 3
+takenNumber Four = 4
+takenNumber OddMany = 5
+takenNumber EvenMany = 6
+
+-- 1 once it has ended
+abbrev pub endedNumber : Bool → ℕ
+endedNumber true = 1
+endedNumber false = 0
+
+-- the width, high byte first; lines taken; whether it has ended
+abbrev pub numberBytes : Scan → List ℕ
+numberBytes s = s .width / 256 ∷ s .width % 256 ∷ takenNumber (s .taken) ∷ endedNumber (s .ended) ∷ []
+
+-- all bytes of a scan
+unfoldable pub stateBytes : Scan → List ℕ
+stateBytes s = tableBytes (s .table) ++ numberBytes s
+
+-- a scan that bytes can hold: its table has a right form and one level, its width has two bytes
+unfoldable pub keepable : Scan → Bool
+keepable s = formRight (s .table) && eqb (s .table .levels) 1 && ltb (s .width) 65536
+
+-- ---- the scan that bytes hold
+
+-- lines taken, by their number
+abbrev pub takenOf : ℕ → Taken
+takenOf n = getD (Zero ∷ One ∷ Two ∷ Three ∷ Four ∷ OddMany ∷ EvenMany ∷ []) n Zero
+
+-- the scan with a table and the numbers that follow a table's bytes
+abbrev pub heldWith : WidthTable → List ℕ → Scan
+heldWith t bytes = record {
+  table = t;
+  width = getD bytes tableLength 0 * 256 + getD bytes (tableLength + 1) 0;
+  taken = takenOf (getD bytes (tableLength + 2) 0);
+  ended = eqb (getD bytes (tableLength + 3) 0) 1;
+}
+
+-- the scan that right bytes hold
+abbrev pub scanHeld : List ℕ → Scan
+scanHeld bytes = heldWith (tableIn (take tableLength bytes)) bytes
+
+-- bytes of a scan: those of a table, which has one level as no other has as many bytes; a number of lines; 0 or 1
+unfoldable pub scanRight : List ℕ → Bool
+scanRight bytes = answered (form (take tableLength bytes)) true false && leb (getD bytes (tableLength + 2) 0) 6 && leb (getD bytes (tableLength + 3) 0) 1
+
+-- 9 for fewer bytes than a scan has, 14 for bytes that are not those of a scan
+unfoldable pub scanIn : List ℕ → Answer Scan
+scanIn bytes = asks (leb scanLength (length bytes)) 9 (asks (scanRight bytes) 14 (done (scanHeld bytes)))
+
+-- ---- the caller's bytes afterwards
+
+-- new bytes over the front of those that have room for a scan; fewer bytes stay
+unfoldable pub stateWith : List ℕ → List ℕ → List ℕ
+stateWith new old = elim (leb scanLength (length old)) [ true ↦ over new old | false ↦ old ]
+
+-- a scan is written where bytes can hold it
+unfoldable pub stateAfter : Scan → List ℕ → List ℕ
+stateAfter s old = elim (keepable s) [ true ↦ stateWith (stateBytes s) old | false ↦ old ]
+
+-- zeros: no scan, so that each call of it is refused with 14
+abbrev pub noScan : List ℕ
+noScan = replicate scanLength 0

@@ -57,9 +57,9 @@
  *
  *   260   suz_inverse53, suz_inverse53_rows_first
  *    80   suz_view97
+ *    20   suz_scan_line
  *     4   suz_forward53, suz_forward97, suz_table_check, suz_table_bound,
- *         suz_table_view, suz_view_distance, suz_scan_begin, suz_scan_line,
- *         suz_scan_end
+ *         suz_table_view, suz_view_distance, suz_scan_begin, suz_scan_end
  *     2   suz_table_change, suz_table_change_constant
  *     1   suz_table_form, suz_table_value, suz_table_write
  *

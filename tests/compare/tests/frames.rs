@@ -28,7 +28,7 @@ const CALLS: [(&str, i64); 17] = [
     ("suz_inverse53_rows_first", 260),
     ("suz_scan_begin", 4),
     ("suz_scan_end", 4),
-    ("suz_scan_line", 4),
+    ("suz_scan_line", 20),
     ("suz_table_bound", 4),
     ("suz_table_change", 2),
     ("suz_table_change_constant", 2),

@@ -14,7 +14,7 @@ ghost use Rattle.lifting.specs.Runs.{ran, Runs, SafeRun};
 ghost use Rattle.lifting.specs.PatchLines.{lineAt, patchLines, Lying};
 ghost use Rattle.lifting.specs.Passes.{evens, odds, Liftable};
 ghost use Rattle.lifting.specs.Tiles.{Tile, column, highColumn, highsDone, lowsDone, AtHighs, AtLows, liftedTile, unliftedTile, LiftSafe, UnliftSafe, Held};
-ghost use Rattle.lifting.specs.Kernels.{worked, Forward, SafeKernel, SamePair, SameKernel, Part, rowOf, columnOf, rowsWorked, columnsWorked};
+ghost use Rattle.lifting.specs.Kernels.{worked, Forward, SafeKernel, SamePair, Part, rowOf, columnOf, rowsWorked, columnsWorked};
 ghost use Rattle.lifting.specs.Strips.{Strip, Ready, Finished, pixelLine};
 
 // A lifting step: what it makes of a value and two neighbours is `applied` of specs/Steps. `Near` and `Far` are the forms in which a

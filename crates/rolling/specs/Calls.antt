@@ -1,9 +1,9 @@
 -- The calls of a rolling scan (document 02, job 5): the answer, the scan and each lent slice afterwards.
-use Prim.Native.Nat.{ℕ, _+_, _*_, _<_}
-use mathlib.Core.Bool.{Bool, true, false, not, _&&_, _||_, cond}
+use Prim.Native.Nat.{ℕ, _*_, _<_}
+use mathlib.Core.Bool.{Bool, true, false, not, _&&_, _||_}
 use mathlib.Core.List.{List}
 use mathlib.Core.Path.{_≡_}
-use lib.Dec.{T, leb, eqb}
+use lib.Dec.{T, eqb}
 use lib.ListN.{length, drop}
 use lib.IntN.{ℤ}
 use Rattle.numbers.specs.Lists.{over}
@@ -16,7 +16,6 @@ use Rattle.pictures.specs.Pictures.{sideRight, holds, pixelsRight, sample, plan
 use Rattle.precision.specs.Verdict.{verdict}
 use Rattle.irreversible.specs.Claims.{Holds}
 use Rattle.irreversible.specs.Transforms.{fixedLine}
-use Rattle.rolling.specs.declared.Taken.{Taken}
 use Rattle.rolling.specs.declared.Taken.the-variants.{Zero}
 use Rattle.rolling.specs.declared.Scan.{Scan}
 use Rattle.rolling.specs.Schedule.{Line, Held, next, anyTaken, twoTaken, evenTaken, passOf, stacked, heldAfter, lineGives, endGives}

@@ -1,5 +1,5 @@
 -- For the code: what its changes of lines make of the numbers in one column.
-use Prim.Native.Nat.{ℕ, _+_, _*_, _<_}
+use Prim.Native.Nat.{ℕ, _<_}
 use mathlib.Core.Path.{_≡_, _∙_, ap}
 use lib.IntN.{ℤ}
 use Rattle.exact.specs.Exact.{alpha, beta, gamma, delta}
@@ -8,7 +8,7 @@ use Rattle.width_table.specs.Nodes.{P1, U1, P2, U2}
 use Rattle.width_table.specs.declared.WidthTable.{WidthTable}
 use Rattle.width_table.specs.Table.{constantBits, fractionBits, inputBits}
 use Rattle.rolling.specs.Schedule.{passOf, lineP1, lineU1, lineP2, lineU2}
-use Rattle.rolling.specs.Memory.{lineIn, setLine, moved, column, put, column-set}
+use Rattle.rolling.specs.Memory.{lineIn, moved, column, put, column-set}
 use Rattle.rolling.specs.Program.{setP1, setU1, setP2, setU2, firstDone, secondDone, firstKept}
 
 -- number `to` becomes number `from`

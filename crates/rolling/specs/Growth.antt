@@ -1,10 +1,10 @@
 -- For the code: the stages make so little of values of five integer bits that every number fits its machine type, whoever wrote the values.
-use Prim.Native.Nat.{ℕ, zero, suc, _+_, _*_, _-_, _/_, _^_, _<_, _≤_, max}
+use Prim.Native.Nat.{ℕ, zero, suc, _+_, _*_, _-_, _^_, _<_, _≤_, max}
 use mathlib.Core.Bool.{Bool, true, _&&_}
 use mathlib.Core.Path.{_≡_, sym, _∙_, ap, subst}
 use native.Mathlib.Omega.{arith}
 use native.Mathlib.Decide.{decLt}
-use native.Mathlib.Nat.{mul-le-mul-left, mul-le-mul-right, mul-div-cancel, mul-comm, le-trans, pow-le-pow-right}
+use native.Mathlib.Nat.{mul-le-mul-left, mul-le-mul-right, mul-div-cancel, le-trans}
 use lib.Dec.{T, leb, leb→le}
 use lib.Pow.{pow-add, pow-pos}
 use lib.IntN.{ℤ, pos, natAbs, _+ℤ_, _*ℤ_}
@@ -12,15 +12,14 @@ use Rattle.numbers.specs.Abs.{abs-add, abs-mul}
 use Rattle.numbers.specs.Floor.{floorDiv, floor-abs}
 use Rattle.numbers.specs.Tests.{both}
 use Rattle.exact.specs.Fractions.{Frac}
-use Rattle.exact.specs.Exact.{alpha}
 use Rattle.width_table.specs.Nodes.{Node, P1, U1, P2, U2, G1, G2}
-use Rattle.width_table.specs.Table.{maxConstantBits, maxFractionBits}
-use Rattle.lifting.specs.Steps.{applied, scaledBy, Safe, FactorSafe}
+use Rattle.width_table.specs.Table.{maxConstantBits}
+use Rattle.lifting.specs.Steps.{Safe, FactorSafe}
 use Rattle.stages.specs.Fixed.{nearest, step, scale}
 use Rattle.irreversible.specs.Constants.{constantOf}
 use Rattle.irreversible.specs.Sized.{Sized}
 use Rattle.irreversible.specs.StepLaws.{stepTop, stepOf, factorOf, step-applied, scale-applied}
-use Rattle.irreversible.specs.KernelLaws.{stageOf, scalingOf, sP1, sU1, sP2, sU2, sG1, sG2}
+use Rattle.irreversible.specs.KernelLaws.{sP1, sU1, sP2, sU2, sG1, sG2}
 use Rattle.irreversible.specs.SafeLaws.{ConstantBits, Limits, step-safe, scale-safe}
 
 -- v at f fractional bits is at most b in magnitude

@@ -1,11 +1,10 @@
 -- For the code: the stages of a low line and of the end as changes of lines in memory, and that each may be taken.
 use Prim.Native.Nat.{ℕ, _+_, _*_, _<_, _≤_}
 use mathlib.Core.Bool.{Bool, true, false, cond}
-use mathlib.Core.Logic.{_⊎_, inl, inr}
-use mathlib.Core.Path.{_≡_, sym, _∙_, ap, subst, fun-ext}
-use native.Mathlib.Omega.{arith}
+use mathlib.Core.Logic.{_⊎_}
+use mathlib.Core.Path.{_≡_, sym, _∙_, subst, fun-ext}
 use lib.Dec.{ltb}
-use lib.IntN.{ℤ, natAbs}
+use lib.IntN.{ℤ}
 use Rattle.exact.specs.Exact.{alpha, beta, gamma, delta, zeta, zetaInverse}
 use Rattle.lines.specs.Lines.{lows}
 use Rattle.width_table.specs.Nodes.{Node, P1, U1, P2, U2, G1, G2, Pass, LowColumns, HighColumns, columnPass}
@@ -25,7 +24,7 @@ use Rattle.rolling.specs.declared.Columns.{Columns}
 use Rattle.rolling.specs.Calls.{heldLines}
 use Rattle.rolling.specs.Schedule.{Line, passOf, lineP1, lineU1, lineP2, lineU2, lineG1, lineG2}
 use Rattle.rolling.specs.Growth.{Within, P1-grows, U1-grows, P2-grows, U2-grows, P1-safe, U1-safe, P2-safe, U2-safe, G1-safe, G2-safe}
-use Rattle.rolling.specs.Memory.{lineIn, setLine, moved, pick, onLines, SafeLines, scaledLine, SafeScaling, line-own, line-other}
+use Rattle.rolling.specs.Memory.{lineIn, setLine, moved, onLines, SafeLines, scaledLine, SafeScaling, line-own, line-other}
 
 -- the stages of both kinds of columns are those of a table of one level
 pub record AsColumns (c : Columns) : Type 0 where

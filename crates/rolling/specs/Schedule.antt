@@ -1,6 +1,6 @@
 -- The columns of one level worked line by line, as the lines come (document 02, job 5; source document 003, section 3.3): each stage
 -- works as soon as its lines are there. Lines are whole numbers without limit.
-use Prim.Native.Nat.{ℕ, _+_, _*_}
+use Prim.Native.Nat.{ℕ}
 use mathlib.Core.Bool.{Bool, true, false}
 use mathlib.Core.List.{List, [], _∷_, _++_}
 use lib.Dec.{ltb}

@@ -1,36 +1,33 @@
 -- For the code: its changes of lines leave what the schedule says.
 use Prim.Native.Nat.{ℕ, zero, suc, _+_, _*_, _-_, _^_, _<_, _≤_}
-use mathlib.Core.Bool.{Bool, true, false}
-use mathlib.Core.List.{List, [], _∷_, _++_}
+use mathlib.Core.List.{List, []}
 use mathlib.Core.Logic.{_⊎_, inl, inr}
 use mathlib.Core.Path.{_≡_, refl, sym, _∙_, ap, subst}
 use native.Mathlib.Omega.{arith}
 use native.Mathlib.Nat.{mul-le-mul-right, le-trans}
-use lib.ListN.{length, getD, drop, length-drop}
+use lib.ListN.{length, drop, length-drop}
 use lib.Seq.{getD-drop, ext-getD}
 use lib.Pow.{pow-add}
 use lib.IntN.{ℤ, pos, negℤ, natAbs}
 use lib.Signed.{_≤ℤ_, _<ℤ_}
 use Rattle.numbers.specs.Dif.{by-dif, difs}
-use Rattle.numbers.specs.Abs.{abs-of-dif}
-use Rattle.lines.specs.Planes.{tabulate, rowByRow}
-use Rattle.width_table.specs.Nodes.{P1, U1, P2, Pass}
+use Rattle.width_table.specs.Nodes.{P1, U1, P2}
 use Rattle.width_table.specs.declared.WidthTable.{WidthTable}
 use Rattle.width_table.specs.Table.{fractionBits, inputBits}
 use Rattle.lifting.specs.Patch.{at, patch-above}
-use Rattle.pictures.specs.MemoryLaws.{Stands, stands-over}
+use Rattle.pictures.specs.MemoryLaws.{stands-over}
 use Rattle.irreversible.specs.Claims.{Holds}
 use Rattle.rolling.specs.declared.Taken.the-variants.{Zero, One, Two, Three, Four, OddMany, EvenMany}
 use Rattle.rolling.specs.declared.Taken.{Taken}
-use Rattle.rolling.specs.Schedule.{Line, Held, blank, evenTaken, passOf, stacked, lineP1, lineU1, lineP2, lineU2, lineG1, lineG2, newP1, newU1, newP2, newU2, heldAfter, lineGives, lastP2, lastU2, oddU1, oddP2, oddU2, endGives}
+use Rattle.rolling.specs.Schedule.{Line, stacked, lineP1, lineU1, lineP2, lineU2, lineG1, lineG2, newP1, newU1, newP2, newU2, heldAfter, lineGives, lastP2, lastU2, oddU1, oddP2, oddU2, endGives}
 use Rattle.rolling.specs.Calls.{heldLines, outLines, heldIn, FiveBits, Sound, SameHeld, KeptFrom, outAfter}
 use Rattle.rolling.specs.Growth.{Within}
 use Rattle.rolling.specs.Memory.{lineIn, setLine, moved, column, put, column-set, line-own, line-other}
 use Rattle.rolling.specs.Rows.{LineRight, rowOf}
 use Rattle.rolling.specs.Small.{line-five}
-use Rattle.rolling.specs.Program.{LineWithin, Enters, FromP1, FromU1, FromP2, HeldFits, FirstFits, LaterFits, firstDone, secondDone, firstKept, laterDone, laterKept, twoGiven, lastGiven, twoEnded, evenEnded, oddDone, oddEnded, setU1, setU2, own-within, other-within}
+use Rattle.rolling.specs.Program.{Enters, HeldFits, FirstFits, LaterFits, firstDone, secondDone, firstKept, laterDone, laterKept, twoGiven, twoEnded, evenEnded, oddDone, oddEnded, setU1, setU2, own-within, other-within}
 use Rattle.rolling.specs.ColumnLaws.{move, keepFirst, doFirst, doSecond, on, atU1, atU2, column-moved, column-U1, column-U2, column-first, column-second, column-kept}
-use Rattle.rolling.specs.Works.{SoundFor, HeldWorked, OutWorked, LineWorked, LowReady, EndWorked}
+use Rattle.rolling.specs.Works.{OutWorked, EndWorked}
 
 -- ---- five integer bits
 

@@ -1,5 +1,5 @@
 -- For the code: what is left of held lines and output by a line that is accepted, and by an end.
-use Prim.Native.Nat.{ℕ, _+_, _*_, _<_}
+use Prim.Native.Nat.{ℕ, _*_}
 use mathlib.Core.Bool.{not, _&&_, _||_}
 use mathlib.Core.List.{List}
 use mathlib.Core.Path.{_≡_}
@@ -12,9 +12,9 @@ use Rattle.lifting.specs.Patch.{at}
 use Rattle.pictures.specs.Pictures.{sideRight, holds, pixelsRight}
 use Rattle.rolling.specs.declared.Taken.{Taken}
 use Rattle.rolling.specs.declared.Scan.{Scan}
-use Rattle.rolling.specs.Schedule.{Line, Held, anyTaken, twoTaken, evenTaken, heldAfter, lineGives, endGives}
+use Rattle.rolling.specs.Schedule.{Line, anyTaken, twoTaken, evenTaken, heldAfter, lineGives, endGives}
 use Rattle.rolling.specs.Calls.{heldLines, outLines, heldIn, Sound, SameHeld, KeptFrom, outAfter, goesOn}
-use Rattle.rolling.specs.Memory.{lineIn, setLine, Lent}
+use Rattle.rolling.specs.Memory.{lineIn, setLine}
 use Rattle.rolling.specs.Program.{HeldFits, Enters}
 
 -- ---- the answers, by lengths

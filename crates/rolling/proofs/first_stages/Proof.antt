@@ -1,12 +1,10 @@
 -- `rolling::first_stages` meets its contract.
 -- Assumes nothing.
 use mathlib.Core.Path.{_≡_, sym, subst}
-use Prim.Native.Nat.{ℕ}
 use native.Mathlib.Omega.{arith}
 use borrow.Author.Needs.{needs}
-use lib.IntN.{ℤ}
 use Rattle.lifting.specs.Patch.{at}
-use Rattle.rolling.specs.Memory.{moved, SafeStage, Lent}
+use Rattle.rolling.specs.Memory.{moved, SafeStage}
 use Rattle.rolling.specs.Program.{setP1}
 use Rattle.rolling.specs.ProgramLaws.{P1-done, U1-done, before-apart, first-P1, first-U1}
 use Rattle.rolling.proofs.first_stages.Statement.{statement}

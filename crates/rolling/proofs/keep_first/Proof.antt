@@ -1,8 +1,6 @@
 -- `rolling::keep_first` meets its contract.
 -- Assumes nothing.
 use mathlib.Core.Path.{_∙_, ap}
-use Prim.Native.Nat.{ℕ}
-use lib.IntN.{ℤ}
 use Rattle.rolling.specs.Memory.{moved}
 use borrow.Author.Needs.{needs}
 use native.Mathlib.Omega.{arith}

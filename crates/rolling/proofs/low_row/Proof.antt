@@ -1,12 +1,11 @@
 -- `rolling::low_row` meets its contract.
 -- Assumes nothing.
-use mathlib.Core.Path.{_≡_, sym, _∙_, ap, subst}
+use mathlib.Core.Path.{sym, _∙_, ap, subst}
 use mathlib.Core.List.{List}
 use Prim.Native.Nat.{ℕ, _*_}
 use native.Mathlib.Omega.{arith}
 use borrow.Author.Needs.{needs}
 use lib.IntN.{ℤ}
-use Rattle.width_table.specs.declared.WidthTable.{WidthTable}
 use Rattle.lifting.specs.Patch.{at}
 use Rattle.rolling.specs.Calls.{heldLines}
 use Rattle.rolling.specs.Memory.{setLine, lineIn, past-set}

@@ -1,6 +1,6 @@
 -- `rolling::row_to` meets its contract.
 -- Assumes nothing.
-use mathlib.Core.Path.{_≡_, refl, sym, _∙_, ap}
+use mathlib.Core.Path.{_≡_, _∙_, ap}
 use Prim.Native.Nat.{ℕ, _+_, _*_, _-_, _^_, _≤_}
 use native.Mathlib.Omega.{arith}
 use borrow.Author.Needs.{needs}
@@ -10,8 +10,7 @@ use Rattle.lines.specs.Planes.{OnLine}
 use Rattle.width_table.specs.Limits.{form-depth}
 use Rattle.width_table.specs.Nodes.{Rows}
 use Rattle.lifting.specs.Patch.{at, patch}
-use Rattle.lifting.specs.Runs.{as-type}
-use Rattle.lifting.specs.Kernels.{worked, SafeKernel}
+use Rattle.lifting.specs.Kernels.{worked}
 use Rattle.lifting.specs.Strips.{pixelLine}
 use Rattle.pictures.specs.Pictures.{sample}
 use Rattle.precision.specs.Promise.{promise}

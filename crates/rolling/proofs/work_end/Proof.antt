@@ -11,10 +11,10 @@ use lib.ListN.{length}
 use Rattle.width_table.specs.declared.WidthTable.{WidthTable}
 use Rattle.lifting.specs.Patch.{at}
 use Rattle.rolling.specs.declared.Taken.{Taken}
-use Rattle.rolling.specs.declared.Taken.the-variants.{Zero, One, Two, Three, Four, OddMany, EvenMany}
+use Rattle.rolling.specs.declared.Taken.the-variants.{Zero, One}
 use Rattle.rolling.specs.Schedule.{lineGives, endGives}
 use Rattle.rolling.specs.Calls.{heldLines, heldIn, Sound, KeptFrom}
-use Rattle.rolling.specs.Program.{HeldFits, PastSame, firstDone, firstKept, secondDone, twoGiven, twoEnded, evenEnded, oddEnded}
+use Rattle.rolling.specs.Program.{HeldFits, PastSame, twoEnded, evenEnded, oddEnded}
 use Rattle.rolling.specs.Memory.{moved}
 use Rattle.rolling.specs.Works.{EndWorked}
 use Rattle.rolling.specs.WorkLaws.{kept-from, kept-then, sound-fits, two-end-kept, two-ended, even-end-kept, four-ended, many-ended, odd-end-kept, three-ended, odd-ended, quiet-end}

@@ -1,14 +1,14 @@
 -- `rolling::work_line` meets its contract.
 -- Assumes nothing.
 use mathlib.Core.Path.{_≡_, refl, sym, _∙_, ap, subst}
-use mathlib.Core.List.{List, []}
+use mathlib.Core.List.{List}
 use Prim.Native.Nat.{ℕ, _*_, _≤_}
 use native.Mathlib.Omega.{arith}
 use borrow.Author.Needs.{needs}
 use lib.IntN.{ℤ}
 use lib.ListN.{length}
 use Rattle.rolling.specs.declared.Taken.{Taken}
-use Rattle.rolling.specs.declared.Taken.the-variants.{Zero, One, Two, Three, Four, OddMany, EvenMany}
+use Rattle.rolling.specs.declared.Taken.the-variants.{Zero, One, Two, Three, OddMany}
 use Rattle.rolling.specs.Schedule.{lineGives}
 use Rattle.rolling.specs.Calls.{heldLines, heldIn}
 use Rattle.rolling.specs.Memory.{past-set}

@@ -1,26 +1,30 @@
 -- The claim over calls of a rolling scan in the C interface (document 02, job 5): from suz_scan_begin on, with state and held memory handed
 -- on as left.
-use Prim.Native.Nat.{ℕ, suc, _*_, _≤_}
+use Prim.Native.Nat.{ℕ, suc, _*_, _<_, _≤_}
 use mathlib.Core.Bool.{true, false}
-use mathlib.Core.List.{List, [], _++_}
+use mathlib.Core.List.{List, [], _++_, append-nil}
 use mathlib.Core.Path.{_≡_, refl, sym, _∙_, ap, subst}
 use native.Mathlib.Omega.{arith}
-use lib.ListN.{take, length, drop}
+use native.Mathlib.Decide.{decLt}
+use lib.Dec.{T}
+use lib.ListN.{length, getD, take, drop, drop-of-length-le}
 use lib.IntN.{ℤ}
+use Rattle.numbers.specs.Lists.{over}
 use Rattle.refusals.specs.Answers.{Reason, Answer, done, refused, passed, code, answered}
-use Rattle.refusals.specs.AnswerLaws.{then-done, gives-done, answered-done}
+use Rattle.refusals.specs.AnswerLaws.{then-done, then-right, then-refused, gives-done, answered-done}
 use Rattle.width_table.specs.declared.WidthTable.{WidthTable}
 use Rattle.width_table.specs.Bytes.{form, tableIn}
 use Rattle.width_table.specs.FormLists.{Sized}
 use Rattle.width_table.specs.RoundTrip.{read-sized}
 use Rattle.rolling.specs.declared.Scan.{Scan}
 use Rattle.rolling.specs.Calls.{beginAnswer, scanOf, lineAnswer, givenByLine, LineCall, endAnswer, givenByEnd, scanEnded, EndCall}
-use Rattle.rolling_claims.specs.Claims.{Calls, begun, line, line-refused, end, end-refused, ready, firstLines}
-use Rattle.rolling_claims.specs.History.{table-kept}
+use Rattle.rolling_claims.specs.Claims.{Calls, begun, line, line-refused, end, end-refused, Left, ready, firstLines}
+use Rattle.rolling_claims.specs.History.{facts, table-kept}
+use Rattle.rolling_claims.specs.Possible.{foreign-refused}
 use Rattle.rolling_claims.specs.Theorems.{before-end, after-end, refused-keeps}
-use Rattle.scan_bytes.specs.ScanBytes.{stateBytes, keepable, scanHeld, scanIn, stateWith}
-use Rattle.scan_bytes.specs.ByteLaws.{kept-is, room, read-written, read-is}
-use Rattle.engine.specs.ScanAnswers.{begins, scanBeginAnswer, scanBeginState, givenAfter, LineOnBytes, EndOnBytes}
+use Rattle.scan_bytes.specs.ScanBytes.{tableLength, scanLength, stateBytes, keepable, scanHeld, scanIn, stateWith, noScan}
+use Rattle.scan_bytes.specs.ByteLaws.{Keepable, kept-is, room, state-long, read-written, read-is, read-refused, read-formed, written-read}
+use Rattle.engine.specs.ScanAnswers.{begins, scanBeginAnswer, scanBeginState, givenAfter, OnScan, OnBytes, LineOnBytes, EndOnBytes}
 use Rattle.engine.specs.ScanLaws.{begun-kept, line-kept, end-kept, roomy-long}
 use Rattle.engine.specs.Zero.{scan-begin-zero, line-from-one, end-from-one, gives-zero}
 
@@ -169,3 +173,91 @@ module _ (bytes state : List ℕ) (held : List ℤ) (n : ℕ) (strip : List ℕ)
       subst (λ (g : ℕ). whole g (scanHeld state) (scanHeld state)) (sym (on .given-is ∙ ap (λ (o : Answer ℕ). givenAfter o given) e))
       (subst (λ (a : Scan). whole m a a) (sym (read-is state s (kept .reads)))
       (subst (λ (b : Scan). whole m s b) ended (after-end (tableIn bytes) (on .after) held′ n strip _ (end (kept .calls) there) (ap (λ (s : Scan). s .ended) ended))))
+
+-- ---- which states calls leave
+
+-- a state that calls left
+pub record LeftState (state : List ℕ) : Type 0 where
+  pub table : List ℕ
+  pub held : List ℤ
+  pub lines : ℕ
+  pub strip : List ℕ
+  pub all : List ℤ
+  pub calls : ByteCalls table state held lines strip all
+
+-- one scan's bytes over another's
+over-state : (s s′ : Scan) → Keepable s → Keepable s′ → over (stateBytes s′) (stateBytes s) ≡ stateBytes s′
+over-state s s′ k k′ = ap (λ (l : List ℕ). stateBytes s′ ++ l) (drop-of-length-le (stateBytes s) {i = length (stateBytes s′)} (omega (arith, state-long s k, state-long s′ k′))) ∙ append-nil (stateBytes s′)
+
+module _ (bytes : List ℕ) (formed : form bytes ≡ passed) where
+  can-hold : {s : Scan} {held : List ℤ} {n : ℕ} {strip : List ℕ} {given : List ℤ} → Calls (tableIn bytes) s held n strip given → Keepable s
+  can-hold {s} {n = n} calls =
+      let f = facts (tableIn bytes) calls in
+      let narrow : Dec (n < 1) → s .width < 65536 = λ d. elim d [ yes i ↦ omega (arith, f .unset (omega arith)) | no i ↦ omega (arith, f .side (omega arith) .1) ] in
+      kept-is s (subst (λ (t : WidthTable). Sized t) (sym (table-kept (tableIn bytes) calls)) (read-sized bytes formed)) (begun-kept s (f .begun) (narrow (decLt n 1)))
+
+  holds-it : (s : Scan) → Keepable s → scanIn (stateBytes s) ≡ done s
+  holds-it s k = subst (λ (l : List ℕ). scanIn l ≡ done s) (append-nil (stateBytes s)) (read-written s k [])
+
+  -- what holds of a call on a scan holds of the call on its bytes
+  on-its-bytes : (Call : Scan → Answer ℕ → Scan → List ℤ → List ℤ → Type 0) (s s′ : Scan) (held out held′ out′ : List ℤ) (m : ℕ) → Keepable s → Keepable s′ → Call s (done m) s′ held′ out′
+      → OnBytes Call (stateBytes s) held out 0 0 (stateBytes s′) held′ out′ m
+  on-its-bytes Call s s′ held out held′ out′ m k k′ call = record {
+    no-scan = λ why e. absurd (subst T (ap (λ (o : Answer Scan). answered o true false) (sym (holds-it s k) ∙ e)) tt);
+    on-scan = λ r e.
+        subst (λ (a : Scan). OnScan (Call a) (stateBytes s) 0 0 (stateBytes s′) held′ out′ m) (gives-done passed s (sym (holds-it s k) ∙ e) .1)
+        (record { answer = done m; after = s′; call = call; answer-is = refl; state-is = sym (over-state s s′ k k′); given-is = refl });
+  }
+
+  -- calls of a scan are calls on its bytes; refused ones can be left out
+  as-bytes : {s : Scan} {held : List ℤ} {n : ℕ} {strip : List ℕ} {given : List ℤ} → Calls (tableIn bytes) s held n strip given → ByteCalls bytes (stateBytes s) held n strip given
+  unfolding scanBeginState scanBeginAnswer begins
+  as-bytes (begun held e) =
+      let s = scanOf (tableIn bytes) in
+      let k = can-hold (begun held e) in
+      let begin : begins bytes ≡ passed = then-right (form bytes) _ formed ∙ e in
+      subst (λ (l : List ℕ). ByteCalls bytes l held 0 [] [])
+      (ap (λ (l : List ℕ). stateWith l noScan) (answered-done {o = begins bytes} (stateBytes s) noScan begin)
+      ∙ sym (room (stateBytes s) noScan (omega arith))
+      ∙ ap (λ (l : List ℕ). stateBytes s ++ l) (drop-of-length-le noScan {i = length (stateBytes s)} (omega (arith, state-long s k)))
+      ∙ append-nil (stateBytes s))
+      (c-begun noScan held (ap (λ (o : Answer Unit). code o) (then-right (begins bytes) _ begin)))
+  as-bytes (line {s} {s′} {held} {held′} {n} {strip} {given} {pixels} {w} {m} {out} {out′} before call) =
+      c-line (as-bytes before) (on-its-bytes (λ s. LineCall s pixels w held out) s s′ held out held′ out′ m (can-hold before) (can-hold (line before call)) call)
+  as-bytes (line-refused {s} {s′} {held} {n} {strip} {given} {pixels} {w} {other} {other′} {out} {out′} {r} before call) =
+      subst (λ (s : Scan). ByteCalls bytes (stateBytes s) held n strip given) (sym (refused-keeps s other out r s′ other′ out′ .0 pixels w call .0)) (as-bytes before)
+  as-bytes (end {s} {s′} {held} {held′} {n} {strip} {given} {m} {out} {out′} before call) =
+      let k = can-hold before in
+      subst (λ (a : Scan). ByteCalls bytes (stateBytes s′) held′ n strip (given ++ take (m * a .width) out′)) (read-is (stateBytes s) s (holds-it s k))
+      (c-end (as-bytes before) (on-its-bytes (λ s. EndCall s held out) s s′ held out held′ out′ m k (can-hold (end before call)) call))
+  as-bytes (end-refused {s} {s′} {held} {n} {strip} {given} {other} {other′} {out} {out′} {r} before call) =
+      subst (λ (s : Scan). ByteCalls bytes (stateBytes s) held n strip given) (sym (refused-keeps s other out r s′ other′ out′ .1 call .0)) (as-bytes before)
+
+-- A state of enough bytes that no calls left is answered 14, whatever is lent with it.
+module _ (state : List ℕ) (below : (k : ℕ) → k < length state → getD state k 0 < 256) (long : scanLength ≤ length state) (foreign : ¬ (LeftState (take scanLength state))) where
+  not-left : (s : Scan) → scanIn state ≡ done s → ¬ (Left s)
+  not-left s e l =
+      let table = take tableLength state in
+      let formed = read-formed state below s e in
+      let same : s .table ≡ tableIn table = ap (λ (s : Scan). s .table) (sym (read-is state s e)) in
+      let calls = subst (λ (t : WidthTable). Calls t s (l .held) (l .lines) (l .strip) (l .given)) same (l .calls) in
+      foreign (subst LeftState (written-read state below s e) (record { table = table; held = l .held; lines = l .lines; strip = l .strip; all = l .given; calls = as-bytes table formed calls }))
+
+  answered-14 : (Call : Scan → Answer ℕ → Scan → List ℤ → List ℤ → Type 0) (held out : List ℤ) {given r : ℕ} {state′ : List ℕ} {held′ out′ : List ℤ} {given′ : ℕ}
+      → ((s : Scan) (o : Answer ℕ) (s′ : Scan) → ¬ (Left s) → Call s o s′ held′ out′ → o ≡ refused (14, []))
+      → OnBytes Call state held out given r state′ held′ out′ given′ → r ≡ 14
+  answered-14 Call held out {r = r} refuses call = go (scanIn state) refl
+    where
+      go : (o : Answer Scan) → scanIn state ≡ o → r ≡ 14
+      go (done s) e =
+          let on = call .on-scan s e in
+          on .answer-is ∙ ap (λ (o : Answer ℕ). code o) (refuses s (on .answer) (on .after) (not-left s e) (on .call))
+      go (refused why) e = call .no-scan (14, []) (read-refused state long why e) .0
+
+  pub c-foreign-line : {pixels : List ℕ} {w : ℕ} {held out : List ℤ} {given r : ℕ} {state′ : List ℕ} {held′ out′ : List ℤ} {given′ : ℕ} → LineOnBytes state pixels w held out given r state′ held′ out′ given′ → r ≡ 14
+  c-foreign-line {pixels} {w} {held} {out} =
+      answered-14 (λ s. LineCall s pixels w held out) held out
+      (λ s o s′ none call. call .answer-is ∙ then-refused (lineAnswer s pixels w held out) _ _ (foreign-refused s none .0 pixels w held out))
+
+  pub c-foreign-end : {held out : List ℤ} {given r : ℕ} {state′ : List ℕ} {held′ out′ : List ℤ} {given′ : ℕ} → EndOnBytes state held out given r state′ held′ out′ given′ → r ≡ 14
+  c-foreign-end {held} {out} = answered-14 (λ s. EndCall s held out) held out (λ s o s′ none call. call .answer-is ∙ then-refused (endAnswer s held out) _ _ (foreign-refused s none .1 held out))

@@ -1,24 +1,22 @@
 -- What the answers of the calls below say of the C interface's calls of a rolling scan.
 use Prim.Native.Nat.{ℕ, _<_, _≤_}
-use mathlib.Core.Bool.{true, false, not, _&&_, _||_}
+use mathlib.Core.Bool.{true}
 use mathlib.Core.List.{List, []}
 use mathlib.Core.Path.{_≡_, refl, sym, _∙_, ap, subst}
 use native.Mathlib.Omega.{arith}
-use lib.Dec.{T, leb, leb→le, le→leb}
+use lib.Dec.{leb, leb→le, le→leb}
 use lib.ListN.{length}
 use lib.IntN.{ℤ}
 use Rattle.numbers.specs.Lists.{over}
-use Rattle.numbers.specs.Tests.{both}
 use Rattle.refusals.specs.Answers.{Reason, Answer, done, refused, passed, asks, _then_, answered, code}
 use Rattle.refusals.specs.AnswerLaws.{asks-done, asks-right, asks-wrong, gives-done, then-right, then-refused, answered-done}
 use Rattle.width_table.specs.Bytes.{form, tableIn}
 use Rattle.precision.specs.Promise.{promise}
-use Rattle.pictures.specs.Pictures.{sideRight}
 use Rattle.rolling.specs.declared.Scan.{Scan}
-use Rattle.rolling.specs.Schedule.{anyTaken}
-use Rattle.rolling.specs.Calls.{beginAnswer, scanOf, goesOn, outLines, lineAnswer, givenByLine, scanAfter, LineCall, endAnswer, givenByEnd, scanEnded, EndCall}
-use Rattle.rolling_claims.specs.History.{begun-one, begun-accepted, goes-side, line-right, end-right}
-use Rattle.rolling_claims.specs.Possible.{line-few, two-any, end-few}
+use Rattle.rolling.specs.Calls.{beginAnswer, scanOf, outLines, lineAnswer, givenByLine, scanAfter, LineCall, endAnswer, givenByEnd, scanEnded, EndCall}
+use Rattle.rolling.specs.AnswerLaws.{begun-one, begun-accepted, on-begun, on-two}
+use Rattle.rolling_claims.specs.History.{line-right, end-right}
+use Rattle.rolling_claims.specs.Possible.{line-few, end-few}
 use Rattle.scan_bytes.specs.ScanBytes.{scanLength, stateBytes, keepable, scanIn, stateWith, stateAfter, noScan}
 use Rattle.scan_bytes.specs.ByteLaws.{can-keep, kept, room, read-long}
 use borrow.Author.Tests.{lt-leb}
@@ -29,17 +27,6 @@ use Rattle.engine.specs.ScanAnswers.{begins, scanBeginAnswer, scanBeginS
 module _ (s : Scan) (begun : beginAnswer (s .table) ≡ passed) (narrow : s .width < 65536) where
   pub begun-kept : keepable s ≡ true
   begun-kept = can-keep s (promise (s .table) (begun-accepted (s .table) begun) .form) (begun-one (s .table) begun) narrow
-
-passed-is : (o : Answer Unit) → T (answered o true false) → o ≡ passed
-passed-is (done tt) h = refl
-passed-is (refused r) h = absurd h
-
-goes-begun : (s : Scan) → T (goesOn s) → beginAnswer (s .table) ≡ passed
-unfolding goesOn
-goes-begun s goes =
-    let begins = answered (beginAnswer (s .table)) true false in
-    let running = both (begins && not (s .ended)) (not (anyTaken (s .taken)) || sideRight 1 (s .width)) goes .0 in
-    passed-is (beginAnswer (s .table)) (both begins (not (s .ended)) running .0)
 
 module _ (s : Scan) (pixels : List ℕ) (w : ℕ) (held out : List ℤ) {o : Answer ℕ} {s′ : Scan} {held′ out′ : List ℤ} (call : LineCall s pixels w held out o s′ held′ out′) (m : ℕ) (e : o ≡ done m) where
   line-passes : (lineAnswer s pixels w held out ≡ passed) × (length (givenByLine s pixels w held out) ≡ m)
@@ -54,7 +41,7 @@ module _ (s : Scan) (pixels : List ℕ) (w : ℕ) (held out : List ℤ) {o : Ans
   line-kept =
       let right = line-right s pixels w held out (line-passes .0) in
       subst (λ (s : Scan). keepable s ≡ true) (sym (call .scan-is ∙ answered-done (scanAfter s pixels w held out) s (line-passes .0)))
-      (begun-kept (scanAfter s pixels w held out) (goes-begun s (right .goes)) (omega (arith, right .side .1)))
+      (begun-kept (scanAfter s pixels w held out) (on-begun s (right .goes)) (omega (arith, right .side .1)))
 
 module _ (s : Scan) (held out : List ℤ) {o : Answer ℕ} {s′ : Scan} {held′ out′ : List ℤ} (call : EndCall s held out o s′ held′ out′) (m : ℕ) (e : o ≡ done m) where
   end-passes : (endAnswer s held out ≡ passed) × (length (givenByEnd s held out) ≡ m)
@@ -69,7 +56,7 @@ module _ (s : Scan) (held out : List ℤ) {o : Answer ℕ} {s′ : Scan} {held�
   end-kept =
       let right = end-right s held out (end-passes .0) in
       subst (λ (s : Scan). keepable s ≡ true) (sym (call .scan-is ∙ answered-done (scanEnded s held out) s (end-passes .0)))
-      (begun-kept (scanEnded s held out) (goes-begun s (right .goes)) (omega (arith, goes-side s (right .goes) (two-any (s .taken) (right .two)) .1)))
+      (begun-kept (scanEnded s held out) (on-begun s (right .goes)) (omega (arith, on-two s (right .goes) (right .two) .1)))
 
 -- ---- begin
 

@@ -5,12 +5,11 @@ ghost use lib.IntN.{pos, _*ℤ_};
 ghost use mir.Syntax.{w64};
 ghost use mir.Val.{SFits};
 ghost use Rattle.lifting.specs.Patch.{at};
-ghost use Rattle.width_table.specs.Table.{maxFractionBits, constantBits};
+ghost use Rattle.width_table.specs.Table.{maxFractionBits};
 ghost use Rattle.lines.specs.Planes.{rowByRow};
 ghost use Rattle.numbers.specs.Floor.{floorDiv};
 ghost use Rattle.numbers.specs.Lists.{over};
 ghost use Rattle.refusals.specs.Told.{told};
-ghost use Rattle.precision.specs.Verdict.{Accepted};
 ghost use Rattle.stages.specs.Fixed.{nearest};
 ghost use Rattle.irreversible.specs.Constants.{constantOf};
 ghost use Rattle.irreversible.specs.Transforms.{fixedPlane};
@@ -117,21 +116,19 @@ fn factor_of(constant: i64, bits: u8, value: u8, kept: u8) -> Factor
     }
 }
 
-// A stage P1, U1, P2, U2, by its number: the bits of the neighbours, of the own value and of the node.
-fn stage(table: WidthTable, node: u8, sides: u8, own: u8, kept: u8) -> Step
-    requires { ⌜ Accepted table × IsNode node × (sides ≤ maxFractionBits) × (own ≤ maxFractionBits) × (kept ≤ maxFractionBits) ⌝ }
-    ensures { λ r. ⌜ r ≡ stageOf (constantOf (nodeOf node)) (constantBits table (nodeOf node)) sides own kept ⌝ }
+// A stage P1, U1, P2, U2, by its number: the bits of its constant, of the neighbours, of the own value and of the node.
+fn stage(node: u8, bits: u8, sides: u8, own: u8, kept: u8) -> Step
+    requires { ⌜ IsNode node × ConstantBits bits × (sides ≤ maxFractionBits) × (own ≤ maxFractionBits) × (kept ≤ maxFractionBits) ⌝ }
+    ensures { λ r. ⌜ r ≡ stageOf (constantOf (nodeOf node)) bits sides own kept ⌝ }
 {
-    let bits = table.constant_bits(node);
     step_of(nearest_at(node, bits), bits, sides, own, kept)
 }
 
-// A stage G1, G2, by its number: the bits of the value and of the node.
-fn scaling(table: WidthTable, node: u8, value: u8, kept: u8) -> Factor
-    requires { ⌜ Accepted table × IsNode node × (value ≤ maxFractionBits) × (kept ≤ maxFractionBits) ⌝ }
-    ensures { λ r. ⌜ r ≡ scalingOf (constantOf (nodeOf node)) (constantBits table (nodeOf node)) value kept ⌝ }
+// A stage G1, G2, by its number: the bits of its constant, of the value and of the node.
+fn scaling(node: u8, bits: u8, value: u8, kept: u8) -> Factor
+    requires { ⌜ IsNode node × ConstantBits bits × (value ≤ maxFractionBits) × (kept ≤ maxFractionBits) ⌝ }
+    ensures { λ r. ⌜ r ≡ scalingOf (constantOf (nodeOf node)) bits value kept ⌝ }
 {
-    let bits = table.constant_bits(node);
     factor_of(nearest_at(node, bits), bits, value, kept)
 }
 
@@ -143,28 +140,31 @@ pub struct Stages {
     pub high: Factor,
 }
 
-// The stages of a pass.
+// The stages of a pass. Its widths are read once: each call of a method of the table would copy the whole table.
 pub fn stages_of(table: WidthTable, level: u8, pass: u8) -> Stages
     requires { ⌜ IsLevel table level × IsPass pass ⌝ }
     ensures { λ r. ⌜ AsStages table level (passOf pass) r ⌝ }
 {
     let enters = table.input_bits(level, pass);
-    let p1 = table.fraction_bits(level, pass, WidthTable::P1);
-    let u1 = table.fraction_bits(level, pass, WidthTable::U1);
-    let p2 = table.fraction_bits(level, pass, WidthTable::P2);
-    let u2 = table.fraction_bits(level, pass, WidthTable::U2);
-    let g1 = table.fraction_bits(level, pass, WidthTable::G1);
-    let g2 = table.fraction_bits(level, pass, WidthTable::G2);
+    let at = width_table::node_place(level, pass, WidthTable::P1);
+    let constants = table.constants;
+    let nodes = table.nodes;
+    let p1 = nodes[at + 1];
+    let u1 = nodes[at + 3];
+    let p2 = nodes[at + 5];
+    let u2 = nodes[at + 7];
+    let g1 = nodes[at + 9];
+    let g2 = nodes[at + 11];
     let first = Pair {
-        highs: stage(table, WidthTable::P1, enters, enters, p1),
-        lows: stage(table, WidthTable::U1, p1, enters, u1),
+        highs: stage(WidthTable::P1, constants[0], enters, enters, p1),
+        lows: stage(WidthTable::U1, constants[1], p1, enters, u1),
     };
     let second = Pair {
-        highs: stage(table, WidthTable::P2, u1, p1, p2),
-        lows: stage(table, WidthTable::U2, p2, u1, u2),
+        highs: stage(WidthTable::P2, constants[2], u1, p1, p2),
+        lows: stage(WidthTable::U2, constants[3], p2, u1, u2),
     };
-    let low = scaling(table, WidthTable::G1, u2, g1);
-    let high = scaling(table, WidthTable::G2, p2, g2);
+    let low = scaling(WidthTable::G1, constants[4], u2, g1);
+    let high = scaling(WidthTable::G2, constants[5], p2, g2);
     Stages {
         first: lifting::quickest_pair(first),
         second: lifting::quickest_pair(second),

@@ -3,7 +3,7 @@
 --   Passes, Kernels   a pass over a line, over rows and over columns of a plane
 --   Patch, PatchLines   a slice as a function of the place, with a run of places, or lines, replaced
 --   Runs       a step at each place of a run
---   Tiles      a step at each high or low of the columns of a tile; a tile filled with lines
+--   Tiles      a step at each high or low of the columns of a tile; a tile filled with lines; a row
 -- Proved of them:
 --   Turns, TileRuns   a turn of a run on signed numbers; a step at a tile's highs or lows by runs
 --   Raise      steps and scalings by unsigned numbers

@@ -284,3 +284,33 @@ whole-held {A} s n r t z e = record {
   where
     is : (i j : ℕ) → i < n → j < s → z (lineAt 0 s i + j) ≡ r j i
     is i j p g = ap (λ (q : ℕ → A). q (lineAt 0 s i + j)) e ∙ lines-in (lineAt 0 s) s _ t (λ u v a. lines-apart 0 s s u v (omega arith) (omega arith)) n i j p g
+
+-- ---- a row: what its places hold, and its lows or its highs each replaced by what f makes of it
+
+module _ {A : Type 0} (n : ℕ) {l h : ℕ → ℕ → A} {y : ℕ → A} (held : Held 1 n l h y) where
+  low-place : (i j : ℕ) → j < 1 → i * 1 + j ≡ 0 + i
+  low-place i j g = omega arith
+
+  high-place : (i j : ℕ) → j < 1 → lows n * 1 + (i * 1 + j) ≡ lows n + i
+  high-place i j g = omega arith
+
+  pub row-low : (i : ℕ) → i < lows n → y (0 + i) ≡ l 0 i
+  row-low i p = ap y (sym (low-place i 0 (omega arith))) ∙ held .low i 0 p (omega arith)
+
+  pub row-high : (i : ℕ) → i < highs n → y (lows n + i) ≡ h 0 i
+  row-high i p = ap y (sym (high-place i 0 (omega arith))) ∙ held .high i 0 p (omega arith)
+
+  pub row-at : (i : ℕ) → i < n → y i ≡ lowsFirst n (l 0) (h 0) i
+  row-at i p = ap y (let e : i ≡ 0 + i * 1 + 0 = omega arith in e) ∙ held-at {n = n} held i 0 p (omega arith)
+
+  pub lows-each : (f : A → A) (z : ℕ → A) → z ≡ patch 0 (lows n) (λ i. f (y (0 + i))) y → Held 1 n (λ j i. f (l j i)) h z
+  lows-each f z e = record {
+    low = λ i j p g. ap z (low-place i j g) ∙ ap (λ (q : ℕ → A). q (0 + i)) e ∙ patch-in 0 (lows n) _ y i p ∙ ap f (ap y (sym (low-place i j g)) ∙ held .low i j p g);
+    high = λ i j p g. ap (λ (q : ℕ → A). q (lows n * 1 + (i * 1 + j))) e ∙ patch-above 0 (lows n) _ y _ (omega arith) ∙ held .high i j p g;
+  }
+
+  pub highs-each : (f : A → A) (z : ℕ → A) → z ≡ patch (lows n) (highs n) (λ i. f (y (lows n + i))) y → Held 1 n l (λ j i. f (h j i)) z
+  highs-each f z e = record {
+    low = λ i j p g. ap (λ (q : ℕ → A). q (i * 1 + j)) e ∙ patch-below (lows n) (highs n) _ y _ (omega arith) ∙ held .low i j p g;
+    high = λ i j p g. ap z (high-place i j g) ∙ ap (λ (q : ℕ → A). q (lows n + i)) e ∙ patch-in (lows n) (highs n) _ y i p ∙ ap f (ap y (sym (high-place i j g)) ∙ held .high i j p g);
+  }

@@ -166,7 +166,7 @@ fn scaled_of(k: u32, c: i64, cut: u32, own: i32, x: i32, y: i32) -> i32
 }
 
 // z + 2 ^ 31
-fn raise(z: i32) -> u32
+pub fn raise(z: i32) -> u32
     ensures { λ r. ⌜ r ≡ raised z ⌝ }
 {
     ((z as i64) + 2147483648) as u32
@@ -745,6 +745,44 @@ pub fn scale_run(src: &[i32], from: usize, dst: &mut [i32], to: usize, n: usize,
     }
 }
 
+// n values from place `from` on, each scaled where it stands.
+fn plain_scale_here(buf: &mut [i32], from: usize, n: usize, c: i64, cut: u32)
+    requires { ⌜ from + n ≤ length (now buf) ⌝ }
+    requires { ⌜ ((j : ℕ) → j < n → FactorSafe (Factor.Plain c cut) (at (now buf) (from + j))) ⌝ }
+    ensures { λ _. ⌜ at (now (buf .exit)) ≡ patch from n (λ j. scaledBy (Factor.Plain c cut) (at (now (buf .entry)) (from + j))) (at (now (buf .entry))) ⌝ }
+{
+    for j in 0..n {
+        let v = scaled_by(c, cut, buf[from + j]);
+        buf[from + j] = v;
+    }
+}
+
+// The same by raised values.
+fn raised_scale_here(buf: &mut [i32], from: usize, n: usize, c: u32, pad: u64, base: u64, cut: u32)
+    requires { ⌜ from + n ≤ length (now buf) ⌝ }
+    requires { ⌜ ((j : ℕ) → j < n → FactorSafe (Factor.Raised c pad base cut) (at (now buf) (from + j))) ⌝ }
+    ensures { λ _. ⌜ at (now (buf .exit)) ≡ patch from n (λ j. scaledBy (Factor.Raised c pad base cut) (at (now (buf .entry)) (from + j))) (at (now (buf .entry))) ⌝ }
+{
+    for j in 0..n {
+        let v = raised_by(c, pad, base, cut, buf[from + j]);
+        buf[from + j] = v;
+    }
+}
+
+// The same by a scaling in either form, dispatched once.
+fn scale_here(buf: &mut [i32], from: usize, n: usize, g: Factor)
+    requires { ⌜ from + n ≤ length (now buf) ⌝ }
+    requires { ⌜ ((j : ℕ) → j < n → FactorSafe g (at (now buf) (from + j))) ⌝ }
+    ensures { λ _. ⌜ at (now (buf .exit)) ≡ patch from n (λ j. scaledBy g (at (now (buf .entry)) (from + j))) (at (now (buf .entry))) ⌝ }
+{
+    match g {
+        Factor::Plain { c, cut } => plain_scale_here(buf, from, n, c, cut),
+        Factor::Raised { c, pad, base, cut } => {
+            raised_scale_here(buf, from, n, c, pad, base, cut)
+        }
+    }
+}
+
 // ---- a tile
 
 // A step at each high of each column of a tile of n lines of s values.
@@ -1096,23 +1134,47 @@ fn split_pixels(pixels: &[u16], from: usize, tile: &mut [i32], n: usize, middle:
     }
 }
 
-// A line of w pixels, each less the middle of its range, worked on its way to place `from` of a plane.
+// A line of w pixels, each less the middle of its range, split into a row and worked there by two pairs and a scaling.
+fn pixel_row(
+    pixels: &[u16],
+    middle: u16,
+    row: &mut [i32],
+    w: usize,
+    first: Pair,
+    second: Pair,
+    low: Factor,
+    high: Factor,
+)
+    requires { ⌜ (w < 2 ^ 31) × Liftable w × (w ≤ length (now pixels)) × (w ≤ length (now row)) ⌝ }
+    requires { ⌜ SafeKernel (Kernel.Two first second low high) w (pixelLine (now pixels) middle 0) ⌝ }
+    ensures { λ _. ⌜ ((i : ℕ) → i < w → at (now (row .exit)) i ≡ worked (Kernel.Two first second low high) w (pixelLine (now (pixels .entry)) middle 0) i) ⌝ }
+{
+    split_pixels(pixels, 0, row, w, middle);
+    lift(row, 1, w, first);
+    lift(row, 1, w, second);
+    let half = (w + 1) / 2;
+    scale_here(row, 0, half, low);
+    scale_here(row, half, w / 2, high);
+}
+
+// The same in a plane, from place `from` on.
 pub fn pixel_line(
     pixels: &[u16],
     middle: u16,
     plane: &mut [i32],
     from: usize,
-    tile: &mut [i32],
     w: usize,
-    kernel: Kernel,
+    first: Pair,
+    second: Pair,
+    low: Factor,
+    high: Factor,
 )
-    requires { ⌜ (w < 2 ^ 31) × Liftable w × (w ≤ length (now pixels)) × (from + w ≤ length (now plane)) × (w ≤ length (now tile)) × Forward kernel ⌝ }
-    requires { ⌜ SafeKernel kernel w (pixelLine (now pixels) middle 0) ⌝ }
-    ensures plane { λ _. ⌜ at (now (plane .exit)) ≡ patch from w (worked kernel w (pixelLine (now (pixels .entry)) middle 0)) (at (now (plane .entry))) ⌝ }
-    ensures tile { λ _. ⌜ Free (now (tile .entry)) (now (tile .exit)) ⌝ }
+    requires { ⌜ (w < 2 ^ 31) × Liftable w × (w ≤ length (now pixels)) × (from + w ≤ length (now plane)) ⌝ }
+    requires { ⌜ SafeKernel (Kernel.Two first second low high) w (pixelLine (now pixels) middle 0) ⌝ }
+    ensures { λ _. ⌜ at (now (plane .exit)) ≡ patch from w (worked (Kernel.Two first second low high) w (pixelLine (now (pixels .entry)) middle 0)) (at (now (plane .entry))) ⌝ }
 {
-    split_pixels(pixels, 0, tile, w, middle);
-    finish(plane, tile, 1, from, 1, w, kernel);
+    let row = &mut plane[from..from + w];
+    pixel_row(pixels, middle, row, w, first, second, low, high);
 }
 
 // h rows of w pixels, each less the middle of its range, worked on their way into a plane as wide.

@@ -11,7 +11,7 @@ ghost use Rattle.refusals.specs.Answers.{_then_};
 ghost use Rattle.refusals.specs.Told.{told};
 ghost use Rattle.pictures.specs.Pictures.{maxSide, sideRight, sided, holds, pixelsRight, zeroed};
 ghost use Rattle.pictures.specs.PixelLaws.{Largest};
-ghost use Rattle.pictures.specs.Looks.{Tells, Between};
+ghost use Rattle.pictures.specs.Looks.{Tells, Between, OfBits, aboveLeast};
 use refusals::Outcome;
 use refusals::Refusal;
 
@@ -177,6 +177,47 @@ pub fn part_between(
     let mut fits = true;
     for i in 0..h {
         fits = fits & all_between(values, from + i * stride, w, least, most);
+    }
+    fits
+}
+
+// How far a value lies above -top, where 2 ^ 32 counts as 0.
+fn above(v: i32, top: u32) -> u32
+    requires { ⌜ top ≤ 2147483648 ⌝ }
+    ensures { λ r. ⌜ r ≡ aboveLeast top v ⌝ }
+{
+    std::num::wrapping_sub_u32(lifting::raise(v), 2147483648 - top)
+}
+
+// Whether n values from a place on are numbers of so many bits beside the sign. The bits of what they lie above the least are gathered,
+// and looked at once.
+fn all_of_bits(values: &[i32], from: usize, n: usize, bits: u8) -> bool
+    requires { ⌜ (bits ≤ 31) × (from + n ≤ length (now values)) ⌝ }
+    ensures { λ r. ⌜ Tells ((j : ℕ) → j < n → OfBits bits (at (now (values .entry)) (from + j))) r ⌝ }
+{
+    let top = 1u32 << bits;
+    let mut gathered: u32 = 0;
+    for j in 0..n {
+        gathered = gathered | above(values[from + j], top);
+    }
+    gathered / 2 < top
+}
+
+// Whether the values of a part of w columns and h rows, which starts at a place, are numbers of so many bits beside the sign.
+pub fn part_of_bits(
+    values: &[i32],
+    from: usize,
+    stride: usize,
+    w: usize,
+    h: usize,
+    bits: u8,
+) -> bool
+    requires { ⌜ (bits ≤ 31) × ((i : ℕ) → i < h → lineAt from stride i + w ≤ length (now values)) ⌝ }
+    ensures { λ r. ⌜ Tells ((i : ℕ) → i < h → (j : ℕ) → j < w → OfBits bits (rowOf stride from (at (now (values .entry))) i j)) r ⌝ }
+{
+    let mut fits = true;
+    for i in 0..h {
+        fits = fits & all_of_bits(values, from + i * stride, w, bits);
     }
     fits
 }

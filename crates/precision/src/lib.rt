@@ -12,7 +12,7 @@ ghost use lib.ListN.{getD, take};
 ghost use Rattle.exact.specs.Fractions.{upDiv};
 ghost use Rattle.stages.specs.GainTable.{forwardGains};
 ghost use Rattle.stages.specs.Rule.{timesGain, loss, ownLift, ownScale};
-ghost use Rattle.precision.specs.Verdict.{keptAt, judged, firstRefusal, verdict};
+ghost use Rattle.precision.specs.Verdict.{keptAt, firstRefusal, verdict};
 ghost use Rattle.precision.specs.Places.{places, mostTotal, asHeld, gainAt, multiplied, other, ownBy, heldAt, judgedAs, fedAfter, At, Limited, Read, Enters, Holds, Reached};
 ghost use Rattle.width_table.specs.Numbered.{nodeOf, passOf, IsNode, IsPass};
 ghost use Rattle.precision.specs.PlaceLaws.{largest, largestGain};
@@ -279,31 +279,28 @@ fn judge_bound(bound: Bound, integer: u8, fraction: u8, kept: bool, place: NodeP
     }
 }
 
-// The verdict on one node.
-fn judge_node(table: WidthTable, level: u8, pass: u8, node: u8, bounds: PassBounds) -> Outcome
-    requires { ⌜ Holds table level pass bounds ⌝ }
-    requires { ⌜ IsNode node ⌝ }
-    ensures { λ r. ⌜ told r ≡ judged table (nodeAt level (passOf pass) (nodeOf node)) ⌝ }
-{
-    let widths = bounds.widths;
-    judge_bound(
-        bound_at(bounds, node),
-        widths.integers[node as usize - 1],
-        widths.fractions[node as usize],
-        is_kept(table.levels, level, pass, node),
-        NodePlace { level, pass, node },
-    )
-}
-
 // The verdict on the first nodes of a pass, as many as `count` says; the first refusal first.
 fn judge_nodes(table: WidthTable, level: u8, pass: u8, bounds: PassBounds, count: u8) -> Outcome
     requires { ⌜ Holds table level pass bounds ⌝ }
     requires { ⌜ count < places ⌝ }
     ensures { λ r. ⌜ told r ≡ firstRefusal table (take count (passNodes level (passOf pass))) ⌝ }
 {
+    let levels = table.levels;
+    let widths = bounds.widths;
     for done in 0..count {
         let node = done + 1;
-        match judge_node(table, level, pass, node, bounds) {
+        let place = node as usize;
+        let bound = Bound {
+            range: bounds.ranges[place],
+            error: bounds.errors[place],
+        };
+        match judge_bound(
+            bound,
+            widths.integers[place - 1],
+            widths.fractions[place],
+            is_kept(levels, level, pass, node),
+            NodePlace { level, pass, node },
+        ) {
             Outcome::Refused(why) => return Outcome::Refused(why),
             Outcome::Done => {}
         }

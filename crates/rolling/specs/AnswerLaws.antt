@@ -1,7 +1,7 @@
 -- For the code: what the answers of the calls say of the rules that led to them, and the answer by the rule that does not hold.
 -- Assumes nothing.
 use Prim.Native.Nat.{ℕ, _*_, _<_, _≤_}
-use mathlib.Core.Bool.{Bool, true, false, not, _&&_, _||_}
+use mathlib.Core.Bool.{Bool, true, false, not, _&&_, _||_, cond}
 use mathlib.Core.List.{List, []}
 use mathlib.Core.Path.{_≡_, refl, sym, _∙_, ap, subst}
 use native.Mathlib.Omega.{arith}
@@ -13,7 +13,7 @@ use Rattle.refusals.specs.Answers.{Reason, Answer, done, refused, passed, asks,
 use Rattle.refusals.specs.AnswerLaws.{asks-done, asks-wrong, then-done, then-right, then-refused, answered-done, answered-refused}
 use Rattle.width_table.specs.declared.WidthTable.{WidthTable}
 use Rattle.pictures.specs.Pictures.{sideRight, Admitted, holds, pixelsRight}
-use Rattle.pictures.specs.PictureLaws.{side-is, holds-done, holds-right, pixels-done, pixel-below}
+use Rattle.pictures.specs.PictureLaws.{side-is, side-right, holds-done, holds-right, pixels-done, pixel-below}
 use Rattle.pictures.specs.PixelLaws.{slice-short}
 use Rattle.precision.specs.Verdict.{verdict, Accepted}
 use Rattle.irreversible.specs.LevelBits.{IsLevel}
@@ -21,7 +21,7 @@ use Rattle.rolling.specs.declared.Taken.{Taken}
 use Rattle.rolling.specs.declared.Taken.the-variants.{Zero, One, Two, Three, Four, OddMany, EvenMany}
 use Rattle.rolling.specs.declared.Scan.{Scan}
 use Rattle.rolling.specs.Schedule.{next, anyTaken, twoTaken, lineGives, endGives}
-use Rattle.rolling.specs.Calls.{beginAnswer, scanOf, goesOn, heldLines, outLines, heldIn, lineAnswer, workedRow, givenByLine, scanAfter, LineCall, endAnswer, givenByEnd, scanEnded, EndCall}
+use Rattle.rolling.specs.Calls.{beginAnswer, scanOf, lineWidthRight, goesOn, heldLines, outLines, heldIn, lineAnswer, workedRow, givenByLine, scanAfter, LineCall, endAnswer, givenByEnd, scanEnded, EndCall}
 use Rattle.rolling.specs.Memory.{Lent}
 use Rattle.rolling.specs.Rows.{LineRight, rowOf}
 use Rattle.rolling.specs.Works.{lineAnswerOf, endAnswerOf, LineWorked, EndWorked}
@@ -36,7 +36,7 @@ not-eqb a b f = go (eqb a b) (eqb→eq a b)
     go false h = refl
 
 -- a test that is asked only where another holds
-of-unless : (a b : Bool) → T (not a || b) → T a → T b
+pub of-unless : (a b : Bool) → T (not a || b) → T a → T b
 of-unless true b h i = h
 of-unless false b h i = absurd i
 
@@ -53,7 +53,11 @@ eqb-true a b e = is-true (eqb a b) (subst (λ (n : ℕ). T (eqb a n)) e (eqb-ref
 pub as-test : {b : Bool} → b ≡ true → T b
 as-test e = subst T (sym e) tt
 
-answered-passed : (o : Answer Unit) → T (answered o true false) → o ≡ passed
+is-false : (b : Bool) → T (not b) → b ≡ false
+is-false true h = absurd h
+is-false false h = refl
+
+pub answered-passed : (o : Answer Unit) → T (answered o true false) → o ≡ passed
 answered-passed (done tt) i = refl
 answered-passed (refused r) i = absurd i
 
@@ -91,9 +95,49 @@ module _ (t : WidthTable) where
   scan-refused e = λ i. record { table = t; width = 0; taken = Zero; ended = sym (answered-refused {o = beginAnswer t} false true e) i }
 
   -- a table with which a scan begins
-  pub begun : beginAnswer t ≡ passed → Accepted t × (t .levels ≡ 1)
+  pub begun-one : beginAnswer t ≡ passed → t .levels ≡ 1
   unfolding beginAnswer
-  begun e = let a = asks-done (eqb (t .levels) 1) _ _ e in (a .1, eqb→eq (t .levels) 1 (a .0))
+  begun-one e = eqb→eq (t .levels) 1 (asks-done (eqb (t .levels) 1) _ _ e .0)
+
+  pub begun-accepted : beginAnswer t ≡ passed → Accepted t
+  unfolding beginAnswer
+  begun-accepted e = asks-done (eqb (t .levels) 1) _ _ e .1
+
+-- ---- the width of a scan
+
+module _ (k : Taken) (w : ℕ) where
+  -- after a line, and before the first
+  pub width-some : anyTaken k ≡ true → lineWidthRight k w ≡ sideRight 1 w
+  unfolding lineWidthRight
+  width-some e = ap (λ (t : Bool). cond t (sideRight 1 w) (eqb w 0)) e
+
+  pub width-none : anyTaken k ≡ false → lineWidthRight k w ≡ eqb w 0
+  unfolding lineWidthRight
+  width-none e = ap (λ (t : Bool). cond t (sideRight 1 w) (eqb w 0)) e
+
+  width-taken : T (lineWidthRight k w) → T (anyTaken k) → T (sideRight 1 w)
+  unfolding lineWidthRight
+  width-taken h i = go (anyTaken k) h i
+    where
+      go : (a : Bool) → T (cond a (sideRight 1 w) (eqb w 0)) → T a → T (sideRight 1 w)
+      go true h i = h
+      go false h i = absurd i
+
+  width-unset : T (lineWidthRight k w) → T (not (anyTaken k)) → w ≡ 0
+  unfolding lineWidthRight
+  width-unset h i = go (anyTaken k) h i
+    where
+      go : (a : Bool) → T (cond a (sideRight 1 w) (eqb w 0)) → T (not a) → w ≡ 0
+      go true h i = absurd i
+      go false h i = eqb→eq w 0 h
+
+  pub width-is : (T (anyTaken k) → Admitted 1 w) → (T (not (anyTaken k)) → w ≡ 0) → lineWidthRight k w ≡ true
+  unfolding lineWidthRight
+  width-is some none = go (anyTaken k) some none
+    where
+      go : (a : Bool) → (T a → Admitted 1 w) → (T (not a) → w ≡ 0) → cond a (sideRight 1 w) (eqb w 0) ≡ true
+      go true some none = is-true (sideRight 1 w) (side-right 1 w (some tt))
+      go false some none = eqb-true w 0 (none tt)
 
 -- ---- a scan that goes on
 
@@ -103,29 +147,35 @@ module _ (s : Scan) where
   unfolding goesOn
   ended-on e = left-false _ _ (right-false (answered (beginAnswer (s .table)) true false) _ (ap not e))
 
-  pub side-on : anyTaken (s .taken) ≡ true → sideRight 1 (s .width) ≡ false → goesOn s ≡ false
+  pub width-on : lineWidthRight (s .taken) (s .width) ≡ false → goesOn s ≡ false
   unfolding goesOn
-  side-on a e = right-false (answered (beginAnswer (s .table)) true false && not (s .ended)) _ (λ i. not (a i) || e i)
+  width-on e = right-false (answered (beginAnswer (s .table)) true false && not (s .ended)) _ e
 
   pub refused-on : {r : Reason} → beginAnswer (s .table) ≡ refused r → goesOn s ≡ false
   unfolding goesOn
   refused-on e = left-false _ _ (left-false _ (not (s .ended)) (answered-refused {o = beginAnswer (s .table)} true false e))
 
   -- all of them hold
-  pub goes : s .ended ≡ false → not (anyTaken (s .taken)) || sideRight 1 (s .width) ≡ true → beginAnswer (s .table) ≡ passed → goesOn s ≡ true
+  pub goes : s .ended ≡ false → lineWidthRight (s .taken) (s .width) ≡ true → beginAnswer (s .table) ≡ passed → goesOn s ≡ true
   unfolding goesOn
   goes e a b = λ i. answered-done {o = beginAnswer (s .table)} true false b i && not (e i) && a i
 
   module _ (h : T (goesOn s)) where
-    tests : T (answered (beginAnswer (s .table)) true false && not (s .ended)) × T (not (anyTaken (s .taken)) || sideRight 1 (s .width))
+    tests : T (answered (beginAnswer (s .table)) true false && not (s .ended)) × T (lineWidthRight (s .taken) (s .width))
     unfolding goesOn
-    tests = both (answered (beginAnswer (s .table)) true false && not (s .ended)) (not (anyTaken (s .taken)) || sideRight 1 (s .width)) h
+    tests = both (answered (beginAnswer (s .table)) true false && not (s .ended)) (lineWidthRight (s .taken) (s .width)) h
 
     pub on-begun : beginAnswer (s .table) ≡ passed
     on-begun = answered-passed (beginAnswer (s .table)) (both (answered (beginAnswer (s .table)) true false) (not (s .ended)) (tests .0) .0)
 
+    pub on-running : s .ended ≡ false
+    on-running = is-false (s .ended) (both (answered (beginAnswer (s .table)) true false) (not (s .ended)) (tests .0) .1)
+
     pub on-side : T (anyTaken (s .taken)) → Admitted 1 (s .width)
-    on-side i = side-is 1 (s .width) (of-unless (anyTaken (s .taken)) (sideRight 1 (s .width)) (tests .1) i)
+    on-side i = side-is 1 (s .width) (width-taken (s .taken) (s .width) (tests .1) i)
+
+    pub on-unset : T (not (anyTaken (s .taken))) → s .width ≡ 0
+    on-unset i = width-unset (s .taken) (s .width) (tests .1) i
 
     pub on-two : T (twoTaken (s .taken)) → Admitted 1 (s .width)
     on-two i = on-side (two-any (s .taken) i)
@@ -221,12 +271,12 @@ module _ (s : Scan) (pixels : List ℕ) (w : ℕ) (held out : List ℤ) where
         let p = then-done (holds w (length pixels)) _ (b .1) in
         let q = then-done (holds (heldLines * w) (length held)) _ (p .1) in
         let r = then-done (holds (outLines * w) (length out)) _ (q .1) in
-        let (ok, one) = begun (s .table) (on-begun s (both (goesOn s) turn (a .0) .0)) in
+        let starts = on-begun s (both (goesOn s) turn (a .0) .0) in
         let side = side-is 1 w (b .0) in
         let long = holds-done w (length pixels) (p .0) in (
           record {
-            accepted = ok;
-            one = one;
+            accepted = begun-accepted (s .table) starts;
+            one = begun-one (s .table) starts;
             side = side;
             long = long;
             below = λ k i. pixel-below (s .table .depth) w 1 pixels (omega arith) (pixels-done (s .table .depth) w 1 pixels (r .1)) k (omega arith);
@@ -272,9 +322,9 @@ module _ (s : Scan) (held out : List ℤ) where
         let a = asks-done (goesOn s && twoTaken (s .taken)) _ _ e in
         let p = then-done (holds (heldLines * s .width) (length held)) _ (a .1) in
         let (on, two) = both (goesOn s) (twoTaken (s .taken)) (a .0) in
-        let (ok, one) = begun (s .table) (on-begun s on) in
+        let starts = on-begun s on in
         let side = on-two s on two in (
-          record { accepted = ok; least = omega arith; most = omega arith },
+          record { accepted = begun-accepted (s .table) starts; least = omega arith; most = omega (arith, begun-one (s .table) starts) },
           side,
           record { narrow = side .1; room = holds-done (heldLines * s .width) (length held) (p .0) },
           holds-done (outLines * s .width) (length out) (p .1),

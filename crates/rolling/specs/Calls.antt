@@ -1,6 +1,6 @@
 -- The calls of a rolling scan (document 02, job 5): the answer, the scan and each lent slice afterwards.
 use Prim.Native.Nat.{ℕ, _*_, _<_}
-use mathlib.Core.Bool.{Bool, true, false, not, _&&_, _||_}
+use mathlib.Core.Bool.{Bool, true, false, not, _&&_, _||_, cond}
 use mathlib.Core.List.{List}
 use mathlib.Core.Path.{_≡_}
 use lib.Dec.{T, eqb}
@@ -16,6 +16,7 @@ use Rattle.pictures.specs.Pictures.{sideRight, holds, pixelsRight, sample, plan
 use Rattle.precision.specs.Verdict.{verdict}
 use Rattle.irreversible.specs.Claims.{Holds}
 use Rattle.irreversible.specs.Transforms.{fixedLine}
+use Rattle.rolling.specs.declared.Taken.{Taken}
 use Rattle.rolling.specs.declared.Taken.the-variants.{Zero}
 use Rattle.rolling.specs.declared.Scan.{Scan}
 use Rattle.rolling.specs.Schedule.{Line, Held, next, anyTaken, twoTaken, evenTaken, passOf, stacked, heldAfter, lineGives, endGives}
@@ -30,10 +31,14 @@ beginAnswer t = asks (eqb (t .levels) 1) 14 (verdict t)
 unfoldable pub scanOf : WidthTable → Scan
 scanOf t = record { table = t; width = 0; taken = Zero; ended = answered (beginAnswer t) false true }
 
--- A scan that goes on: it began and has not ended. (Whatever else is handed over counts as ended: a table with which no scan begins,
--- lines taken of a width that is not admitted.)
+-- The width of a scan: 0 before the first line, then that of the lines, which is admitted.
+unfoldable pub lineWidthRight : Taken → ℕ → Bool
+lineWidthRight k w = cond (anyTaken k) (sideRight 1 w) (eqb w 0)
+
+-- A scan that goes on: it began and has not ended. (Whatever else is handed over counts as ended: a table with which no scan begins, a
+-- width that no scan has after so many lines.)
 unfoldable pub goesOn : Scan → Bool
-goesOn s = answered (beginAnswer (s .table)) true false && not (s .ended) && (not (anyTaken (s .taken)) || sideRight 1 (s .width))
+goesOn s = answered (beginAnswer (s .table)) true false && not (s .ended) && lineWidthRight (s .taken) (s .width)
 
 -- ---- lent memory
 

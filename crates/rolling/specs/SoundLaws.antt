@@ -1,6 +1,6 @@
 -- For the code: what is held is sound where it is in the row-low columns, which stand first, and in the row-high ones. Looks over lines of
 -- them tell whether it is (`last-tells`, `both-sound`). Zeros are sound (`zeros-sound`).
-use Prim.Native.Nat.{ℕ, zero, suc, _+_, _*_, _-_, _^_, _<_, _≤_}
+use Prim.Native.Nat.{ℕ, zero, suc, _+_, _*_, _-_, _<_, _≤_}
 use mathlib.Core.Bool.{Bool, true, false}
 use mathlib.Core.List.{List}
 use mathlib.Core.Path.{_≡_, sym, _∙_, ap, subst}
@@ -9,10 +9,8 @@ use native.Mathlib.Decide.{decLt}
 use lib.Dec.{T}
 use lib.ListN.{length, drop, replicate, length-replicate, getD-replicate, List·getD-append}
 use lib.Seq.{drop-append-add, drop-drop, length-front, length-take-le}
-use lib.IntN.{ℤ, pos, negℤ, _-ℤ_}
-use lib.Signed.{_≤ℤ_, _<ℤ_}
+use lib.IntN.{ℤ, pos}
 use borrow.Author.Tests.{lt-ltb, le-ltb}
-use Rattle.numbers.specs.Dif.{by-dif, difs}
 use Rattle.lines.specs.Lines.{lows, highs}
 use Rattle.lifting.specs.Patch.{at}
 use Rattle.lifting.specs.PatchLines.{lineAt}
@@ -21,7 +19,7 @@ use Rattle.width_table.specs.Nodes.{P1, U1, P2, Pass, LowColumns, HighColumns, 
 use Rattle.width_table.specs.declared.WidthTable.{WidthTable}
 use Rattle.width_table.specs.Table.{fractionBits, inputBits}
 use Rattle.pictures.specs.Pictures.{zeroed}
-use Rattle.pictures.specs.Looks.{Tells, Between}
+use Rattle.pictures.specs.Looks.{Tells, OfBits}
 use Rattle.irreversible.specs.Claims.{Holds}
 use Rattle.rolling.specs.Schedule.{passOf}
 use Rattle.rolling.specs.Calls.{heldLines, heldIn, FiveBits, Sound, KeptFrom}
@@ -42,36 +40,11 @@ pub record ColumnsSound (t : WidthTable) (p : Pass) (w from n : ℕ) (m : ℕ �
 abbrev pub FiveIn : (ℕ → ℤ) → ℕ → ℕ → ℕ → ℕ → ℕ → Type 0
 FiveIn m w from n lines f = (i : ℕ) → i < lines → (j : ℕ) → j < n → FiveBits f (m (lineAt from w i + j))
 
-below : (m v : ℤ) → v <ℤ m → v ≤ℤ (m -ℤ pos 1)
-below = by-dif _ λ a b. by-dif _ λ c d. simp difs (omega arith)
-
-not-above : (m v : ℤ) → v ≤ℤ (m -ℤ pos 1) → v <ℤ m
-not-above = by-dif _ λ a b. by-dif _ λ c d. simp difs (omega arith)
-
--- one value, as a look sees it
-abbrev InFive : ℕ → ℤ → Type 0
-InFive k v = Between (negℤ (pos (2 ^ k))) (pos (2 ^ k) -ℤ pos 1) v
-
-module _ (f : ℕ) (v : ℤ) where
-  same-bits : 5 + f - 1 ≡ f + 4
-  same-bits = omega arith
-
-  five-between : FiveBits f v → InFive (f + 4) v
+-- what a look over their bits tells
+module _ (m : ℕ → ℤ) (w from n lines f : ℕ) (r : Bool) where
+  pub tells-five : Tells ((i : ℕ) → i < lines → (j : ℕ) → j < n → OfBits (f + 4) (m (lineAt from w i + j))) r → Tells (FiveIn m w from n lines f) r
   unfolding FiveBits Holds
-  five-between h = subst (λ (k : ℕ). InFive k v) same-bits (h .0, below (pos (2 ^ (5 + f - 1))) v (h .1))
-
-  between-five : InFive (f + 4) v → FiveBits f v
-  unfolding FiveBits Holds
-  between-five b = let h = subst (λ (k : ℕ). InFive k v) (sym same-bits) b in (h .0, not-above (pos (2 ^ (5 + f - 1))) v (h .1))
-
--- what a look between the limits tells
-pub tells-five : (m : ℕ → ℤ) (w from n lines f : ℕ) (r : Bool)
-    → Tells ((i : ℕ) → i < lines → (j : ℕ) → j < n → Between (negℤ (pos (2 ^ (f + 4)))) (pos (2 ^ (f + 4)) -ℤ pos 1) (m (lineAt from w i + j))) r
-    → Tells (FiveIn m w from n lines f) r
-tells-five m w from n lines f r look = record {
-  holds = λ e i a j b. between-five f (m (lineAt from w i + j)) (look .holds e i a j b);
-  told = λ s. look .told (λ i a j b. five-between f (m (lineAt from w i + j)) (s i a j b));
-}
+  tells-five look = let same : f + 4 ≡ 5 + f - 1 = omega arith in subst (λ (k : ℕ). Tells ((i : ℕ) → i < lines → (j : ℕ) → j < n → OfBits k (m (lineAt from w i + j))) r) same look
 
 was-true : {P : Type 0} {r : Bool} → Tells P r → r ≡ true → P
 was-true look e = look .holds (subst T (sym e) tt)

@@ -12,7 +12,7 @@ ghost use Rattle.pictures.specs.Looks.{Tells};
 ghost use Rattle.irreversible.specs.LevelBits.{IsLevel};
 ghost use Rattle.rolling.specs.SoundLaws.{ColumnsSound};
 ghost use Rattle.rolling.specs.Program.{AsColumns, FirstFits, SecondFits, GiveFits, firstDone, secondDone, twoGiven, firstKept, LaterFits, laterDone, laterKept, HeldFits, LastFits, setU2, lastGiven, twoEnded, evenEnded, oddEnded, PastSame};
-ghost use Rattle.rolling.specs.Calls.{heldLines, outLines, heldIn, FiveBits, Sound, KeptFrom, beginAnswer, scanOf, goesOn, LineCall, EndCall};
+ghost use Rattle.rolling.specs.Calls.{heldLines, outLines, heldIn, FiveBits, Sound, KeptFrom, beginAnswer, scanOf, lineWidthRight, goesOn, LineCall, EndCall};
 ghost use Rattle.rolling.specs.Told.{toldGiven};
 ghost use Rattle.rolling.specs.Memory.{lineIn, setLine, moved, staged, SafeStage, scaledLine, SafeScaling, Lent, Apart};
 ghost use Rattle.rolling.specs.Rows.{LineRight, rowOf};
@@ -123,10 +123,13 @@ fn row_to(table: WidthTable, pixels: &[u16], w: usize, held: &mut [i32], line: u
     requires { ⌜ LineRight table (now pixels) w × Lent (now held) w × (line < heldLines) ⌝ }
     ensures { λ _. ⌜ at (now (held .exit)) ≡ setLine w line (rowOf table (now (pixels .entry)) w) (at (now (held .entry))) ⌝ }
 {
-    let mut tile = [0i32; pictures::MAX_SIDE];
     let middle = pictures::middle(table.depth);
-    let kernel = irreversible::kernel_of(table, 1, WidthTable::ROWS);
-    lifting::pixel_line(pixels, middle, held, line * w, &mut tile, w, kernel);
+    let stages = irreversible::stages_of(table, 1, WidthTable::ROWS);
+    let first = stages.first;
+    let second = stages.second;
+    let low = stages.low;
+    let high = stages.high;
+    lifting::pixel_line(pixels, middle, held, line * w, w, first, second, low, high);
 }
 
 // ---- what is held
@@ -136,8 +139,7 @@ fn five_bits(held: &[i32], w: usize, from: usize, n: usize, lines: usize, bits: 
     requires { ⌜ (bits ≤ maxFractionBits) × ((i : ℕ) → i < lines → lineAt from w i + n ≤ length (now held)) ⌝ }
     ensures { λ r. ⌜ Tells ((i : ℕ) → i < lines → (j : ℕ) → j < n → FiveBits bits (at (now (held .entry)) (lineAt from w i + j))) r ⌝ }
 {
-    let most = irreversible::power(bits + 4);
-    pictures::part_between(held, from, w, n, lines, (-most) as i32, (most - 1) as i32)
+    pictures::part_of_bits(held, from, w, n, lines, bits + 4)
 }
 
 // Whether what is held in the n columns from column `from` on, which go by a pass, is sound.
@@ -544,6 +546,16 @@ fn begin_answer(table: WidthTable) -> Outcome
     }
 }
 
+// Whether a scan has this width after so many lines.
+fn line_width_right(taken: Taken, width: usize) -> bool
+    ensures { λ r. ⌜ r ≡ lineWidthRight taken width ⌝ }
+{
+    if any_taken(taken) {
+        return pictures::side_admitted(1, width);
+    }
+    width == 0
+}
+
 // Whether a scan goes on.
 fn goes_on(scan: Scan) -> bool
     ensures { λ r. ⌜ r ≡ goesOn scan ⌝ }
@@ -552,10 +564,8 @@ fn goes_on(scan: Scan) -> bool
         return false;
     }
     let taken = scan.taken;
-    if any_taken(taken) {
-        if pictures::side_admitted(1, scan.width) {} else {
-            return false;
-        }
+    if line_width_right(taken, scan.width) {} else {
+        return false;
     }
     let table = scan.table;
     match begin_answer(table) {

@@ -37,6 +37,14 @@ pub data Calls (t : WidthTable) : Scan → List ℤ → ℕ → List ℕ → Lis
       → Calls t s held n strip given → EndCall s other out (refused r) s′ other′ out′
       → Calls t s′ held n strip given
 
+-- a scan that calls left
+pub record Left (s : Scan) : Type 0 where
+  pub held : List ℤ
+  pub lines : ℕ
+  pub strip : List ℕ
+  pub given : List ℤ
+  pub calls : Calls (s .table) s held lines strip given
+
 -- ---- which lines are ready
 
 -- A value of a stage is ready once its own value and its two neighbours are there; n lines have come, and the end was not announced.
@@ -109,6 +117,13 @@ Fourteen =
     (t : WidthTable) (s : Scan) (held : List ℤ) (n : ℕ) (strip : List ℕ) (given : List ℤ) → Calls t s held n strip given
     → ((pixels : List ℕ) (w : ℕ) (other out : List ℤ) → (lineAnswer s pixels w other out ≡ refused (14, [])) ↔ (T (s .ended) ⊎ ((1 ≤ n) × ¬ (w ≡ s .width))))
     × ((other out : List ℤ) → (endAnswer s other out ≡ refused (14, [])) ↔ (T (s .ended) ⊎ (n < 2)))
+
+-- A scan that no calls left is answered 14, whatever is lent with it.
+abbrev pub ForeignRefused : Type 0
+ForeignRefused =
+    (s : Scan) → ¬ (Left s)
+    → ((pixels : List ℕ) (w : ℕ) (held out : List ℤ) → lineAnswer s pixels w held out ≡ refused (14, []))
+    × ((held out : List ℤ) → endAnswer s held out ≡ refused (14, []))
 
 -- A refused call changes nothing: scan, held lines and output stay.
 abbrev pub RefusedKeeps : Type 0

@@ -19,7 +19,6 @@ use Rattle.lines.specs.RowLaws.{rows-length}
 use Rattle.width_table.specs.declared.WidthTable.{WidthTable}
 use Rattle.pictures.specs.Pictures.{sideRight, Admitted, holds}
 use Rattle.pictures.specs.PictureLaws.{side-is, side-right, holds-done, holds-right, pixels-done, pixels-right, pixel-below, over-take}
-use Rattle.precision.specs.Verdict.{Accepted}
 use Rattle.irreversible.specs.Claims.{Strip}
 use Rattle.irreversible.specs.Transforms.{fixedPlane}
 use Rattle.rolling.specs.declared.Taken.{Taken}
@@ -27,6 +26,7 @@ use Rattle.rolling.specs.declared.Taken.the-variants.{Zero, One, Two, Three, Fo
 use Rattle.rolling.specs.declared.Scan.{Scan}
 use Rattle.rolling.specs.Schedule.{Line, Held, next, anyTaken, twoTaken, evenTaken, stacked, heldAfter, lineGives, endGives}
 use Rattle.rolling.specs.Calls.{SameHeld, Sound, beginAnswer, scanOf, goesOn, heldLines, outLines, heldIn, outAfter, lineAnswer, workedRow, givenByLine, scanAfter, LineCall, endAnswer, givenByEnd, scanEnded, EndCall}
+use Rattle.rolling.specs.AnswerLaws.{of-unless, as-test, begun-one, begun-accepted, width-is, goes, on-running}
 use Rattle.rolling.specs.Small.{strip-one, row-five, column-five}
 use Rattle.rolling_claims.specs.Claims.{Calls, begun, line, line-refused, end, end-refused, ready, inTurn, firstLines}
 use Rattle.rolling_claims.specs.Column.{Holding, zero-lines, holding-same, holding-next, line-due, end-due, SoundAt, holding-sound}
@@ -90,6 +90,15 @@ two-count fourth-line i = tt
 two-count (odd-count m n e) i = tt
 two-count (even-count m n e) i = tt
 
+none-count : {n : ℕ} {k : Taken} → Count n k → T (not (anyTaken k)) → n ≡ 0
+none-count no-line i = refl
+none-count first-line i = absurd i
+none-count second-line i = absurd i
+none-count third-line i = absurd i
+none-count fourth-line i = absurd i
+none-count (odd-count m n e) i = absurd i
+none-count (even-count m n e) i = absurd i
+
 even-some : {n : ℕ} {k : Taken} → Count n k → T (evenTaken k) → 1 ≤ n
 even-some no-line i = absurd i
 even-some first-line i = absurd i
@@ -124,51 +133,15 @@ module _ (t : WidthTable) (w : ℕ) (held : Held) where
 ready-few : (n : ℕ) → ready n ≤ n
 ready-few n = omega arith
 
--- ---- a scan that goes on
+-- ---- tests
 
 true-false : {A : Type 0} {b : Bool} → b ≡ false → b ≡ true → A
 true-false p q = absurd (subst T (sym q ∙ p) tt)
-
-is-false : (b : Bool) → T (not b) → b ≡ false
-is-false true h = absurd h
-is-false false h = refl
 
 -- a test that is asked only where another holds
 unless : (a b : Bool) → (T a → T b) → T (not a || b)
 unless true b f = f tt
 unless false b f = tt
-
-of-unless : (a b : Bool) → T (not a || b) → T a → T b
-of-unless true b h i = h
-of-unless false b h i = absurd i
-
-module _ (t : WidthTable) (e : beginAnswer t ≡ passed) where
-  pub begun-one : t .levels ≡ 1
-  unfolding beginAnswer
-  begun-one = eqb→eq (t .levels) 1 (asks-done (eqb (t .levels) 1) _ _ e .0)
-
-  pub begun-accepted : Accepted t
-  unfolding beginAnswer
-  begun-accepted = asks-done (eqb (t .levels) 1) _ _ e .1
-
-pub goes-on : (s : Scan) → beginAnswer (s .table) ≡ passed → s .ended ≡ false → (T (anyTaken (s .taken)) → Admitted 1 (s .width)) → T (goesOn s)
-unfolding goesOn
-goes-on s e running side =
-    let begins = answered (beginAnswer (s .table)) true false in
-    and-intro (begins && not (s .ended)) (not (anyTaken (s .taken)) || sideRight 1 (s .width))
-    (and-intro begins (not (s .ended)) (subst T (sym (answered-done {o = beginAnswer (s .table)} true false e)) tt) (subst (λ (b : Bool). T (not b)) (sym running) tt))
-    (unless (anyTaken (s .taken)) (sideRight 1 (s .width)) (λ i. side-right 1 (s .width) (side i)))
-
-module _ (s : Scan) (goes : T (goesOn s)) where
-  tested : T (answered (beginAnswer (s .table)) true false && not (s .ended)) × T (not (anyTaken (s .taken)) || sideRight 1 (s .width))
-  unfolding goesOn
-  tested = both (answered (beginAnswer (s .table)) true false && not (s .ended)) (not (anyTaken (s .taken)) || sideRight 1 (s .width)) goes
-
-  pub goes-running : s .ended ≡ false
-  goes-running = is-false (s .ended) (both (answered (beginAnswer (s .table)) true false) (not (s .ended)) (tested .0) .1)
-
-  pub goes-side : T (anyTaken (s .taken)) → Admitted 1 (s .width)
-  goes-side i = side-is 1 (s .width) (of-unless (anyTaken (s .taken)) (sideRight 1 (s .width)) (tested .1) i)
 
 -- ---- a line that is accepted, and an end
 
@@ -253,10 +226,16 @@ pub record Facts (s : Scan) (held : List ℤ) (n : ℕ) (strip : List ℕ) (give
   pub begun : beginAnswer (s .table) ≡ passed
   pub count : Count n (s .taken)
   pub side : 1 ≤ n → Admitted 1 (s .width)
+  pub unset : n ≡ 0 → s .width ≡ 0
   pub size : length strip ≡ n * s .width
   pub below : (k : ℕ) → k < n * s .width → getD strip k 0 < 2 ^ s .table .depth
   pub before-end : s .ended ≡ false → (w : ℕ) → (1 ≤ n → w ≡ s .width) → (more : List ℕ) (h : ℕ) → 2 ≤ h → n ≤ h → Run (s .table) (s .taken) held w n (strip ++ more) h given
   pub after-end : s .ended ≡ true → (2 ≤ n) × (given ≡ firstLines (s .table) strip (s .width) n n)
+
+-- a scan goes on before its end
+pub goes-on : (s : Scan) (held : List ℤ) (n : ℕ) (strip : List ℕ) (given : List ℤ) → Facts s held n strip given → s .ended ≡ false → T (goesOn s)
+goes-on s held n strip given f running =
+    as-test (goes s running (width-is (s .taken) (s .width) (λ i. f .side (some-count (f .count) i)) (λ i. f .unset (none-count (f .count) i))) (f .begun))
 
 same-size : (n v w : ℕ) → (1 ≤ n → w ≡ v) → n * v ≡ n * w
 same-size zero v w e = omega arith
@@ -318,7 +297,7 @@ module _ (s : Scan) (held : List ℤ) (n : ℕ) (strip : List ℕ) (given : List
     right = line-right s pixels w held out e
 
     running : s .ended ≡ false
-    running = goes-running s (right .goes)
+    running = on-running s (right .goes)
 
     fits : 1 ≤ n → w ≡ s .width
     fits i = right .width (count-some (f .count) i)
@@ -359,6 +338,7 @@ module _ (s : Scan) (held : List ℤ) (n : ℕ) (strip : List ℕ) (given : List
       begun = f .begun;
       count = count-next (f .count);
       side = λ i. right .side;
+      unset = λ i. absurd (omega arith);
       size = size-more strip pixels n w size-now (right .long);
       below = below-more strip pixels n w (2 ^ s .table .depth) size-now (right .long) (λ k i. f .below k (subst (λ (m : ℕ). k < m) (sym (same-size n (s .width) w fits)) i)) (right .below);
       before-end = λ r v fits′ more h two room.
@@ -385,7 +365,7 @@ module _ (s : Scan) (held : List ℤ) (n : ℕ) (strip : List ℕ) (given : List
         let t = s .table in
         let w = s .width in
         let P = inTurn n (fixedPlane t strip w n) in
-        let r = subst (λ (all : List ℕ). Run t (s .taken) held w n all n given) (append-nil strip) (f .before-end (goes-running s (ends .goes)) w (λ i. refl) [] n two-lines-in (omega arith)) in
+        let r = subst (λ (all : List ℕ). Run t (s .taken) held w n all n given) (append-nil strip) (f .before-end (on-running s (ends .goes)) w (λ i. refl) [] n two-lines-in (omega arith)) in
         let count = end-count t w (heldIn w held) n (s .taken) (f .count) two-lines-in in
         ap (λ (l : List ℤ). l ++ rowByRow w (length rest) (stacked rest)) (r .given-is)
         ∙ rows-join w (ready n) (length rest) (omega (arith, f .side (omega (arith, two-lines-in)) .0)) P (stacked rest)
@@ -398,6 +378,7 @@ module _ (s : Scan) (held : List ℤ) (n : ℕ) (strip : List ℕ) (given : List
       begun = f .begun;
       count = f .count;
       side = f .side;
+      unset = f .unset;
       size = f .size;
       below = f .below;
       before-end = λ r. true-false r refl;
@@ -418,6 +399,7 @@ begun-facts t held e = record {
   begun = e;
   count = no-line;
   side = λ i. absurd (omega arith);
+  unset = λ i. refl;
   size = refl;
   below = λ k i. absurd (omega arith);
   before-end = λ r w same more h two room. record { holding = λ c i. zero-lines; given-is = none w (inTurn h (fixedPlane t ([] ++ more) w h)) };
@@ -438,7 +420,7 @@ module _ (s : Scan) (held : List ℤ) (n : ℕ) (strip : List ℕ) (given : List
       let lines = givenByLine s pixels w held out in
       let (passes, counted) = gives-done (lineAnswer s pixels w held out) (length lines) (sym (call .answer-is)) in
       let right = line-right s pixels w held out passes in
-      let works = call .works passes (λ even. let some = even-some (f .count) even in subst (λ (v : ℕ). Sound (s .table) v (heldIn v held)) (sym (right .width (count-some (f .count) some))) (sound-now s held n strip given f (goes-running s (right .goes)) some)) in
+      let works = call .works passes (λ even. let some = even-some (f .count) even in subst (λ (v : ℕ). Sound (s .table) v (heldIn v held)) (sym (right .width (count-some (f .count) some))) (sound-now s held n strip given f (on-running s (right .goes)) some)) in
       subst (λ (l : List ℤ). Facts s′ held′ (suc n) (strip ++ take w pixels) (given ++ l)) (sym (front w m lines out out′ (omega (arith, right .side .0)) (sym counted) (works .1)))
       (subst (λ (s : Scan). Facts s held′ (suc n) (strip ++ take w pixels) (given ++ rowByRow w (length lines) (stacked lines))) (sym (call .scan-is ∙ answered-done (scanAfter s pixels w held out) s passes))
       (line-facts s held n strip given f pixels w out held′ passes (works .0)))
@@ -449,7 +431,7 @@ module _ (s : Scan) (held : List ℤ) (n : ℕ) (strip : List ℕ) (given : List
       let lines = givenByEnd s held out in
       let (passes, counted) = gives-done (endAnswer s held out) (length lines) (sym (call .answer-is)) in
       let some : 1 ≤ n = omega (arith, two-lines-in s held n strip given f out held′ passes) in
-      let sound = sound-now s held n strip given f (goes-running s (end-right s held out passes .goes)) some in
+      let sound = sound-now s held n strip given f (on-running s (end-right s held out passes .goes)) some in
       subst (λ (l : List ℤ). Facts s′ held′ n strip (given ++ l)) (sym (front (s .width) m lines out out′ (omega (arith, f .side some .0)) (sym counted) (call .works passes sound)))
       (subst (λ (s′ : Scan). Facts s′ held′ n strip (given ++ rowByRow (s .width) (length lines) (stacked lines))) (sym (call .scan-is ∙ answered-done (scanEnded s held out) s passes))
       (end-facts s held n strip given f out held′ passes))

@@ -1,14 +1,16 @@
 -- What is promised of the calls can be kept: whatever is lent, there is an outcome that meets the promise (`line-possible`,
 -- `end-possible`). So the claims over calls speak of something: every strip of at least two lines can be scanned to its end (`scanned`).
+-- And each scan that goes on was left by some calls (`left`), so that any other is answered 14 (`foreign-refused`).
 use Prim.Native.Nat.{ℕ, zero, suc, _+_, _*_, _-_, _^_, _<_, _≤_}
-use mathlib.Core.Bool.{true, false}
+use mathlib.Core.Bool.{Bool, true, false, not}
 use mathlib.Core.List.{List, [], _∷_, _++_}
 use mathlib.Core.Path.{_≡_, refl, sym, _∙_, ap, subst}
 use native.Mathlib.Omega.{arith}
 use native.Mathlib.Nat.{mul-le-mul-right}
 use lib.Dec.{T}
-use lib.ListN.{length, getD, take, drop, replicate, List·getD-append}
+use lib.ListN.{length, getD, take, drop, replicate, length-replicate, getD-replicate, List·getD-append}
 use lib.Seq.{drop-append-add, drop-drop, length-front, length-take-le}
+use lib.Pow.{pow-pos}
 use lib.IntN.{ℤ, pos}
 use Rattle.numbers.specs.Lists.{over}
 use Rattle.refusals.specs.Answers.{Answer, done, passed, _then_, answered}
@@ -21,10 +23,11 @@ use Rattle.precision.specs.Examples.{usual, usual-accepted}
 use Rattle.rolling.specs.declared.Taken.{Taken}
 use Rattle.rolling.specs.declared.Taken.the-variants.{Zero, One, Two, Three, Four, OddMany, EvenMany}
 use Rattle.rolling.specs.declared.Scan.{Scan}
-use Rattle.rolling.specs.Schedule.{Line, Held, anyTaken, twoTaken, stacked, heldAfter, lineGives, endGives}
-use Rattle.rolling.specs.Calls.{beginAnswer, scanOf, heldLines, outLines, heldIn, outAfter, SameHeld, KeptFrom, lineAnswer, workedRow, givenByLine, scanAfter, LineCall, endAnswer, givenByEnd, scanEnded, EndCall}
-use Rattle.rolling_claims.specs.Claims.{Calls, begun, line, end}
-use Rattle.rolling_claims.specs.History.{facts, table-kept, some-count, two-count, goes-on, goes-side, line-right, right-line, end-right, right-end}
+use Rattle.rolling.specs.Schedule.{Line, Held, next, anyTaken, stacked, heldAfter, lineGives, endGives}
+use Rattle.rolling.specs.Calls.{beginAnswer, scanOf, goesOn, heldLines, outLines, heldIn, outAfter, SameHeld, KeptFrom, lineAnswer, workedRow, givenByLine, scanAfter, LineCall, endAnswer, givenByEnd, scanEnded, EndCall}
+use Rattle.rolling.specs.AnswerLaws.{on-begun, on-running, on-side, on-unset, on-two, line-ended, end-ended, line-is, end-is}
+use Rattle.rolling_claims.specs.Claims.{Calls, begun, line, end, Left, ForeignRefused}
+use Rattle.rolling_claims.specs.History.{facts, table-kept, some-count, two-count, goes-on, line-right, right-line, end-right, right-end}
 
 -- ---- lent memory
 
@@ -126,15 +129,6 @@ module _ (s : Scan) (pixels : List ℕ) (w : ℕ) (held out : List ℤ) where
 
 -- ---- an end
 
-pub two-any : (k : Taken) → T (twoTaken k) → T (anyTaken k)
-two-any Zero i = absurd i
-two-any One i = tt
-two-any Two i = tt
-two-any Three i = tt
-two-any Four i = tt
-two-any OddMany i = tt
-two-any EvenMany i = tt
-
 module _ (s : Scan) (held out : List ℤ) where
   unfoldable pub endOut : Answer Unit → List ℤ
   endOut o = answered o (outAfter (s .width) (givenByEnd s held out) out) out
@@ -150,7 +144,7 @@ module _ (s : Scan) (held out : List ℤ) where
         refused-kept = λ r e. (refl, ap endOut e);
         past-kept = λ e.
             let right = end-right s held out e in
-            let some : 1 ≤ w = omega (arith, goes-side s (right .goes) (two-any (s .taken) (right .two)) .0) in
+            let some : 1 ≤ w = omega (arith, on-two s (right .goes) (right .two) .0) in
             (record { length-kept = refl; past-kept = refl }, subst (λ (o : Answer Unit). KeptFrom (length lines * w) out (endOut o)) (sym e) (out-kept w lines out some (end-few (s .table) w (s .taken) (heldIn w held)) (right .out-room)));
         works = λ e sound. subst (λ (o : Answer Unit). endOut o ≡ outAfter w lines out) (sym e) refl;
       }
@@ -162,12 +156,13 @@ pub record LineFor (t : WidthTable) (w : ℕ) (pixels : List ℕ) : Type 0 where
   pub long : w ≤ length pixels
   pub below : (k : ℕ) → k < w → getD pixels k 0 < 2 ^ t .depth
 
--- n lines of w pixels accepted, and the scan goes on
-record Going (t : WidthTable) (w n : ℕ) (strip : List ℕ) : Type 0 where
+-- n lines of w pixels accepted, k as far as it matters, and the scan goes on
+record Going (t : WidthTable) (w n : ℕ) (k : Taken) (strip : List ℕ) : Type 0 where
   scan : Scan
   held : List ℤ
   given : List ℤ
   calls : Calls t scan held n strip given
+  taken : scan .taken ≡ k
   running : scan .ended ≡ false
   width : 1 ≤ n → w ≡ scan .width
   room : heldLines * w ≤ length held
@@ -186,14 +181,14 @@ stripOf w strip [] = strip
 stripOf w strip (pixels ∷ lines) = stripOf w (strip ++ take w pixels) lines
 
 module _ (t : WidthTable) (w : ℕ) (side : Admitted 1 w) (out : List ℤ) (room : outLines * w ≤ length out) where
-  line-on : {n : ℕ} {strip : List ℕ} → Going t w n strip → (pixels : List ℕ) → LineFor t w pixels → Going t w (suc n) (strip ++ take w pixels)
+  line-on : {n : ℕ} {k : Taken} {strip : List ℕ} → Going t w n k strip → (pixels : List ℕ) → LineFor t w pixels → Going t w (suc n) (next k) (strip ++ take w pixels)
   unfolding scanAfter lineHeld
   line-on g pixels l =
       let s = g .scan in
       let held = g .held in
       let f = facts t (g .calls) in
       let e : lineAnswer s pixels w held out ≡ passed = right-line s pixels w held out (record {
-        goes = goes-on s (f .begun) (g .running) (λ i. f .side (some-count (f .count) i));
+        goes = goes-on s held _ _ _ f (g .running);
         width = λ i. g .width (some-count (f .count) i);
         side = side;
         long = l .long;
@@ -208,12 +203,13 @@ module _ (t : WidthTable) (w : ℕ) (side : Admitted 1 w) (out : List ℤ) (room
         held = lineHeld s pixels w held out passed;
         given = _;
         calls = line (g .calls) call;
+        taken = ap next (g .taken);
         running = g .running;
         width = λ i. refl;
         room = omega (arith, g .room, call .past-kept e .0 .length-kept);
       }
 
-  end-on : {n : ℕ} {strip : List ℕ} → Going t w n strip → 2 ≤ n → Scanned t n strip
+  end-on : {n : ℕ} {k : Taken} {strip : List ℕ} → Going t w n k strip → 2 ≤ n → Scanned t n strip
   unfolding scanEnded
   end-on g two =
       let s = g .scan in
@@ -221,7 +217,7 @@ module _ (t : WidthTable) (w : ℕ) (side : Admitted 1 w) (out : List ℤ) (room
       let f = facts t (g .calls) in
       let fits : w ≡ s .width = g .width (omega arith) in
       let e : endAnswer s held out ≡ passed = right-end s held out (record {
-        goes = goes-on s (f .begun) (g .running) (λ i. f .side (some-count (f .count) i));
+        goes = goes-on s held _ _ _ f (g .running);
         two = two-count (f .count) two;
         held-room = subst (λ (v : ℕ). heldLines * v ≤ length held) fits (g .room);
         out-room = subst (λ (v : ℕ). outLines * v ≤ length out) fits room;
@@ -230,27 +226,38 @@ module _ (t : WidthTable) (w : ℕ) (side : Admitted 1 w) (out : List ℤ) (room
       let call = subst (λ (o : Answer Unit). EndCall s held out (o then done m) (answered o (scanEnded s held out) s) held (endOut s held out o)) e (end-possible s held out) in
       record { scan = scanEnded s held out; held = held; given = _; calls = end (g .calls) call; ended = refl }
 
-  lines-on : (lines : List (List ℕ)) → ((k : ℕ) → k < length lines → LineFor t w (getD lines k [])) → {n : ℕ} {strip : List ℕ} → Going t w n strip → 2 ≤ n + length lines → Scanned t (n + length lines) (stripOf w strip lines)
-  lines-on [] each {n} {strip} g two = subst (λ (m : ℕ). Scanned t m strip) (none n) (end-on g (omega arith))
+  lines-on : (lines : List (List ℕ)) → ((k : ℕ) → k < length lines → LineFor t w (getD lines k [])) → {n : ℕ} {k : Taken} {strip : List ℕ} → Going t w n k strip → 2 ≤ n + length lines → Scanned t (n + length lines) (stripOf w strip lines)
+  lines-on [] each {n} {k} {strip} g two = subst (λ (m : ℕ). Scanned t m strip) (none n) (end-on g (omega arith))
     where
       none : (n : ℕ) → n ≡ n + 0
       none n = omega arith
-  lines-on (pixels ∷ lines) each {n} {strip} g two =
+  lines-on (pixels ∷ lines) each {n} {k} {strip} g two =
       subst (λ (m : ℕ). Scanned t m (stripOf w (strip ++ take w pixels) lines)) (more n (length lines))
       (lines-on lines (λ k i. each (suc k) (omega arith)) (line-on g pixels (each 0 (omega arith))) (omega arith))
     where
       more : (n k : ℕ) → suc n + k ≡ n + suc k
       more n k = omega arith
 
--- Every strip of at least two lines of admitted width can be scanned, in whatever memory is lent.
-pub scanned : (t : WidthTable) → beginAnswer t ≡ passed → (w : ℕ) → Admitted 1 w → (held out : List ℤ) → heldLines * w ≤ length held → outLines * w ≤ length out
-    → (lines : List (List ℕ)) → 2 ≤ length lines → ((k : ℕ) → k < length lines → LineFor t w (getD lines k []))
-    → Scanned t (0 + length lines) (stripOf w [] lines)
-unfolding scanOf
-scanned t e w side held out held-room out-room lines two each =
-    lines-on t w side out out-room lines each
-    (record { scan = scanOf t; held = held; given = []; calls = begun held e; running = answered-done {o = beginAnswer t} false true e; width = λ i. absurd (omega arith); room = held-room })
-    (omega arith)
+module _ (t : WidthTable) (e : beginAnswer t ≡ passed) where
+  -- a scan that has begun
+  going-first : (w : ℕ) (held : List ℤ) → heldLines * w ≤ length held → Going t w 0 Zero []
+  unfolding scanOf
+  going-first w held room = record {
+    scan = scanOf t;
+    held = held;
+    given = [];
+    calls = begun held e;
+    taken = refl;
+    running = answered-done {o = beginAnswer t} false true e;
+    width = λ i. absurd (omega arith);
+    room = room;
+  }
+
+  -- Every strip of at least two lines of admitted width can be scanned, in whatever memory is lent.
+  pub scanned : (w : ℕ) → Admitted 1 w → (held out : List ℤ) → heldLines * w ≤ length held → outLines * w ≤ length out
+      → (lines : List (List ℕ)) → 2 ≤ length lines → ((k : ℕ) → k < length lines → LineFor t w (getD lines k []))
+      → Scanned t (0 + length lines) (stripOf w [] lines)
+  scanned w side held out held-room out-room lines two each = lines-on t w side out out-room lines each (going-first w held held-room) (omega arith)
 
 -- and there are tables with which a scan begins
 pub usual-begins : beginAnswer (usual 1) ≡ passed
@@ -271,3 +278,85 @@ two-scanned =
     each zero i = record { long = omega arith; below = two-below 10 200 (omega arith) (omega arith) }
     each (suc zero) i = record { long = omega arith; below = two-below 7 255 (omega arith) (omega arith) }
     each (suc (suc k)) i = absurd (omega arith)
+
+-- ---- which scans calls can leave
+
+-- some number of lines, k as far as it matters
+record Reached (t : WidthTable) (w : ℕ) (k : Taken) : Type 0 where
+  lines : ℕ
+  strip : List ℕ
+  going : Going t w lines k strip
+
+module _ (t : WidthTable) (e : beginAnswer t ≡ passed) (w : ℕ) (side : Admitted 1 w) where
+  black : LineFor t w (replicate w 0)
+  black = record { long = omega (arith, length-replicate {A = ℕ} w 0); below = λ k i. subst (λ (a : ℕ). a < 2 ^ t .depth) (sym (getD-replicate w k 0 0 i)) (pow-pos (t .depth)) }
+
+  reach : {k : Taken} → Reached t w k → Reached t w (next k)
+  reach r = record {
+    lines = suc (r .lines);
+    strip = r .strip ++ take w (replicate w 0);
+    going = line-on t w side (replicate (outLines * w) (pos 0)) (omega (arith, length-replicate (outLines * w) (pos 0))) (r .going) (replicate w 0) black;
+  }
+
+  none : Reached t w Zero
+  none = record { lines = 0; strip = []; going = going-first t e w (replicate (heldLines * w) (pos 0)) (omega (arith, length-replicate (heldLines * w) (pos 0))) }
+
+  reached : (k : Taken) → Reached t w k
+  reached Zero = none
+  reached One = reach none
+  reached Two = reach (reach none)
+  reached Three = reach (reach (reach none))
+  reached Four = reach (reach (reach (reach none)))
+  reached OddMany = reach (reach (reach (reach (reach none))))
+  reached EvenMany = reach (reach (reach (reach (reach (reach none)))))
+
+same-scan : (a b : Scan) → a .table ≡ b .table → a .width ≡ b .width → a .taken ≡ b .taken → a .ended ≡ b .ended → a ≡ b
+same-scan a b p q r e = λ i. record { table = p i; width = q i; taken = r i; ended = e i }
+
+no-line-is : (k : Taken) → T (not (anyTaken k)) → Zero ≡ k
+no-line-is Zero i = refl
+no-line-is One i = absurd i
+no-line-is Two i = absurd i
+no-line-is Three i = absurd i
+no-line-is Four i = absurd i
+no-line-is OddMany i = absurd i
+no-line-is EvenMany i = absurd i
+
+-- each scan that goes on was left by some calls
+module _ (s : Scan) (on : T (goesOn s)) where
+  left-some : T (anyTaken (s .taken)) → Left s
+  left-some i =
+      let t = s .table in
+      let r = reached t (on-begun s on) (s .width) (on-side s on i) (s .taken) in
+      let g = r .going in
+      let some = some-count (facts t (g .calls) .count) (subst (λ (k : Taken). T (anyTaken k)) (sym (g .taken)) i) in
+      let same : g .scan ≡ s = same-scan (g .scan) s (table-kept t (g .calls)) (sym (g .width some)) (g .taken) (g .running ∙ sym (on-running s on)) in
+      record { held = g .held; lines = r .lines; strip = r .strip; given = g .given; calls = subst (λ (a : Scan). Calls t a (g .held) (r .lines) (r .strip) (g .given)) same (g .calls) }
+
+  left-none : T (not (anyTaken (s .taken))) → Left s
+  unfolding scanOf
+  left-none i =
+      let t = s .table in
+      let e = on-begun s on in
+      let same : scanOf t ≡ s = same-scan (scanOf t) s refl (sym (on-unset s on i)) (no-line-is (s .taken) i) (answered-done {o = beginAnswer t} false true e ∙ sym (on-running s on)) in
+      record { held = []; lines = 0; strip = []; given = []; calls = subst (λ (a : Scan). Calls t a [] 0 [] []) same (begun [] e) }
+
+  pub left : Left s
+  left = go (anyTaken (s .taken)) left-some left-none
+    where
+      go : (b : Bool) → (T b → Left s) → (T (not b) → Left s) → Left s
+      go true p q = p tt
+      go false p q = q tt
+
+pub foreign-refused : ForeignRefused
+foreign-refused s foreign = (
+  (λ pixels w held out. line-is s pixels w held out ∙ line-ended s pixels w (length held) (length out) stops),
+  (λ held out. end-is s held out ∙ end-ended s (length held) (length out) stops),
+)
+  where
+    go : (b : Bool) → (T b → ⊥) → b ≡ false
+    go true f = absurd (f tt)
+    go false f = refl
+
+    stops : goesOn s ≡ false
+    stops = go (goesOn s) (λ on. foreign (left s on))

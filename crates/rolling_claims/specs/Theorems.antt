@@ -25,7 +25,8 @@ use Rattle.rolling.specs.declared.Scan.{Scan}
 use Rattle.rolling.specs.Schedule.{anyTaken, twoTaken}
 use Rattle.rolling.specs.Calls.{Sound, goesOn, heldLines, outLines, heldIn, lineAnswer, workedRow, givenByLine, scanAfter, endAnswer, givenByEnd, scanEnded}
 use Rattle.rolling_claims.specs.Claims.{readyP1, readyU1, readyP2, readyU2, lineReady, ready, ReadyLines, firstLines, BeforeEnd, AfterEnd, Counts, OneWidth, Fourteen, RefusedKeeps, SoundLeft, InWidths, NearExact}
-use Rattle.rolling_claims.specs.History.{Facts, facts, table-kept, count-some, some-count, count-two, two-count, line-count, end-count, begun-one, begun-accepted, goes-on, goes-running, line-right, two-lines-in, strip-now, sound-now}
+use Rattle.rolling.specs.AnswerLaws.{begun-one, begun-accepted, on-running}
+use Rattle.rolling_claims.specs.History.{Facts, facts, table-kept, count-some, some-count, count-two, two-count, line-count, end-count, goes-on, line-right, two-lines-in, strip-now, sound-now}
 
 -- ---- ready lines
 
@@ -146,7 +147,7 @@ end-test false false n a b = ((λ q. inr (few (decLt n 2))), (λ q. refl))
 
 -- a scan goes on until its end
 goes-is : (s : Scan) (held : List ℤ) (n : ℕ) (strip : List ℕ) (given : List ℤ) → Facts s held n strip given → goesOn s ≡ not (s .ended)
-goes-is s held n strip given f = go (goesOn s) (s .ended) (λ running. goes-on s (f .begun) running (λ i. f .side (some-count (f .count) i))) (goes-running s)
+goes-is s held n strip given f = go (goesOn s) (s .ended) (goes-on s held n strip given f) (on-running s)
   where
     go : (goes ended : Bool) → (ended ≡ false → T goes) → (T goes → ended ≡ false) → goes ≡ not ended
     go true true p q = absurd (subst T (q tt) tt)

@@ -1,29 +1,31 @@
--- A scan that was written is read back as itself (`read-written`). For the code: what each case of reading and writing gives.
-use Prim.Native.Nat.{ℕ, _+_, _*_, _<_, _≤_}
+-- A scan that was written is read back as itself (`read-written`), and bytes from which one was read are those it is written as
+-- (`written-read`). For the code: what each case of reading and writing gives.
+use Prim.Native.Nat.{ℕ, zero, suc, _+_, _*_, _/_, _%_, _<_, _≤_}
 use mathlib.Core.Bool.{Bool, true, false, _&&_}
-use mathlib.Core.List.{List, [], _++_, append-assoc}
+use mathlib.Core.List.{List, [], _∷_, _++_, append-assoc}
 use mathlib.Core.Path.{_≡_, refl, sym, _∙_, ap, ap₂, subst}
 use native.Mathlib.Omega.{arith}
 use native.Mathlib.Nat.{div-add-mod'}
 use lib.Dec.{T, leb, ltb, eqb, le→leb, leb→le, lt→ltb, ltb→lt, eqb→eq}
 use lib.ListN.{length, getD, set, take, drop, replicate, length-append, length-replicate, replicate-append-replicate}
-use lib.Seq.{sets, sets-eq, set-at, take-at, getD-append-add, length-front, length-take-le, drop-append-add, drop-drop, append-snoc}
-use Rattle.numbers.specs.Lists.{over, next-one}
-use Rattle.numbers.specs.Tests.{three, is-true, and-intro, left-false, right-false, by-eqb}
-use Rattle.refusals.specs.Answers.{Reason, done, refused, passed, answered}
+use lib.Seq.{sets, sets-eq, set-at, take-at, getD-append-add, length-front, length-take-le, take-add, drop-append-add, drop-drop, append-snoc}
+use Rattle.numbers.specs.Lists.{over, next-one, next-two}
+use Rattle.numbers.specs.Tests.{three, is-true, both, and-intro, left-false, right-false, by-eqb}
+use Rattle.refusals.specs.Answers.{Reason, Answer, done, refused, passed, asks, answered}
 use Rattle.refusals.specs.AnswerLaws.{asks-done, gives-done, asks-right, asks-wrong, answered-done, answered-refused}
 use Rattle.width_table.specs.declared.WidthTable.{WidthTable}
 use Rattle.width_table.specs.Table.{formRight}
 use Rattle.width_table.specs.Fields.{tableSize}
 use Rattle.width_table.specs.Bytes.{headed, field, formBy, form, tableIn, tableBytes, bytesAfter}
 use Rattle.width_table.specs.FormLists.{Sized}
-use Rattle.width_table.specs.BytesLaws.{right-form, bytes-length}
+use Rattle.width_table.specs.BytesLaws.{right-form, bytes-length, read-written as tables-back}
 use Rattle.width_table.specs.ReadLaws.{table-read}
 use Rattle.width_table.specs.RoundTrip.{written-reads}
 use Rattle.width_table.specs.WriteLaws.{table-written}
 use Rattle.rolling.specs.declared.Taken.{Taken}
 use Rattle.rolling.specs.declared.Taken.the-variants.{Zero, One, Two, Three, Four, OddMany, EvenMany}
 use Rattle.rolling.specs.declared.Scan.{Scan}
+use Rattle.rolling.specs.AnswerLaws.{answered-passed}
 use borrow.Author.Tests.{lt-leb}
 use Rattle.scan_bytes.specs.ScanBytes.{tableLength, scanLength, takenNumber, endedNumber, numberBytes, stateBytes, keepable, takenOf, scanHeld, scanRight, scanIn, stateWith, stateAfter, noScan}
 
@@ -247,6 +249,67 @@ unfolding scanIn
 read-is bytes s e =
     let found : done (scanHeld bytes) ≡ done s = asks-done (scanRight bytes) _ _ (asks-done (leb scanLength (length bytes)) _ _ e .1) .1 in
     gives-done passed (scanHeld bytes) found .1
+
+-- long enough, and yet no scan
+pub read-refused : (bytes : List ℕ) → scanLength ≤ length bytes → (r : Reason) → scanIn bytes ≡ refused r → scanIn bytes ≡ refused (14, [])
+unfolding scanIn
+read-refused bytes long r e =
+    let whole = asks-right (leb scanLength (length bytes)) _ (asks (scanRight bytes) 14 (done (scanHeld bytes))) (le→leb scanLength (length bytes) long) in
+    whole ∙ go (scanRight bytes) (sym whole ∙ e)
+  where
+    go : (b : Bool) → asks b 14 (done (scanHeld bytes)) ≡ refused r → asks b 14 (done (scanHeld bytes)) ≡ refused (14, [])
+    go true h = absurd (subst T (ap (λ (o : Answer Scan). answered o true false) h) tt)
+    go false h = refl
+
+-- ---- read, then written
+
+count-back : (n : ℕ) → n ≤ 6 → takenNumber (takenOf n) ≡ n
+count-back zero i = refl
+count-back (suc zero) i = refl
+count-back (suc (suc zero)) i = refl
+count-back (suc (suc (suc zero))) i = refl
+count-back (suc (suc (suc (suc zero)))) i = refl
+count-back (suc (suc (suc (suc (suc zero))))) i = refl
+count-back (suc (suc (suc (suc (suc (suc zero)))))) i = refl
+count-back (suc (suc (suc (suc (suc (suc (suc n))))))) i = absurd (omega arith)
+
+mark-back : (n : ℕ) → n ≤ 1 → endedNumber (eqb n 1) ≡ n
+mark-back zero i = refl
+mark-back (suc zero) i = refl
+mark-back (suc (suc n)) i = absurd (omega arith)
+
+module _ (bytes : List ℕ) (below : (k : ℕ) → k < length bytes → getD bytes k 0 < 256) (s : Scan) (e : scanIn bytes ≡ done s) where
+  tests : T (scanRight bytes)
+  unfolding scanIn
+  tests = asks-done (scanRight bytes) _ _ (asks-done (leb scanLength (length bytes)) _ _ e .1) .0
+
+  parts : (T (tabled bytes) × T (counted bytes)) × T (marked bytes)
+  unfolding scanRight
+  parts = let b = both (tabled bytes && counted bytes) (marked bytes) tests in (both (tabled bytes) (counted bytes) (b .0), b .1)
+
+  pub read-formed : form (take tableLength bytes) ≡ passed
+  read-formed = answered-passed (form (take tableLength bytes)) (parts .0 .0)
+
+  numbers-back : numberBytes (scanHeld bytes) ≡ take 4 (drop tableLength bytes)
+  numbers-back =
+      let long = read-long bytes s e in
+      let b : ℕ → ℕ = λ i. getD bytes (tableLength + i) 0 in
+      let low : b 1 < 256 = below (tableLength + 1) (omega arith) in
+      (λ i. high-byte (b 0) (b 1) low i ∷ low-byte (b 0) (b 1) low i ∷ count-back (b 2) (leb→le (b 2) 6 (parts .0 .1)) i ∷ mark-back (b 3) (leb→le (b 3) 1 (parts .1)) i ∷ [])
+      ∙ ap (take 4) (sym (next-two bytes 0 tableLength (omega arith) ∙ ap (λ (l : List ℕ). b 0 ∷ b 1 ∷ l) (next-two bytes 0 (tableLength + 2) (omega arith))))
+    where
+      high-byte : (a b : ℕ) → b < 256 → (a * 256 + b) / 256 ≡ a
+      high-byte a b i = omega arith
+
+      low-byte : (a b : ℕ) → b < 256 → (a * 256 + b) % 256 ≡ b
+      low-byte a b i = omega arith
+
+  pub written-read : stateBytes s ≡ take scanLength bytes
+  unfolding stateBytes
+  written-read =
+      ap stateBytes (sym (read-is bytes s e))
+      ∙ ap₂ (λ (a b : List ℕ). a ++ b) (tables-back (take tableLength bytes) read-formed) numbers-back
+      ∙ sym (take-add tableLength 4 bytes)
 
 -- zeros hold none
 pub zeros-hold-none : (more : List ℕ) → scanIn (noScan ++ more) ≡ refused (14, [])

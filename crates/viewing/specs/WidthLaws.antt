@@ -8,13 +8,9 @@ use native.Mathlib.Decide.{decLt}
 use native.Mathlib.Nat.{mul-le-mul, mul-le-mul-right, mul-comm}
 use native.Mathlib.Numerals.{add-one}
 use lib.Dec.{T}
-use lib.Pow.{pow-pos, pow-mono}
-use mir.Syntax.{w32}
-use mir.Val.{SFits}
-use lib.IntN.{ℤ, pos, negℤ, _-ℤ_}
+use lib.IntN.{ℤ, pos, negℤ}
 use lib.ListN.{length}
-use lib.Signed.{leZ, ltZ, mag, _≤ℤ_, _<ℤ_}
-use Rattle.numbers.specs.Dif.{by-dif, difs}
+use lib.Signed.{leZ, ltZ}
 use Rattle.numbers.specs.Tests.{every, both, and-intro}
 use Rattle.refusals.specs.Answers.{refused, passed, asks}
 use Rattle.lines.specs.Lines.{lows, highs}
@@ -23,7 +19,7 @@ use Rattle.lines.specs.PlaneLaws.{side-le}
 use Rattle.lines.specs.RowLaws.{every-row, every-row-at}
 use Rattle.width_table.specs.declared.WidthTable.{WidthTable}
 use Rattle.width_table.specs.Nodes.{Node, G1, G2, Pass, LowColumns, HighColumns, TableNode, nodeAt}
-use Rattle.width_table.specs.Table.{maxIntegerBits, maxFractionBits, integerBits, fractionBits}
+use Rattle.width_table.specs.Table.{integerBits, fractionBits}
 use Rattle.lifting.specs.Patch.{at}
 use Rattle.lifting.specs.Runs.{as-type}
 use Rattle.lifting.specs.PatchLines.{lineAt}
@@ -32,7 +28,7 @@ use Rattle.width_table.specs.Limits.{form-levels}
 use Rattle.precision.specs.Verdict.{Accepted}
 use Rattle.precision.specs.Promise.{promise}
 use Rattle.pictures.specs.Pictures.{planeOf, Admitted}
-use Rattle.pictures.specs.Looks.{Tells, Between}
+use Rattle.pictures.specs.Looks.{Tells, OfBits}
 use Rattle.irreversible.specs.Claims.{keptNode}
 use Rattle.irreversible.specs.LevelBits.{IsLevel}
 use Rattle.irreversible.specs.Subbands.{InPart, in-part?, kept-LL, kept-HL, kept-LH, kept-HH}
@@ -44,41 +40,13 @@ use Rattle.viewing.specs.Calls.{fitsWidth, inWidth, coefficientsRight}
 abbrev pub Fits : WidthTable → ℕ → Pass → Node → ℤ → Type 0
 Fits t l p n v = T (fitsWidth (integerBits t l p n) (fractionBits t l p n) v)
 
-below : (m v : ℤ) → v <ℤ m → v ≤ℤ (m -ℤ pos 1)
-below = by-dif _ λ a b. by-dif _ λ c d. simp difs (omega arith)
-
-not-above : (m v : ℤ) → v ≤ℤ (m -ℤ pos 1) → v <ℤ m
-not-above = by-dif _ λ a b. by-dif _ λ c d. simp difs (omega arith)
-
-abbrev half : ℕ → ℕ → ℤ
-half IB f = pos (2 ^ (IB + f - 1))
-
 -- as a look sees it
 module _ (IB f : ℕ) (v : ℤ) where
-  fits-between : T (fitsWidth IB f v) → Between (negℤ (half IB f)) (half IB f -ℤ pos 1) v
-  fits-between h =
-      let z = both (leZ (negℤ (half IB f)) v) (ltZ v (half IB f)) h in
-      (record { le = z .0 }, below (half IB f) v (record { lt = z .1 }))
+  fits-bits : T (fitsWidth IB f v) → OfBits (IB + f - 1) v
+  fits-bits h = let z = both (leZ (negℤ (pos (2 ^ (IB + f - 1)))) v) (ltZ v (pos (2 ^ (IB + f - 1)))) h in (record { le = z .0 }, record { lt = z .1 })
 
-  between-fits : Between (negℤ (half IB f)) (half IB f -ℤ pos 1) v → T (fitsWidth IB f v)
-  between-fits b = and-intro (leZ (negℤ (half IB f)) v) (ltZ v (half IB f)) (b .0 .le) (not-above (half IB f) v (b .1) .lt)
-
--- ---- its limits fit 32 bits
-
-pub half-some : (k : ℕ) → 1 ≤ 2 ^ k
-half-some k = pow-pos k
-
-pub half-small : (bits : ℕ) → (1 ≤ bits) × (bits ≤ maxIntegerBits + maxFractionBits) → 2 ^ (bits - 1) ≤ 2 ^ 31
-half-small bits h = pow-mono {i = bits - 1} {j = 31} (omega arith)
-
-pub least-fits : (n : ℕ) → 1 ≤ n → n ≤ 2 ^ 31 → SFits w32 (negℤ (pos n))
-least-fits n a b = record { sfits = simp difs (omega arith) }
-
-pub most-fits : (n : ℕ) → 1 ≤ n → n ≤ 2 ^ 31 → SFits w32 (pos n -ℤ pos 1)
-most-fits n a b = record { sfits = law (pos n) (simp difs (omega arith)) (simp difs (omega arith)) }
-  where
-    law : (z : ℤ) → pos 1 ≤ℤ z → z ≤ℤ pos (2 ^ 31) → mag (z -ℤ pos 1) < 2 ^ 31
-    law = by-dif _ λ a b. simp difs (omega arith)
+  bits-fits : OfBits (IB + f - 1) v → T (fitsWidth IB f v)
+  bits-fits b = and-intro (leZ (negℤ (pos (2 ^ (IB + f - 1)))) v) (ltZ v (pos (2 ^ (IB + f - 1)))) (b .0 .le) (b .1 .lt)
 
 -- ---- the subbands of a level
 
@@ -91,13 +59,13 @@ pub record LookReady (t : WidthTable) (l : ℕ) (plane : List ℤ) (W w h : ℕ)
 abbrev pub PartFits : WidthTable → ℕ → Pass → Node → (ℕ → ℤ) → ℕ → ℕ → ℕ → ℕ → Type 0
 PartFits t l p n x from W w h = (i : ℕ) → i < h → (j : ℕ) → j < w → Fits t l p n (rowOf W from x i j)
 
--- what a look between the limits of the width tells
+-- what a look over their bits tells
 pub tells-fits : (t : WidthTable) (l : ℕ) (p : Pass) (n : Node) (x : ℕ → ℤ) (from W w h : ℕ) (r : Bool)
-    → Tells ((i : ℕ) → i < h → (j : ℕ) → j < w → Between (negℤ (half (integerBits t l p n) (fractionBits t l p n))) (half (integerBits t l p n) (fractionBits t l p n) -ℤ pos 1) (rowOf W from x i j)) r
+    → Tells ((i : ℕ) → i < h → (j : ℕ) → j < w → OfBits (integerBits t l p n + fractionBits t l p n - 1) (rowOf W from x i j)) r
     → Tells (PartFits t l p n x from W w h) r
 tells-fits t l p n x from W w h r look = record {
-  holds = λ e i a j b. between-fits (integerBits t l p n) (fractionBits t l p n) (rowOf W from x i j) (look .holds e i a j b);
-  told = λ f. look .told (λ i a j b. fits-between (integerBits t l p n) (fractionBits t l p n) (rowOf W from x i j) (f i a j b));
+  holds = λ e i a j b. bits-fits (integerBits t l p n) (fractionBits t l p n) (rowOf W from x i j) (look .holds e i a j b);
+  told = λ f. look .told (λ i a j b. fits-bits (integerBits t l p n) (fractionBits t l p n) (rowOf W from x i j) (f i a j b));
 }
 
 -- a plane of admitted sides under an accepted table can be looked at

@@ -1,14 +1,14 @@
 // Viewing a stored strip: the picture of a 9/7 plane (document 02, job 1).
 ghost use mathlib.Core.Path.{_≡_};
 ghost use Prim.Native.Nat.{ℕ, _+_, _*_, _-_, _<_, _≤_, _^_};
-ghost use lib.IntN.{pos, negℤ, natAbs, _-ℤ_};
+ghost use lib.IntN.{pos, natAbs};
 ghost use lib.ListN.{length, getD};
 ghost use Rattle.numbers.specs.Lists.{over};
 ghost use Rattle.refusals.specs.Told.{told};
 ghost use Rattle.lines.specs.Planes.{rowByRow};
 ghost use Rattle.lifting.specs.Patch.{at, patch};
 ghost use Rattle.lifting.specs.PatchLines.{lineAt};
-ghost use Rattle.width_table.specs.Table.{maxIntegerBits, maxFractionBits, maxDepth, maxLevels, fractionBits};
+ghost use Rattle.width_table.specs.Table.{maxDepth, maxLevels, fractionBits};
 ghost use Rattle.width_table.specs.Nodes.{G1, LowColumns};
 ghost use Rattle.width_table.specs.Numbered.{nodeOf, passOf, IsNode, IsPass};
 ghost use Rattle.irreversible.specs.LevelBits.{IsLevel};
@@ -34,22 +34,6 @@ const LINE: usize = pictures::MAX_SIDE + 6;
 // The fractional bits of a value.
 const VALUE_BITS: u8 = unlifting::NODE_BITS as u8;
 
-// The least number of so many bits.
-fn least_in(bits: u8) -> i32
-    requires { ⌜ (1 ≤ bits) × (bits ≤ maxIntegerBits + maxFractionBits) ⌝ }
-    ensures { λ r. ⌜ r ≡ negℤ (pos (2 ^ (bits - 1))) ⌝ }
-{
-    (-irreversible::power(bits - 1)) as i32
-}
-
-// The greatest number of so many bits.
-fn most_in(bits: u8) -> i32
-    requires { ⌜ (1 ≤ bits) × (bits ≤ maxIntegerBits + maxFractionBits) ⌝ }
-    ensures { λ r. ⌜ r ≡ pos (2 ^ (bits - 1)) -ℤ pos 1 ⌝ }
-{
-    (irreversible::power(bits - 1) - 1) as i32
-}
-
 // Whether the coefficients of a part of w columns and h rows, which starts at a place, are in the width of a node.
 fn part_fits(
     table: WidthTable,
@@ -67,7 +51,7 @@ fn part_fits(
     ensures { λ r. ⌜ Tells (PartFits table level (passOf pass) (nodeOf node) (at (now (plane .entry))) from stride w h) r ⌝ }
 {
     let bits = table.integer_bits(level, pass, node) + table.fraction_bits(level, pass, node);
-    pictures::part_between(plane, from, stride, w, h, least_in(bits), most_in(bits))
+    pictures::part_of_bits(plane, from, stride, w, h, bits - 1)
 }
 
 // Whether HL, LH and HH of a level are in the widths of their nodes.

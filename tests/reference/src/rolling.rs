@@ -175,9 +175,8 @@ impl State {
         }
         let width = usize::from(u16::from_be_bytes([rest[0], rest[1]]));
         let taken = Taken::from_byte(rest[2])?;
-        // before the first line the width says nothing
         let right_width = match taken {
-            Taken::Exactly(0) => true,
+            Taken::Exactly(0) => width == 0,
             _ => side_admitted(width, LEVELS),
         };
         let ended = match rest[3] {
@@ -525,8 +524,8 @@ mod tests {
                 }
             }
         }
-        assert!(is_one([0, 0, 0, 0]) && is_one([0, 0, 0, 1]) && is_one([255, 255, 0, 0]));
-        assert!(!is_one([0, 2, 7, 0]) && !is_one([0, 2, 2, 2]));
+        assert!(is_one([0, 0, 0, 0]) && is_one([0, 0, 0, 1]));
+        assert!(!is_one([0, 2, 0, 0]) && !is_one([0, 2, 7, 0]) && !is_one([0, 2, 2, 2]));
         let mut refused = bytes.clone();
         refused[20] = 2;
         assert_eq!(State::read(&[&refused[..], &[0; 4]].concat()), None);

@@ -5,44 +5,28 @@ use lib.IntN.{ℤ, pos, _*ℤ_}
 use Rattle.stages.specs.Fixed.{nearest}
 use Rattle.irreversible.specs.Constants.{constantOf}
 use Rattle.width_table.specs.Numbered.{nodeOf}
-use Rattle.width_table.specs.Table.{constantBits}
 use Rattle.irreversible.specs.StepLaws.{stepTop, stepOf}
-use Rattle.irreversible.specs.KernelLaws.{stageOf}
-use Rattle.irreversible.specs.SafeLaws.{ConstantBits, constant-raised}
-use Rattle.irreversible.specs.LevelBits.{constant-is}
+use Rattle.irreversible.specs.SafeLaws.{constant-raised}
 use Rattle.irreversible.proofs.Read.{back, got, fits-at}
 use Rattle.irreversible.proofs.stage.Statement.{statement}
 use Rattle.irreversible.proofs.stage.Tie as tie
 
-bits : (c : tie.After-constant-bits) → (c .constant-bits .result ≡ constantBits (c .before .args .table) (nodeOf (c .before .args .node))) × ConstantBits (c .constant-bits .result)
-bits c = let s = c .before in constant-is (s .args .table) (s .pre .0) (s .args .node) (s .pre .1) (c .constant-bits .ensures)
-
-constant : (c : tie.After-nearest-at) → back (c .nearest-at .result) ≡ nearest (constantOf (nodeOf (c .before .before .args .node))) (c .before .constant-bits .result)
+constant : (c : tie.After-nearest-at) → let a = c .before .args in back (c .nearest-at .result) ≡ nearest (constantOf (nodeOf (a .node))) (a .bits)
 constant c = got (c .nearest-at .ok) (c .nearest-at .ensures)
 
 step-of-requires : tie.Need-step-of-requires
 step-of-requires c κs =
-    let k = c .before .constant-bits in
-    let limits = bits (c .before) .1 in
-    let s = c .before .before in
+    let s = c .before in
     let a = s .args in
-    let top : ℕ = stepTop (k .result) (a .sides) (a .own) (a .kept) in (
-      (limits, s .pre .2, s .pre .3, s .pre .4),
-      fits-at (ap (λ (z : ℤ). z *ℤ pos (2 ^ (top - (k .result + a .sides)))) (constant c)) (constant-raised (nodeOf (a .node)) (k .result) (a .sides) top limits (omega arith) (omega arith)),
+    let top : ℕ = stepTop (a .bits) (a .sides) (a .own) (a .kept) in (
+      (s .pre .1, s .pre .2, s .pre .3, s .pre .4),
+      fits-at (ap (λ (z : ℤ). z *ℤ pos (2 ^ (top - (a .bits + a .sides)))) (constant c)) (constant-raised (nodeOf (a .node)) (a .bits) (a .sides) top (s .pre .1) (omega arith) (omega arith)),
     )
 
 returns : tie.Need-returns
 returns c =
-    let k = c .before .before .constant-bits in
-    let a = c .before .before .before .args in
-    c .step-of .ensures ∙ ap (λ (z : ℤ). stepOf z (k .result) (a .sides) (a .own) (a .kept)) (constant (c .before))
-    ∙ ap (λ (F : ℕ). stageOf (constantOf (nodeOf (a .node))) F (a .sides) (a .own) (a .kept)) (bits (c .before .before) .0)
+    let a = c .before .before .args in
+    c .step-of .ensures ∙ ap (λ (z : ℤ). stepOf z (a .bits) (a .sides) (a .own) (a .kept)) (constant (c .before))
 
 pub stage-spec : {M : Type 1} → statement M
-stage-spec =
-    tie.close
-    (tie.spec
-    (λ c κs. tt)
-    (λ c κs. (c .before .pre .1, bits c .1))
-    step-of-requires
-    returns)
+stage-spec = tie.close (tie.spec (λ c κs. (c .pre .0, c .pre .1)) step-of-requires returns)

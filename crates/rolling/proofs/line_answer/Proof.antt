@@ -12,7 +12,7 @@ use Rattle.pictures.specs.PictureLaws.{side-is}
 use Rattle.precision.specs.Promise.{promise}
 use Rattle.rolling.specs.Calls.{goesOn}
 use Rattle.rolling.specs.Schedule.{anyTaken}
-use Rattle.rolling.specs.AnswerLaws.{unasked, asked-right, eqb-true, as-test, begun, on-begun, line-ended, line-other, line-side, line-short, line-held, line-out, line-pixels}
+use Rattle.rolling.specs.AnswerLaws.{unasked, asked-right, eqb-true, as-test, begun-accepted, on-begun, line-ended, line-other, line-side, line-short, line-held, line-out, line-pixels}
 use Rattle.rolling.proofs.line_answer.Statement.{statement}
 use Rattle.rolling.proofs.line_answer.Tie as tie
 
@@ -80,7 +80,7 @@ pixels-right-requires c κs =
     let d = c .before .before .before .before in
     let o = d .before .before .before .before in
     let a = o .before .before .before .args in
-    let ok = begun (a .scan .table) (on-begun (a .scan) (as-test (on o))) .0 in
+    let ok = begun-accepted (a .scan .table) (on-begun (a .scan) (as-test (on o))) in
     (form-depth (a .scan .table) (promise (a .scan .table) ok .form) .1, side-is 1 (a .w) (as-test (side d)) .1, omega arith, omega arith)
 
 returns-7 : tie.Need-returns-7

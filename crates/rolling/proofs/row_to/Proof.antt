@@ -9,12 +9,15 @@ use lib.ListN.{length, getD}
 use Rattle.lines.specs.Planes.{OnLine}
 use Rattle.width_table.specs.Limits.{form-depth}
 use Rattle.width_table.specs.Nodes.{Rows}
+use Rattle.lifting.specs.declared.Kernel.{Kernel}
+use Rattle.lifting.specs.declared.Kernel.the-variants.{Two}
 use Rattle.lifting.specs.Patch.{at, patch}
-use Rattle.lifting.specs.Kernels.{worked}
+use Rattle.lifting.specs.Kernels.{worked, SameKernel}
 use Rattle.lifting.specs.Strips.{pixelLine}
 use Rattle.pictures.specs.Pictures.{sample}
 use Rattle.precision.specs.Promise.{promise}
 use Rattle.irreversible.specs.KernelLaws.{kernelOf, worked-fixed}
+use Rattle.irreversible.specs.StagesLaws.{stages-kernel}
 use Rattle.rolling.specs.Memory.{setLine, in-lent}
 use Rattle.rolling.specs.Small.{line-kernel-safe}
 use Rattle.rolling.proofs.row_to.Statement.{statement}
@@ -31,35 +34,40 @@ samples s middle e = λ u k. pos (getD (s .args .pixels .now) (same k u) 0) -ℤ
     same : (k : ℕ) → 0 + k ≡ 0 * s .args .w + k
     same k = omega arith
 
+abbrev kernel : tie.After-stages-of → Kernel
+kernel k = Two (k .stages-of .result .first) (k .stages-of .result .second) (k .stages-of .result .low) (k .stages-of .result .high)
+
+-- the stages are the kernel of the rows of level 1
+rows-kernel : (k : tie.After-stages-of) → SameKernel (kernelOf (k .before .before .before .args .table) 1 Rows) (kernel k)
+rows-kernel k = stages-kernel (k .before .before .before .args .table) 1 Rows (k .stages-of .result) (k .stages-of .ensures)
+
 pixel-line-requires : tie.Need-pixel-line-requires
-unfolding kernelOf
 pixel-line-requires c κs =
-    let k = c .before .before in
+    let k = c .before .before .before in
     let s = k .before .before .before in
     let right = s .pre .0 in (
-      (omega (arith, s .pre .1 .narrow), record { least = omega (arith, right .side .0) }, right .long, line-in s, omega (arith, s .pre .1 .narrow), k .kernel-of .ensures .way tt),
-      k .kernel-of .ensures .safe _ _ (line-kernel-safe (s .args .table) (right .accepted) (right .one) (s .args .pixels .now) (s .args .w) (right .side) (right .long) (right .below) _ (λ i h. ap (λ (x : ℕ → ℤ). x i) (samples s _ (k .before .middle .ensures)))),
+      (omega (arith, s .pre .1 .narrow), record { least = omega (arith, right .side .0) }, right .long, line-in s),
+      rows-kernel k .safe _ _ (line-kernel-safe (s .args .table) (right .accepted) (right .one) (s .args .pixels .now) (s .args .w) (right .side) (right .long) (right .below) _ (λ i h. ap (λ (x : ℕ → ℤ). x i) (samples s _ (k .before .middle .ensures)))),
     )
 
 returns : tie.Need-returns
 unfolding setLine
 returns c =
-    let p = c .before .before in
-    let k = p .before .before .before in
+    let p = c .before in
+    let k = p .before .before .before .before in
     let s = k .before .before .before in
     let a = s .args in
-    p .pixel-line .ensures .0
-    ∙ (λ u. patch (a .line * a .w) (a .w) (worked (k .kernel-of .result) (a .w) (samples s _ (k .before .middle .ensures) u)) (at (a .held .now)))
-    ∙ ap (λ (g : OnLine ℤ). patch (a .line * a .w) (a .w) (g (a .w) (sample (a .pixels .now) (a .table .depth) (a .w) 0)) (at (a .held .now))) (k .kernel-of .ensures .same ∙ worked-fixed (a .table) 1 Rows)
+    p .pixel-line .ensures
+    ∙ (λ u. patch (a .line * a .w) (a .w) (worked (kernel k) (a .w) (samples s _ (k .before .middle .ensures) u)) (at (a .held .now)))
+    ∙ ap (λ (g : OnLine ℤ). patch (a .line * a .w) (a .w) (g (a .w) (sample (a .pixels .now) (a .table .depth) (a .w) 0)) (at (a .held .now))) (rows-kernel k .same ∙ worked-fixed (a .table) 1 Rows)
 
 pub row-to-spec : {M : Type 1} → statement M
 row-to-spec =
     tie.close
     (tie.spec
     (λ c κs. let s = c .before in form-depth (s .args .table) (promise (s .args .table) (s .pre .0 .accepted) .form))
-    (λ c κs. let s = c .before .before in (record { accepted = s .pre .0 .accepted; least = omega arith; most = omega (arith, s .pre .0 .one) }, (omega arith, omega arith)))
-    (λ c. omega (arith, line-in (c .before .before .before .before)))
-    (λ c. search needs)
+    (λ c κs. search needs)
+    (λ c. omega (arith, line-in (c .before .before .before .before .before .before)))
     pixel-line-requires
     (λ c. search needs)
     returns)

@@ -17,8 +17,8 @@ use Rattle.rolling.specs.Calls.{beginAnswer, scanOf, outLines, lineAnswer, give
 use Rattle.rolling.specs.AnswerLaws.{begun-one, begun-accepted, on-begun, on-two}
 use Rattle.rolling_claims.specs.History.{line-right, end-right}
 use Rattle.rolling_claims.specs.Possible.{line-few, end-few}
-use Rattle.scan_bytes.specs.ScanBytes.{scanLength, stateBytes, keepable, scanIn, stateWith, stateAfter, noScan}
-use Rattle.scan_bytes.specs.ByteLaws.{can-keep, kept, room, read-long}
+use Rattle.scan_bytes.specs.ScanBytes.{scanLength, stateBytes, keepable, scanIn, stateWith, stateAfter, numbersAfter, noScan}
+use Rattle.scan_bytes.specs.ByteLaws.{can-keep, kept, renewed-written}
 use borrow.Author.Tests.{lt-leb}
 use Rattle.engine.specs.ScanAnswers.{begins, scanBeginAnswer, scanBeginState, givenAfter, OnScan, OnBytes}
 
@@ -28,6 +28,14 @@ module _ (s : Scan) (begun : beginAnswer (s .table) ≡ passed) (narrow : s .wid
   pub begun-kept : keepable s ≡ true
   begun-kept = can-keep s (promise (s .table) (begun-accepted (s .table) begun) .form) (begun-one (s .table) begun) narrow
 
+-- a scan with the same table, whose width two bytes hold
+pub record Renews (s after : Scan) : Type 0 where
+  pub table : after .table ≡ s .table
+  pub narrow : after .width < 65536
+
+renews-kept : (s after : Scan) → Renews s after → beginAnswer (s .table) ≡ passed → keepable after ≡ true
+renews-kept s after r begun = begun-kept after (ap beginAnswer (r .table) ∙ begun) (r .narrow)
+
 module _ (s : Scan) (pixels : List ℕ) (w : ℕ) (held out : List ℤ) {o : Answer ℕ} {s′ : Scan} {held′ out′ : List ℤ} (call : LineCall s pixels w held out o s′ held′ out′) (m : ℕ) (e : o ≡ done m) where
   line-passes : (lineAnswer s pixels w held out ≡ passed) × (length (givenByLine s pixels w held out) ≡ m)
   line-passes = gives-done (lineAnswer s pixels w held out) (length (givenByLine s pixels w held out)) (sym (call .answer-is) ∙ e)
@@ -36,12 +44,14 @@ module _ (s : Scan) (pixels : List ℕ) (w : ℕ) (held out : List ℤ) {o : Ans
   unfolding givenByLine
   line-gives-few = subst (λ (k : ℕ). k ≤ outLines) (line-passes .1) (line-few (s .table) w (s .taken) _ _)
 
-  pub line-kept : keepable s′ ≡ true
+  pub line-renews : Renews s s′
   unfolding scanAfter
-  line-kept =
-      let right = line-right s pixels w held out (line-passes .0) in
-      subst (λ (s : Scan). keepable s ≡ true) (sym (call .scan-is ∙ answered-done (scanAfter s pixels w held out) s (line-passes .0)))
-      (begun-kept (scanAfter s pixels w held out) (on-begun s (right .goes)) (omega (arith, right .side .1)))
+  line-renews =
+      subst (Renews s) (sym (call .scan-is ∙ answered-done (scanAfter s pixels w held out) s (line-passes .0)))
+      (record { table = refl; narrow = omega (arith, line-right s pixels w held out (line-passes .0) .side .1) })
+
+  pub line-kept : keepable s′ ≡ true
+  line-kept = renews-kept s s′ line-renews (on-begun s (line-right s pixels w held out (line-passes .0) .goes))
 
 module _ (s : Scan) (held out : List ℤ) {o : Answer ℕ} {s′ : Scan} {held′ out′ : List ℤ} (call : EndCall s held out o s′ held′ out′) (m : ℕ) (e : o ≡ done m) where
   end-passes : (endAnswer s held out ≡ passed) × (length (givenByEnd s held out) ≡ m)
@@ -51,12 +61,15 @@ module _ (s : Scan) (held out : List ℤ) {o : Answer ℕ} {s′ : Scan} {held�
   unfolding givenByEnd
   end-gives-few = subst (λ (k : ℕ). k ≤ outLines) (end-passes .1) (end-few (s .table) (s .width) (s .taken) _)
 
-  pub end-kept : keepable s′ ≡ true
+  pub end-renews : Renews s s′
   unfolding scanEnded
-  end-kept =
+  end-renews =
       let right = end-right s held out (end-passes .0) in
-      subst (λ (s : Scan). keepable s ≡ true) (sym (call .scan-is ∙ answered-done (scanEnded s held out) s (end-passes .0)))
-      (begun-kept (scanEnded s held out) (on-begun s (right .goes)) (omega (arith, on-two s (right .goes) (right .two) .1)))
+      subst (Renews s) (sym (call .scan-is ∙ answered-done (scanEnded s held out) s (end-passes .0)))
+      (record { table = refl; narrow = omega (arith, on-two s (right .goes) (right .two) .1) })
+
+  pub end-kept : keepable s′ ≡ true
+  end-kept = renews-kept s s′ end-renews (on-begun s (end-right s held out (end-passes .0) .goes))
 
 -- ---- begin
 
@@ -117,14 +130,14 @@ module _ (Call : Scan → Answer ℕ → Scan → List ℤ → List ℤ → Type
 
   -- a state that holds one
   pub on-some : (s : Scan) → scanIn state ≡ done s → (answer : Answer ℕ) (after : Scan) {state′ : List ℕ} {held′ out′ : List ℤ} {given′ : ℕ} → Call s answer after held′ out′
-      → ((m : ℕ) → answer ≡ done m → keepable after ≡ true)
-      → r ≡ code answer → state′ ≡ answered answer (stateAfter after state) state → given′ ≡ givenAfter answer given
+      → ((m : ℕ) → answer ≡ done m → Renews s after)
+      → r ≡ code answer → state′ ≡ answered answer (numbersAfter (after .width) (after .taken) (after .ended) state) state → given′ ≡ givenAfter answer given
       → OnBytes Call state held out given r state′ held′ out′ given′
-  on-some s e answer after {state′} {held′} {out′} {given′} call can r-is state-is given-is = record {
+  on-some s e answer after {state′} {held′} {out′} {given′} call renews r-is state-is given-is = record {
     no-scan = λ why q. absurd (never why s q e);
-    on-scan = λ other q. let z : s ≡ other = cc in subst (λ (s : Scan). OnScan (Call s) state given r state′ held′ out′ given′) z (record { answer = answer; after = after; call = call; answer-is = r-is; state-is = state-is ∙ put answer can; given-is = given-is });
+    on-scan = λ other q. let z : s ≡ other = cc in subst (λ (s : Scan). OnScan (Call s) state given r state′ held′ out′ given′) z (record { answer = answer; after = after; call = call; answer-is = r-is; state-is = state-is ∙ put answer renews; given-is = given-is });
   }
     where
-      put : (o : Answer ℕ) → ((m : ℕ) → o ≡ done m → keepable after ≡ true) → answered o (stateAfter after state) state ≡ answered o (over (stateBytes after) state) state
-      put (done m) can = sym (kept after state (can m refl)) ∙ sym (room (stateBytes after) state (read-long state s e))
-      put (refused why) can = refl
+      put : (o : Answer ℕ) → ((m : ℕ) → o ≡ done m → Renews s after) → answered o (numbersAfter (after .width) (after .taken) (after .ended) state) state ≡ answered o (over (stateBytes after) state) state
+      put (done m) renews = let k = renews m refl in renewed-written state s e after (k .table) (k .narrow)
+      put (refused why) renews = refl

@@ -12,7 +12,7 @@ ghost use Rattle.reversible.specs.Calls.{forwardAnswer, forwardPlane, forwardWo
 ghost use Rattle.engine.specs.Answers.{checked, boundAnswered, rangeAfter, errorAfter, startAfter, lengthAfter, changeAnswer, changeOut, constantChangeAnswer, constantChangeOut, tableFrom, answer97, plane97, work97, viewChecked, distanceAfter, viewAnswer97, viewPixels97, viewWork97};
 ghost use Rattle.rolling.specs.Calls.{outLines};
 ghost use Rattle.rolling.specs.Told.{toldGiven};
-ghost use Rattle.scan_bytes.specs.ScanBytes.{scanLength, stateWith, stateAfter, noScan};
+ghost use Rattle.scan_bytes.specs.ScanBytes.{scanLength, stateWith, stateAfter, numbersAfter, noScan};
 ghost use Rattle.engine.specs.ScanAnswers.{scanBeginAnswer, scanBeginState, givenAfter, LineOnBytes, EndOnBytes};
 use refusals::Outcome;
 use refusals::Refusal;
@@ -370,11 +370,11 @@ pub extern "C" fn suz_scan_begin(table: &[u8], state: &mut [u8]) -> u32
     }
 }
 
-// What a line or an end left goes to the state, and how many lines it gave.
+// The numbers of the scan that a line or an end left go to the state, after the table, which stays; and how many lines it gave.
 fn scan_went(scanned: Scanned, state: &mut [u8], given: &mut u32) -> u32
     requires { ⌜ ((m : ℕ) → toldGiven (scanned .given) ≡ done m → m ≤ outLines) ⌝ }
     ensures answer { λ r. ⌜ r ≡ code (toldGiven (scanned .given)) ⌝ }
-    ensures state { λ _. ⌜ now (state .exit) ≡ answered (toldGiven (scanned .given)) (stateAfter (scanned .scan) (now (state .entry))) (now (state .entry)) ⌝ }
+    ensures state { λ _. ⌜ now (state .exit) ≡ answered (toldGiven (scanned .given)) (numbersAfter (scanned .scan .width) (scanned .scan .taken) (scanned .scan .ended) (now (state .entry))) (now (state .entry)) ⌝ }
     ensures given { λ _. ⌜ now (given .exit) ≡ givenAfter (toldGiven (scanned .given)) (now (given .entry)) ⌝ }
 {
     let answer = scanned.given;
@@ -382,7 +382,8 @@ fn scan_went(scanned: Scanned, state: &mut [u8], given: &mut u32) -> u32
         Given::NotGiven(why) => refusal_code(why),
         Given::Lines(lines) => {
             let scan = scanned.scan;
-            scan_bytes::write(scan, state);
+            let taken = scan.taken;
+            scan_bytes::renew(scan.width, taken, scan.ended, state);
             *given = lines as u32;
             0
         }

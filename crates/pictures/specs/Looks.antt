@@ -58,8 +58,8 @@ module _ (P : ℕ → Type 0) where
 abbrev pub aboveLeast : ℕ → ℤ → ℕ
 aboveLeast top z = (raised z + (2147483648 + top)) % 4294967296
 
-pub above-is : (top x r : ℕ) → top ≤ 2147483648 → r < 4294967296 → (r + (2147483648 - top)) % 4294967296 ≡ x → r ≡ (x + (2147483648 + top)) % 4294967296
-above-is top x r few small e = omega arith
+pub above-is : (top x : ℕ) → ((x + 2147483648) % 4294967296 + top) % 4294967296 ≡ (x + (2147483648 + top)) % 4294967296
+above-is top x = omega arith
 
 -- so it is below twice the top where the number is between
 module _ (m : ℕ) where

@@ -183,10 +183,10 @@ pub fn part_between(
 
 // How far a value lies above -top, where 2 ^ 32 counts as 0.
 fn above(v: i32, top: u32) -> u32
-    requires { ⌜ top ≤ 2147483648 ⌝ }
     ensures { λ r. ⌜ r ≡ aboveLeast top v ⌝ }
 {
-    std::num::wrapping_sub_u32(lifting::raise(v), 2147483648 - top)
+    let bits = std::num::wrapping_add_u32(lifting::raise(v), 2147483648);
+    std::num::wrapping_add_u32(bits, top)
 }
 
 // Whether n values from a place on are numbers of so many bits beside the sign. The bits of what they lie above the least are gathered,

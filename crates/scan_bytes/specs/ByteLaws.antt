@@ -26,8 +26,8 @@ use Rattle.rolling.specs.declared.Taken.{Taken}
 use Rattle.rolling.specs.declared.Taken.the-variants.{Zero, One, Two, Three, Four, OddMany, EvenMany}
 use Rattle.rolling.specs.declared.Scan.{Scan}
 use Rattle.rolling.specs.AnswerLaws.{answered-passed}
-use borrow.Author.Tests.{lt-leb}
-use Rattle.scan_bytes.specs.ScanBytes.{tableLength, scanLength, takenNumber, endedNumber, numberBytes, stateBytes, keepable, takenOf, scanHeld, scanRight, scanIn, stateWith, stateAfter, noScan}
+use borrow.Author.Tests.{lt-leb, le-ltb}
+use Rattle.scan_bytes.specs.ScanBytes.{tableLength, scanLength, takenNumber, endedNumber, numbersOf, numberBytes, stateBytes, keepable, takenOf, scanHeld, scanRight, scanIn, stateWith, stateAfter, numbersAfter, noScan}
 
 -- ---- what bytes can hold
 
@@ -198,20 +198,54 @@ module _ (s : Scan) (old : List ℕ) where
   unfolding stateAfter
   kept e = sym (ap (λ (b : Bool). elim b [ true ↦ stateWith (stateBytes s) old | false ↦ old ]) e)
 
--- the table's bytes, and four stores after them
+-- four stores after the table's bytes
+module _ (w : ℕ) (k : Taken) (ended : Bool) (old : List ℕ) where
+  abbrev renewed : Bool → List ℕ
+  renewed b = elim b [ true ↦ take tableLength old ++ numbersOf w k ended ++ drop scanLength old | false ↦ old ]
+
+  pub numbers-short : length old < scanLength → old ≡ numbersAfter w k ended old
+  unfolding numbersAfter
+  numbers-short h = sym (ap renewed (left-false (leb scanLength (length old)) (ltb w 65536) (lt-leb scanLength (length old) h)))
+
+  pub numbers-wide : 65535 < w → old ≡ numbersAfter w k ended old
+  unfolding numbersAfter
+  numbers-wide h = sym (ap renewed (right-false (leb scanLength (length old)) (ltb w 65536) (le-ltb w 65536 (omega arith))))
+
+  module _ (long : scanLength ≤ length old) (narrow : w < 65536) where
+    numbers-are : numbersAfter w k ended old ≡ take tableLength old ++ numbersOf w k ended ++ drop scanLength old
+    unfolding numbersAfter
+    numbers-are =
+        let b = leb scanLength (length old) && ltb w 65536 in
+        ap renewed (is-true b (and-intro (leb scanLength (length old)) (ltb w 65536) (le→leb scanLength (length old) long) (lt→ltb w 65536 narrow)))
+
+    pub numbers-put : sets old tableLength (numbersOf w k ended) ≡ numbersAfter w k ended old
+    numbers-put = sets-eq (numbersOf w k ended) old tableLength (omega arith) ∙ sym numbers-are
+
+-- where the table's bytes stand there already, the scan is written
+module _ (s : Scan) (old : List ℕ) (long : scanLength ≤ length old) (narrow : s .width < 65536) (stands : take tableLength old ≡ tableBytes (s .table)) where
+  pub numbers-written : numbersAfter (s .width) (s .taken) (s .ended) old ≡ over (stateBytes s) old
+  unfolding stateBytes
+  numbers-written =
+      let t = tableBytes (s .table) in
+      let b = numberBytes s in
+      let size : length (t ++ b) ≡ scanLength = length-append t b ∙ ap (λ (n : ℕ). n + 4) (ap (λ (l : List ℕ). length l) (sym stands) ∙ length-take-le tableLength old (omega arith)) in
+      numbers-are (s .width) (s .taken) (s .ended) old long narrow
+      ∙ ap₂ (λ (x y : List ℕ). x ++ b ++ y) stands (ap (λ (n : ℕ). drop n old) (sym size))
+
+-- the table's bytes, then the numbers
 module _ (s : Scan) (k : Keepable s) (old : List ℕ) (long : scanLength ≤ length old) where
   tabled-over : bytesAfter (s .table) old ≡ over (tableBytes (s .table)) old
   tabled-over = sym (table-written (s .table) old (is-true (formRight (s .table)) (k .form)) (subst (λ (n : ℕ). tableSize n ≤ length old) (sym (k .one)) (omega arith)) .1)
 
-  pub numbers-put : sets (bytesAfter (s .table) old) tableLength (numberBytes s) ≡ over (stateBytes s) old
+  pub all-written : numbersAfter (s .width) (s .taken) (s .ended) (bytesAfter (s .table) old) ≡ over (stateBytes s) old
   unfolding stateBytes
-  numbers-put =
+  all-written =
       let t = tableBytes (s .table) in
       let b = numberBytes s in
-      ap (λ (l : List ℕ). sets l tableLength b) tabled-over
-      ∙ sets-eq b (over t old) tableLength (omega (arith, length-front old t (length t) (sym (length-take-le (length t) old (omega (arith, table-long s k))))))
-      ∙ ap₂ (λ (x y : List ℕ). x ++ b ++ y) (take-at t (drop (length t) old) tableLength (table-long s k))
-      (ap (λ (n : ℕ). drop (n + 4) (over t old)) (sym (table-long s k)) ∙ drop-append-add t (drop (length t) old) 4 ∙ drop-drop 4 (length t) old ∙ ap (λ (n : ℕ). drop n old) (sym (length-append t b)))
+      ap (numbersAfter (s .width) (s .taken) (s .ended)) tabled-over
+      ∙ numbers-written s (over t old) (omega (arith, length-front old t (length t) (sym (length-take-le (length t) old (omega (arith, table-long s k)))))) (k .narrow) (take-at t (drop (length t) old) tableLength (table-long s k))
+      ∙ ap (λ (l : List ℕ). (t ++ b) ++ l)
+      (ap (λ (n : ℕ). drop n (over t old)) (length-append t b) ∙ drop-append-add t (drop (length t) old) 4 ∙ drop-drop 4 (length t) old ∙ ap (λ (n : ℕ). drop n old) (sym (length-append t b)))
 
 -- ---- the test
 
@@ -249,6 +283,16 @@ unfolding scanIn
 read-is bytes s e =
     let found : done (scanHeld bytes) ≡ done s = asks-done (scanRight bytes) _ _ (asks-done (leb scanLength (length bytes)) _ _ e .1) .1 in
     gives-done passed (scanHeld bytes) found .1
+
+-- where the table stays, other numbers are another scan
+pub renewed-written : (bytes : List ℕ) (s : Scan) → scanIn bytes ≡ done s → (after : Scan) → after .table ≡ s .table → after .width < 65536
+    → numbersAfter (after .width) (after .taken) (after .ended) bytes ≡ over (stateBytes after) bytes
+unfolding scanIn scanRight
+renewed-written bytes s e after same narrow =
+    let right = asks-done (leb scanLength (length bytes)) _ _ e .1 in
+    let formed = answered-passed (form (take tableLength bytes)) (three (tabled bytes) (counted bytes) (marked bytes) (asks-done (scanRight bytes) _ _ right .0) .0) in
+    numbers-written after bytes (read-long bytes s e) narrow
+    (sym (tables-back (take tableLength bytes) formed) ∙ ap tableBytes (ap (λ (s : Scan). s .table) (read-is bytes s e) ∙ sym same))
 
 -- long enough, and yet no scan
 pub read-refused : (bytes : List ℕ) → scanLength ≤ length bytes → (r : Reason) → scanIn bytes ≡ refused r → scanIn bytes ≡ refused (14, [])

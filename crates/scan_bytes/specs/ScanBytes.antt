@@ -4,7 +4,7 @@ use Prim.Native.Nat.{ℕ, _+_, _*_, _/_, _%_}
 use mathlib.Core.Bool.{Bool, true, false, _&&_}
 use mathlib.Core.List.{List, [], _∷_, _++_}
 use lib.Dec.{leb, ltb, eqb}
-use lib.ListN.{length, getD, take, replicate}
+use lib.ListN.{length, getD, take, drop, replicate}
 use Rattle.numbers.specs.Lists.{over}
 use Rattle.refusals.specs.Answers.{Answer, done, asks, answered}
 use Rattle.width_table.specs.declared.WidthTable.{WidthTable}
@@ -40,8 +40,11 @@ endedNumber true = 1
 endedNumber false = 0
 
 -- the width, high byte first; lines taken; whether it has ended
+abbrev pub numbersOf : ℕ → Taken → Bool → List ℕ
+numbersOf w k ended = w / 256 ∷ w % 256 ∷ takenNumber k ∷ endedNumber ended ∷ []
+
 abbrev pub numberBytes : Scan → List ℕ
-numberBytes s = s .width / 256 ∷ s .width % 256 ∷ takenNumber (s .taken) ∷ endedNumber (s .ended) ∷ []
+numberBytes s = numbersOf (s .width) (s .taken) (s .ended)
 
 -- all bytes of a scan
 unfoldable pub stateBytes : Scan → List ℕ
@@ -87,6 +90,10 @@ stateWith new old = elim (leb scanLength (length old)) [ true ↦ over new old |
 -- a scan is written where bytes can hold it
 unfoldable pub stateAfter : Scan → List ℕ → List ℕ
 stateAfter s old = elim (keepable s) [ true ↦ stateWith (stateBytes s) old | false ↦ old ]
+
+-- other numbers after a table's bytes, in bytes that have room for a scan, where two bytes hold the width
+unfoldable pub numbersAfter : ℕ → Taken → Bool → List ℕ → List ℕ
+numbersAfter w k ended old = elim (leb scanLength (length old) && ltb w 65536) [ true ↦ take tableLength old ++ numbersOf w k ended ++ drop scanLength old | false ↦ old ]
 
 -- zeros: no scan, so that each call of it is refused with 14
 abbrev pub noScan : List ℕ

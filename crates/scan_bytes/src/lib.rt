@@ -4,7 +4,7 @@ ghost use Prim.Native.Nat.{_+_, _*_, _≤_};
 ghost use lib.ListN.{length, getD};
 ghost use Rattle.refusals.specs.Answers.{refused};
 ghost use Rattle.refusals.specs.Told.{toldRefusal};
-ghost use Rattle.scan_bytes.specs.ScanBytes.{tableLength, scanLength, takenNumber, endedNumber, takenOf, keepable, heldWith, scanIn, stateWith, stateAfter, noScan};
+ghost use Rattle.scan_bytes.specs.ScanBytes.{tableLength, scanLength, takenNumber, endedNumber, takenOf, keepable, heldWith, scanIn, stateWith, stateAfter, numbersAfter, noScan};
 ghost use Rattle.scan_bytes.specs.Told.{toldRead};
 use refusals::Outcome;
 use refusals::Refusal;
@@ -133,6 +133,22 @@ fn keepable(scan: Scan) -> bool
     scan.width < 65536
 }
 
+// Writes a scan's numbers after the table's bytes that stand there, where there is room for a scan and two bytes hold the width.
+pub fn renew(width: usize, taken: Taken, ended: bool, state: &mut [u8])
+    ensures { λ _. ⌜ now (state .exit) ≡ numbersAfter width taken ended (now (state .entry)) ⌝ }
+{
+    if state.len() < SCAN_LENGTH {
+        return;
+    }
+    if 65535 < width {
+        return;
+    }
+    state[TABLE_LENGTH] = (width / 256) as u8;
+    state[TABLE_LENGTH + 1] = (width % 256) as u8;
+    state[TABLE_LENGTH + 2] = taken_number(taken);
+    state[TABLE_LENGTH + 3] = ended_number(ended);
+}
+
 // Writes a scan over the front of the caller's bytes, where they have room for it and can hold it.
 pub fn write(scan: Scan, state: &mut [u8])
     ensures { λ _. ⌜ now (state .exit) ≡ stateAfter scan (now (state .entry)) ⌝ }
@@ -145,11 +161,8 @@ pub fn write(scan: Scan, state: &mut [u8])
     }
     let table = scan.table;
     table.write(state);
-    state[TABLE_LENGTH] = (scan.width / 256) as u8;
-    state[TABLE_LENGTH + 1] = (scan.width % 256) as u8;
     let taken = scan.taken;
-    state[TABLE_LENGTH + 2] = taken_number(taken);
-    state[TABLE_LENGTH + 3] = ended_number(scan.ended);
+    renew(scan.width, taken, scan.ended, state);
 }
 
 // Clears the bytes of a scan: no scan is left there.

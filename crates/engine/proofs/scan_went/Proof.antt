@@ -3,7 +3,7 @@ use native.Mathlib.Omega.{arith}
 use Rattle.refusals.specs.Answers.{answered, code}
 use Rattle.rolling.specs.declared.Given.{Given}
 use Rattle.rolling.specs.Told.{toldGiven}
-use Rattle.scan_bytes.specs.ScanBytes.{stateAfter}
+use Rattle.scan_bytes.specs.ScanBytes.{numbersAfter}
 use Rattle.engine.specs.ScanAnswers.{givenAfter}
 use borrow.Author.Needs.{needs}
 use Rattle.engine.proofs.scan_went.Statement.{statement}
@@ -21,7 +21,7 @@ returns c =
     let l = a .state .now in
     let q = t .answer .given .1 in (
       c .refusal-code .ensures ∙ sym (ap (λ (g : Given). code (toldGiven g)) q),
-      (sym (ap (λ (g : Given). answered (toldGiven g) (stateAfter (a .scanned .scan) l) l) q), sym (ap (λ (g : Given). givenAfter (toldGiven g) (a .given .now)) q)),
+      (sym (ap (λ (g : Given). answered (toldGiven g) (numbersAfter (a .scanned .scan .width) (a .scanned .scan .taken) (a .scanned .scan .ended) l) l) q), sym (ap (λ (g : Given). givenAfter (toldGiven g) (a .given .now)) q)),
     )
 
 returns-2 : tie.Need-returns-2
@@ -32,7 +32,7 @@ returns-2 c =
     let l = a .state .now in
     let q = t .answer2 .given .1 in (
       sym (ap (λ (g : Given). code (toldGiven g)) q),
-      (w .write .ensures ∙ sym (ap (λ (g : Given). answered (toldGiven g) (stateAfter (a .scanned .scan) l) l) q), sym (ap (λ (g : Given). givenAfter (toldGiven g) (a .given .now)) q)),
+      (w .renew .ensures ∙ sym (ap (λ (g : Given). answered (toldGiven g) (numbersAfter (a .scanned .scan .width) (a .scanned .scan .taken) (a .scanned .scan .ended) l) l) q), sym (ap (λ (g : Given). givenAfter (toldGiven g) (a .given .now)) q)),
     )
 
 pub scan-went-spec : {M : Type 1} → statement M

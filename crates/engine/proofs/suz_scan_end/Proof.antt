@@ -3,7 +3,7 @@ use Rattle.refusals.specs.declared.Outcome.{Outcome}
 use Rattle.refusals.specs.Answers.{done, _then_}
 use Rattle.refusals.specs.Told.{told}
 use Rattle.rolling.specs.Calls.{EndCall}
-use Rattle.engine.specs.ScanLaws.{end-gives-few, end-kept, on-none, on-some}
+use Rattle.engine.specs.ScanLaws.{end-gives-few, end-renews, on-none, on-some}
 use borrow.Author.Needs.{needs}
 use Rattle.engine.proofs.suz_scan_end.Statement.{statement}
 use Rattle.engine.proofs.suz_scan_end.Tie as tie
@@ -31,7 +31,7 @@ returns-2 c =
     let a = v .before .before .before .args in
     on-some (λ s. EndCall s (a .held .now) (a .out .now)) (a .state .now) (a .held .now) (a .out .now) (a .given .now) _ (v .read .result .scan)
     (sym (v .read .ensures) ∙ ap (λ (o : Outcome). told o then done (v .read .result .scan)) (t .enum-told .given .1))
-    _ _ (l .end .ensures) (end-kept (v .read .result .scan) (a .held .now) (a .out .now) (l .end .ensures)) (w .scan-went .ensures .0) (w .scan-went .ensures .1 .0) (w .scan-went .ensures .1 .1)
+    _ _ (l .end .ensures) (end-renews (v .read .result .scan) (a .held .now) (a .out .now) (l .end .ensures)) (w .scan-went .ensures .0) (w .scan-went .ensures .1 .0) (w .scan-went .ensures .1 .1)
 
 pub suz-scan-end-spec : {M : Type 1} → statement M
 suz-scan-end-spec =

@@ -3,7 +3,7 @@ use Rattle.refusals.specs.declared.Outcome.{Outcome}
 use Rattle.refusals.specs.Answers.{done, _then_}
 use Rattle.refusals.specs.Told.{told}
 use Rattle.rolling.specs.Calls.{LineCall}
-use Rattle.engine.specs.ScanLaws.{line-gives-few, line-kept, on-none, on-some}
+use Rattle.engine.specs.ScanLaws.{line-gives-few, line-renews, on-none, on-some}
 use borrow.Author.Needs.{needs}
 use Rattle.engine.proofs.suz_scan_line.Statement.{statement}
 use Rattle.engine.proofs.suz_scan_line.Tie as tie
@@ -31,7 +31,7 @@ returns-2 c =
     let a = v .before .before .before .before .args in
     on-some (λ s. LineCall s (a .pixels .now) (a .width) (a .held .now) (a .out .now)) (a .state .now) (a .held .now) (a .out .now) (a .given .now) _ (v .read .result .scan)
     (sym (v .read .ensures) ∙ ap (λ (o : Outcome). told o then done (v .read .result .scan)) (t .enum-told .given .1))
-    _ _ (l .line .ensures) (line-kept (v .read .result .scan) (a .pixels .now) (a .width) (a .held .now) (a .out .now) (l .line .ensures)) (w .scan-went .ensures .0) (w .scan-went .ensures .1 .0) (w .scan-went .ensures .1 .1)
+    _ _ (l .line .ensures) (line-renews (v .read .result .scan) (a .pixels .now) (a .width) (a .held .now) (a .out .now) (l .line .ensures)) (w .scan-went .ensures .0) (w .scan-went .ensures .1 .0) (w .scan-went .ensures .1 .1)
 
 pub suz-scan-line-spec : {M : Type 1} → statement M
 suz-scan-line-spec =

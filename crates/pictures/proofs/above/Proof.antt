@@ -1,7 +1,7 @@
 -- `pictures::above` meets its contract.
 -- Assumes nothing.
+use Prim.Native.Nat.{ℕ, _+_, _%_}
 use mathlib.Core.Path.{_≡_, _∙_, ap}
-use native.Mathlib.Omega.{arith}
 use borrow.Author.Needs.{needs}
 use mir.Facts.{toZ-ofZ}
 use Rattle.lifting.specs.Raise.{raised}
@@ -11,9 +11,11 @@ use Rattle.pictures.proofs.above.Tie as tie
 
 returns : tie.Need-returns
 returns c =
-    let s = c .before .before in
-    let raise : c .before .raise .result ≡ raised (s .args .v) = c .before .raise .ensures ∙ ap raised (toZ-ofZ (s .fits .v)) in
-    above-is (s .args .top) (raised (s .args .v)) (c .wrapping-sub-u32 .result) (s .pre) (c .wrapping-sub-u32 .ok) (c .wrapping-sub-u32 .ensures ∙ raise)
+    let b = c .before in
+    let s = b .before .before in
+    let a = s .args in
+    let raise : b .before .raise .result ≡ raised (a .v) = b .before .raise .ensures ∙ ap raised (toZ-ofZ (s .fits .v)) in
+    c .wrapping-add-u322 .ensures ∙ ap (λ (n : ℕ). (n + a .top) % 4294967296) (b .wrapping-add-u32 .ensures ∙ ap (λ (n : ℕ). (n + 2147483648) % 4294967296) raise) ∙ above-is (a .top) (raised (a .v))
 
 pub above-spec : {M : Type 1} → statement M
-above-spec = tie.close (tie.spec (λ c κs. search needs) (λ c. omega (arith, c .before .pre)) (λ c κs. search needs) returns)
+above-spec = tie.close (tie.spec (λ c κs. search needs) (λ c κs. search needs) (λ c κs. search needs) returns)

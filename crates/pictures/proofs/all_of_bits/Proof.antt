@@ -3,7 +3,7 @@
 use mathlib.Core.Path.{_≡_, sym, _∙_, subst}
 use Prim.Native.Nat.{ℕ, _+_, _*_, _-_, _/_, _%_, _^_, _<_, _≤_}
 use native.Mathlib.Omega.{arith}
-use borrow.Author.Needs.{sfits-of}
+use borrow.Author.Needs.{needs, sfits-of}
 use mir.Syntax.{w32}
 use mir.Val.{SFits}
 use mir.Facts.{toZ-ofZ}
@@ -29,9 +29,6 @@ loop-holds c = (omega arith, λ few. gathered-none _ few _)
 -- the top is a power of two
 power : (bits : ℕ) → bits ≤ 31 → 1 * 2 ^ bits % 4294967296 ≡ 2 ^ bits
 power bits few = omega (arith, pow-mono {i = bits} {j = 31} few)
-
-above-requires : tie.Need-above-requires Inv-loop μ-loop
-above-requires c κs = let s = c .before .before .before in omega (arith, power (s .args .bits) (s .pre .0), pow-mono {i = s .args .bits} {j = 31} (s .pre .0))
 
 loop-again : tie.Need-loop-again Inv-loop μ-loop
 loop-again c =
@@ -66,7 +63,7 @@ all-of-bits-spec =
     (λ c. omega arith)
     (λ c. omega arith)
     (λ c. omega arith)
-    above-requires
+    (λ c κs. search needs)
     (λ c. omega arith)
     (λ c. omega arith)
     loop-again

@@ -1,12 +1,9 @@
-use Prim.Native.Nat.{ℕ, _+_, _/_, _%_}
-use mathlib.Core.List.{List}
-use mathlib.Core.Path.{sym, _∙_, ap, ap₂}
+use mathlib.Core.Path.{sym, _∙_, ap}
 use native.Mathlib.Omega.{arith}
-use lib.ListN.{set, length-set, length-map}
-use Rattle.width_table.specs.Bytes.{bytesAfter}
+use lib.ListN.{length-map}
 use Rattle.width_table.specs.FormLists.{Sized}
-use Rattle.scan_bytes.specs.ScanBytes.{tableLength, takenNumber, stateBytes}
-use Rattle.scan_bytes.specs.ByteLaws.{Keepable, kept-is, no-room, room, not-kept, kept, numbers-put}
+use Rattle.scan_bytes.specs.ScanBytes.{stateBytes, numbersAfter}
+use Rattle.scan_bytes.specs.ByteLaws.{Keepable, kept-is, no-room, room, not-kept, kept, all-written}
 use borrow.Author.Needs.{needs}
 use Rattle.scan_bytes.proofs.write.Statement.{statement}
 use Rattle.scan_bytes.proofs.write.Tie as tie
@@ -31,19 +28,15 @@ returns-2 c =
 can : (i : tie.Then1) → Keepable (i .before .before .before .args .scan)
 can i = kept-is _ (sized (i .before .before .before)) (sym (i .before .keepable .ensures) ∙ i .if1 .taken)
 
-cast-state : tie.Need-cast-state
-cast-state c = omega (arith, can (c .before .before .before .before .before .before .before) .narrow)
-
 returns-3 : tie.Need-returns-3
 returns-3 c =
-    let k = c .before in
-    let w = k .before .before .before .before .before in
+    let r = c .before .before in
+    let w = r .before .before .before .before in
     let i = w .before .before .before .before in
     let a = i .before .before .before .args in
-    let n = a .scan .width in
-    ap₂ (λ (l : List ℕ) (m : ℕ). set (set (set (set l tableLength (n / 256)) (tableLength + 1) (n % 256)) (tableLength + 2) m) (tableLength + 3) (c .ended-number .result)) (w .write .ensures .1) (k .taken-number .ensures)
-    ∙ ap (λ (m : ℕ). set (set (set (set (bytesAfter (a .scan .table) (a .state .now)) tableLength (n / 256)) (tableLength + 1) (n % 256)) (tableLength + 2) (takenNumber (a .scan .taken))) (tableLength + 3) m) (c .ended-number .ensures)
-    ∙ numbers-put (a .scan) (can i) (a .state .now) (omega arith)
+    r .renew .ensures
+    ∙ ap (numbersAfter (a .scan .width) (a .scan .taken) (a .scan .ended)) (w .write .ensures .1)
+    ∙ all-written (a .scan) (can i) (a .state .now) (omega arith)
     ∙ room (stateBytes (a .scan)) (a .state .now) (omega arith)
     ∙ kept (a .scan) (a .state .now) (sym (i .before .keepable .ensures) ∙ i .if1 .taken)
 
@@ -55,16 +48,6 @@ write-spec =
     returns
     returns-2
     (λ c κs. search needs)
-    cast-state
-    (λ c. search needs)
-    (λ c. search needs)
-    (λ c. search needs)
-    (λ c. simp length-set (omega arith))
     (λ c κs. search needs)
-    (λ c. search needs)
-    (λ c. simp length-set (omega arith))
-    (λ c κs. search needs)
-    (λ c. search needs)
-    (λ c. simp length-set (omega arith))
     (λ c. search needs)
     returns-3)

@@ -27,7 +27,7 @@ use Rattle.rolling.specs.Rows.{LineRight, rowOf}
 use Rattle.rolling.specs.Small.{line-five}
 use Rattle.rolling.specs.Program.{Enters, HeldFits, FirstFits, LaterFits, firstDone, secondDone, firstKept, laterDone, laterKept, twoGiven, twoEnded, evenEnded, oddDone, oddEnded, setU1, setU2, own-within, other-within}
 use Rattle.rolling.specs.ColumnLaws.{move, keepFirst, doFirst, doSecond, on, atU1, atU2, column-moved, column-U1, column-U2, column-first, column-second, column-kept}
-use Rattle.rolling.specs.Works.{OutWorked, EndWorked}
+use Rattle.rolling.specs.Works.{OutWorked, Later, fifth, later, EndWorked}
 
 -- ---- five integer bits
 
@@ -199,25 +199,20 @@ module _ (t : WidthTable) (w : ℕ) (row : Line) (held : List ℤ) where
       → column w c (at held′) ≡ keepFirst (move 4 2 (doSecond t w c 0 before (doFirst t w c 2 (put 5 (row c) (column w c (at held))))))
   later-now before held′ e c i = ap (column w c) e ∙ column-later-kept t w c i before lowMemory ∙ ap (λ (u : ℕ → ℤ). keepFirst (move 4 2 (doSecond t w c 0 before (doFirst t w c 2 u)))) (column-set w c i 5 row (at held))
 
-  pub four-same : (held′ : List ℤ) → at held′ ≡ laterKept t w 2 lowMemory → SameHeld w (heldIn w held′) (heldAfter t w Four (heldIn w held) row)
+  many-same : (before : ℕ) (held′ : List ℤ) → at held′ ≡ laterKept t w before lowMemory → SameHeld w (heldIn w held′) (heldAfter t w EvenMany (heldIn w held) row)
   unfolding heldIn heldAfter newP1 newU1 newP2 lineP1 lineU1 lineP2
-  four-same held′ e = record {
-    low = λ c i. ap (λ (u : ℕ → ℤ). u 0) (later-now 2 held′ e c i);
-    high = λ c i. ap (λ (u : ℕ → ℤ). u 1) (later-now 2 held′ e c i);
-    p1 = λ c i. ap (λ (u : ℕ → ℤ). u 2) (later-now 2 held′ e c i);
-    u1 = λ c i. ap (λ (u : ℕ → ℤ). u 3) (later-now 2 held′ e c i);
-    p2 = λ c i. ap (λ (u : ℕ → ℤ). u 4) (later-now 2 held′ e c i);
+  many-same before held′ e = record {
+    low = λ c i. ap (λ (u : ℕ → ℤ). u 0) (later-now before held′ e c i);
+    high = λ c i. ap (λ (u : ℕ → ℤ). u 1) (later-now before held′ e c i);
+    p1 = λ c i. ap (λ (u : ℕ → ℤ). u 2) (later-now before held′ e c i);
+    u1 = λ c i. ap (λ (u : ℕ → ℤ). u 3) (later-now before held′ e c i);
+    p2 = λ c i. ap (λ (u : ℕ → ℤ). u 4) (later-now before held′ e c i);
   }
 
-  pub many-same : (held′ : List ℤ) → at held′ ≡ laterKept t w 4 lowMemory → SameHeld w (heldIn w held′) (heldAfter t w EvenMany (heldIn w held) row)
-  unfolding heldIn heldAfter newP1 newU1 newP2 lineP1 lineU1 lineP2
-  many-same held′ e = record {
-    low = λ c i. ap (λ (u : ℕ → ℤ). u 0) (later-now 4 held′ e c i);
-    high = λ c i. ap (λ (u : ℕ → ℤ). u 1) (later-now 4 held′ e c i);
-    p1 = λ c i. ap (λ (u : ℕ → ℤ). u 2) (later-now 4 held′ e c i);
-    u1 = λ c i. ap (λ (u : ℕ → ℤ). u 3) (later-now 4 held′ e c i);
-    p2 = λ c i. ap (λ (u : ℕ → ℤ). u 4) (later-now 4 held′ e c i);
-  }
+  pub later-same : {k : Taken} {before : ℕ} → Later k before → (held′ : List ℤ) → at held′ ≡ laterKept t w before lowMemory → SameHeld w (heldIn w held′) (heldAfter t w k (heldIn w held) row)
+  unfolding heldAfter newP1 newU1 newP2
+  later-same fifth held′ e = many-same 2 held′ e
+  later-same later held′ e = many-same 4 held′ e
 
   -- and what goes out then
   module _ (some : 1 ≤ w) (out out′ : List ℤ) (room : outLines * w ≤ length out) (same : length out′ ≡ length out) where
@@ -232,7 +227,7 @@ module _ (t : WidthTable) (w : ℕ) (row : Line) (held : List ℤ) where
     later-lines : (before : ℕ) (c : ℕ) → c < w → column w c (laterDone t w before lowMemory) ≡ doSecond t w c 0 before (doFirst t w c 2 (put 5 (row c) (column w c (at held))))
     later-lines before c i = column-later t w c i before lowMemory ∙ ap (λ (u : ℕ → ℤ). doSecond t w c 0 before (doFirst t w c 2 u)) (column-set w c i 5 row (at held))
 
-    pub four-out : at out′ ≡ twoGiven t w 0 (laterDone t w 2 lowMemory) (at out) → out′ ≡ outAfter w (lineGives t w Four (heldIn w held) row) out
+    four-out : at out′ ≡ twoGiven t w 0 (laterDone t w 2 lowMemory) (at out) → out′ ≡ outAfter w (lineGives t w Four (heldIn w held) row) out
     unfolding heldIn lineGives newP1 newU1 newP2 newU2 lineP1 lineU1 lineP2 lineU2 lineG1 lineG2
     four-out e = given-over w (lineGives t w Four (heldIn w held) row) out out′ some (omega arith) same stands (two-past (laterDone t w 2 lowMemory) e)
       where
@@ -241,7 +236,7 @@ module _ (t : WidthTable) (w : ℕ) (row : Line) (held : List ℤ) where
         stands (suc zero) c h i = ap (λ (u : ℕ → ℤ). u 1) (later-out 2 e c i) ∙ ap (λ (u : ℕ → ℤ). lineG2 t w (λ d. u 2) c) (later-lines 2 c i)
         stands (suc (suc r)) c h i = absurd (omega arith)
 
-    pub many-out : at out′ ≡ twoGiven t w 0 (laterDone t w 4 lowMemory) (at out) → out′ ≡ outAfter w (lineGives t w EvenMany (heldIn w held) row) out
+    many-out : at out′ ≡ twoGiven t w 0 (laterDone t w 4 lowMemory) (at out) → out′ ≡ outAfter w (lineGives t w EvenMany (heldIn w held) row) out
     unfolding heldIn lineGives newP1 newU1 newP2 newU2 lineP1 lineU1 lineP2 lineU2 lineG1 lineG2
     many-out e = given-over w (lineGives t w EvenMany (heldIn w held) row) out out′ some (omega arith) same stands (two-past (laterDone t w 4 lowMemory) e)
       where
@@ -250,8 +245,14 @@ module _ (t : WidthTable) (w : ℕ) (row : Line) (held : List ℤ) where
         stands (suc zero) c h i = ap (λ (u : ℕ → ℤ). u 1) (later-out 4 e c i) ∙ ap (λ (u : ℕ → ℤ). lineG2 t w (λ d. u 2) c) (later-lines 4 c i)
         stands (suc (suc r)) c h i = absurd (omega arith)
 
-    pub two-kept : (m : ℕ → ℤ) → at out′ ≡ twoGiven t w 0 m (at out) → KeptFrom (2 * w) out out′
-    two-kept m e = kept-from (2 * w) out out′ same (two-past m e)
+    pub later-given : {k : Taken} {before : ℕ} → Later k before → at out′ ≡ twoGiven t w 0 (laterDone t w before lowMemory) (at out) → out′ ≡ outAfter w (lineGives t w k (heldIn w held) row) out
+    later-given fifth e = four-out e
+    later-given later e = many-out e
+
+    pub later-kept : {k : Taken} {before : ℕ} → Later k before → (m : ℕ → ℤ) → at out′ ≡ twoGiven t w 0 m (at out) → KeptFrom (length (lineGives t w k (heldIn w held) row) * w) out out′
+    unfolding lineGives
+    later-kept fifth m e = kept-from (2 * w) out out′ same (two-past m e)
+    later-kept later m e = kept-from (2 * w) out out′ same (two-past m e)
 
 -- ---- the end
 

@@ -11,6 +11,7 @@ use Rattle.width_table.specs.declared.WidthTable.{WidthTable}
 use Rattle.lifting.specs.Patch.{at}
 use Rattle.pictures.specs.Pictures.{sideRight, holds, pixelsRight}
 use Rattle.rolling.specs.declared.Taken.{Taken}
+use Rattle.rolling.specs.declared.Taken.the-variants.{Four, EvenMany}
 use Rattle.rolling.specs.declared.Scan.{Scan}
 use Rattle.rolling.specs.Schedule.{Line, anyTaken, twoTaken, evenTaken, heldAfter, lineGives, endGives}
 use Rattle.rolling.specs.Calls.{heldLines, outLines, heldIn, Sound, SameHeld, KeptFrom, outAfter, goesOn}
@@ -32,6 +33,15 @@ endAnswerOf s held out =
     (holds (heldLines * s .width) held then holds (outLines * s .width) out)
 
 -- ---- the work
+
+-- a low line after four lines or more: lines taken, and the line in which the P2 before stands (after four lines it is the new one)
+pub data Later : Taken → ℕ → Type 0 where
+  fifth : Later Four 2
+  later : Later EvenMany 4
+
+pub later-even : {k : Taken} {before : ℕ} → Later k before → T (evenTaken k)
+later-even fifth = tt
+later-even later = tt
 
 module _ (t : WidthTable) (w : ℕ) where
   -- what the next line needs is sound

@@ -16,7 +16,7 @@ ghost use Rattle.rolling.specs.Calls.{heldLines, outLines, heldIn, FiveB
 ghost use Rattle.rolling.specs.Told.{toldGiven};
 ghost use Rattle.rolling.specs.Memory.{lineIn, setLine, moved, staged, SafeStage, scaledLine, SafeScaling, Lent, Apart};
 ghost use Rattle.rolling.specs.Rows.{LineRight, rowOf};
-ghost use Rattle.rolling.specs.Works.{lineAnswerOf, endAnswerOf, HeldWorked, LineWorked, LowReady, EndWorked};
+ghost use Rattle.rolling.specs.Works.{lineAnswerOf, endAnswerOf, HeldWorked, LineWorked, Later, LowReady, EndWorked};
 ghost use Rattle.rolling.specs.Schedule.{next, anyTaken, twoTaken, lineGives, endGives};
 ghost use Rattle.pictures.specs.Pictures.{Admitted};
 use irreversible::Stages;
@@ -391,22 +391,20 @@ fn third_row(table: WidthTable, pixels: &[u16], w: usize, held: &mut [i32])
     first_low(columns_of(table), held, w);
 }
 
-// The fifth line.
-fn fifth_row(table: WidthTable, pixels: &[u16], w: usize, held: &mut [i32], out: &mut [i32])
-    requires { ⌜ LineRight table (now pixels) w × Lent (now held) w × (outLines * w ≤ length (now out)) ⌝ }
-    ensures { λ _. ⌜ LineWorked table w Taken.Four (rowOf table (now (pixels .entry)) w) (now (held .entry)) (now (out .entry)) (now (held .exit)) (now (out .exit)) ⌝ }
+// The fifth line, or any low line after it; the P2 before is in line 4 or, of the first, the new one in line 2.
+fn later_row(
+    table: WidthTable,
+    pixels: &[u16],
+    w: usize,
+    held: &mut [i32],
+    out: &mut [i32],
+    before: usize,
+)
+    requires { ⌜ LineRight table (now pixels) w × Lent (now held) w × (outLines * w ≤ length (now out)) × ((before ≡ 2) ⊎ (before ≡ 4)) ⌝ }
+    ensures { λ _. ⌜ ((k : Taken) → Later k before → LineWorked table w k (rowOf table (now (pixels .entry)) w) (now (held .entry)) (now (out .entry)) (now (held .exit)) (now (out .exit))) ⌝ }
 {
     low_row(table, pixels, w, held);
-    later_low(columns_of(table), held, out, w, 2);
-}
-
-// Any low line after it.
-fn later_row(table: WidthTable, pixels: &[u16], w: usize, held: &mut [i32], out: &mut [i32])
-    requires { ⌜ LineRight table (now pixels) w × Lent (now held) w × (outLines * w ≤ length (now out)) ⌝ }
-    ensures { λ _. ⌜ LineWorked table w Taken.EvenMany (rowOf table (now (pixels .entry)) w) (now (held .entry)) (now (out .entry)) (now (held .exit)) (now (out .exit)) ⌝ }
-{
-    low_row(table, pixels, w, held);
-    later_low(columns_of(table), held, out, w, 4);
+    later_low(columns_of(table), held, out, w, before);
 }
 
 // A line, by how many came before it: so many lines go out.
@@ -432,11 +430,11 @@ fn work_line(
             0
         }
         Taken::Four => {
-            fifth_row(table, pixels, w, held, out);
+            later_row(table, pixels, w, held, out, 2);
             2
         }
         Taken::EvenMany => {
-            later_row(table, pixels, w, held, out);
+            later_row(table, pixels, w, held, out, 4);
             2
         }
         Taken::One => {

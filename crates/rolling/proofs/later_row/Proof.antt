@@ -1,19 +1,18 @@
 -- `rolling::later_row` meets its contract.
 -- Assumes nothing.
-use mathlib.Core.Path.{refl, sym, _∙_, ap, subst}
-use mathlib.Core.Logic.{inr}
-use Prim.Native.Nat.{ℕ, _*_}
+use mathlib.Core.Path.{sym, _∙_, ap, subst}
+use Prim.Native.Nat.{ℕ, _*_, _≤_}
 use native.Mathlib.Omega.{arith}
 use borrow.Author.Needs.{needs}
 use lib.IntN.{ℤ}
 use Rattle.width_table.specs.declared.WidthTable.{WidthTable}
 use Rattle.lifting.specs.Patch.{at}
-use Rattle.rolling.specs.Schedule.{lineGives}
 use Rattle.rolling.specs.Calls.{heldLines}
 use Rattle.rolling.specs.Program.{LaterFits, laterDone, laterKept, twoGiven}
 use Rattle.rolling.specs.ProgramLaws.{past-later}
 use Rattle.rolling.specs.Rows.{rowOf}
-use Rattle.rolling.specs.WorkLaws.{kept-from, kept-then, many-same, many-out, two-kept, later-fits}
+use Rattle.rolling.specs.Works.{later-even}
+use Rattle.rolling.specs.WorkLaws.{kept-from, kept-then, later-same, later-given, later-kept, later-fits}
 use Rattle.rolling.proofs.later_row.Statement.{statement}
 use Rattle.rolling.proofs.later_row.Tie as tie
 
@@ -24,11 +23,10 @@ later-low-requires c κs =
     let s = l .before .before .before in
     let a = s .args in
     let (stages, table) = f .columns-of .ensures in
-    (search needs, stages, subst (λ (t : WidthTable). LaterFits t (a .w) 4 (at (l .low-row .last .1 .1 .1 .0))) (sym table) (later-fits (a .table) (a .w) _ (l .low-row .ensures .fits) (l .low-row .ensures .enters) 4 (inr refl)), s .pre .2)
+    (search needs, stages, subst (λ (t : WidthTable). LaterFits t (a .w) (a .before) (at (l .low-row .last .1 .1 .1 .0))) (sym table) (later-fits (a .table) (a .w) _ (l .low-row .ensures .fits) (l .low-row .ensures .enters) (a .before) (s .pre .3)), s .pre .2)
 
 returns : tie.Need-returns
-unfolding lineGives
-returns c =
+returns c k turn =
     let e = c .before .before in
     let f = e .before .before .before in
     let l = f .before .before in
@@ -37,15 +35,16 @@ returns c =
     let row = rowOf (a .table) (a .pixels .now) (a .w) in
     let ready = l .low-row .ensures in
     let m = at (l .low-row .last .1 .1 .1 .0) in
-    let done = e .later-low .ensures .0 ∙ ap (λ (t : WidthTable). laterKept t (a .w) 4 m) (f .columns-of .ensures .1) in
-    let given = e .later-low .ensures .1 ∙ ap (λ (t : WidthTable). twoGiven t (a .w) 0 (laterDone t (a .w) 4 m) (at (a .out .now))) (f .columns-of .ensures .1) in (
+    let some : 1 ≤ a .w = omega (arith, s .pre .0 .side .0) in
+    let done = e .later-low .ensures .0 ∙ ap (λ (t : WidthTable). laterKept t (a .w) (a .before) m) (f .columns-of .ensures .1) in
+    let given = e .later-low .ensures .1 ∙ ap (λ (t : WidthTable). twoGiven t (a .w) 0 (laterDone t (a .w) (a .before) m) (at (a .out .now))) (f .columns-of .ensures .1) in (
       record {
-        past = kept-then (heldLines * a .w) (a .held .now) _ _ (ready .past) (kept-from (heldLines * a .w) _ _ (search needs) (λ p i. ap (λ (m : ℕ → ℤ). m p) done ∙ past-later (a .w) (a .table) 4 m p i));
-        works = λ sound. many-same (a .table) (a .w) row (a .held .now) _ (done ∙ ap (laterKept (a .table) (a .w) 4) (ready .same (sound tt)));
+        past = kept-then (heldLines * a .w) (a .held .now) _ _ (ready .past) (kept-from (heldLines * a .w) _ _ (search needs) (λ p i. ap (λ (m : ℕ → ℤ). m p) done ∙ past-later (a .w) (a .table) (a .before) m p i));
+        works = λ sound. later-same (a .table) (a .w) row (a .held .now) turn _ (done ∙ ap (laterKept (a .table) (a .w) (a .before)) (ready .same (sound (later-even turn))));
       },
       record {
-        past = two-kept (a .table) (a .w) row (a .held .now) (omega (arith, s .pre .0 .side .0)) (a .out .now) _ (s .pre .2) (search needs) (laterDone (a .table) (a .w) 4 m) given;
-        works = λ sound. many-out (a .table) (a .w) row (a .held .now) (omega (arith, s .pre .0 .side .0)) (a .out .now) _ (s .pre .2) (search needs) (given ∙ ap (λ (m : ℕ → ℤ). twoGiven (a .table) (a .w) 0 (laterDone (a .table) (a .w) 4 m) (at (a .out .now))) (ready .same (sound tt)));
+        past = later-kept (a .table) (a .w) row (a .held .now) some (a .out .now) _ (s .pre .2) (search needs) turn (laterDone (a .table) (a .w) (a .before) m) given;
+        works = λ sound. later-given (a .table) (a .w) row (a .held .now) some (a .out .now) _ (s .pre .2) (search needs) turn (given ∙ ap (λ (m : ℕ → ℤ). twoGiven (a .table) (a .w) 0 (laterDone (a .table) (a .w) (a .before) m) (at (a .out .now))) (ready .same (sound (later-even turn))));
       },
     )
 

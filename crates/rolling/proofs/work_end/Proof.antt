@@ -11,9 +11,9 @@ use lib.ListN.{length}
 use Rattle.width_table.specs.declared.WidthTable.{WidthTable}
 use Rattle.lifting.specs.Patch.{at}
 use Rattle.rolling.specs.declared.Taken.{Taken}
-use Rattle.rolling.specs.declared.Taken.the-variants.{Zero, One}
-use Rattle.rolling.specs.Schedule.{lineGives, endGives}
-use Rattle.rolling.specs.Calls.{heldLines, heldIn, Sound, KeptFrom}
+use Rattle.rolling.specs.declared.Taken.the-variants.{Zero, One, Two, Three, Four, OddMany, EvenMany}
+use Rattle.rolling.specs.Schedule.{Line, lineGives, endGives}
+use Rattle.rolling.specs.Calls.{heldLines, heldIn, Sound, KeptFrom, outAfter}
 use Rattle.rolling.specs.Program.{HeldFits, PastSame, twoEnded, evenEnded, oddEnded}
 use Rattle.rolling.specs.Memory.{moved}
 use Rattle.rolling.specs.Works.{EndWorked}
@@ -52,6 +52,21 @@ module _ (c : tie.After-columns-of) where
   as-held : Sound (start .args .table) (start .args .w) (heldIn (start .args .w) (start .args .held .now)) → sounded ≡ start .args .held .now
   as-held = c .before .before .make-sound .ensures .1 .0
 
+  -- the lines that the end gives
+  abbrev gives : Taken → List Line
+  gives k = endGives (start .args .table) (start .args .w) k (heldIn (start .args .w) (start .args .held .now))
+
+  -- an end that changes the output by f, which leaves what is past its lines, and gives them where what was held is sound
+  ended : (k : Taken) (n : ℕ) (f : WidthTable → (ℕ → ℤ) → (ℕ → ℤ) → ℕ → ℤ) {held′ out′ : List ℤ}
+      → n ≡ length (gives k) → length held′ ≡ length sounded → PastSame (start .args .w) (at sounded) (at held′) → at out′ ≡ f (c .columns-of .result .table) (at sounded) (at (start .args .out .now))
+      → (at out′ ≡ f (start .args .table) (at sounded) (at (start .args .out .now)) → KeptFrom (length (gives k) * start .args .w) (start .args .out .now) out′)
+      → (at out′ ≡ f (start .args .table) (at (start .args .held .now)) (at (start .args .out .now)) → out′ ≡ outAfter (start .args .w) (gives k) (start .args .out .now))
+      → Said start n held′ out′ k
+  ended k n f {held′} count long past is kept lines =
+      let out = at (start .args .out .now) in
+      let given = is ∙ ap (λ (t : WidthTable). f t (at sounded) out) table-is in
+      (count, record { held-past = past-all held′ long past; out-past = kept given; works = λ sound. lines (given ∙ ap (λ (l : List ℤ). f (start .args .table) (at l) out) (as-held sound)) })
+
 returns : tie.Need-returns
 unfolding endGives lineGives
 returns c =
@@ -59,15 +74,10 @@ returns c =
     let e = f .before .before .before in
     let q = e .before .before in
     let a = start q .args in
-    let given = f .end-two .ensures .1 ∙ ap (λ (t : WidthTable). twoEnded t (a .w) (at (sounded q)) (at (a .out .now))) (table-is q) in
-    subst (Said (start q) 2 _ _) (sym (e .enum-told .given .1)) (
-      refl,
-      record {
-        held-past = past-all q _ (search needs) (f .end-two .ensures .0);
-        out-past = two-end-kept (a .table) (a .w) (a .held .now) (some (start q)) (a .out .now) _ (start q .pre .3) (search needs) (moved (a .w) 5 0 (at (sounded q))) given;
-        works = λ sound. two-ended (a .table) (a .w) (a .held .now) (some (start q)) (a .out .now) _ (start q .pre .3) (search needs) (given ∙ ap (λ (l : List ℤ). twoEnded (a .table) (a .w) (at l) (at (a .out .now))) (as-held q sound));
-      },
-    )
+    subst (Said (start q) 2 _ _) (sym (e .enum-told .given .1))
+    (ended q Two 2 (λ t. twoEnded t (a .w)) refl (search needs) (f .end-two .ensures .0) (f .end-two .ensures .1)
+    (two-end-kept (a .table) (a .w) (a .held .now) (some (start q)) (a .out .now) _ (start q .pre .3) (search needs) (moved (a .w) 5 0 (at (sounded q))))
+    (two-ended (a .table) (a .w) (a .held .now) (some (start q)) (a .out .now) _ (start q .pre .3) (search needs)))
 
 returns-2 : tie.Need-returns-2
 unfolding endGives lineGives
@@ -76,15 +86,10 @@ returns-2 c =
     let e = f .before .before .before in
     let q = e .before .before in
     let a = start q .args in
-    let given = f .end-even .ensures .1 ∙ ap (λ (t : WidthTable). evenEnded t (a .w) 2 (at (sounded q)) (at (a .out .now))) (table-is q) in
-    subst (Said (start q) 4 _ _) (sym (e .enum-told2 .given .1)) (
-      refl,
-      record {
-        held-past = past-all q _ (search needs) (f .end-even .ensures .0);
-        out-past = even-end-kept (a .table) (a .w) (a .held .now) (some (start q)) (a .out .now) _ (start q .pre .3) (search needs) 2 (at (sounded q)) given;
-        works = λ sound. four-ended (a .table) (a .w) (a .held .now) (some (start q)) (a .out .now) _ (start q .pre .3) (search needs) (given ∙ ap (λ (l : List ℤ). evenEnded (a .table) (a .w) 2 (at l) (at (a .out .now))) (as-held q sound));
-      },
-    )
+    subst (Said (start q) 4 _ _) (sym (e .enum-told2 .given .1))
+    (ended q Four 4 (λ t. evenEnded t (a .w) 2) refl (search needs) (f .end-even .ensures .0) (f .end-even .ensures .1)
+    (even-end-kept (a .table) (a .w) (a .held .now) (some (start q)) (a .out .now) _ (start q .pre .3) (search needs) 2 (at (sounded q)))
+    (four-ended (a .table) (a .w) (a .held .now) (some (start q)) (a .out .now) _ (start q .pre .3) (search needs)))
 
 returns-3 : tie.Need-returns-3
 unfolding endGives lineGives
@@ -93,15 +98,10 @@ returns-3 c =
     let e = f .before .before .before in
     let q = e .before .before in
     let a = start q .args in
-    let given = f .end-even2 .ensures .1 ∙ ap (λ (t : WidthTable). evenEnded t (a .w) 4 (at (sounded q)) (at (a .out .now))) (table-is q) in
-    subst (Said (start q) 4 _ _) (sym (e .enum-told3 .given .1)) (
-      refl,
-      record {
-        held-past = past-all q _ (search needs) (f .end-even2 .ensures .0);
-        out-past = even-end-kept (a .table) (a .w) (a .held .now) (some (start q)) (a .out .now) _ (start q .pre .3) (search needs) 4 (at (sounded q)) given;
-        works = λ sound. many-ended (a .table) (a .w) (a .held .now) (some (start q)) (a .out .now) _ (start q .pre .3) (search needs) (given ∙ ap (λ (l : List ℤ). evenEnded (a .table) (a .w) 4 (at l) (at (a .out .now))) (as-held q sound));
-      },
-    )
+    subst (Said (start q) 4 _ _) (sym (e .enum-told3 .given .1))
+    (ended q EvenMany 4 (λ t. evenEnded t (a .w) 4) refl (search needs) (f .end-even2 .ensures .0) (f .end-even2 .ensures .1)
+    (even-end-kept (a .table) (a .w) (a .held .now) (some (start q)) (a .out .now) _ (start q .pre .3) (search needs) 4 (at (sounded q)))
+    (many-ended (a .table) (a .w) (a .held .now) (some (start q)) (a .out .now) _ (start q .pre .3) (search needs)))
 
 returns-4 : tie.Need-returns-4
 unfolding endGives lineGives
@@ -110,15 +110,10 @@ returns-4 c =
     let e = f .before .before .before in
     let q = e .before .before in
     let a = start q .args in
-    let given = f .end-odd .ensures .1 ∙ ap (λ (t : WidthTable). oddEnded t (a .w) 2 (at (sounded q)) (at (a .out .now))) (table-is q) in
-    subst (Said (start q) 3 _ _) (sym (e .enum-told4 .given .1)) (
-      refl,
-      record {
-        held-past = past-all q _ (search needs) (f .end-odd .ensures .0);
-        out-past = odd-end-kept (a .table) (a .w) (a .held .now) (some (start q)) (a .out .now) _ (start q .pre .3) (search needs) 2 (at (sounded q)) given;
-        works = λ sound. three-ended (a .table) (a .w) (a .held .now) (some (start q)) (a .out .now) _ (start q .pre .3) (search needs) (given ∙ ap (λ (l : List ℤ). oddEnded (a .table) (a .w) 2 (at l) (at (a .out .now))) (as-held q sound));
-      },
-    )
+    subst (Said (start q) 3 _ _) (sym (e .enum-told4 .given .1))
+    (ended q Three 3 (λ t. oddEnded t (a .w) 2) refl (search needs) (f .end-odd .ensures .0) (f .end-odd .ensures .1)
+    (odd-end-kept (a .table) (a .w) (a .held .now) (some (start q)) (a .out .now) _ (start q .pre .3) (search needs) 2 (at (sounded q)))
+    (three-ended (a .table) (a .w) (a .held .now) (some (start q)) (a .out .now) _ (start q .pre .3) (search needs)))
 
 returns-5 : tie.Need-returns-5
 unfolding endGives lineGives
@@ -127,15 +122,10 @@ returns-5 c =
     let e = f .before .before .before in
     let q = e .before .before in
     let a = start q .args in
-    let given = f .end-odd2 .ensures .1 ∙ ap (λ (t : WidthTable). oddEnded t (a .w) 4 (at (sounded q)) (at (a .out .now))) (table-is q) in
-    subst (Said (start q) 3 _ _) (sym (e .enum-told5 .given .1)) (
-      refl,
-      record {
-        held-past = past-all q _ (search needs) (f .end-odd2 .ensures .0);
-        out-past = odd-end-kept (a .table) (a .w) (a .held .now) (some (start q)) (a .out .now) _ (start q .pre .3) (search needs) 4 (at (sounded q)) given;
-        works = λ sound. odd-ended (a .table) (a .w) (a .held .now) (some (start q)) (a .out .now) _ (start q .pre .3) (search needs) (given ∙ ap (λ (l : List ℤ). oddEnded (a .table) (a .w) 4 (at l) (at (a .out .now))) (as-held q sound));
-      },
-    )
+    subst (Said (start q) 3 _ _) (sym (e .enum-told5 .given .1))
+    (ended q OddMany 3 (λ t. oddEnded t (a .w) 4) refl (search needs) (f .end-odd2 .ensures .0) (f .end-odd2 .ensures .1)
+    (odd-end-kept (a .table) (a .w) (a .held .now) (some (start q)) (a .out .now) _ (start q .pre .3) (search needs) 4 (at (sounded q)))
+    (odd-ended (a .table) (a .w) (a .held .now) (some (start q)) (a .out .now) _ (start q .pre .3) (search needs)))
 
 returns-6 : tie.Need-returns-6
 unfolding endGives

@@ -23,7 +23,7 @@ use Rattle.rolling_claims.specs.History.{facts, table-kept}
 use Rattle.rolling_claims.specs.Possible.{foreign-refused}
 use Rattle.rolling_claims.specs.Theorems.{before-end, after-end, refused-keeps}
 use Rattle.scan_bytes.specs.ScanBytes.{tableLength, scanLength, stateBytes, keepable, scanHeld, scanIn, stateWith, noScan}
-use Rattle.scan_bytes.specs.ByteLaws.{Keepable, kept-is, room, state-long, read-written, read-is, read-refused, read-formed, written-read}
+use Rattle.scan_bytes.specs.ByteLaws.{Keepable, kept-is, room, state-long, read-written, read-is, read-refused, read-formed, written-read, zeros-hold-none}
 use Rattle.engine.specs.ScanAnswers.{begins, scanBeginAnswer, scanBeginState, givenAfter, OnScan, OnBytes, LineOnBytes, EndOnBytes}
 use Rattle.engine.specs.ScanLaws.{begun-kept, line-kept, end-kept, roomy-long}
 use Rattle.engine.specs.Zero.{scan-begin-zero, line-from-one, end-from-one, gives-zero}
@@ -261,3 +261,9 @@ module _ (state : List ℕ) (below : (k : ℕ) → k < length state → getD sta
 
   pub c-foreign-end : {held out : List ℤ} {given r : ℕ} {state′ : List ℕ} {held′ out′ : List ℤ} {given′ : ℕ} → EndOnBytes state held out given r state′ held′ out′ given′ → r ≡ 14
   c-foreign-end {held} {out} = answered-14 (λ s. EndCall s held out) held out (λ s o s′ none call. call .answer-is ∙ then-refused (endAnswer s held out) _ _ (foreign-refused s none .1 held out))
+
+-- There are such states: zeros, for one.
+pub zeros-foreign : ¬ (LeftState noScan)
+zeros-foreign l =
+    let none : scanIn noScan ≡ refused (14, []) = subst (λ (state : List ℕ). scanIn state ≡ refused (14, [])) (append-nil noScan) (zeros-hold-none []) in
+    absurd (subst T (ap (λ (o : Answer Scan). answered o true false) (sym (kept-calls (l .table) (l .calls) .reads) ∙ none)) tt)

@@ -90,7 +90,7 @@ two-count fourth-line i = tt
 two-count (odd-count m n e) i = tt
 two-count (even-count m n e) i = tt
 
-none-count : {n : ℕ} {k : Taken} → Count n k → T (not (anyTaken k)) → n ≡ 0
+pub none-count : {n : ℕ} {k : Taken} → Count n k → T (not (anyTaken k)) → n ≡ 0
 none-count no-line i = refl
 none-count first-line i = absurd i
 none-count second-line i = absurd i

@@ -27,7 +27,7 @@ use Rattle.rolling.specs.Schedule.{Line, Held, next, anyTaken, stacked, heldAft
 use Rattle.rolling.specs.Calls.{beginAnswer, scanOf, goesOn, heldLines, outLines, heldIn, outAfter, SameHeld, KeptFrom, lineAnswer, workedRow, givenByLine, scanAfter, LineCall, endAnswer, givenByEnd, scanEnded, EndCall}
 use Rattle.rolling.specs.AnswerLaws.{on-begun, on-running, on-side, on-unset, on-two, line-ended, end-ended, line-is, end-is}
 use Rattle.rolling_claims.specs.Claims.{Calls, begun, line, end, Left, ForeignRefused}
-use Rattle.rolling_claims.specs.History.{facts, table-kept, some-count, two-count, goes-on, line-right, right-line, end-right, right-end}
+use Rattle.rolling_claims.specs.History.{facts, table-kept, some-count, none-count, two-count, goes-on, line-right, right-line, end-right, right-end}
 
 -- ---- lent memory
 
@@ -360,3 +360,7 @@ foreign-refused s foreign = (
 
     stops : goesOn s ≡ false
     stops = go (goesOn s) (λ on. foreign (left s on))
+
+-- There are such scans: with a width before the first line, for one.
+pub wide-foreign : (s : Scan) → T (not (anyTaken (s .taken))) → ¬ (s .width ≡ 0) → ¬ (Left s)
+wide-foreign s none wide l = let f = facts (s .table) (l .calls) in wide (f .unset (none-count (f .count) none))

@@ -6,11 +6,12 @@ use lib.IntN.{ℤ, pos, _+ℤ_, _*ℤ_}
 use Rattle.numbers.specs.Quote.{terms, vars, ring}
 use Rattle.lines.specs.Lines.{lows, highs, Liftable}
 use Rattle.lines.specs.LineLaws.{first-low, first-high, even-place, odd-place, by-parity, by-half}
+use Rattle.lines.specs.OneLaws.{one-long}
 use Rattle.lines.specs.CaseLaws.{Reduced, highs-are, lows-are}
 use Rattle.exact.specs.Fractions.{Frac, _≈_, _⊕_, _⊗_, whole}
 use Rattle.exact.specs.FracLaws.{≈-refl, ≈-sym, ≈-trans, ⊕-cong, ⊗-cong, neg-cong}
-use Rattle.exact.specs.Exact.{alpha, beta, gamma, delta, zeta, zetaInverse, lift, low₀, high₀, p1, u1, p2, u2, g1, g2, exactPass}
-use Rattle.exact.specs.Inverse.{unlift, unG1, unG2, unU2, unP2, unU1, unP1, exactBack}
+use Rattle.exact.specs.Exact.{alpha, beta, gamma, delta, zeta, zetaInverse, lift, low₀, high₀, p1, u1, p2, u2, g1, g2, exactLong, exactPass}
+use Rattle.exact.specs.Inverse.{unlift, unG1, unG2, unU2, unP2, unU1, unP1, exactBackLong, exactBack}
 use Rattle.exact.specs.InverseLaws.{same-≈, is, lift-cong, unlift-cong, Likewise}
 use Rattle.exact.specs.Cases.{twice, liftEnd, unliftEnd, p1ByCases, u1ByCases, p2ByCases, u2ByCases, passByCases, unU2ByCases, unP2ByCases, unU1ByCases, unP1ByCases, backByCases}
 
@@ -52,12 +53,16 @@ module _ (n : ℕ) (works : Liftable n) where
     unfolding u2ByCases u2
     u2-is = lows-are same-≈ (lift-cong delta) (lift-end delta) n works u1-is p2-is
 
-    -- forward: source document 003, equations 2 to 4
-    pub pass-is : Likewise n (passByCases n x) (exactPass n x)
-    unfolding passByCases exactPass g1 g2
-    pass-is = by-half (λ k. passByCases n x k ≈ exactPass n x k) n
+    long-is : Likewise n (passByCases n x) (exactLong n x)
+    unfolding passByCases exactLong g1 g2
+    long-is = by-half (λ k. passByCases n x k ≈ exactLong n x k) n
         (λ i h. ≈-trans (is (first-low n _ _ i h)) (≈-trans (⊗-cong (≈-refl zeta) (u2-is i h)) (≈-sym (is (first-low n (g1 n x) (g2 n x) i h)))))
         (λ i h. ≈-trans (is (first-high n _ _ i)) (≈-trans (⊗-cong (≈-refl zetaInverse) (p2-is i h)) (≈-sym (is (first-high n (g1 n x) (g2 n x) i)))))
+
+    -- forward: source document 003, equations 2 to 4
+    pub pass-is : Likewise n (passByCases n x) (exactPass n x)
+    unfolding exactPass
+    pass-is k h = ≈-trans (long-is k h) (≈-sym (is (one-long (λ v. v) exactLong n x k works)))
 
   module _ (y : ℕ → Frac) where
     unU2-is : Likewise (lows n) (unU2ByCases n y) (unU2 n y)
@@ -76,9 +81,13 @@ module _ (n : ℕ) (works : Liftable n) where
     unfolding unP1ByCases unP1
     unP1-is = highs-are same-≈ (unlift-cong alpha) (unlift-end alpha) n works unU1-is unP2-is
 
-    -- back
-    pub back-is : Likewise n (backByCases n y) (exactBack n y)
-    unfolding backByCases exactBack
-    back-is = by-parity (λ k. backByCases n y k ≈ exactBack n y k) n
+    long-back-is : Likewise n (backByCases n y) (exactBackLong n y)
+    unfolding backByCases exactBackLong
+    long-back-is = by-parity (λ k. backByCases n y k ≈ exactBackLong n y k) n
         (λ i h. ≈-trans (is (even-place _ _ i)) (≈-trans (unU1-is i h) (≈-sym (is (even-place (unU1 n y) (unP1 n y) i)))))
         (λ i h. ≈-trans (is (odd-place _ _ i)) (≈-trans (unP1-is i h) (≈-sym (is (odd-place (unU1 n y) (unP1 n y) i)))))
+
+    -- back
+    pub back-is : Likewise n (backByCases n y) (exactBack n y)
+    unfolding exactBack
+    back-is k h = ≈-trans (long-back-is k h) (≈-sym (is (one-long (λ v. v) exactBackLong n y k works)))

@@ -4,6 +4,7 @@ use lib.IntN.{pos, negℤ}
 use lib.Dec.{lit<}
 use Rattle.exact.specs.Fractions.{Frac, _⊕_, _⊗_}
 use Rattle.lines.specs.Lines.{onHighs, onLows, lowsFirst}
+use Rattle.lines.specs.Planes.{OnLine, fromOne}
 
 -- -1.586134342
 abbrev pub alpha : Frac
@@ -33,7 +34,7 @@ zetaInverse = record { num = pos 1000000000; den = 1149604398; above = lit< tt }
 unfoldable pub lift : Frac → Frac → Frac → Frac → Frac
 lift c own x y = own ⊕ c ⊗ (x ⊕ y)
 
--- One pass over n samples x. P1 and P2 add to each high, U1 and U2 to each low; each reads what the one before left.
+-- One pass over n samples x, two or more. P1 and P2 add to each high, U1 and U2 to each low; each reads what the one before left.
 module _ (n : ℕ) (x : ℕ → Frac) where
   -- the first sample and every second one after it are lows, all others highs
   unfoldable pub low₀ : ℕ → Frac
@@ -62,6 +63,10 @@ module _ (n : ℕ) (x : ℕ → Frac) where
   unfoldable pub g2 : ℕ → Frac
   g2 i = zetaInverse ⊗ p2 i
 
-  -- what the pass leaves: the lows first, then the highs
-  unfoldable pub exactPass : ℕ → Frac
-  exactPass = lowsFirst n g1 g2
+  -- what two samples or more leave: the lows first, then the highs
+  unfoldable pub exactLong : ℕ → Frac
+  exactLong = lowsFirst n g1 g2
+
+-- What a pass leaves. A single sample is its only low value, uncut (document 02, job 6).
+unfoldable pub exactPass : OnLine Frac
+exactPass = fromOne (λ v. v) exactLong

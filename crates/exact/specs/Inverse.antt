@@ -2,7 +2,7 @@
 -- both ways (InverseLaws), so that nothing of it need be taken on trust.
 use Prim.Native.Nat.{ℕ, _+_}
 use Rattle.lines.specs.Lines.{lows, onHighs, onLows, interleaved}
-use Rattle.lines.specs.Planes.{OnPart, columnsFirst, levelsBack}
+use Rattle.lines.specs.Planes.{OnLine, OnPart, fromOne, columnsFirst, levelsBack}
 use Rattle.exact.specs.Fractions.{Frac, _⊖_, _⊕_, _⊗_}
 use Rattle.exact.specs.Exact.{alpha, beta, gamma, delta, zeta, zetaInverse}
 
@@ -10,7 +10,7 @@ use Rattle.exact.specs.Exact.{alpha, beta, gamma, delta, zeta, zetaInver
 unfoldable pub unlift : Frac → Frac → Frac → Frac → Frac
 unlift c own x y = own ⊖ c ⊗ (x ⊕ y)
 
--- One line of n values y, the lows first. Each stage reads what the one before left, with the edges of document 01.
+-- One line of n values y, two or more, the lows first. Each stage reads what the one before left, with the edges of document 01.
 module _ (n : ℕ) (y : ℕ → Frac) where
   -- lows times 1 / zeta
   unfoldable pub unG1 : ℕ → Frac
@@ -33,8 +33,12 @@ module _ (n : ℕ) (y : ℕ → Frac) where
   unP1 = onHighs (unlift alpha) n unU1 unP2
 
   -- each value to its place
-  unfoldable pub exactBack : ℕ → Frac
-  exactBack = interleaved unU1 unP1
+  unfoldable pub exactBackLong : ℕ → Frac
+  exactBackLong = interleaved unU1 unP1
+
+-- A pass undone. A single low value is the sample (document 02, job 6).
+unfoldable pub exactBack : OnLine Frac
+exactBack = fromOne (λ v. v) exactBackLong
 
 -- a plane of L levels: level L first, columns before rows
 unfoldable pub exactInverse : ℕ → OnPart Frac

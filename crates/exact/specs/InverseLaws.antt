@@ -1,5 +1,5 @@
--- The exact inverse undoes the exact transform, and the exact transform it, at every place of a line that a pass works (`line-undone`,
--- `line-redone`) and of a plane of admitted sides (`plane-undone`, `plane-redone`; of a picture `picture-undone`).
+-- The exact inverse undoes the exact transform, and the exact transform it, at every place of a line (`line-undone`, `line-redone`) and of a
+-- plane (`plane-undone`, `plane-redone`; of a picture `picture-undone`).
 use Prim.Native.Nat.{ℕ, _+_, _*_, _<_}
 use mathlib.Core.List.{List}
 use mathlib.Core.Path.{_≡_, refl, subst}
@@ -8,14 +8,14 @@ use Rattle.lines.specs.Lines.{lows, highs, Liftable, lowAfter, highBefore, high
 use Rattle.lines.specs.LineLaws.{some-highs, first-low, first-high, even-place, odd-place, by-parity, by-half}
 use Rattle.lines.specs.Neighbours.{low-after-in, high-before-in, high-after-in}
 use Rattle.lines.specs.Planes.{Plane, OnPart, rowsFirst, columnsFirst, levels}
-use Rattle.lines.specs.PlaneLaws.{Roomy}
 use Rattle.lines.specs.BackLaws.{Same, Undoes, UndoesPart, rows-first-undone, levels-undone, levels-redone}
+use Rattle.lines.specs.OneLaws.{one-undoes}
 use Rattle.lines.specs.CaseLaws.{Respects}
 use Rattle.exact.specs.Fractions.{Frac, _≈_, _⊕_, _⊗_, neg, whole}
 use Rattle.exact.specs.FracLaws.{≈-refl, ≈-sym, ≈-trans, ⊕-cong, ⊗-cong, ⊕-swap, ⊕-neg, neg-cong, ⊕-zero-l, ⊕-zero-r, ⊗-assoc, ⊗-one-l, zeroF, oneF, plus-back}
-use Rattle.exact.specs.Exact.{alpha, beta, gamma, delta, zeta, zetaInverse, lift, low₀, high₀, p1, u1, p2, u2, g1, g2, exactPass}
+use Rattle.exact.specs.Exact.{alpha, beta, gamma, delta, zeta, zetaInverse, lift, low₀, high₀, p1, u1, p2, u2, g1, g2, exactLong, exactPass}
 use Rattle.exact.specs.Picture.{exactSample, exactPlane}
-use Rattle.exact.specs.Inverse.{unlift, unG1, unG2, unU2, unP2, unU1, unP1, exactBack, exactInverse}
+use Rattle.exact.specs.Inverse.{unlift, unG1, unG2, unU2, unP2, unU1, unP1, exactBackLong, exactBack, exactInverse}
 
 pub same-≈ : Same _≈_
 same-≈ = record { same = ≈-refl; back = ≈-sym; next = ≈-trans }
@@ -60,7 +60,7 @@ zeta-in : (a : Frac) → zeta ⊗ (zetaInverse ⊗ a) ≈ a
 unfolding _⊗_ whole
 zeta-in = times-out zeta zetaInverse (record { eq = refl })
 
--- ---- a line
+-- ---- a line of two values or more
 
 -- alike at the places below m
 abbrev pub Likewise : ℕ → (ℕ → Frac) → (ℕ → Frac) → Type 0
@@ -79,14 +79,14 @@ module _ (n : ℕ) (works : Liftable n) where
 
   module _ (x : ℕ → Frac) where
     y : ℕ → Frac
-    y = exactPass n x
+    y = exactLong n x
 
     G1-undone : Likewise (lows n) (unG1 n y) (u2 n x)
-    unfolding unG1 y exactPass g1
+    unfolding unG1 y exactLong g1
     G1-undone i h = ≈-trans (⊗-cong (≈-refl zetaInverse) (is (first-low n (g1 n x) (g2 n x) i h))) (zeta-out (u2 n x i))
 
     G2-undone : Likewise (highs n) (unG2 n y) (p2 n x)
-    unfolding unG2 y exactPass g2
+    unfolding unG2 y exactLong g2
     G2-undone i h = ≈-trans (⊗-cong (≈-refl zeta) (is (first-high n (g1 n x) (g2 n x) i))) (zeta-in (p2 n x i))
 
     U2-undone : Likewise (lows n) (unU2 n y) (u1 n x)
@@ -105,22 +105,22 @@ module _ (n : ℕ) (works : Liftable n) where
     unfolding unP1 p1 onHighs
     P1-undone i h = ≈-trans (highs-alike U1-undone P2-undone (unlift alpha) (unlift-cong alpha) i h) (unlift-lift alpha _ _ _)
 
-    pub line-undone : Likewise n (exactBack n (exactPass n x)) x
-    unfolding exactBack y low₀ high₀
-    line-undone = by-parity (λ k. exactBack n (exactPass n x) k ≈ x k) n
+    long-undone : Likewise n (exactBackLong n (exactLong n x)) x
+    unfolding exactBackLong y low₀ high₀
+    long-undone = by-parity (λ k. exactBackLong n (exactLong n x) k ≈ x k) n
         (λ i h. ≈-trans (is (even-place (unU1 n y) (unP1 n y) i)) (U1-undone i h))
         (λ i h. ≈-trans (is (odd-place (unU1 n y) (unP1 n y) i)) (P1-undone i h))
 
   module _ (y : ℕ → Frac) where
     x : ℕ → Frac
-    x = exactBack n y
+    x = exactBackLong n y
 
     at-low : (i : ℕ) → low₀ n x i ≈ unU1 n y i
-    unfolding low₀ x exactBack
+    unfolding low₀ x exactBackLong
     at-low i = is (even-place (unU1 n y) (unP1 n y) i)
 
     at-high : (i : ℕ) → high₀ n x i ≈ unP1 n y i
-    unfolding high₀ x exactBack
+    unfolding high₀ x exactBackLong
     at-high i = is (odd-place (unU1 n y) (unP1 n y) i)
 
     P1-redone : (i : ℕ) → p1 n x i ≈ unP2 n y i
@@ -147,16 +147,16 @@ module _ (n : ℕ) (works : Liftable n) where
     unfolding g2 unG2
     G2-redone i = ≈-trans (⊗-cong (≈-refl zetaInverse) (P2-redone i)) (zeta-out (y (lows n + i)))
 
-    pub line-redone : Likewise n (exactPass n (exactBack n y)) y
-    unfolding exactPass x
-    line-redone = by-half (λ k. exactPass n (exactBack n y) k ≈ y k) n
+    long-redone : Likewise n (exactLong n (exactBackLong n y)) y
+    unfolding exactLong x
+    long-redone = by-half (λ k. exactLong n (exactBackLong n y) k ≈ y k) n
         (λ i h. ≈-trans (is (first-low n (g1 n x) (g2 n x) i h)) (G1-redone i))
         (λ i h. ≈-trans (is (first-high n (g1 n x) (g2 n x) i)) (G2-redone i))
 
   -- neither reads more than its n values
   module _ (x y : ℕ → Frac) (same : Likewise n x y) where
-    pub pass-same : Likewise n (exactPass n x) (exactPass n y)
-    unfolding exactPass low₀ high₀ p1 u1 p2 u2 g1 g2
+    pass-same : Likewise n (exactLong n x) (exactLong n y)
+    unfolding exactLong low₀ high₀ p1 u1 p2 u2 g1 g2
     pass-same =
         let l0 : Likewise (lows n) (low₀ n x) (low₀ n y) = λ i h. same (2 * i) (omega arith) in
         let h0 : Likewise (highs n) (high₀ n x) (high₀ n y) = λ i h. same (2 * i + 1) (omega arith) in
@@ -164,12 +164,12 @@ module _ (n : ℕ) (works : Liftable n) where
         let l1 = lows-alike l0 h1 (lift beta) (lift-cong beta) in
         let h2 = highs-alike l1 h1 (lift gamma) (lift-cong gamma) in
         let l2 = lows-alike l1 h2 (lift delta) (lift-cong delta) in
-        by-half (λ k. exactPass n x k ≈ exactPass n y k) n
+        by-half (λ k. exactLong n x k ≈ exactLong n y k) n
         (λ i h. ≈-trans (is (first-low n (g1 n x) (g2 n x) i h)) (≈-trans (⊗-cong (≈-refl zeta) (l2 i h)) (≈-sym (is (first-low n (g1 n y) (g2 n y) i h)))))
         (λ i h. ≈-trans (is (first-high n (g1 n x) (g2 n x) i)) (≈-trans (⊗-cong (≈-refl zetaInverse) (h2 i h)) (≈-sym (is (first-high n (g1 n y) (g2 n y) i)))))
 
-    pub back-same : Likewise n (exactBack n x) (exactBack n y)
-    unfolding exactBack unG1 unG2 unU2 unP2 unU1 unP1
+    back-same : Likewise n (exactBackLong n x) (exactBackLong n y)
+    unfolding exactBackLong unG1 unG2 unU2 unP2 unU1 unP1
     back-same =
         let l0 : Likewise (lows n) (unG1 n x) (unG1 n y) = λ i h. ⊗-cong (≈-refl zetaInverse) (same i (omega arith)) in
         let h0 : Likewise (highs n) (unG2 n x) (unG2 n y) = λ i h. ⊗-cong (≈-refl zeta) (same (lows n + i) (omega arith)) in
@@ -177,13 +177,21 @@ module _ (n : ℕ) (works : Liftable n) where
         let h1 = highs-alike l1 h0 (unlift gamma) (unlift-cong gamma) in
         let l2 = lows-alike l1 h1 (unlift beta) (unlift-cong beta) in
         let h2 = highs-alike l2 h1 (unlift alpha) (unlift-cong alpha) in
-        by-parity (λ k. exactBack n x k ≈ exactBack n y k) n
+        by-parity (λ k. exactBackLong n x k ≈ exactBackLong n y k) n
         (λ i h. ≈-trans (is (even-place (unU1 n x) (unP1 n x) i)) (≈-trans (l2 i h) (≈-sym (is (even-place (unU1 n y) (unP1 n y) i)))))
         (λ i h. ≈-trans (is (odd-place (unU1 n x) (unP1 n x) i)) (≈-trans (h2 i h) (≈-sym (is (odd-place (unU1 n y) (unP1 n y) i)))))
 
--- each takes the other back
+-- each takes the other back, at every length
 lines-undone : Undoes _≈_ exactPass exactBack
-lines-undone = record { there = record { reads = pass-same; taken = line-undone }; back = record { reads = back-same; taken = line-redone } }
+unfolding exactPass exactBack
+lines-undone = one-undoes same-≈ exactLong exactBackLong pass-same back-same long-undone long-redone
+
+module _ (n : ℕ) (x : ℕ → Frac) where
+  pub line-undone : Likewise n (exactBack n (exactPass n x)) x
+  line-undone = lines-undone .there .taken n x
+
+  pub line-redone : Likewise n (exactPass n (exactBack n x)) x
+  line-redone = lines-undone .back .taken n x
 
 -- ---- a plane
 
@@ -194,18 +202,18 @@ exactLevel = rowsFirst exactPass (λ low. exactPass)
 level-undone : UndoesPart _≈_ exactLevel (columnsFirst exactBack (λ low. exactBack))
 level-undone = rows-first-undone same-≈ lines-undone (λ low. lines-undone)
 
-module _ (L w h : ℕ) (wide : Roomy L w) (tall : Roomy L h) (p : Plane Frac) (r c : ℕ) where
+module _ (L w h : ℕ) (p : Plane Frac) (r c : ℕ) where
   -- The exact inverse of the exact transform of a plane is the plane.
   pub plane-undone : exactInverse L w h (levels (λ l. exactLevel) L w h p) r c ≈ p r c
   unfolding exactInverse
-  plane-undone = levels-undone same-≈ (λ l. level-undone) w h L wide tall p r c
+  plane-undone = levels-undone same-≈ (λ l. level-undone) w h L p r c
 
   -- The exact transform of the exact inverse of a plane is the plane.
   pub plane-redone : levels (λ l. exactLevel) L w h (exactInverse L w h p) r c ≈ p r c
   unfolding exactInverse
-  plane-redone = levels-redone same-≈ (λ l. level-undone) w h L wide tall p r c
+  plane-redone = levels-redone same-≈ (λ l. level-undone) w h L p r c
 
 -- The exact inverse of the exact transform of a picture is the picture.
-pub picture-undone : (pixels : List ℕ) (B L w h : ℕ) → Roomy L w → Roomy L h → (r c : ℕ) → exactInverse L w h (exactPlane pixels B L w h) r c ≈ exactSample pixels B w r c
+pub picture-undone : (pixels : List ℕ) (B L w h r c : ℕ) → exactInverse L w h (exactPlane pixels B L w h) r c ≈ exactSample pixels B w r c
 unfolding exactPlane
-picture-undone pixels B L w h wide tall r c = plane-undone L w h wide tall (exactSample pixels B w) r c
+picture-undone pixels B L w h r c = plane-undone L w h (exactSample pixels B w) r c

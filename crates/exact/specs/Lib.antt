@@ -8,6 +8,7 @@
 --   FracLaws   laws of fractions
 --   InverseLaws   the exact inverse undoes the exact transform, and the exact transform it
 --   CaseLaws   pass-is, back-is: the exact 9/7 by cases is the exact 9/7
+--   Unchanged  sides that were admitted before job 6
 pub mod Fractions
 pub mod Exact
 pub mod Picture
@@ -16,3 +17,4 @@ pub mod Cases
 pub mod FracLaws
 pub mod InverseLaws
 pub mod CaseLaws
+pub mod Unchanged

@@ -5,9 +5,9 @@ use mathlib.Core.Bool.{Bool}
 use mathlib.Core.Path.{_≡_, refl, sym, _∙_, subst}
 use native.Mathlib.Omega.{arith}
 use lib.Dec.{ltb}
-use Rattle.lines.specs.Lines.{lows, Liftable}
+use Rattle.lines.specs.Lines.{lows}
 use Rattle.lines.specs.Planes.{Plane, OnLine, OnPart, rowsFirst, columnsFirst, levels, levelsBack, side}
-use Rattle.lines.specs.PlaneLaws.{rows-first-in, rows-first-keeps, columns-first-in, columns-first-keeps, by-part, Roomy, roomy-less, side-in, Alike}
+use Rattle.lines.specs.PlaneLaws.{rows-first-in, rows-first-keeps, columns-first-in, columns-first-keeps, by-part, side-le, Alike}
 
 -- an equivalence
 pub record Same {A : Type 0} (R : A → A → Type 0) : Type 0 where
@@ -21,8 +21,8 @@ equal = record { same = λ x. refl; back = λ e. sym e; next = λ e f. e ∙ f }
 module _ {A : Type 0} (R : A → A → Type 0) where
   -- a pass that reads no more than its n values, and is taken back by another
   pub record Taken (pass undo : OnLine A) : Type 0 where
-    pub reads : (n : ℕ) → Liftable n → (x y : ℕ → A) → ((k : ℕ) → k < n → R (x k) (y k)) → (k : ℕ) → k < n → R (pass n x k) (pass n y k)
-    pub taken : (n : ℕ) → Liftable n → (x : ℕ → A) (k : ℕ) → k < n → R (undo n (pass n x) k) (x k)
+    pub reads : (n : ℕ) (x y : ℕ → A) → ((k : ℕ) → k < n → R (x k) (y k)) → (k : ℕ) → k < n → R (pass n x k) (pass n y k)
+    pub taken : (n : ℕ) (x : ℕ → A) (k : ℕ) → k < n → R (undo n (pass n x) k) (x k)
 
   -- two passes that take each other back
   pub record Undoes (pass undo : OnLine A) : Type 0 where
@@ -34,8 +34,8 @@ module _ {A : Type 0} (R : A → A → Type 0) where
 
   -- the same of a level: it reads no more than the plane that its part lies in
   pub record TakenPart (level undo : OnPart A) : Type 0 where
-    pub reads : (w h : ℕ) → Liftable w → Liftable h → (W H : ℕ) → w ≤ W → h ≤ H → (p q : Plane A) → Alike R W H p q → Alike R W H (level w h p) (level w h q)
-    pub taken : (w h : ℕ) → Liftable w → Liftable h → (p : Plane A) (r c : ℕ) → R (undo w h (level w h p) r c) (p r c)
+    pub reads : (w h W H : ℕ) → w ≤ W → h ≤ H → (p q : Plane A) → Alike R W H p q → Alike R W H (level w h p) (level w h q)
+    pub taken : (w h : ℕ) (p : Plane A) (r c : ℕ) → R (undo w h (level w h p) r c) (p r c)
 
   pub record UndoesPart (level undo : OnPart A) : Type 0 where
     pub there : TakenPart level undo
@@ -55,42 +55,42 @@ module _ {A : Type 0} {R : A → A → Type 0} (e : Same R) where
   module _ {row unrow : OnLine A} {column uncolumn : Bool → OnLine A} (rowsU : Undoes R row unrow) (columnsU : (b : Bool) → Undoes R (column b) (uncolumn b)) where
     rows-first-taken : TakenPart R (rowsFirst row column) (columnsFirst unrow uncolumn)
     rows-first-taken = record {
-      reads = λ w h wide tall W H in-w in-h p q alike.
+      reads = λ w h W H in-w in-h p q alike.
           by-part (λ r c. r < H → c < W → R (rowsFirst row column w h p r c) (rowsFirst row column w h q r c)) w h
           (λ r c i j a b. between (rows-first-in row column w h p r c i j)
-          (columnsU (ltb c (lows w)) .there .reads h tall _ _ (λ k ik. rowsU .there .reads w wide (p k) (q k) (λ m jm. alike k m (omega arith) (omega arith)) c j) r i)
+          (columnsU (ltb c (lows w)) .there .reads h _ _ (λ k ik. rowsU .there .reads w (p k) (q k) (λ m jm. alike k m (omega arith) (omega arith)) c j) r i)
           (rows-first-in row column w h q r c i j))
           (λ r c i a b. between (rows-first-keeps row column .below w h p r c i) (alike r c a b) (rows-first-keeps row column .below w h q r c i))
           (λ r c j a b. between (rows-first-keeps row column .beyond w h p r c j) (alike r c a b) (rows-first-keeps row column .beyond w h q r c j));
-      taken = λ w h wide tall p.
+      taken = λ w h p.
           let q : Plane A = rowsFirst row column w h p in
           by-part (λ r c. R (columnsFirst unrow uncolumn w h q r c) (p r c)) w h
           (λ r c i j. e .next (is (columns-first-in unrow uncolumn w h q r c i j)) (e .next
-          (rowsU .back .reads w wide _ (row w (p r)) (λ k jk.
-          e .next (columnsU (ltb k (lows w)) .back .reads h tall (λ m. q m k) (column (ltb k (lows w)) h (λ m. row w (p m) k)) (λ m im. is (rows-first-in row column w h p m k im jk)) r i)
-          (columnsU (ltb k (lows w)) .there .taken h tall (λ m. row w (p m) k) r i)) c j)
-          (rowsU .there .taken w wide (p r) c j)))
+          (rowsU .back .reads w _ (row w (p r)) (λ k jk.
+          e .next (columnsU (ltb k (lows w)) .back .reads h (λ m. q m k) (column (ltb k (lows w)) h (λ m. row w (p m) k)) (λ m im. is (rows-first-in row column w h p m k im jk)) r i)
+          (columnsU (ltb k (lows w)) .there .taken h (λ m. row w (p m) k) r i)) c j)
+          (rowsU .there .taken w (p r) c j)))
           (λ r c i. is (columns-first-keeps unrow uncolumn .below w h q r c i ∙ rows-first-keeps row column .below w h p r c i))
           (λ r c j. is (columns-first-keeps unrow uncolumn .beyond w h q r c j ∙ rows-first-keeps row column .beyond w h p r c j));
     }
 
     columns-first-taken : TakenPart R (columnsFirst unrow uncolumn) (rowsFirst row column)
     columns-first-taken = record {
-      reads = λ w h wide tall W H in-w in-h p q alike.
+      reads = λ w h W H in-w in-h p q alike.
           by-part (λ r c. r < H → c < W → R (columnsFirst unrow uncolumn w h p r c) (columnsFirst unrow uncolumn w h q r c)) w h
           (λ r c i j a b. between (columns-first-in unrow uncolumn w h p r c i j)
-          (rowsU .back .reads w wide _ _ (λ k jk. columnsU (ltb k (lows w)) .back .reads h tall (λ m. p m k) (λ m. q m k) (λ m im. alike m k (omega arith) (omega arith)) r i) c j)
+          (rowsU .back .reads w _ _ (λ k jk. columnsU (ltb k (lows w)) .back .reads h (λ m. p m k) (λ m. q m k) (λ m im. alike m k (omega arith) (omega arith)) r i) c j)
           (columns-first-in unrow uncolumn w h q r c i j))
           (λ r c i a b. between (columns-first-keeps unrow uncolumn .below w h p r c i) (alike r c a b) (columns-first-keeps unrow uncolumn .below w h q r c i))
           (λ r c j a b. between (columns-first-keeps unrow uncolumn .beyond w h p r c j) (alike r c a b) (columns-first-keeps unrow uncolumn .beyond w h q r c j));
-      taken = λ w h wide tall p.
+      taken = λ w h p.
           let q : Plane A = columnsFirst unrow uncolumn w h p in
           by-part (λ r c. R (rowsFirst row column w h q r c) (p r c)) w h
           (λ r c i j. e .next (is (rows-first-in row column w h q r c i j)) (e .next
-          (columnsU (ltb c (lows w)) .there .reads h tall _ (uncolumn (ltb c (lows w)) h (λ m. p m c)) (λ k ik.
-          e .next (rowsU .there .reads w wide (q k) (unrow w (λ m. uncolumn (ltb m (lows w)) h (λ t. p t m) k)) (λ m jm. is (columns-first-in unrow uncolumn w h p k m ik jm)) c j)
-          (rowsU .back .taken w wide (λ m. uncolumn (ltb m (lows w)) h (λ t. p t m) k) c j)) r i)
-          (columnsU (ltb c (lows w)) .back .taken h tall (λ m. p m c) r i)))
+          (columnsU (ltb c (lows w)) .there .reads h _ (uncolumn (ltb c (lows w)) h (λ m. p m c)) (λ k ik.
+          e .next (rowsU .there .reads w (q k) (unrow w (λ m. uncolumn (ltb m (lows w)) h (λ t. p t m) k)) (λ m jm. is (columns-first-in unrow uncolumn w h p k m ik jm)) c j)
+          (rowsU .back .taken w (λ m. uncolumn (ltb m (lows w)) h (λ t. p t m) k) c j)) r i)
+          (columnsU (ltb c (lows w)) .back .taken h (λ m. p m c) r i)))
           (λ r c i. is (rows-first-keeps row column .below w h q r c i ∙ columns-first-keeps unrow uncolumn .below w h p r c i))
           (λ r c j. is (rows-first-keeps row column .beyond w h q r c j ∙ columns-first-keeps unrow uncolumn .beyond w h p r c j));
     }
@@ -106,37 +106,37 @@ module _ {A : Type 0} {R : A → A → Type 0} (e : Same R) where
   module _ {level undo : ℕ → OnPart A} (undone : (l : ℕ) → UndoesPart R (level l) (undo l)) (w h : ℕ) where
     -- they read no more than the plane
     module _ (W H : ℕ) (in-w : w ≤ W) (in-h : h ≤ H) where
-      pub levels-read : (L : ℕ) → Roomy L w → Roomy L h → (p q : Plane A) → Alike R W H p q → Alike R W H (levels level L w h p) (levels level L w h q)
+      pub levels-read : (L : ℕ) (p q : Plane A) → Alike R W H p q → Alike R W H (levels level L w h p) (levels level L w h q)
       unfolding levels
-      levels-read zero wide tall p q s = s
-      levels-read (suc k) wide tall p q s =
-          undone (suc k) .there .reads (side k w) (side k h) (wide k (omega arith)) (tall k (omega arith)) W H (side-in k w W wide in-w) (side-in k h H tall in-h) _ _
-          (levels-read k (roomy-less k w wide) (roomy-less k h tall) p q s)
+      levels-read zero p q s = s
+      levels-read (suc k) p q s =
+          undone (suc k) .there .reads (side k w) (side k h) W H (omega (arith, side-le k w)) (omega (arith, side-le k h)) _ _
+          (levels-read k p q s)
 
-      pub back-reads : (L : ℕ) → Roomy L w → Roomy L h → (p q : Plane A) → Alike R W H p q → Alike R W H (levelsBack undo L w h p) (levelsBack undo L w h q)
+      pub back-reads : (L : ℕ) (p q : Plane A) → Alike R W H p q → Alike R W H (levelsBack undo L w h p) (levelsBack undo L w h q)
       unfolding levelsBack
-      back-reads zero wide tall p q s = s
-      back-reads (suc k) wide tall p q s =
-          back-reads k (roomy-less k w wide) (roomy-less k h tall) _ _
-          (undone (suc k) .back .reads (side k w) (side k h) (wide k (omega arith)) (tall k (omega arith)) W H (side-in k w W wide in-w) (side-in k h H tall in-h) p q s)
+      back-reads zero p q s = s
+      back-reads (suc k) p q s =
+          back-reads k _ _
+          (undone (suc k) .back .reads (side k w) (side k h) W H (omega (arith, side-le k w)) (omega (arith, side-le k h)) p q s)
 
     -- Levels 1 to L, taken back, leave the plane as it was.
-    pub levels-undone : (L : ℕ) → Roomy L w → Roomy L h → (p : Plane A) (r c : ℕ) → R (levelsBack undo L w h (levels level L w h p) r c) (p r c)
+    pub levels-undone : (L : ℕ) (p : Plane A) (r c : ℕ) → R (levelsBack undo L w h (levels level L w h p) r c) (p r c)
     unfolding levelsBack levels
-    levels-undone zero wide tall p r c = e .same (p r c)
-    levels-undone (suc k) wide tall p r c =
+    levels-undone zero p r c = e .same (p r c)
+    levels-undone (suc k) p r c =
         e .next
-        (back-reads (w + suc c) (h + suc r) (omega arith) (omega arith) k (roomy-less k w wide) (roomy-less k h tall) _ (levels level k w h p)
-        (λ a b i j. undone (suc k) .there .taken (side k w) (side k h) (wide k (omega arith)) (tall k (omega arith)) (levels level k w h p) a b) r c (omega arith) (omega arith))
-        (levels-undone k (roomy-less k w wide) (roomy-less k h tall) p r c)
+        (back-reads (w + suc c) (h + suc r) (omega arith) (omega arith) k _ (levels level k w h p)
+        (λ a b i j. undone (suc k) .there .taken (side k w) (side k h) (levels level k w h p) a b) r c (omega arith) (omega arith))
+        (levels-undone k p r c)
 
     -- Levels L to 1 taken back, and worked again, leave the plane as it was.
-    pub levels-redone : (L : ℕ) → Roomy L w → Roomy L h → (p : Plane A) (r c : ℕ) → R (levels level L w h (levelsBack undo L w h p) r c) (p r c)
+    pub levels-redone : (L : ℕ) (p : Plane A) (r c : ℕ) → R (levels level L w h (levelsBack undo L w h p) r c) (p r c)
     unfolding levelsBack levels
-    levels-redone zero wide tall p r c = e .same (p r c)
-    levels-redone (suc k) wide tall p r c =
+    levels-redone zero p r c = e .same (p r c)
+    levels-redone (suc k) p r c =
         let q : Plane A = undo (suc k) (side k w) (side k h) p in
         e .next
-        (undone (suc k) .there .reads (side k w) (side k h) (wide k (omega arith)) (tall k (omega arith)) (w + suc c) (h + suc r) (side-in k w (w + suc c) wide (omega arith)) (side-in k h (h + suc r) tall (omega arith)) _ q
-        (λ a b i j. levels-redone k (roomy-less k w wide) (roomy-less k h tall) q a b) r c (omega arith) (omega arith))
-        (undone (suc k) .back .taken (side k w) (side k h) (wide k (omega arith)) (tall k (omega arith)) p r c)
+        (undone (suc k) .there .reads (side k w) (side k h) (w + suc c) (h + suc r) (omega (arith, side-le k w)) (omega (arith, side-le k h)) _ q
+        (λ a b i j. levels-redone k q a b) r c (omega arith) (omega arith))
+        (undone (suc k) .back .taken (side k w) (side k h) p r c)

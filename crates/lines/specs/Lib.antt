@@ -10,6 +10,8 @@
 --   PlaneLaws  inside and outside of a part; sides of the low-low parts
 --   RowLaws    elements of a plane in memory
 --   BackLaws   where each pass is undone, a level is, and so are the levels
+--   OneLaws    passes from length 1: a single sample, or two and more
+--   LongLaws   sides that were admitted before job 6: nothing changes
 pub mod Lines
 pub mod Cases
 pub mod Planes
@@ -19,4 +21,6 @@ pub mod Neighbours
 pub mod PlaneLaws
 pub mod RowLaws
 pub mod BackLaws
+pub mod OneLaws
+pub mod LongLaws
 pub mod CaseLaws

@@ -1,14 +1,12 @@
 -- Laws of planes: what lies inside and outside of a part, and the sides of the low-low parts.
-use Prim.Native.Nat.{ℕ, zero, suc, _+_, _-_, _^_, _<_, _≤_}
+use Prim.Native.Nat.{ℕ, zero, suc, _+_, _<_, _≤_}
 use mathlib.Core.Bool.{Bool, true, false, not}
 use mathlib.Core.Path.{_≡_, refl, sym, ap, subst}
 use native.Mathlib.Numerals.{add-one}
 use native.Mathlib.Omega.{arith}
-use lib.Pow.{pow-pos}
 use lib.Dec.{T, ltb, ltb→lt, nltb→le}
 use Rattle.numbers.specs.Tests.{and-true, and-false-l, and-false-r}
-use Rattle.lines.specs.Lines.{lows, Liftable}
-use Rattle.lines.specs.LineLaws.{some-samples}
+use Rattle.lines.specs.Lines.{lows}
 use Rattle.lines.specs.Planes.{Plane, OnLine, OnPart, rows, columns, within, side, rowsFirst, columnsFirst}
 
 abbrev pick : {A : Type 0} → A → A → Bool → A
@@ -70,39 +68,17 @@ pub side-more : (k n : ℕ) → lows (side k n) ≡ side (k + 1) n
 unfolding side
 side-more k n = ap (λ (j : ℕ). side j n) (sym (add-one k))
 
--- each level can work its side
-abbrev pub Roomy : ℕ → ℕ → Type 0
-Roomy L n = (k : ℕ) → k < L → Liftable (side k n)
-
--- sides greater than 2^(L-1) are roomy
-
-side-above : (k j w : ℕ) → 2 ^ (k + j) < w → 2 ^ j < side k w
+-- a side of a picture leaves one of every level
+pub side-some : (k n : ℕ) → 1 ≤ n → 1 ≤ side k n
 unfolding side
-side-above zero j w h = subst (λ (t : ℕ). 2 ^ t < w) (omega arith) h
-side-above (suc k) j w h =
-    let e : suc k + j ≡ k + suc j = omega arith in
-    let i : 2 ^ suc j < side k w = side-above k (suc j) w (subst (λ (t : ℕ). 2 ^ t < w) e h) in
-    omega arith
-
-pub roomy : (L n : ℕ) → 2 ^ (L - 1) < n → Roomy L n
-roomy L n h k i =
-    let e : L - 1 ≡ k + (L - 1 - k) = omega arith in
-    let a : 2 ^ (L - 1 - k) < side k n = side-above k (L - 1 - k) n (subst (λ (t : ℕ). 2 ^ t < n) e h) in
-    record { least = omega (arith, pow-pos (L - 1 - k)) }
-
-pub side-le : (k n : ℕ) → 1 ≤ n → side k n ≤ n
-unfolding side
-side-le zero n h = omega arith
-side-le (suc k) n h = omega (arith, side-le k n h)
+side-some zero n h = h
+side-some (suc k) n h = omega (arith, side-some k n h)
 
 -- the side of a level lies within the plane
-pub side-in : (k n N : ℕ) → Roomy (suc k) n → n ≤ N → side k n ≤ N
+pub side-le : (k n : ℕ) → side k n ≤ n
 unfolding side
-side-in k n N room i = omega (arith, side-le k n (some-samples _ (room 0 (omega arith))))
-
--- one level less
-pub roomy-less : (k n : ℕ) → Roomy (suc k) n → Roomy k n
-roomy-less k n room j i = room j (omega arith)
+side-le zero n = omega arith
+side-le (suc k) n = omega (arith, side-le k n)
 
 -- alike within w columns and h rows
 abbrev pub Alike : {A : Type 0} → (A → A → Type 0) → ℕ → ℕ → Plane A → Plane A → Type 0

@@ -12,6 +12,11 @@ Plane A = ℕ → ℕ → A
 abbrev pub OnLine : Type 0 → Type 0
 OnLine A = ℕ → (ℕ → A) → ℕ → A
 
+-- A pass from length 1 (document 02, job 6): what `single` makes of a single sample is its only low value; from length 2 on the line is
+-- worked by `long`.
+unfoldable pub fromOne : {A : Type 0} → (A → A) → OnLine A → OnLine A
+fromOne single long n x k = elim (ltb n 2) [ true ↦ single (x k) | false ↦ long n x k ]
+
 module _ {A : Type 0} where
   -- the rows of a plane of w columns
   unfoldable pub rows : OnLine A → ℕ → Plane A → Plane A

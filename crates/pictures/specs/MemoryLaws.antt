@@ -17,7 +17,8 @@ use Rattle.numbers.specs.Lists.{over}
 use Rattle.lines.specs.Lines.{lows, highs, Liftable}
 use Rattle.lines.specs.LineLaws.{some-highs, Equal, first-equal, interleaved-equal, evens-equal, odds-equal, lows-equal, highs-equal}
 use Rattle.lines.specs.Neighbours.{on-highs-equal, on-lows-equal}
-use Rattle.lines.specs.Planes.{Plane, OnLine, rows, within, rowByRow}
+use Rattle.lines.specs.Planes.{Plane, OnLine, fromOne, rows, within, rowByRow}
+use Rattle.lines.specs.OneLaws.{one-single, one-long, by-one}
 use Rattle.lines.specs.PlaneLaws.{by-part, within-in, within-below, within-beyond}
 use Rattle.lines.specs.RowLaws.{place-in, rows-length, rows-at}
 use Rattle.lifting.specs.declared.Pair.{Pair}
@@ -38,7 +39,13 @@ Stands w h x p = (r c : ℕ) → r < h → c < w → x (r * w + c) ≡ p r c
 -- ---- a pass reads a line's own values only, as kernels do
 
 abbrev pub Reads : OnLine ℤ → Type 0
-Reads pass = (n : ℕ) → Liftable n → (x y : ℕ → ℤ) → Equal n x y → Equal n (pass n x) (pass n y)
+Reads pass = (n : ℕ) (x y : ℕ → ℤ) → Equal n x y → Equal n (pass n x) (pass n y)
+
+-- from length 1, where the line of two or more is worked by a pass that does
+pub one-reads : (single : ℤ → ℤ) (long : OnLine ℤ) → ((n : ℕ) → Liftable n → (x y : ℕ → ℤ) → Equal n x y → Equal n (long n x) (long n y)) → Reads (fromOne single long)
+one-reads single long reads n x y e k i = by-one (fromOne single long n x k ≡ fromOne single long n y k) n
+    (λ one. one-single single long n x k one ∙ ap single (e k i) ∙ sym (one-single single long n y k one))
+    (λ works. one-long single long n x k works ∙ reads n works x y e k i ∙ sym (one-long single long n y k works))
 
 -- a pair of steps
 lifted-same : (pair : Pair) (n : ℕ) → Liftable n → {l l′ h h′ : ℕ → ℤ} → Equal (lows n) l l′ → Equal (highs n) h h′
@@ -47,7 +54,7 @@ lifted-same pair n works el eh =
     let h = on-highs-equal n el eh (applied (pair .highs)) in
     (on-lows-equal n el h (applied (pair .lows)) (some-highs n works), h)
 
-pub worked-same : (k : Kernel) → Reads (worked k)
+pub worked-same : (k : Kernel) (n : ℕ) → Liftable n → (x y : ℕ → ℤ) → Equal n x y → Equal n (worked k n x) (worked k n y)
 unfolding worked
 worked-same (One pair) n works x y e =
     let new = lifted-same pair n works (evens-equal n e) (odds-equal n e) in
@@ -67,10 +74,7 @@ worked-same (Undo pair) n works x y e =
 abbrev pub loaded : List ℕ → ℕ → ℕ → ℕ → (ℕ → ℤ) → ℕ → ℤ
 loaded pixels middle w h x = patch 0 (w * h) (λ k. pos (getD pixels k 0) -ℤ pos middle) x
 
-module _ (k : Kernel) (pixels : List ℕ) (middle w h : ℕ) (x : ℕ → ℤ) (works : Liftable w) where
-  some : 1 ≤ w
-  some = omega (arith, works)
-
+module _ (k : Kernel) (pixels : List ℕ) (middle w h : ℕ) (x : ℕ → ℤ) (some : 1 ≤ w) where
   -- rows do not meet
   rows-apart : (i j : ℕ) → i < j → (p q : ℕ) → p < w → q < w → lineAt 0 w i + p ≡ lineAt 0 w j + q → ⊥
   rows-apart i j l = lines-apart 0 w w i j (omega arith) (omega arith)
@@ -87,8 +91,8 @@ module _ (k : Kernel) (pixels : List ℕ) (middle w h : ℕ) (x : ℕ → ℤ) (
   sample-at i c a b = sym (ap (loaded pixels middle w h x) (let e : lineAt 0 w i + c ≡ 0 + (i * w + c) = omega arith in e) ∙ patch-in 0 (w * h) _ x (i * w + c) (place-in w h some i c a b))
 
   -- the rows that the pixels give are those of the plane that holds them
-  pub pixel-rows-worked : patchLines (lineAt 0 w) w h (λ r. worked k w (pixelLine pixels middle (r * w))) x ≡ rowsWorked k w w h (loaded pixels middle w h x)
-  pixel-rows-worked = lines-is (lineAt 0 w) w _ (loaded pixels middle w h x) rows-apart h _
+  pub pixel-rows-worked : Liftable w → patchLines (lineAt 0 w) w h (λ r. worked k w (pixelLine pixels middle (r * w))) x ≡ rowsWorked k w w h (loaded pixels middle w h x)
+  pixel-rows-worked works = lines-is (lineAt 0 w) w _ (loaded pixels middle w h x) rows-apart h _
       (λ i j a b. lines-in (lineAt 0 w) w _ x rows-apart h i j a b ∙ worked-same k w works _ _ (λ c d. sample-at i c a d) j b)
       (λ p off. lines-out (lineAt 0 w) w _ x h p off ∙ sym (patch-above 0 (w * h) _ x p (omega (arith, past p off))))
 
@@ -109,7 +113,7 @@ same-place W i j r c p q e = go (ℕ-discrete i r)
     go (yes s) = (s, omega (arith, ap (λ (t : ℕ). t * W) s))
     go (no f) = absurd (lines-apart 0 W W i r (omega arith) f j c p q (omega arith))
 
-module _ (pass : OnLine ℤ) (reads : Reads pass) (W H w h : ℕ) (x : ℕ → ℤ) (p : Plane ℤ) (works : Liftable w) (wide : w ≤ W) (tall : h ≤ H) where
+module _ (pass : OnLine ℤ) (reads : Reads pass) (W H w h : ℕ) (x : ℕ → ℤ) (p : Plane ℤ) (wide : w ≤ W) (tall : h ≤ H) where
   off : (i j r c : ℕ) → j < w → c < W → lineAt 0 W i + j ≡ r * W + c → (i ≡ r) × (j ≡ c)
   off i j r c g q e = same-place W i j r c (omega arith) q (omega arith)
 
@@ -118,13 +122,13 @@ module _ (pass : OnLine ℤ) (reads : Reads pass) (W H w h : ℕ) (x : ℕ → �
   rows-stand s = by-part (λ r c. r < H → c < W → rowsBy pass W w h x (r * W + c) ≡ within w h (rows pass w p) p r c) w h
       (λ r c i j a b. ap (rowsBy pass W w h x) (omega arith)
       ∙ lines-in (lineAt 0 W) w _ x (λ u v l. lines-apart 0 W w u v wide (omega arith)) h r c i j
-      ∙ reads w works _ _ (λ m q. ap x (omega arith) ∙ s r m a (omega arith)) c j
+      ∙ reads w _ _ (λ m q. ap x (omega arith) ∙ s r m a (omega arith)) c j
       ∙ sym (within-in w h _ p r c i j))
       (λ r c i a b. lines-out (lineAt 0 W) w _ x h _ (λ u v l q e. let z = off u v r c q b e in omega arith) ∙ s r c a b ∙ sym (within-below w h _ p r c i))
       (λ r c j a b. lines-out (lineAt 0 W) w _ x h _ (λ u v l q e. let z = off u v r c q b e in omega arith) ∙ s r c a b ∙ sym (within-beyond w h _ p r c j))
 
-pub rows-beyond : (pass : OnLine ℤ) (W H w h : ℕ) (x : ℕ → ℤ) → Liftable w → w ≤ W → h ≤ H → (q : ℕ) → W * H ≤ q → rowsBy pass W w h x q ≡ x q
-rows-beyond pass W H w h x works wide tall q far = lines-out (lineAt 0 W) w _ x h q (λ u v l b e. omega (arith, place-in W H (omega arith) u v (omega arith) (omega arith)))
+pub rows-beyond : (pass : OnLine ℤ) (W H w h : ℕ) (x : ℕ → ℤ) → w ≤ W → h ≤ H → (q : ℕ) → W * H ≤ q → rowsBy pass W w h x q ≡ x q
+rows-beyond pass W H w h x wide tall q far = lines-out (lineAt 0 W) w _ x h q (λ u v l b e. omega (arith, place-in W H (omega arith) u v (omega arith) (omega arith)))
 
 -- columns `from` to `from + w - 1` of the first h rows worked, all else as it was
 unfoldable pub columnsPlane : OnLine ℤ → ℕ → ℕ → ℕ → Plane ℤ → Plane ℤ
@@ -155,7 +159,7 @@ module _ (pass : OnLine ℤ) (from w h : ℕ) (p : Plane ℤ) (r c : ℕ) where
   unfolding columnsPlane
   columns-right b = ap (pick (pass h (λ m. p m c) r) (p r c)) ((λ u. ltb r h && (leb from c && le-ltb c (from + w) b u)) ∙ (λ u. ltb r h && and-false (leb from c) u) ∙ and-false (ltb r h))
 
-module _ (pass : OnLine ℤ) (reads : Reads pass) (W H from w h : ℕ) (x : ℕ → ℤ) (p : Plane ℤ) (works : Liftable h) (wide : from + w ≤ W) (tall : h ≤ H) where
+module _ (pass : OnLine ℤ) (reads : Reads pass) (W H from w h : ℕ) (x : ℕ → ℤ) (p : Plane ℤ) (wide : from + w ≤ W) (tall : h ≤ H) where
   apart : (i j r c : ℕ) → j < w → c < W → lineAt from W i + j ≡ r * W + c → (i ≡ r) × (from + j ≡ c)
   apart i j r c g q e = same-place W i (from + j) r c (omega arith) q (omega arith)
 
@@ -167,7 +171,7 @@ module _ (pass : OnLine ℤ) (reads : Reads pass) (W H from w h : ℕ) (x : ℕ 
       (λ l. by-ltb (λ t. columnsBy pass W from w h x (r * W + c) ≡ pick (pass h (λ m. p m c) r) (p r c) t) c (from + w)
       (λ u. ap (columnsBy pass W from w h x) (omega arith)
       ∙ lines-in (lineAt from W) w _ x (λ u v l. lines-apart from W w u v (omega arith) (omega arith)) h r (c - from) i (omega arith)
-      ∙ reads h works _ _ (λ m q. ap x (omega arith) ∙ s m c (omega arith) b) r i)
+      ∙ reads h _ _ (λ m q. ap x (omega arith) ∙ s m c (omega arith) b) r i)
       (λ u. old (λ m j g q e. let z = apart m j r c q b e in omega arith)))
       (λ l. old (λ m j g q e. let z = apart m j r c q b e in omega arith)))
       (λ i. old (λ m j l q e. let z = apart m j r c q b e in omega arith))
@@ -175,8 +179,8 @@ module _ (pass : OnLine ℤ) (reads : Reads pass) (W H from w h : ℕ) (x : ℕ 
       old : ((i j : ℕ) → i < h → j < w → lineAt from W i + j ≡ r * W + c → ⊥) → columnsBy pass W from w h x (r * W + c) ≡ p r c
       old none = lines-out (lineAt from W) w _ x h _ none ∙ s r c a b
 
-pub columns-beyond : (pass : OnLine ℤ) (W H from w h : ℕ) (x : ℕ → ℤ) → Liftable h → from + w ≤ W → h ≤ H → (q : ℕ) → W * H ≤ q → columnsBy pass W from w h x q ≡ x q
-columns-beyond pass W H from w h x works wide tall q far = lines-out (lineAt from W) w _ x h q (λ u v l b e. omega (arith, place-in W H (omega arith) u (from + v) (omega arith) (omega arith)))
+pub columns-beyond : (pass : OnLine ℤ) (W H from w h : ℕ) (x : ℕ → ℤ) → from + w ≤ W → h ≤ H → (q : ℕ) → W * H ≤ q → columnsBy pass W from w h x q ≡ x q
+columns-beyond pass W H from w h x wide tall q far = lines-out (lineAt from W) w _ x h q (λ u v l b e. omega (arith, place-in W H (omega arith) u (from + v) (omega arith) (omega arith)))
 
 -- ---- what is written over the front of a list
 

@@ -1,5 +1,5 @@
 -- What refusals 8, 9 and 10 say where they are not given; and what is written over the front of a list.
-use Prim.Native.Nat.{ℕ, suc, _*_, _-_, _^_, _<_, _≤_}
+use Prim.Native.Nat.{ℕ, suc, _*_, _^_, _<_, _≤_}
 use mathlib.Core.Bool.{Bool, _&&_}
 use mathlib.Core.List.{List, [], _∷_}
 use mathlib.Core.Path.{_≡_, refl, sym, _∙_, subst}
@@ -15,28 +15,28 @@ use Rattle.lines.specs.RowLaws.{every-at}
 use Rattle.pictures.specs.Pictures.{maxSide, sideRight, Admitted, sided, holds, pixelsRight}
 
 -- sides are admitted, and three slices of a, b and c elements are long enough
-pub record Room (L w h a b c : ℕ) : Type 0 where
-  pub wide : Admitted L w
-  pub tall : Admitted L h
+pub record Room (w h a b c : ℕ) : Type 0 where
+  pub wide : Admitted w
+  pub tall : Admitted h
   pub first : w * h ≤ a
   pub second : w * h ≤ b
   pub third : w * h ≤ c
 
-pub side-is : (L n : ℕ) → T (sideRight L n) → Admitted L n
-side-is L n h = let x = both (ltb (2 ^ (L - 1)) n) (leb n maxSide) h in (ltb→lt _ _ (x .0), leb→le n maxSide (x .1))
+pub side-is : (n : ℕ) → T (sideRight n) → Admitted n
+side-is n h = let x = both (leb 1 n) (leb n maxSide) h in (leb→le 1 n (x .0), leb→le n maxSide (x .1))
 
-pub side-right : (L n : ℕ) → Admitted L n → T (sideRight L n)
-side-right L n x = and-intro (ltb (2 ^ (L - 1)) n) (leb n maxSide) (lt→ltb _ _ (x .0)) (le→leb _ _ (x .1))
+pub side-right : (n : ℕ) → Admitted n → T (sideRight n)
+side-right n x = and-intro (leb 1 n) (leb n maxSide) (le→leb _ _ (x .0)) (le→leb _ _ (x .1))
 
-pub sided-done : (L w h : ℕ) → sided L w h ≡ passed → Admitted L w × Admitted L h
+pub sided-done : (w h : ℕ) → sided w h ≡ passed → Admitted w × Admitted h
 unfolding sided
-sided-done L w h e =
-    let s = both (sideRight L w) (sideRight L h) (asks-done (sideRight L w && sideRight L h) _ _ e .0) in
-    (side-is L w (s .0), side-is L h (s .1))
+sided-done w h e =
+    let s = both (sideRight w) (sideRight h) (asks-done (sideRight w && sideRight h) _ _ e .0) in
+    (side-is w (s .0), side-is h (s .1))
 
-pub sided-right : (L w h : ℕ) → Admitted L w → Admitted L h → sided L w h ≡ passed
+pub sided-right : (w h : ℕ) → Admitted w → Admitted h → sided w h ≡ passed
 unfolding sided
-sided-right L w h a b = asks-right (sideRight L w && sideRight L h) _ _ (and-intro (sideRight L w) (sideRight L h) (side-right L w a) (side-right L h b))
+sided-right w h a b = asks-right (sideRight w && sideRight h) _ _ (and-intro (sideRight w) (sideRight h) (side-right w a) (side-right h b))
 
 pub holds-done : (n k : ℕ) → holds n k ≡ passed → n ≤ k
 unfolding holds
@@ -47,13 +47,13 @@ unfolding holds
 holds-right n k h = asks-right (leb n k) _ _ (le→leb n k h)
 
 -- 8, and 9 of three slices
-module _ (L w h a b c : ℕ) where
+module _ (w h a b c : ℕ) where
   abbrev pub sized : Answer Unit
-  sized = sided L w h then holds (w * h) a then holds (w * h) b then holds (w * h) c
+  sized = sided w h then holds (w * h) a then holds (w * h) b then holds (w * h) c
 
   -- and what is judged after them
-  pub sized-then : {A : Type 0} (after : Answer A) → sided L w h then holds (w * h) a then holds (w * h) b then holds (w * h) c then after ≡ sized then after
-  sized-then {A} after = go (sided L w h) (holds (w * h) a) (holds (w * h) b) (holds (w * h) c)
+  pub sized-then : {A : Type 0} (after : Answer A) → sided w h then holds (w * h) a then holds (w * h) b then holds (w * h) c then after ≡ sized then after
+  sized-then {A} after = go (sided w h) (holds (w * h) a) (holds (w * h) b) (holds (w * h) c)
     where
       go : (s x y z : Answer Unit) → s then x then y then z then after ≡ (s then x then y then z) then after
       go (refused r) x y z = refl
@@ -61,17 +61,17 @@ module _ (L w h a b c : ℕ) where
       go (done a) (done b) (refused r) z = refl
       go (done a) (done b) (done c) z = refl
 
-  pub sized-done : sized ≡ passed → Room L w h a b c
+  pub sized-done : sized ≡ passed → Room w h a b c
   sized-done e =
-      let s = then-done (sided L w h) _ e in
+      let s = then-done (sided w h) _ e in
       let x = then-done (holds (w * h) a) _ (s .1) in
       let y = then-done (holds (w * h) b) _ (x .1) in
-      let d = sided-done L w h (s .0) in
+      let d = sided-done w h (s .0) in
       record { wide = d .0; tall = d .1; first = holds-done _ _ (x .0); second = holds-done _ _ (y .0); third = holds-done _ _ (y .1) }
 
-  pub sized-right : Room L w h a b c → sized ≡ passed
+  pub sized-right : Room w h a b c → sized ≡ passed
   sized-right r =
-      then-right (sided L w h) _ (sided-right L w h (r .wide) (r .tall))
+      then-right (sided w h) _ (sided-right w h (r .wide) (r .tall))
       ∙ then-right (holds (w * h) a) _ (holds-right _ _ (r .first))
       ∙ then-right (holds (w * h) b) _ (holds-right _ _ (r .second))
       ∙ holds-right _ _ (r .third)

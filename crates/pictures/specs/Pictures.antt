@@ -1,5 +1,5 @@
 -- Pictures and planes in memory (document 01: pictures and planes), and refusals 8, 9 and 10.
-use Prim.Native.Nat.{ℕ, _+_, _*_, _-_, _^_, _<_, _≤_}
+use Prim.Native.Nat.{ℕ, _+_, _*_, _-_, _^_, _≤_}
 use mathlib.Core.Bool.{Bool, _&&_}
 use mathlib.Core.List.{List}
 use lib.Dec.{leb, ltb}
@@ -14,17 +14,17 @@ use Rattle.lines.specs.Planes.{Plane}
 abbrev pub maxSide : ℕ
 maxSide = 4096
 
--- A side is at most 4,096 and greater than 2^(L-1).
-abbrev pub sideRight : ℕ → ℕ → Bool
-sideRight L n = ltb (2 ^ (L - 1)) n && leb n maxSide
+-- A side is from 1 to 4,096, whatever the levels (document 02, job 6).
+abbrev pub sideRight : ℕ → Bool
+sideRight n = leb 1 n && leb n maxSide
 
 -- the same as a statement
-abbrev pub Admitted : ℕ → ℕ → Type 0
-Admitted L n = (2 ^ (L - 1) < n) × (n ≤ maxSide)
+abbrev pub Admitted : ℕ → Type 0
+Admitted n = (1 ≤ n) × (n ≤ maxSide)
 
 -- 8: both sides are admitted.
-unfoldable pub sided : ℕ → ℕ → ℕ → Answer Unit
-sided L w h = asks (sideRight L w && sideRight L h) 8 passed
+unfoldable pub sided : ℕ → ℕ → Answer Unit
+sided w h = asks (sideRight w && sideRight h) 8 passed
 
 -- 9: a lent slice of k elements holds n.
 unfoldable pub holds : ℕ → ℕ → Answer Unit

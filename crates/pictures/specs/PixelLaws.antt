@@ -1,6 +1,6 @@
 -- The largest of some pixels, and refusals 8 to 10 as the code finds them.
 -- Assumes nothing.
-use Prim.Native.Nat.{ℕ, suc, _+_, _*_, _-_, _%_, _^_, _<_, _≤_}
+use Prim.Native.Nat.{ℕ, suc, _+_, _*_, _%_, _^_, _<_, _≤_}
 use mathlib.Core.Bool.{Bool, true, false, _&&_}
 use mathlib.Core.List.{List, [], _∷_, _++_}
 use mathlib.Core.Path.{_≡_, refl, sym, _∙_, ap}
@@ -9,7 +9,7 @@ use native.Mathlib.Nat.{mul-le-mul}
 use borrow.Author.Tests.{lt-ltb, le-ltb, le-leb, lt-leb}
 use lib.Dec.{leb, ltb}
 use lib.ListN.{length, getD, take}
-use lib.Pow.{pow-mono, pow-pos, shl-exact}
+use lib.Pow.{pow-pos, shl-exact}
 use lib.Seq.{take-suc, take-all}
 use Rattle.numbers.specs.Tests.{every, by-ltb}
 use Rattle.refusals.specs.Answers.{refused, passed, asks}
@@ -26,38 +26,34 @@ and-false false = refl
 
 -- ---- a side
 
-module _ (L n : ℕ) where
-  pub side-long : maxSide < n → sideRight L n ≡ false
-  side-long h = ap (λ (t : Bool). ltb (2 ^ (L - 1)) n && t) (lt-leb n maxSide h) ∙ and-false (ltb (2 ^ (L - 1)) n)
+pub side-long : (n : ℕ) → maxSide < n → sideRight n ≡ false
+side-long n h = ap (λ (t : Bool). leb 1 n && t) (lt-leb n maxSide h) ∙ and-false (leb 1 n)
 
-  pub side-deep : n ≤ maxSide → 12 < L → sideRight L n ≡ false
-  side-deep h d = ap (λ (t : Bool). t && leb n maxSide) (le-ltb (2 ^ (L - 1)) n (omega (arith, pow-mono {i = 12} {j = L - 1} (omega arith))))
-
-  pub side-short : n ≤ maxSide → (b : ℕ) → b ≡ 2 ^ (L - 1) → ltb b n ≡ sideRight L n
-  side-short h b e = ap (λ (t : ℕ). ltb t n) e ∙ sym (ap (λ (t : Bool). ltb (2 ^ (L - 1)) n && t) (le-leb n maxSide h) ∙ and-true (ltb (2 ^ (L - 1)) n))
-    where
-      and-true : (t : Bool) → t && true ≡ t
-      and-true true = refl
-      and-true false = refl
+pub side-short : (n : ℕ) → n ≤ maxSide → leb 1 n ≡ sideRight n
+side-short n h = sym (ap (λ (t : Bool). leb 1 n && t) (le-leb n maxSide h) ∙ and-true (leb 1 n))
+  where
+    and-true : (t : Bool) → t && true ≡ t
+    and-true true = refl
+    and-true false = refl
 
 -- two sides make a size that fits a machine word
-pub size-fits : (L w h : ℕ) → sided L w h ≡ passed → w * h ≤ 16777216
-size-fits L w h e = let d = sided-done L w h e in mul-le-mul (d .0 .1) (d .1 .1)
+pub size-fits : (w h : ℕ) → sided w h ≡ passed → w * h ≤ 16777216
+size-fits w h e = let d = sided-done w h e in mul-le-mul (d .0 .1) (d .1 .1)
 
 -- ---- refusals 8 and 9
 
-module _ (L w h : ℕ) where
-  asked : (s t : Bool) → sideRight L w ≡ s → sideRight L h ≡ t → sided L w h ≡ asks (s && t) 8 passed
+module _ (w h : ℕ) where
+  asked : (s t : Bool) → sideRight w ≡ s → sideRight h ≡ t → sided w h ≡ asks (s && t) 8 passed
   unfolding sided
   asked s t d e = λ j. asks (d j && e j) 8 passed
 
-  pub wide-wrong : sideRight L w ≡ false → sided L w h ≡ refused (8, [])
-  wide-wrong d = asked false (sideRight L h) d refl
+  pub wide-wrong : sideRight w ≡ false → sided w h ≡ refused (8, [])
+  wide-wrong d = asked false (sideRight h) d refl
 
-  pub tall-wrong : sideRight L w ≡ true → sideRight L h ≡ false → sided L w h ≡ refused (8, [])
+  pub tall-wrong : sideRight w ≡ true → sideRight h ≡ false → sided w h ≡ refused (8, [])
   tall-wrong d e = asked true false d e
 
-  pub both-right : sideRight L w ≡ true → sideRight L h ≡ true → sided L w h ≡ passed
+  pub both-right : sideRight w ≡ true → sideRight h ≡ true → sided w h ≡ passed
   both-right d e = asked true true d e
 
 pub slice-short : (n k : ℕ) → k < n → holds n k ≡ refused (9, [])

@@ -15,36 +15,27 @@ ghost use Rattle.pictures.specs.Looks.{Tells, Between, OfBits, aboveLeas
 use refusals::Outcome;
 use refusals::Refusal;
 
-// 2 to this is the limit of a side.
-const MAX_SIDE_BITS: u8 = 12;
-
 // The limit of a side of a picture.
-pub const MAX_SIDE: usize = 1 << MAX_SIDE_BITS;
+pub const MAX_SIDE: usize = 4096;
 
-// Whether a side is admitted for so many levels.
-pub fn side_admitted(levels: u8, side: usize) -> bool
-    ensures { λ r. ⌜ r ≡ sideRight levels side ⌝ }
+// Whether a side is admitted.
+pub fn side_admitted(side: usize) -> bool
+    ensures { λ r. ⌜ r ≡ sideRight side ⌝ }
 {
     if MAX_SIDE < side {
         return false;
     }
-    if MAX_SIDE_BITS < levels {
-        return false;
-    }
-    if levels == 0 {
-        return 1 < side;
-    }
-    (1usize << (levels - 1)) < side
+    1 <= side
 }
 
 // Refusal 8.
-pub fn sides_right(levels: u8, w: usize, h: usize) -> Outcome
-    ensures { λ r. ⌜ told r ≡ sided levels w h ⌝ }
+pub fn sides_right(w: usize, h: usize) -> Outcome
+    ensures { λ r. ⌜ told r ≡ sided w h ⌝ }
 {
-    if side_admitted(levels, w) {} else {
+    if side_admitted(w) {} else {
         return Outcome::Refused(Refusal::SideNotAdmitted);
     }
-    if side_admitted(levels, h) {} else {
+    if side_admitted(h) {} else {
         return Outcome::Refused(Refusal::SideNotAdmitted);
     }
     Outcome::Done
@@ -62,16 +53,15 @@ pub fn slice_holds(n: usize, length: usize) -> Outcome
 
 // Refusals 8 and 9, for three slices of so many elements.
 pub fn room_right(
-    levels: u8,
     w: usize,
     h: usize,
     first: usize,
     second: usize,
     third: usize,
 ) -> Outcome
-    ensures { λ r. ⌜ told r ≡ sided levels w h then holds (w * h) first then holds (w * h) second then holds (w * h) third ⌝ }
+    ensures { λ r. ⌜ told r ≡ sided w h then holds (w * h) first then holds (w * h) second then holds (w * h) third ⌝ }
 {
-    match sides_right(levels, w, h) {
+    match sides_right(w, h) {
         Outcome::Refused(why) => Outcome::Refused(why),
         Outcome::Done => {
             let n = w * h;

@@ -7,6 +7,7 @@
 --   Fixed      one fixed-point stage, in the middle of a line and at its ends: nearest constants, one cut towards minus infinity
 -- Proved of them, for any list of stages:
 --   Sound      good: on a line with mirrored edges each exact value lies within the range, each fixed-point value within the error of it
+--   Single     single-good: the same of a single sample
 --   Endless    the finite sum in a gain is the endless one
 --   RuleLaws   the error as a sum; a side that a stage does not work keeps its bound; bound-grows: the bounds grow with what enters
 --   Ends       a fixed-point stage at an end of a line is the stage of its one neighbour twice
@@ -29,3 +30,4 @@ pub mod RuleLaws
 pub mod Walk
 pub mod Own
 pub mod Sound
+pub mod Single

@@ -88,7 +88,7 @@ lossy-law z q m P W h = last (natAbs (pos m *ℤ q -ℤ z)) _ (ap natAbs (law m 
 pub pow-split : (i j : ℕ) → i ≤ j → 2 ^ j ≡ 2 ^ (j - i) * 2 ^ i
 pow-split i j h = ap (λ (t : ℕ). 2 ^ t) (omega arith) ∙ pow-add 2 (j - i) i
 
-cut-within : (full f : ℕ) (z : ℤ) → f ≤ 32 → Within (meant (cut full f z) f ⊕ neg (meant z full)) (loss f full) (2 ^ 32)
+pub cut-within : (full f : ℕ) (z : ℤ) → f ≤ 32 → Within (meant (cut full f z) f ⊕ neg (meant z full)) (loss f full) (2 ^ 32)
 unfolding loss meant neg _⊕_
 cut-within full f z small = go (ltb f full) (ltb→lt f full) (nltb→le f full)
   where

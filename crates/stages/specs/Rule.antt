@@ -29,6 +29,10 @@ ownLift F fm fo f r = upDiv r (2 ^ F) + loss f (max fo (F + fm))
 unfoldable pub ownScale : ℕ → ℕ → ℕ → ℕ → ℕ
 ownScale F fm f r = upDiv r (2 ^ (F + 1)) + loss f (F + fm)
 
+-- A single sample of fi bits, cut to f bits: its error and 2^-f, the latter only where f is below fi (document 02, job 6).
+abbrev pub singleError : ℕ → Bound → ℕ → ℕ
+singleError fi b f = b .error + loss f fi
+
 -- What enters a pass: one node, even and odd places together; or low and high input as two nodes whose parts add.
 pub data Entering : Type 0 where
   together : Bound → Entering

@@ -13,7 +13,7 @@ use Rattle.pictures.proofs.room_right.Statement.{statement}
 use Rattle.pictures.proofs.room_right.Tie as tie
 
 -- the sides are admitted, and then the first slice, and then the second is long enough
-sides : (c : tie.After-enum-told) → let a = c .before .before .before .args in sided (a .levels) (a .w) (a .h) ≡ passed
+sides : (c : tie.After-enum-told) → let a = c .before .before .before .args in sided (a .w) (a .h) ≡ passed
 sides c = sym (c .before .before .sides-right .ensures) ∙ ap told (c .enum-told .given .1)
 
 first : (c : tie.After-enum-told2) → let a = c .before .before .before .before .before .before .args in holds (a .w * a .h) (a .first) ≡ passed
@@ -23,7 +23,7 @@ second : (c : tie.After-enum-told3) → let a = c .before .before .before .befor
 second c = sym (c .before .before .slice-holds2 .ensures) ∙ ap told (c .enum-told3 .given .1)
 
 mul-n : tie.Need-mul-n
-mul-n c = let a = c .before .before .before .args in omega (arith, size-fits (a .levels) (a .w) (a .h) (sides c))
+mul-n c = let a = c .before .before .before .args in omega (arith, size-fits (a .w) (a .h) (sides c))
 
 returns-2 : tie.Need-returns-2
 returns-2 c =

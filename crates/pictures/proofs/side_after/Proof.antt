@@ -31,7 +31,7 @@ side-after-spec =
     Inv-loop
     μ-loop
     (λ c. (omega arith, sym (side-none _)))
-    (λ c. omega (arith, side-le (c .before .loop .i) (c .before .before .args .n) (c .before .before .pre .0)))
+    (λ c. omega (arith, side-le (c .before .loop .i) (c .before .before .args .n)))
     (λ c. omega arith)
     (λ c. omega arith)
     loop-again

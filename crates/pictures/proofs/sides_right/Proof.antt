@@ -10,7 +10,7 @@ pub sides-right-spec : {M : Type 1} → statement M
 sides-right-spec =
     tie.close (tie.spec
     (λ c κs. search needs)
-    (λ c. sym (wide-wrong _ _ _ (sym (c .before .side-admitted .ensures) ∙ c .if1 .left)))
+    (λ c. sym (wide-wrong _ _ (sym (c .before .side-admitted .ensures) ∙ c .if1 .left)))
     (λ c κs. search needs)
-    (λ c. sym (tall-wrong _ _ _ (sym (c .before .before .before .side-admitted .ensures) ∙ c .before .before .if1 .taken) (sym (c .before .side-admitted2 .ensures) ∙ c .if2 .left)))
-    (λ c. sym (both-right _ _ _ (sym (c .before .before .before .side-admitted .ensures) ∙ c .before .before .if1 .taken) (sym (c .before .side-admitted2 .ensures) ∙ c .if2 .taken))))
+    (λ c. sym (tall-wrong _ _ (sym (c .before .before .before .side-admitted .ensures) ∙ c .before .before .if1 .taken) (sym (c .before .side-admitted2 .ensures) ∙ c .if2 .left)))
+    (λ c. sym (both-right _ _ (sym (c .before .before .before .side-admitted .ensures) ∙ c .before .before .if1 .taken) (sym (c .before .side-admitted2 .ensures) ∙ c .if2 .taken))))

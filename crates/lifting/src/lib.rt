@@ -895,6 +895,21 @@ fn scale_lines(
     }
 }
 
+// The w values of each of h lines, line r from place from + r * stride on, scaled in place. Lines without a gap are one run.
+pub fn scale_part(plane: &mut [i32], stride: usize, from: usize, w: usize, h: usize, g: Factor)
+    requires { ⌜ Part (now plane) stride from w h ⌝ }
+    requires { ⌜ ((r j : ℕ) → r < h → j < w → FactorSafe g (at (now plane) (lineAt from stride r + j))) ⌝ }
+    ensures { λ _. ⌜ at (now (plane .exit)) ≡ patchLines (lineAt from stride) w h (λ r j. scaledBy g (at (now (plane .entry)) (lineAt from stride r + j))) (at (now (plane .entry))) ⌝ }
+{
+    if stride == w {
+        scale_here(plane, from, h * w, g);
+        return;
+    }
+    for r in 0..h {
+        scale_here(plane, from + r * stride, w, g);
+    }
+}
+
 // Two lines of m values, from places a and b of src to places c and d of dst.
 fn copy_pair(src: &[i32], a: usize, b: usize, dst: &mut [i32], c: usize, d: usize, m: usize)
     requires { ⌜ (a + m ≤ length (now src)) × (b + m ≤ length (now src)) × (c + m ≤ length (now dst)) × (d + m ≤ length (now dst)) ⌝ }
@@ -1131,6 +1146,16 @@ fn split_pixels(pixels: &[u16], from: usize, tile: &mut [i32], n: usize, middle:
     }
     if high < low {
         put_pixel(pixels, from + 2 * high, tile, high, middle);
+    }
+}
+
+// The first n pixels, each less the middle of its range, go to the plane.
+pub fn put_pixels(pixels: &[u16], middle: u16, plane: &mut [i32], n: usize)
+    requires { ⌜ (n ≤ length (now pixels)) × (n ≤ length (now plane)) ⌝ }
+    ensures { λ _. ⌜ at (now (plane .exit)) ≡ patch 0 n (pixelLine (now (pixels .entry)) middle 0) (at (now (plane .entry))) ⌝ }
+{
+    for j in 0..n {
+        plane[j] = centred(pixels[j], middle);
     }
 }
 

@@ -1,8 +1,8 @@
 -- Range and error bounds of the nodes of a table (document 01: the judge), by the rule for any pass (Rule of the crate stages).
-use Prim.Native.Nat.{ℕ, zero, suc, _^_}
+use Prim.Native.Nat.{ℕ, zero, suc, _^_, max}
 use Rattle.stages.specs.Stages.{Side, low, high, forward}
 use Rattle.stages.specs.Rule as Rule
-use Rattle.stages.specs.Rule.{Bound, together}
+use Rattle.stages.specs.Rule.{Bound, together, singleError}
 use Rattle.width_table.specs.Nodes.{Node, P1, U1, P2, U2, G1, G2, Pass, Rows, LowColumns, HighColumns, TableNode}
 use Rattle.width_table.specs.Numbered.{nodeOf}
 use Rattle.width_table.specs.declared.WidthTable.{WidthTable}
@@ -14,13 +14,24 @@ module _ (F : Node → ℕ) (fi : ℕ) (b : Bound) (f : Node → ℕ) where
   abbrev pub boundAfter : Side → ℕ → Bound
   boundAfter = Rule.boundAt forward (together b) (λ i. F (nodeOf (suc i))) (λ s. fi) (λ i. f (nodeOf (suc i)))
 
+  -- on lines of two samples or more
+  unfoldable pub longBound : Node → Bound
+  longBound P1 = boundAfter high 1
+  longBound U1 = boundAfter low 2
+  longBound P2 = boundAfter high 3
+  longBound U2 = boundAfter low 4
+  longBound G1 = boundAfter low 5
+  longBound G2 = boundAfter high 6
+
+  -- On lines from one sample (document 02, job 6): G1's error is the larger of that and the single sample's, the input's error plus 2^-f
+  -- where f is below the input's bits.
   unfoldable pub boundAt : Node → Bound
-  boundAt P1 = boundAfter high 1
-  boundAt U1 = boundAfter low 2
-  boundAt P2 = boundAfter high 3
-  boundAt U2 = boundAfter low 4
-  boundAt G1 = boundAfter low 5
-  boundAt G2 = boundAfter high 6
+  boundAt P1 = longBound P1
+  boundAt U1 = longBound U1
+  boundAt P2 = longBound P2
+  boundAt U2 = longBound U2
+  boundAt G1 = record { range = longBound G1 .range; error = max (longBound G1 .error) (singleError fi b (f G1)) }
+  boundAt G2 = longBound G2
 
 -- The nodes of each pass of level l, where b bounds what enters the level. Columns take range and error of the G node that feeds them.
 module _ (t : WidthTable) (l : ℕ) (b : Bound) where

@@ -58,7 +58,7 @@ wide = table 1 [] (level 12 13 2 2 20)
 verdicts :
     verdict (usual 1) ∷ verdict (usual 2) ∷ verdict (usual 3) ∷ verdict (usual 4) ∷ verdict (usual 5) ∷ verdict narrow ∷ verdict rough ∷ verdict wide ∷ []
     ≡ passed ∷ passed ∷ passed ∷ passed ∷ passed ∷ refused (6, 1 ∷ 1 ∷ 1 ∷ []) ∷ refused (7, 1 ∷ 2 ∷ 5 ∷ []) ∷ refused (4, []) ∷ []
-unfolding verdict formRight every firstRefusal judged Bounds.boundOf Bounds.entering Bounds.passBound Bounds.rowBound Bounds.boundAt Rule.boundAt Rule.rangeAt Rule.errorAt Rule.owns Rule.ownsBring Rule.ownFrom Rule.brought Rule.ownLift Rule.ownScale Rule.loss Rule.timesGain bits upDiv gain exactGain sumFrom sumTo inputAnswer nodeAnswer held made wholesOf lift _⊕_ _⊗_ whole magnitude
+unfolding verdict formRight every firstRefusal judged Bounds.boundOf Bounds.entering Bounds.passBound Bounds.rowBound Bounds.boundAt Bounds.longBound Rule.boundAt Rule.rangeAt Rule.errorAt Rule.owns Rule.ownsBring Rule.ownFrom Rule.brought Rule.ownLift Rule.ownScale Rule.loss Rule.timesGain bits upDiv gain exactGain sumFrom sumTo inputAnswer nodeAnswer held made wholesOf lift _⊕_ _⊗_ whole magnitude
 verdicts = refl
 
 abbrev nth : ℕ → List (Answer Unit) → Answer Unit
@@ -94,5 +94,5 @@ told level pass node = (boundable narrow level pass node, rangeTold narrow level
 bounds-told :
     told 1 1 1 ∷ told 1 1 2 ∷ told 2 1 1 ∷ []
     ≡ (passed, 8959885312, 4224) ∷ (refused (6, 1 ∷ 1 ∷ 1 ∷ []), 0, 0) ∷ (refused (4, []), 0, 0) ∷ []
-unfolding boundable formRight every firstRefusal judged Bounds.boundOf Bounds.entering Bounds.passBound Bounds.rowBound Bounds.boundAt Rule.boundAt Rule.rangeAt Rule.errorAt Rule.owns Rule.ownsBring Rule.ownFrom Rule.brought Rule.ownLift Rule.ownScale Rule.loss Rule.timesGain bits upDiv gain exactGain sumFrom sumTo inputAnswer nodeAnswer held made wholesOf lift _⊕_ _⊗_ whole magnitude
+unfolding boundable formRight every firstRefusal judged Bounds.boundOf Bounds.entering Bounds.passBound Bounds.rowBound Bounds.boundAt Bounds.longBound Rule.boundAt Rule.rangeAt Rule.errorAt Rule.owns Rule.ownsBring Rule.ownFrom Rule.brought Rule.ownLift Rule.ownScale Rule.loss Rule.timesGain bits upDiv gain exactGain sumFrom sumTo inputAnswer nodeAnswer held made wholesOf lift _⊕_ _⊗_ whole magnitude
 bounds-told = refl

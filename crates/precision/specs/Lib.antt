@@ -4,6 +4,8 @@
 --   BoundCalls  the call that tells range and error of a node
 -- Proved of them:
 --   Promise     promise : Accepted t → AcceptPromise t, accept : AcceptPromise t → Accepted t
+--   SingleLaws  job 6: the larger error of G1 is the old one
+--   Before      the analysis before job 6, and same-verdict: no verdict changes
 --   Examples    tables that are accepted, tables that are refused 4, 6 and 7, and bounds of nodes
 -- For the program:
 --   Places      nodes, passes and bounds by number
@@ -17,5 +19,7 @@ pub mod Promise
 pub mod Examples
 pub mod Places
 pub mod PlaceLaws
+pub mod SingleLaws
+pub mod Before
 pub mod JudgeLaws
 pub mod OrderLaws

@@ -19,7 +19,7 @@ use Rattle.stages.specs.Rule.{Bound, together, timesGain, loss, ownLift, ownSca
 use Rattle.stages.specs.Held.{weighed}
 use Rattle.stages.specs.RuleLaws as RuleLaws
 use Rattle.stages.specs.RuleLaws.{timesGain-zero, timesGain-none, timesGain-one, weighed-ext, error-sum, bound-start, bound-kept}
-use Rattle.precision.specs.Bounds.{boundAt}
+use Rattle.precision.specs.Bounds.{longBound}
 use Rattle.precision.specs.Places.{places, mostFitting, gainAt, carriedTo, multiplied, other, bitsAt, ownAt, totalAt, ownFrom, ownsBelow}
 use Rattle.width_table.specs.Numbered.{nodeOf, IsNode}
 
@@ -107,22 +107,22 @@ module _ (F : Node → ℕ) (fi : ℕ) (b : Bound) (f : Node → ℕ) where
 
   -- the first stage multiplies the input, and G2 what P2 left
   pub own-is : (k : ℕ) → IsNode k → ownAt F fi b f k ≡ ownFrom F fi b f k (totalAt F fi b f (multiplied k))
-  unfolding ownAt ownFrom totalAt boundAt bits RuleLaws.ownAt Rule.ownFrom Rule.boundAt
+  unfolding ownAt ownFrom totalAt longBound bits RuleLaws.ownAt Rule.ownFrom Rule.boundAt
   own-is =
       by-place _
       (ap (λ (x : Bound). ownLift (Fs 0) fi fi (fs 0) (x .range + x .error)) (bound-start forward (together b) Fs (λ s. fi) fs low))
       refl refl refl refl
       (ap (λ (x : Bound). ownScale (Fs 5) (fs 2) (fs 5) (x .range + x .error)) (bound-kept forward (together b) Fs (λ s. fi) fs 4 high refl ∙ bound-kept forward (together b) Fs (λ s. fi) fs 3 high refl))
 
-  pub range-is : (k : ℕ) → IsNode k → timesGain (b .range) (gainAt 0 k) ≡ boundAt F fi b f (nodeOf k) .range
-  unfolding boundAt Rule.boundAt Rule.rangeAt brought
+  pub range-is : (k : ℕ) → IsNode k → timesGain (b .range) (gainAt 0 k) ≡ longBound F fi b f (nodeOf k) .range
+  unfolding longBound Rule.boundAt Rule.rangeAt brought
   range-is = by-place _ (at 1 (lit≤ tt)) (at 2 (lit≤ tt)) (at 3 (lit≤ tt)) (at 4 (lit≤ tt)) (at 5 (lit≤ tt)) (at 6 (lit≤ tt))
     where
       at : (k : ℕ) → k < places → timesGain (b .range) (gainAt 0 k) ≡ timesGain (b .range) (gain forward (stage forward (k - 1) .side) k samples)
       at k h = ap (timesGain (b .range)) (sym (forward-gain 0 k (omega arith) (omega arith)))
 
   -- the error of a node by numbers
-  error-at : (k : ℕ) → k < places → Rule.errorAt forward (together b) Fs (λ s. fi) fs (stage forward (k - 1) .side) k ≡ timesGain (b .error) (gainAt 0 k) + weighed (λ i. gainAt (suc i) k) (RuleLaws.ownAt forward (together b) Fs (λ s. fi) fs) k
+  pub error-at : (k : ℕ) → k < places → Rule.errorAt forward (together b) Fs (λ s. fi) fs (stage forward (k - 1) .side) k ≡ timesGain (b .error) (gainAt 0 k) + weighed (λ i. gainAt (suc i) k) (RuleLaws.ownAt forward (together b) Fs (λ s. fi) fs) k
   unfolding brought
   error-at k h =
       omega (
@@ -132,8 +132,8 @@ module _ (F : Node → ℕ) (fi : ℕ) (b : Bound) (f : Node → ℕ) where
         weighed-ext (λ i. gain forward (stage forward (k - 1) .side) k (node i)) (λ i. gainAt (suc i) k) (RuleLaws.ownAt forward (together b) Fs (λ s. fi) fs) k (λ i l. forward-gain (suc i) k (omega arith) (omega arith)),
       )
 
-  pub error-is : (k : ℕ) → IsNode k → carriedTo (ownsBelow F fi b f places) k places ≡ boundAt F fi b f (nodeOf k) .error
-  unfolding carriedTo ownsBelow ownAt boundAt Rule.boundAt weighed
+  pub error-is : (k : ℕ) → IsNode k → carriedTo (ownsBelow F fi b f places) k places ≡ longBound F fi b f (nodeOf k) .error
+  unfolding carriedTo ownsBelow ownAt longBound Rule.boundAt weighed
   error-is =
       by-place _
       (simp timesGain-none (omega (arith, error-at 1 (lit≤ tt))))
@@ -145,7 +145,7 @@ module _ (F : Node → ℕ) (fi : ℕ) (b : Bound) (f : Node → ℕ) where
 
   -- what the places below k carry to the place that k multiplies
   pub total-is : (k : ℕ) → IsNode k → timesGain (b .range) (gainAt 0 (multiplied k)) + carriedTo (ownsBelow F fi b f k) (multiplied k) places ≡ totalAt F fi b f (multiplied k)
-  unfolding carriedTo ownsBelow ownAt totalAt boundAt Rule.boundAt weighed
+  unfolding carriedTo ownsBelow ownAt totalAt longBound Rule.boundAt weighed
   total-is =
       by-place _
       (simp (timesGain-zero, timesGain-one) (omega arith))

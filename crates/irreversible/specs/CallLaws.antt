@@ -28,12 +28,12 @@ module _ (t : WidthTable) (w h : ℕ) (pixels : List ℕ) (plane work : List ℤ
   accepted = then-done (verdict t) _ e .0
 
   -- the slices have room, and the pixels are right
-  judged : (sized (t .levels) w h (length pixels) (length plane) (length work) ≡ passed) × (pixelsRight (t .depth) w h pixels ≡ passed)
+  judged : (sized w h (length pixels) (length plane) (length work) ≡ passed) × (pixelsRight (t .depth) w h pixels ≡ passed)
   unfolding fixedAnswer
-  judged = then-done (sized (t .levels) w h (length pixels) (length plane) (length work)) _ (sym (sized-then (t .levels) w h (length pixels) (length plane) (length work) _) ∙ then-done (verdict t) _ e .1)
+  judged = then-done (sized w h (length pixels) (length plane) (length work)) _ (sym (sized-then w h (length pixels) (length plane) (length work) _) ∙ then-done (verdict t) _ e .1)
 
-  pub room : Room (t .levels) w h (length pixels) (length plane) (length work)
-  room = sized-done (t .levels) w h (length pixels) (length plane) (length work) (judged .0)
+  pub room : Room w h (length pixels) (length plane) (length work)
+  room = sized-done w h (length pixels) (length plane) (length work) (judged .0)
 
   -- the pixels are a picture of the table's depth and of admitted size
   pub picture : Picture t pixels w h

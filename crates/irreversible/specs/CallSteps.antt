@@ -8,59 +8,72 @@ use lib.ListN.{length, take}
 use lib.Seq.{length-take-le}
 use lib.IntN.{ℤ}
 use Rattle.numbers.specs.Lists.{over}
-use Rattle.lines.specs.Lines.{Liftable, lows, highs}
+use Rattle.lines.specs.Lines.{lows, highs}
 use Rattle.lines.specs.Planes.{side, rowByRow}
 use Rattle.lines.specs.PlaneLaws.{side-le}
 use Rattle.refusals.specs.Answers.{Reason, Answer, refused, passed, _then_}
 use Rattle.refusals.specs.AnswerLaws.{answered-done, answered-refused}
 use Rattle.width_table.specs.declared.WidthTable.{WidthTable}
 use Rattle.width_table.specs.Limits.{form-levels}
-use Rattle.width_table.specs.Nodes.{Rows, LowColumns, HighColumns}
+use Rattle.width_table.specs.Nodes.{Pass, Rows, LowColumns, HighColumns}
 use Rattle.lifting.specs.Patch.{at}
 use Rattle.lifting.specs.Runs.{as-type}
-use Rattle.lifting.specs.Kernels.{Part, SafeKernel, columnOf, columnsWorked}
+use Rattle.lifting.specs.Kernels.{Part, rowOf, columnOf, columnsBy}
 use Rattle.pictures.specs.Pictures.{sided, holds, pixelsRight, zeroed}
 use Rattle.lifting.specs.Strips.{pixelLine}
 use Rattle.pictures.specs.MemoryLaws.{loaded}
 use Rattle.precision.specs.Verdict.{verdict, Accepted}
 use Rattle.precision.specs.Promise.{promise}
-use Rattle.irreversible.specs.Transforms.{fixedPlane}
+use Rattle.irreversible.specs.Transforms.{fixedLine, fixedPlane}
 use Rattle.irreversible.specs.Claims.{Picture}
 use Rattle.irreversible.specs.Calls.{fixedAnswer, fixedPlaneAfter, fixedWork}
 use Rattle.irreversible.specs.CallLaws.{accepted, room, picture}
-use Rattle.irreversible.specs.KernelLaws.{kernelOf}
-use Rattle.irreversible.specs.LevelLaws.{SafeLevel, rowed}
+use Rattle.irreversible.specs.LevelLaws.{LineSafe, SafeLevel, rowed}
 use Rattle.irreversible.specs.LevelBits.{IsLevel}
-use Rattle.irreversible.specs.LevelsLaws.{After, after-none, wide, tall, safe-next, pixels-safe}
+use Rattle.irreversible.specs.LevelsLaws.{After, after-none, safe-next, pixels-safe}
 
--- its columns can be worked, once the rows are done
-pub record ColumnsReady (t : WidthTable) (l : ℕ) (plane tile : List ℤ) (W w h : ℕ) : Type 0 where
+-- the first w values of h rows can be worked by the row pass of level l, in a plane whose rows are W long
+pub record RowsReady (t : WidthTable) (l : ℕ) (plane tile : List ℤ) (W w h : ℕ) : Type 0 where
   pub is-level : IsLevel t l
   pub part : Part plane W 0 w h
-  pub rows : Liftable h
+  pub across : w ≤ length tile
+  pub safe : (r : ℕ) → r < h → LineSafe t l Rows w (rowOf W 0 (at plane) r)
+
+-- w columns of h rows, from column `from` on, can be worked by a pass
+pub record ColumnsReady (t : WidthTable) (l : ℕ) (p : Pass) (plane tile : List ℤ) (W from w h : ℕ) : Type 0 where
+  pub is-level : IsLevel t l
+  pub part : Part plane W from w h
   pub down : h ≤ length tile
-  pub low : (j : ℕ) → j < lows w → SafeKernel (kernelOf t l LowColumns) h (columnOf W 0 (at plane) j)
-  pub high : (j : ℕ) → j < highs w → SafeKernel (kernelOf t l HighColumns) h (columnOf W (lows w) (columnsWorked (kernelOf t l LowColumns) W 0 (lows w) h (at plane)) j)
+  pub safe : (j : ℕ) → j < w → LineSafe t l p h (columnOf W from (at plane) j)
+
+-- the columns of row-low, and then those of row-high
+pub record BothReady (t : WidthTable) (l : ℕ) (plane tile : List ℤ) (W w h : ℕ) : Type 0 where
+  pub is-level : IsLevel t l
+  pub part : Part plane W 0 w h
+  pub down : h ≤ length tile
+  pub low : (j : ℕ) → j < lows w → LineSafe t l LowColumns h (columnOf W 0 (at plane) j)
+  pub high : (j : ℕ) → j < highs w → LineSafe t l HighColumns h (columnOf W (lows w) (columnsBy (fixedLine t l LowColumns) W 0 (lows w) h (at plane)) j)
 
 -- a level can be worked: w columns and h rows at the front of a plane whose rows are W long
 pub record LevelReady (t : WidthTable) (l : ℕ) (plane tile : List ℤ) (W w h : ℕ) : Type 0 where
   pub is-level : IsLevel t l
   pub part : Part plane W 0 w h
-  pub columns : Liftable w
-  pub rows : Liftable h
   pub across : w ≤ length tile
   pub down : h ≤ length tile
   pub safe : SafeLevel t l W w h (at plane)
 
+-- some of its columns
+pub part-of : {plane : List ℤ} {W w h : ℕ} → Part plane W 0 w h → (p : List ℤ) → length p ≡ length plane → (from k : ℕ) → from + k ≤ w → Part p W from k h
+part-of part p e from k h = record { narrow = omega (arith, part .narrow); few = part .few; wide = part .wide; fits = λ r i. omega (arith, part .fits r i) }
+
 -- after the rows of what stood as x
-pub columns-ready : (t : WidthTable) (l W w h : ℕ) (x : ℕ → ℤ) (plane p q : List ℤ) → IsLevel t l → Part plane W 0 w h → Liftable h → h ≤ length q → SafeLevel t l W w h x → length p ≡ length plane → at p ≡ rowed t l W w h x → ColumnsReady t l p q W w h
-columns-ready t l W w h x plane p q is-level part rows down safe e is = record {
+pub both-ready : (t : WidthTable) (l W w h : ℕ) (x : ℕ → ℤ) (plane p q : List ℤ) → IsLevel t l → Part plane W 0 w h → h ≤ length q → SafeLevel t l W w h x → length p ≡ length plane → at p ≡ rowed t l W w h x → BothReady t l p q W w h
+both-ready t l W w h x plane p q is-level part down safe e is = record {
   is-level = is-level;
-  part = record { narrow = part .narrow; few = part .few; wide = part .wide; fits = λ r i. omega (arith, part .fits r i) };
-  rows = rows;
+  part = part-of part p e 0 w (omega arith);
   down = down;
-  low = λ j i. as-type (λ u. SafeKernel (kernelOf t l LowColumns) h (columnOf W 0 (sym is u) j)) (safe .onLowColumns j i);
-  high = λ j i. as-type (λ u. SafeKernel (kernelOf t l HighColumns) h (columnOf W (lows w) (columnsWorked (kernelOf t l LowColumns) W 0 (lows w) h (sym is u)) j)) (safe .onHighColumns j i);
+  low = λ j i. as-type (λ u. LineSafe t l LowColumns h (columnOf W 0 (sym is u) j)) (safe .onLowColumns j i);
+  high = λ j i. as-type (λ u. LineSafe t l HighColumns h (columnOf W (lows w) (columnsBy (fixedLine t l LowColumns) W 0 (lows w) h (sym is u)) j)) (safe .onHighColumns j i);
 }
 
 -- a picture can be transformed
@@ -82,10 +95,10 @@ row-fits W H r w n a b d = omega (arith, mul-le-mul-right W b, mul-comm W H)
 module _ (t : WidthTable) (pixels : List ℕ) (plane₀ tile₀ plane tile : List ℤ) (w h : ℕ) (ready : Ready t pixels plane₀ tile₀ w h) (same : length plane ≡ length plane₀) (same′ : length tile ≡ length tile₀)
     (k : ℕ) (more : k < t .levels) (x₀ x : ℕ → ℤ) (after : After t pixels w h k x₀ x) where
   a : side k w ≤ w
-  a = side-le k w (omega (arith, ready .picture .width .0))
+  a = side-le k w
 
   b : side k h ≤ h
-  b = side-le k h (omega (arith, ready .picture .height .0))
+  b = side-le k h
 
   is-level : IsLevel t (suc k)
   is-level = record { accepted = ready .accepted; least = omega arith; most = more }
@@ -94,12 +107,6 @@ module _ (t : WidthTable) (pixels : List ℕ) (plane₀ tile₀ plane tile : Lis
   part-fits =
       let p = ready .picture in
       record { narrow = omega (arith, a); few = omega (arith, b, p .height .1); wide = omega (arith, p .width .1); fits = λ r i. row-fits w h r (side k w) (length plane) a (omega (arith, b)) (omega (arith, ready .second)) }
-
-  columns-many : Liftable (side k w)
-  columns-many = wide t pixels w h (ready .accepted) (ready .picture) k more
-
-  rows-many : Liftable (side k h)
-  rows-many = tall t pixels w h (ready .accepted) (ready .picture) k more
 
   across-fits : side k w ≤ length tile
   across-fits = omega (arith, a, in-tile w h (length tile) (omega (arith, ready .picture .height .0)) (omega (arith, ready .third)))
@@ -115,8 +122,6 @@ module _ (t : WidthTable) (pixels : List ℕ) (plane₀ tile₀ plane tile : Lis
   level-ready e = record {
     is-level = is-level;
     part = part-fits;
-    columns = columns-many;
-    rows = rows-many;
     across = across-fits;
     down = down-fits;
     safe = as-type (λ u. SafeLevel t (suc k) w (side k w) (side k h) (e u)) level-safe-next;
@@ -126,11 +131,9 @@ module _ (t : WidthTable) (pixels : List ℕ) (plane₀ tile₀ plane tile : Lis
 pub record FirstReady (t : WidthTable) (pixels : List ℕ) (plane tile : List ℤ) (w h : ℕ) : Type 0 where
   pub is-level : IsLevel t 1
   pub part : Part plane w 0 w h
-  pub columns : Liftable w
-  pub rows : Liftable h
   pub across : w ≤ length tile
   pub down : h ≤ length tile
-  pub on-pixels : (r : ℕ) → r < h → SafeKernel (kernelOf t 1 Rows) w (pixelLine pixels (2 ^ (t .depth - 1)) (r * w))
+  pub on-pixels : (r : ℕ) → r < h → LineSafe t 1 Rows w (pixelLine pixels (2 ^ (t .depth - 1)) (r * w))
   pub safe : SafeLevel t 1 w w h (loaded pixels (2 ^ (t .depth - 1)) w h (at plane))
 
 pub first-ready : {t : WidthTable} {pixels : List ℕ} {plane tile : List ℤ} {w h : ℕ} → Ready t pixels plane tile w h → FirstReady t pixels plane tile w h
@@ -142,8 +145,6 @@ first-ready {t} {pixels} {plane} {tile} {w} {h} ready =
     record {
       is-level = is-level t pixels plane tile plane tile w h ready refl refl 0 one (at plane) x none;
       part = part-fits t pixels plane tile plane tile w h ready refl refl 0 one (at plane) x none;
-      columns = columns-many t pixels plane tile plane tile w h ready refl refl 0 one (at plane) x none;
-      rows = rows-many t pixels plane tile plane tile w h ready refl refl 0 one (at plane) x none;
       across = across-fits t pixels plane tile plane tile w h ready refl refl 0 one (at plane) x none;
       down = down-fits t pixels plane tile plane tile w h ready refl refl 0 one (at plane) x none;
       on-pixels = pixels-safe t pixels w h (ready .accepted) (ready .picture);
@@ -152,7 +153,7 @@ first-ready {t} {pixels} {plane} {tile} {w} {h} ready =
 
 -- the answer, by the lengths of plane and work area
 unfoldable pub answerOf : WidthTable → ℕ → ℕ → List ℕ → ℕ → ℕ → Answer Unit
-answerOf t w h pixels b c = verdict t then sided (t .levels) w h then holds (w * h) (length pixels) then holds (w * h) b then holds (w * h) c then pixelsRight (t .depth) w h pixels
+answerOf t w h pixels b c = verdict t then sided w h then holds (w * h) (length pixels) then holds (w * h) b then holds (w * h) c then pixelsRight (t .depth) w h pixels
 
 module _ (t : WidthTable) (w h : ℕ) (pixels : List ℕ) (plane work : List ℤ) where
   -- the call's answer is that

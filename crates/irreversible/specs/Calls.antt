@@ -16,7 +16,7 @@ module _ (t : WidthTable) (w h : ℕ) (pixels : List ℕ) (plane work : List ℤ
   unfoldable pub fixedAnswer : Answer Unit
   fixedAnswer =
       verdict t
-      then sided (t .levels) w h
+      then sided w h
       then holds (w * h) (length pixels)
       then holds (w * h) (length plane)
       then holds (w * h) (length work)

@@ -1,16 +1,17 @@
 -- The fixed-point 9/7 by cases is the fixed-point 9/7, at every place of every length from 2 (`pass-is`).
 use Prim.Native.Nat.{ℕ}
-use mathlib.Core.Path.{refl, ap}
+use mathlib.Core.Path.{refl, sym, _∙_, ap}
 use lib.IntN.{ℤ}
 use Rattle.lines.specs.Lines.{lows, highs, Liftable}
 use Rattle.lines.specs.LineLaws.{Equal, first-equal}
 use Rattle.lines.specs.BackLaws.{equal}
+use Rattle.lines.specs.OneLaws.{one-long}
 use Rattle.lines.specs.CaseLaws.{respects-equal, highs-are, lows-are}
 use Rattle.width_table.specs.Nodes.{Node, P1, U1, P2, U2, G1, G2}
 use Rattle.exact.specs.Exact.{alpha, beta, gamma, delta, zeta, zetaInverse}
-use Rattle.stages.specs.Fixed.{step, scale}
+use Rattle.stages.specs.Fixed.{cut, step, scale}
 use Rattle.stages.specs.Ends.{step-end}
-use Rattle.irreversible.specs.Fixed.{atP1, atU1, atP2, atU2, atG1, atG2, fixedPass}
+use Rattle.irreversible.specs.Fixed.{atP1, atU1, atP2, atU2, atG1, atG2, fixedLong, fixedPass}
 use Rattle.irreversible.specs.Cases.{atP1ByCases, atU1ByCases, atP2ByCases, atU2ByCases, fixedPassByCases}
 
 module _ (F : Node → ℕ) (fi : ℕ) (f : Node → ℕ) (n : ℕ) (works : Liftable n) (x : ℕ → ℤ) where
@@ -30,6 +31,10 @@ module _ (F : Node → ℕ) (fi : ℕ) (f : Node → ℕ) (n : ℕ) (works : Lif
   unfolding atU2ByCases atU2
   u2-is = lows-are equal (respects-equal (step delta (F U2) (f P2) (f U1) (f U2))) (step-end delta (F U2) (f P2) (f U1) (f U2)) n works u1-is p2-is
 
+  long-is : Equal n (fixedPassByCases F fi f n x) (fixedLong F fi f n x)
+  unfolding fixedPassByCases fixedLong atG1 atG2
+  long-is = first-equal n (λ i h. ap (scale zeta (F G1) (f U2) (f G1)) (u2-is i h)) (λ i h. ap (scale zetaInverse (F G2) (f P2) (f G2)) (p2-is i h))
+
   pub pass-is : Equal n (fixedPassByCases F fi f n x) (fixedPass F fi f n x)
-  unfolding fixedPassByCases fixedPass atG1 atG2
-  pass-is = first-equal n (λ i h. ap (scale zeta (F G1) (f U2) (f G1)) (u2-is i h)) (λ i h. ap (scale zetaInverse (F G2) (f P2) (f G2)) (p2-is i h))
+  unfolding fixedPass
+  pass-is k h = long-is k h ∙ sym (one-long (cut fi (f G1)) (fixedLong F fi f) n x k works)

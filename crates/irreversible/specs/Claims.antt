@@ -2,13 +2,14 @@
 use Prim.Native.Nat.{ℕ, zero, suc, _+_, _*_, _-_, _^_, _<_, _≤_}
 use mathlib.Core.Bool.{true, false, _&&_}
 use mathlib.Core.List.{List}
+use mathlib.Core.Path.{_≡_}
 use lib.Dec.{ltb}
 use lib.IntN.{ℤ, pos, negℤ}
 use lib.Signed.{_≤ℤ_, _<ℤ_}
 use lib.ListN.{getD}
 use Rattle.exact.specs.Fractions.{Frac, _⊖_, neg, _<F_}
 use Rattle.width_table.specs.Nodes.{Node, G1, Pass, Rows, LowColumns, TableNode, nodeAt, columnPass, lastNode}
-use Rattle.lines.specs.Lines.{lows}
+use Rattle.lines.specs.Lines.{lows, Liftable}
 use Rattle.stages.specs.Fixed.{meant}
 use Rattle.irreversible.specs.Fixed.{valueAt, countAt}
 use Rattle.lines.specs.Planes.{Plane, side, rows}
@@ -21,14 +22,14 @@ use Rattle.irreversible.specs.Transforms.{fixedLine, fixedAfter, fixedPl
 
 -- A picture of the table's depth and of admitted size.
 pub record Picture (t : WidthTable) (pixels : List ℕ) (w h : ℕ) : Type 0 where
-  pub width : Admitted (t .levels) w
-  pub height : Admitted (t .levels) h
+  pub width : Admitted w
+  pub height : Admitted h
   pub depth : (k : ℕ) → k < w * h → getD pixels k 0 < 2 ^ t .depth
 
--- A strip of the table's depth: its sides are greater than 2^(L-1), and nothing limits them above.
+-- A strip of the table's depth: nothing limits its sides above.
 pub record Strip (t : WidthTable) (pixels : List ℕ) (w h : ℕ) : Type 0 where
-  pub width : 2 ^ (t .levels - 1) < w
-  pub height : 2 ^ (t .levels - 1) < h
+  pub width : 1 ≤ w
+  pub height : 1 ≤ h
   pub depth : (k : ℕ) → k < w * h → getD pixels k 0 < 2 ^ t .depth
 
 -- ---- first half: less than two steps
@@ -65,11 +66,11 @@ TwoSteps =
 unfoldable pub Holds : ℕ → ℕ → ℤ → Type 0
 Holds IB f v = (negℤ (pos (2 ^ (IB + f - 1))) ≤ℤ v) × (v <ℤ pos (2 ^ (IB + f - 1)))
 
--- each value that a pass of level l over n samples v leaves in a node
-abbrev pub InWidth : WidthTable → ℕ → Pass → ℕ → (ℕ → ℤ) → Type 0
-InWidth t l p n v =
-    (i : Node) (k : ℕ) → k < countAt n i
-    → Holds (integerBits t l p i) (fractionBits t l p i) (valueAt (constantBits t) (inputBits t l p) (fractionBits t l p) n v i k)
+-- each value that a pass of level l over n samples v leaves: two samples or more in every node, a single one in G1 alone (document 02, job 6)
+pub record InWidth (t : WidthTable) (l : ℕ) (p : Pass) (n : ℕ) (v : ℕ → ℤ) : Type 0 where
+  pub long : Liftable n → (i : Node) (k : ℕ) → k < countAt n i
+      → Holds (integerBits t l p i) (fractionBits t l p i) (valueAt (constantBits t) (inputBits t l p) (fractionBits t l p) n v i k)
+  pub single : n ≡ 1 → Holds (integerBits t l p G1) (fractionBits t l p G1) (fixedLine t l p n v 0)
 
 -- each value of level l, which is fed w columns and h rows of the plane p: in each row, and in each column of what the rows leave
 pub record LevelInWidth (t : WidthTable) (l w h : ℕ) (p : Plane ℤ) : Type 0 where

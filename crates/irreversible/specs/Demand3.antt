@@ -15,11 +15,11 @@ use Rattle.numbers.specs.Dif.{difs}
 use Rattle.exact.specs.Fractions.{Frac}
 use Rattle.width_table.specs.Nodes.{Node, Pass, Rows, TableNode, columnPass}
 use Rattle.width_table.specs.Limits.{form-depth, form-levels, form-widths}
-use Rattle.lines.specs.Lines.{lows, Liftable}
+use Rattle.lines.specs.Lines.{lows}
 use Rattle.exact.specs.Exact.{exactPass}
 use Rattle.stages.specs.Fixed.{meant}
 use Rattle.lines.specs.Planes.{Plane, OnLine, rows, columns, rowsFirst, levels, side}
-use Rattle.lines.specs.PlaneLaws.{rows-first-in, rows-first-keeps, roomy}
+use Rattle.lines.specs.PlaneLaws.{rows-first-in, rows-first-keeps}
 use Rattle.width_table.specs.declared.WidthTable.{WidthTable}
 use Rattle.width_table.specs.Table.{maxFractionBits, integerBits, fractionBits, inputBits}
 use Rattle.precision.specs.Bounds.{entering, boundOf}
@@ -95,12 +95,6 @@ module _ (t : WidthTable) (ok : AcceptPromise t) (pixels : List ℕ) (w h : ℕ)
   start = record { inside = λ r c i. pixel-good r c (i .0) (i .1); outside = λ r c i j n. absurd (n (i, j)) }
 
   module _ (k : ℕ) (i : k < t .levels) (a : After k) where
-    big-w : Liftable (side k w)
-    big-w = roomy (t .levels) w (strip .width) k i
-
-    big-h : Liftable (side k h)
-    big-h = roomy (t .levels) h (strip .height) k i
-
     fractions : (p : Pass) (n : Node) → fractionBits t (suc k) p n ≤ maxFractionBits
     fractions p n = form-widths t (ok .form) (suc k) (omega arith) (omega arith) p n .2
 
@@ -108,7 +102,7 @@ module _ (t : WidthTable) (ok : AcceptPromise t) (pixels : List ℕ) (w h : ℕ)
     unfolding GoodFor boundOf exactAfter fixedAfter newV newX rowV rowX side
     good-in r c p =
         rw (kept-in w h r c k p, level-in (λ l. fixedLine t l Rows) (λ l low. fixedLine t l (columnPass low)) k w h (sample pixels (t .depth) w) r c p, level-in (λ l. exactPass) (λ l low. exactPass) k w h (exactSample pixels (t .depth) w) r c p)
-        (level-good t (suc k) fractions (side k w) (side k h) big-w big-h (entering t (suc k)) (fixedAfter t k pixels w h) (exactAfter k) (λ r c i j. a .inside r c (i, j)) r c (p .0) (p .1))
+        (level-good t (suc k) fractions (side k w) (side k h) (entering t (suc k)) (fixedAfter t k pixels w h) (exactAfter k) (λ r c i j. a .inside r c (i, j)) r c (p .0) (p .1))
 
     good-next : (r c : ℕ) → r < h → c < w → GoodFor (keptNode (suc k) w h r c) (suc k) r c
     unfolding GoodFor exactAfter fixedAfter
@@ -162,7 +156,7 @@ module _ (t : WidthTable) (ok : AcceptPromise t) (pixels : List ℕ) (w h : ℕ)
   in-width : (k : ℕ) → k < t .levels → LevelInWidth t (suc k) (side k w) (side k h) (fixedAfter t k pixels w h)
   unfolding boundOf
   in-width k i =
-      level-in-width t (suc k) (λ p n. form-widths t (ok .form) (suc k) (omega arith) i p n .2) (side k w) (side k h) (roomy (t .levels) w (strip .width) k i) (roomy (t .levels) h (strip .height) k i) (entering t (suc k)) (fixedAfter t k pixels w h) (exactAfter k) (λ r c a b. after k (omega arith) .inside r c (a, b))
+      level-in-width t (suc k) (λ p n. form-widths t (ok .form) (suc k) (omega arith) i p n .2) (side k w) (side k h) (entering t (suc k)) (fixedAfter t k pixels w h) (exactAfter k) (λ r c a b. after k (omega arith) .inside r c (a, b))
       (λ p n. form-widths t (ok .form) (suc k) (omega arith) i p n .0) (λ p n. ok .fit (suc k) (omega arith) i p n)
 
   kept-held : (r c : ℕ) → r < h → c < w → (let k = keptNode (t .levels) w h r c in Holds (integerBits t (k .level) (k .pass) (k .node)) (fractionBits t (k .level) (k .pass) (k .node)) (fixedPlane t pixels w h r c))

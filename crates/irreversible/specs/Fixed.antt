@@ -1,12 +1,13 @@
 -- The fixed-point 9/7 lifting of one line (document 01: the lifting), by the fixed-point stages of the crate stages.
 use Prim.Native.Nat.{ℕ, _+_, _*_}
 use lib.IntN.{ℤ}
-use Rattle.stages.specs.Fixed.{step, scale}
+use Rattle.stages.specs.Fixed.{cut, step, scale}
 use Rattle.width_table.specs.Nodes.{Node, P1, U1, P2, U2, G1, G2}
 use Rattle.exact.specs.Exact.{alpha, beta, gamma, delta, zeta, zetaInverse}
 use Rattle.lines.specs.Lines.{lows, highs, onHighs, onLows, lowsFirst}
+use Rattle.lines.specs.Planes.{OnLine, fromOne}
 
--- One pass over n samples x at fi bits: F the bits of the constants, f the fractional bits of the nodes.
+-- One pass over n samples x, two or more, at fi bits: F the bits of the constants, f the fractional bits of the nodes.
 module _ (F : Node → ℕ) (fi : ℕ) (f : Node → ℕ) (n : ℕ) (x : ℕ → ℤ) where
   unfoldable pub atP1 : ℕ → ℤ
   atP1 = onHighs (step alpha (F P1) fi fi (f P1)) n (λ i. x (2 * i)) (λ i. x (2 * i + 1))
@@ -26,11 +27,11 @@ module _ (F : Node → ℕ) (fi : ℕ) (f : Node → ℕ) (n : ℕ) (x : ℕ →
   unfoldable pub atG2 : ℕ → ℤ
   atG2 i = scale zetaInverse (F G2) (f P2) (f G2) (atP2 i)
 
-  -- what the pass leaves: the lows first, then the highs
-  unfoldable pub fixedPass : ℕ → ℤ
-  fixedPass = lowsFirst n atG1 atG2
+  -- what two samples or more leave: the lows first, then the highs
+  unfoldable pub fixedLong : ℕ → ℤ
+  fixedLong = lowsFirst n atG1 atG2
 
-  -- the values on the way: what the pass leaves in each node
+  -- the values on the way: what two samples or more leave in each node
   abbrev pub valueAt : Node → ℕ → ℤ
   valueAt P1 = atP1
   valueAt U1 = atU1
@@ -39,7 +40,11 @@ module _ (F : Node → ℕ) (fi : ℕ) (f : Node → ℕ) (n : ℕ) (x : ℕ →
   valueAt G1 = atG1
   valueAt G2 = atG2
 
--- how many values a pass over n samples leaves in a node
+-- What a pass leaves. A single sample is its only low value, cut to G1's bits (document 02, job 6).
+unfoldable pub fixedPass : (Node → ℕ) → ℕ → (Node → ℕ) → OnLine ℤ
+fixedPass F fi f = fromOne (cut fi (f G1)) (fixedLong F fi f)
+
+-- how many values n samples, two or more, leave in a node
 abbrev pub countAt : ℕ → Node → ℕ
 countAt n P1 = highs n
 countAt n U1 = lows n

@@ -1,10 +1,11 @@
--- A pass as a kernel of the lifting crate, and what it makes of a line (`worked-fixed`).
-use Prim.Native.Nat.{ℕ}
-use mathlib.Core.Path.{_≡_, fun-ext}
+-- A pass as a kernel of the lifting crate, and what it makes of a line (`worked-fixed`); a single sample as a scaling (`single-fixed`).
+use Prim.Native.Nat.{ℕ, _<_}
+use mathlib.Core.Path.{_≡_, sym, _∙_, fun-ext}
 use lib.IntN.{ℤ}
 use Rattle.exact.specs.Fractions.{Frac}
 use Rattle.exact.specs.Exact.{alpha, beta, gamma, delta, zeta, zetaInverse}
-use Rattle.lines.specs.Lines.{onHighs, onLows, lowsFirst}
+use Rattle.lines.specs.Lines.{Liftable, onHighs, onLows, lowsFirst}
+use Rattle.lines.specs.OneLaws.{single-line, long-line}
 use Rattle.width_table.specs.Nodes.{Node, P1, U1, P2, U2, G1, G2, Pass}
 use Rattle.width_table.specs.declared.WidthTable.{WidthTable}
 use Rattle.width_table.specs.Table.{constantBits, fractionBits, inputBits}
@@ -16,10 +17,10 @@ use Rattle.lifting.specs.declared.Kernel.the-variants.{Two}
 use Rattle.lifting.specs.Steps.{applied, scaledBy}
 use Rattle.lifting.specs.Passes.{evens, odds}
 use Rattle.lifting.specs.Kernels.{worked, firstHighs, firstLows, secondHighs, secondLows}
-use Rattle.stages.specs.Fixed.{nearest, step, scale}
-use Rattle.irreversible.specs.Fixed.{atP1, atU1, atP2, atU2, atG1, atG2, fixedPass}
+use Rattle.stages.specs.Fixed.{nearest, cut, step, scale}
+use Rattle.irreversible.specs.Fixed.{atP1, atU1, atP2, atU2, atG1, atG2, fixedLong, fixedPass}
 use Rattle.irreversible.specs.Transforms.{fixedLine}
-use Rattle.irreversible.specs.StepLaws.{stepOf, factorOf, step-applied, scale-applied}
+use Rattle.irreversible.specs.StepLaws.{stepOf, factorOf, step-applied, scale-applied, singleOf, single-applied}
 
 -- a stage with its constant at F bits
 abbrev pub stageOf : Frac → ℕ → ℕ → ℕ → ℕ → Step
@@ -84,15 +85,28 @@ module _ (F : Node → ℕ) (fi : ℕ) (f : Node → ℕ) where
     unfolding atU2
     second-lows = λ u. onLows (applied-is delta (F U2) (f P2) (f U1) (f U2) u) n (first-lows u) (second-highs u)
 
-    pub worked-pass : worked kernelFrom n x ≡ fixedPass F fi f n x
-    unfolding worked fixedPass atG1 atG2
+    pub worked-pass : worked kernelFrom n x ≡ fixedLong F fi f n x
+    unfolding worked fixedLong atG1 atG2
     worked-pass = λ u. lowsFirst n (λ i. scaled-is zeta (F G1) (f U2) (f G1) u (second-lows u i)) (λ i. scaled-is zetaInverse (F G2) (f P2) (f G2) u (second-highs u i))
 
 -- the kernel of a pass of level l
 unfoldable pub kernelOf : WidthTable → ℕ → Pass → Kernel
 kernelOf t l p = kernelFrom (constantBits t) (inputBits t l p) (fractionBits t l p)
 
--- What the kernel makes of a line is the pass.
-pub worked-fixed : (t : WidthTable) (l : ℕ) (p : Pass) → worked (kernelOf t l p) ≡ fixedLine t l p
-unfolding kernelOf fixedLine
-worked-fixed t l p = fun-ext λ n. fun-ext λ x. worked-pass (constantBits t) (inputBits t l p) (fractionBits t l p) n x
+-- What the kernel makes of a line of two samples or more is the pass.
+pub worked-fixed : (t : WidthTable) (l : ℕ) (p : Pass) (n : ℕ) → Liftable n → worked (kernelOf t l p) n ≡ fixedLine t l p n
+unfolding kernelOf fixedLine fixedPass
+worked-fixed t l p n works =
+    (fun-ext λ x. worked-pass (constantBits t) (inputBits t l p) (fractionBits t l p) n x)
+    ∙ sym (long-line (cut (inputBits t l p) (fractionBits t l p G1)) (fixedLong (constantBits t) (inputBits t l p) (fractionBits t l p)) n works)
+
+-- the cut of a single sample of a pass of level l
+abbrev pub singleFor : WidthTable → ℕ → Pass → Factor
+singleFor t l p = singleOf (inputBits t l p) (fractionBits t l p G1)
+
+-- What it makes of a single sample is the pass.
+pub single-fixed : (t : WidthTable) (l : ℕ) (p : Pass) (n : ℕ) → n < 2 → (λ x k. scaledBy (singleFor t l p) (x k)) ≡ fixedLine t l p n
+unfolding fixedLine fixedPass
+single-fixed t l p n one =
+    (fun-ext λ x. fun-ext λ k. single-applied (inputBits t l p) (fractionBits t l p G1) (x k))
+    ∙ sym (single-line (cut (inputBits t l p) (fractionBits t l p G1)) (fixedLong (constantBits t) (inputBits t l p) (fractionBits t l p)) n one)

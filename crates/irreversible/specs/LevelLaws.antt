@@ -1,5 +1,5 @@
 -- A level in memory: its rows, then the columns of row-low, then those of row-high. Where a plane stands and its values are
--- sized, every kernel is safe (`level-safe`), and what the level leaves stands (`level-stands`).
+-- sized, every pass is safe (`level-safe`), and what the level leaves stands (`level-stands`).
 use Prim.Native.Nat.{ℕ, _+_, _*_, _-_, _<_, _≤_}
 use mathlib.Core.Bool.{Bool, true, false}
 use mathlib.Core.Path.{_≡_, sym, _∙_, ap, subst}
@@ -9,21 +9,23 @@ use lib.IntN.{ℤ}
 use Rattle.numbers.specs.Tests.{ltb-true, ltb-false, by-ltb}
 use Rattle.exact.specs.Exact.{alpha, beta, gamma, delta, zeta, zetaInverse}
 use Rattle.lines.specs.Lines.{lows, highs, Liftable, lowsFirst}
-use Rattle.lines.specs.LineLaws.{some-highs, Equal, evens-equal, odds-equal}
+use Rattle.lines.specs.LineLaws.{some-highs, Equal, first-equal, evens-equal, odds-equal}
 use Rattle.lines.specs.Neighbours.{on-highs-equal, on-lows-equal}
+use Rattle.lines.specs.OneLaws.{one-single, one-long, by-one}
 use Rattle.lines.specs.Planes.{Plane, rows, columns, within, rowsFirst}
 use Rattle.lines.specs.PlaneLaws.{by-part, within-in, within-below, within-beyond}
 use Rattle.width_table.specs.Nodes.{Node, P1, U1, P2, U2, G1, G2, Pass, Rows, LowColumns, HighColumns, columnPass, lastNode}
 use Rattle.width_table.specs.declared.WidthTable.{WidthTable}
 use Rattle.width_table.specs.Table.{constantBits, fractionBits, inputBits}
-use Rattle.lifting.specs.Kernels.{worked, SafeKernel, rowOf, columnOf, rowsWorked, columnsWorked}
-use Rattle.pictures.specs.MemoryLaws.{Reads, Stands, columnsPlane, columns-in, columns-below, columns-left, columns-right, worked-same, rows-stand, rows-beyond, columns-stand, columns-beyond}
-use Rattle.stages.specs.Fixed.{step, scale}
-use Rattle.irreversible.specs.Fixed.{atP1, atU1, atP2, atU2, atG1, atG2, valueAt, countAt, fixedPass}
+use Rattle.lifting.specs.Steps.{FactorSafe}
+use Rattle.lifting.specs.Kernels.{SafeKernel, rowOf, columnOf, rowsBy, columnsBy}
+use Rattle.pictures.specs.MemoryLaws.{Reads, Stands, columnsPlane, columns-in, columns-below, columns-left, columns-right, one-reads, rows-stand, rows-beyond, columns-stand, columns-beyond}
+use Rattle.stages.specs.Fixed.{cut, step, scale}
+use Rattle.irreversible.specs.Fixed.{atP1, atU1, atP2, atU2, atG1, atG2, valueAt, countAt, fixedLong, fixedPass}
 use Rattle.irreversible.specs.Transforms.{fixedLine, fixedLevel}
 use Rattle.irreversible.specs.Sized.{SizedTo, LineSizedTo, Sized, LineSized, LevelSized}
-use Rattle.irreversible.specs.KernelLaws.{kernelOf, worked-fixed}
-use Rattle.irreversible.specs.SafeLaws.{Limits, kernel-safe}
+use Rattle.irreversible.specs.KernelLaws.{kernelOf, singleFor}
+use Rattle.irreversible.specs.SafeLaws.{Limits, kernel-safe, single-safe}
 
 -- ---- a pass reads a line's own values only
 
@@ -59,7 +61,12 @@ module _ (F : Node → ℕ) (fi : ℕ) (f : Node → ℕ) (n : ℕ) (x y : ℕ �
   value-same G2 k h = ap (scale zetaInverse (F G2) (f P2) (f G2)) (same-P2 k h)
 
 pub line-same : (t : WidthTable) (l : ℕ) (p : Pass) → Reads (fixedLine t l p)
-line-same t l p = subst Reads (worked-fixed t l p) (worked-same (kernelOf t l p))
+unfolding fixedLine fixedPass fixedLong
+line-same t l p =
+    let F = constantBits t in
+    let fi = inputBits t l p in
+    let f = fractionBits t l p in
+    one-reads (cut fi (f G1)) (fixedLong F fi f) (λ n works x y e. first-equal n (value-same F fi f n x y works e G1) (value-same F fi f n x y works e G2))
 
 -- ---- one line
 
@@ -67,61 +74,80 @@ line-same t l p = subst Reads (worked-fixed t l p) (worked-same (kernelOf t l p)
 abbrev pub BitsRight : WidthTable → ℕ → Type 0
 BitsRight t l = (p : Pass) → Limits (constantBits t) (inputBits t l p) (fractionBits t l p)
 
-module _ (t : WidthTable) (l : ℕ) (bits : BitsRight t l) (p : Pass) (n : ℕ) (v : ℕ → ℤ) (works : Liftable n) (inside : LineSized t l p n v) where
-  -- a kernel is safe on a line whose values are sized
-  pub line-safe : ((k : ℕ) → k < n → Sized (inputBits t l p) (v k)) → (x : ℕ → ℤ) → ((k : ℕ) → k < n → x k ≡ v k) → SafeKernel (kernelOf t l p) n x
-  unfolding kernelOf
-  line-safe given x same =
-      kernel-safe (constantBits t) (inputBits t l p) (fractionBits t l p) (bits p) n x works
-      (λ k h. subst (Sized (inputBits t l p)) (sym (same k h)) (given k h))
-      (λ i k h. subst (Sized (fractionBits t l p i)) (sym (value-same (constantBits t) (inputBits t l p) (fractionBits t l p) n x v works same i k h)) (inside i k h))
+-- a pass can be worked in memory: over two samples or more its kernel is safe, over a single one the cut
+pub record LineSafe (t : WidthTable) (l : ℕ) (p : Pass) (n : ℕ) (x : ℕ → ℤ) : Type 0 where
+  pub long : Liftable n → SafeKernel (kernelOf t l p) n x
+  pub single : n < 2 → (k : ℕ) → k < n → FactorSafe (singleFor t l p) (x k)
+
+-- it is where the line's values are sized
+pub line-safe : (t : WidthTable) (l : ℕ) → BitsRight t l → (p : Pass) (n : ℕ) (v : ℕ → ℤ) → LineSized t l p n v → ((k : ℕ) → k < n → Sized (inputBits t l p) (v k)) → (x : ℕ → ℤ) → ((k : ℕ) → k < n → x k ≡ v k) → LineSafe t l p n x
+unfolding kernelOf fixedLine fixedPass
+line-safe t l bits p n v inside given x same =
+    let F = constantBits t in
+    let fi = inputBits t l p in
+    let f = fractionBits t l p in
+    record {
+      long = λ works. kernel-safe F fi f (bits p) n x works
+          (λ k h. subst (Sized fi) (sym (same k h)) (given k h))
+          (λ i k h. subst (Sized (f i)) (sym (value-same F fi f n x v works same i k h)) (inside .long works i k h));
+      single = λ one k h.
+          let z : 0 ≡ k = omega arith in
+          let left : Sized (f G1) (cut fi (f G1) (v k)) = subst (Sized (f G1)) (ap (λ (j : ℕ). fixedLine t l p n v j) z ∙ one-single (cut fi (f G1)) (fixedLong F fi f) n v k one) (inside .single (omega arith)) in
+          subst (FactorSafe (singleFor t l p)) (sym (same k h)) (single-safe fi (f G1) (bits p .enters) (bits p .fractions G1) (v k) (given k h) left);
+    }
 
 -- what a pass leaves has the bits of its last nodes
 pub line-sized : (e : ℕ) (t : WidthTable) (l : ℕ) (p : Pass) (n : ℕ) (v : ℕ → ℤ) → LineSizedTo e t l p n v → (k : ℕ) → k < n → SizedTo e (fractionBits t l p (lastNode (ltb k (lows n)))) (fixedLine t l p n v k)
-unfolding fixedLine fixedPass lowsFirst
+unfolding fixedLine fixedPass fixedLong lowsFirst
 line-sized e t l p n v inside k h =
     let F = constantBits t in
     let fi = inputBits t l p in
     let f = fractionBits t l p in
-    by-ltb (λ q. SizedTo e (f (lastNode q)) (elim q [ true ↦ atG1 F fi f n v k | false ↦ atG2 F fi f n v (k - lows n) ])) k (lows n)
-    (λ i. inside G1 k i)
-    (λ i. inside G2 (k - lows n) (omega arith))
+    by-one _ n
+    (λ one.
+    let z : 0 ≡ k = omega arith in
+    subst (λ (q : Bool). SizedTo e (f (lastNode q)) (fixedLine t l p n v k)) (sym (ltb-true k (lows n) (omega arith)))
+    (subst (λ (j : ℕ). SizedTo e (f G1) (fixedLine t l p n v j)) z (inside .single (omega arith))))
+    (λ works. subst (SizedTo e (f (lastNode (ltb k (lows n))))) (sym (one-long (cut fi (f G1)) (fixedLong F fi f) n v k works))
+    (by-ltb (λ q. SizedTo e (f (lastNode q)) (elim q [ true ↦ atG1 F fi f n v k | false ↦ atG2 F fi f n v (k - lows n) ])) k (lows n)
+    (λ i. inside .long works G1 k i)
+    (λ i. inside .long works G2 (k - lows n) (omega arith))))
 
 -- ---- one level
 
 -- what a level of the w columns and h rows at the front leaves in memory, whose rows are W long
 module _ (t : WidthTable) (l W w h : ℕ) (x : ℕ → ℤ) where
   abbrev pub rowed : ℕ → ℤ
-  rowed = rowsWorked (kernelOf t l Rows) W w h x
+  rowed = rowsBy (fixedLine t l Rows) W w h x
 
   abbrev pub lowed : ℕ → ℤ
-  lowed = columnsWorked (kernelOf t l LowColumns) W 0 (lows w) h rowed
+  lowed = columnsBy (fixedLine t l LowColumns) W 0 (lows w) h rowed
 
   abbrev pub levelWorked : ℕ → ℤ
-  levelWorked = columnsWorked (kernelOf t l HighColumns) W (lows w) (highs w) h lowed
+  levelWorked = columnsBy (fixedLine t l HighColumns) W (lows w) (highs w) h lowed
 
 -- the columns alone
 abbrev pub columned : WidthTable → ℕ → ℕ → ℕ → ℕ → (ℕ → ℤ) → ℕ → ℤ
-columned t l W w h y = columnsWorked (kernelOf t l HighColumns) W (lows w) (highs w) h (columnsWorked (kernelOf t l LowColumns) W 0 (lows w) h y)
+columned t l W w h y = columnsBy (fixedLine t l HighColumns) W (lows w) (highs w) h (columnsBy (fixedLine t l LowColumns) W 0 (lows w) h y)
 
--- every kernel of the level is safe
+-- every pass of the level is safe
 pub record SafeLevel (t : WidthTable) (l W w h : ℕ) (x : ℕ → ℤ) : Type 0 where
-  pub onRows : (r : ℕ) → r < h → SafeKernel (kernelOf t l Rows) w (rowOf W 0 x r)
-  pub onLowColumns : (j : ℕ) → j < lows w → SafeKernel (kernelOf t l LowColumns) h (columnOf W 0 (rowed t l W w h x) j)
-  pub onHighColumns : (j : ℕ) → j < highs w → SafeKernel (kernelOf t l HighColumns) h (columnOf W (lows w) (lowed t l W w h x) j)
+  pub onRows : (r : ℕ) → r < h → LineSafe t l Rows w (rowOf W 0 x r)
+  pub onLowColumns : (j : ℕ) → j < lows w → LineSafe t l LowColumns h (columnOf W 0 (rowed t l W w h x) j)
+  pub onHighColumns : (j : ℕ) → j < highs w → LineSafe t l HighColumns h (columnOf W (lows w) (lowed t l W w h x) j)
 
-module _ (t : WidthTable) (l W H w h : ℕ) (wide : Liftable w) (tall : Liftable h) (inW : w ≤ W) (inH : h ≤ H) (x : ℕ → ℤ) (p : Plane ℤ) (stands : Stands W H x p) where
+module _ (t : WidthTable) (l W H w h : ℕ) (inW : w ≤ W) (inH : h ≤ H) (x : ℕ → ℤ) (p : Plane ℤ) (stands : Stands W H x p) where
   -- after the rows
   rowPlane : Plane ℤ
-  rowPlane = within w h (rows (worked (kernelOf t l Rows)) w p) p
+  rowPlane = within w h (rows (fixedLine t l Rows) w p) p
 
   row-stands : Stands W H (rowed t l W w h x) rowPlane
   unfolding rowPlane
-  row-stands = rows-stand (worked (kernelOf t l Rows)) (worked-same (kernelOf t l Rows)) W H w h x p wide inW inH stands
+  row-stands = rows-stand (fixedLine t l Rows) (line-same t l Rows) W H w h x p inW inH stands
 
   row-is : (r c : ℕ) → r < h → c < w → rowPlane r c ≡ rows (fixedLine t l Rows) w p r c
   unfolding rowPlane rows
-  row-is r c i j = within-in w h _ p r c i j ∙ (λ u. worked-fixed t l Rows u w (λ k. p r k) c)
+  row-is r c i j = within-in w h _ p r c i j
 
   row-below : (r c : ℕ) → h ≤ r → rowPlane r c ≡ p r c
   unfolding rowPlane
@@ -134,39 +160,39 @@ module _ (t : WidthTable) (l W H w h : ℕ) (wide : Liftable w) (tall : Liftable
   -- after the columns of row-low
   lowPlane : Plane ℤ
   unfolding rowPlane
-  lowPlane = columnsPlane (worked (kernelOf t l LowColumns)) 0 (lows w) h rowPlane
+  lowPlane = columnsPlane (fixedLine t l LowColumns) 0 (lows w) h rowPlane
 
   low-stands : Stands W H (lowed t l W w h x) lowPlane
   unfolding lowPlane
-  low-stands = columns-stand (worked (kernelOf t l LowColumns)) (worked-same (kernelOf t l LowColumns)) W H 0 (lows w) h (rowed t l W w h x) rowPlane tall (omega arith) inH row-stands
+  low-stands = columns-stand (fixedLine t l LowColumns) (line-same t l LowColumns) W H 0 (lows w) h (rowed t l W w h x) rowPlane (omega arith) inH row-stands
 
   -- a column of row-high is not yet worked
   low-is : (r c : ℕ) → r < h → c < w → lows w ≤ c → lowPlane r c ≡ rows (fixedLine t l Rows) w p r c
   unfolding lowPlane
-  low-is r c i j a = columns-right (worked (kernelOf t l LowColumns)) 0 (lows w) h rowPlane r c (omega arith) ∙ row-is r c i j
+  low-is r c i j a = columns-right (fixedLine t l LowColumns) 0 (lows w) h rowPlane r c (omega arith) ∙ row-is r c i j
 
   -- a column that holds what the rows left, worked
-  column-is : (q : Pass) (v : ℕ → ℤ) (r c : ℕ) → r < h → ((m : ℕ) → m < h → v m ≡ rows (fixedLine t l Rows) w p m c) → worked (kernelOf t l q) h v r ≡ fixedLine t l q h (λ m. rows (fixedLine t l Rows) w p m c) r
-  column-is q v r c i same = worked-same (kernelOf t l q) h tall v _ same r i ∙ (λ u. worked-fixed t l q u h (λ m. rows (fixedLine t l Rows) w p m c) r)
+  column-is : (q : Pass) (v : ℕ → ℤ) (r c : ℕ) → r < h → ((m : ℕ) → m < h → v m ≡ rows (fixedLine t l Rows) w p m c) → fixedLine t l q h v r ≡ fixedLine t l q h (λ m. rows (fixedLine t l Rows) w p m c) r
+  column-is q v r c i same = line-same t l q h v _ same r i
 
   -- after all columns: the level
-  planes : (r c : ℕ) → columnsPlane (worked (kernelOf t l HighColumns)) (lows w) (highs w) h lowPlane r c ≡ fixedLevel t l w h p r c
+  planes : (r c : ℕ) → columnsPlane (fixedLine t l HighColumns) (lows w) (highs w) h lowPlane r c ≡ fixedLevel t l w h p r c
   unfolding rowsFirst lowPlane columns
-  planes = by-part (λ r c. columnsPlane (worked (kernelOf t l HighColumns)) (lows w) (highs w) h lowPlane r c ≡ fixedLevel t l w h p r c) w h
-      (λ r c i j. by-ltb (λ q. columnsPlane (worked (kernelOf t l HighColumns)) (lows w) (highs w) h lowPlane r c ≡ fixedLine t l (columnPass q) h (λ m. rows (fixedLine t l Rows) w p m c) r) c (lows w)
-      (λ a. columns-left (worked (kernelOf t l HighColumns)) (lows w) (highs w) h lowPlane r c a ∙ columns-in (worked (kernelOf t l LowColumns)) 0 (lows w) h rowPlane r c i (omega arith) (omega arith) ∙ column-is LowColumns _ r c i (λ m b. row-is m c b j))
-      (λ a. columns-in (worked (kernelOf t l HighColumns)) (lows w) (highs w) h lowPlane r c i a (omega arith) ∙ column-is HighColumns _ r c i (λ m b. low-is m c b j a))
+  planes = by-part (λ r c. columnsPlane (fixedLine t l HighColumns) (lows w) (highs w) h lowPlane r c ≡ fixedLevel t l w h p r c) w h
+      (λ r c i j. by-ltb (λ q. columnsPlane (fixedLine t l HighColumns) (lows w) (highs w) h lowPlane r c ≡ fixedLine t l (columnPass q) h (λ m. rows (fixedLine t l Rows) w p m c) r) c (lows w)
+      (λ a. columns-left (fixedLine t l HighColumns) (lows w) (highs w) h lowPlane r c a ∙ columns-in (fixedLine t l LowColumns) 0 (lows w) h rowPlane r c i (omega arith) (omega arith) ∙ column-is LowColumns _ r c i (λ m b. row-is m c b j))
+      (λ a. columns-in (fixedLine t l HighColumns) (lows w) (highs w) h lowPlane r c i a (omega arith) ∙ column-is HighColumns _ r c i (λ m b. low-is m c b j a))
       ∙ sym (within-in w h _ p r c i j))
-      (λ r c i. columns-below (worked (kernelOf t l HighColumns)) (lows w) (highs w) h lowPlane r c i ∙ columns-below (worked (kernelOf t l LowColumns)) 0 (lows w) h rowPlane r c i ∙ row-below r c i ∙ sym (within-below w h _ p r c i))
-      (λ r c j. columns-right (worked (kernelOf t l HighColumns)) (lows w) (highs w) h lowPlane r c (omega arith) ∙ columns-right (worked (kernelOf t l LowColumns)) 0 (lows w) h rowPlane r c (omega arith) ∙ row-beyond r c j ∙ sym (within-beyond w h _ p r c j))
+      (λ r c i. columns-below (fixedLine t l HighColumns) (lows w) (highs w) h lowPlane r c i ∙ columns-below (fixedLine t l LowColumns) 0 (lows w) h rowPlane r c i ∙ row-below r c i ∙ sym (within-below w h _ p r c i))
+      (λ r c j. columns-right (fixedLine t l HighColumns) (lows w) (highs w) h lowPlane r c (omega arith) ∙ columns-right (fixedLine t l LowColumns) 0 (lows w) h rowPlane r c (omega arith) ∙ row-beyond r c j ∙ sym (within-beyond w h _ p r c j))
 
   -- What stands after the level.
   pub level-stands : Stands W H (levelWorked t l W w h x) (fixedLevel t l w h p)
-  level-stands r c a b = columns-stand (worked (kernelOf t l HighColumns)) (worked-same (kernelOf t l HighColumns)) W H (lows w) (highs w) h (lowed t l W w h x) lowPlane tall (omega arith) inH low-stands r c a b ∙ planes r c
+  level-stands r c a b = columns-stand (fixedLine t l HighColumns) (line-same t l HighColumns) W H (lows w) (highs w) h (lowed t l W w h x) lowPlane (omega arith) inH low-stands r c a b ∙ planes r c
 
   -- What lies past the plane is as it was.
   pub level-beyond : (q : ℕ) → W * H ≤ q → levelWorked t l W w h x q ≡ x q
-  level-beyond q far = columns-beyond (worked (kernelOf t l HighColumns)) W H (lows w) (highs w) h (lowed t l W w h x) tall (omega arith) inH q far ∙ columns-beyond (worked (kernelOf t l LowColumns)) W H 0 (lows w) h (rowed t l W w h x) tall (omega arith) inH q far ∙ rows-beyond (worked (kernelOf t l Rows)) W H w h x wide inW inH q far
+  level-beyond q far = columns-beyond (fixedLine t l HighColumns) W H (lows w) (highs w) h (lowed t l W w h x) (omega arith) inH q far ∙ columns-beyond (fixedLine t l LowColumns) W H 0 (lows w) h (rowed t l W w h x) (omega arith) inH q far ∙ rows-beyond (fixedLine t l Rows) W H w h x inW inH q far
 
   module _ (bits : BitsRight t l) (inside : LevelSized t l w h p) where
     -- the bits that enter a column
@@ -175,16 +201,16 @@ module _ (t : WidthTable) (l W H w h : ℕ) (wide : Liftable w) (tall : Liftable
     column-sized c j true e r i = subst (λ (q : Bool). Sized (fractionBits t l Rows (lastNode q)) (fixedLine t l Rows w (λ k. p r k) c)) e (line-sized 10 t l Rows w (λ k. p r k) (inside .inRows r i) c j)
     column-sized c j false e r i = subst (λ (q : Bool). Sized (fractionBits t l Rows (lastNode q)) (fixedLine t l Rows w (λ k. p r k) c)) e (line-sized 10 t l Rows w (λ k. p r k) (inside .inRows r i) c j)
 
-    -- the kernel of a column that holds what the rows left
-    column-safe : (c : ℕ) → c < w → (q : Bool) → ltb c (lows w) ≡ q → (v : ℕ → ℤ) → ((r : ℕ) → r < h → v r ≡ rows (fixedLine t l Rows) w p r c) → SafeKernel (kernelOf t l (columnPass q)) h v
+    -- a column that holds what the rows left
+    column-safe : (c : ℕ) → c < w → (q : Bool) → ltb c (lows w) ≡ q → (v : ℕ → ℤ) → ((r : ℕ) → r < h → v r ≡ rows (fixedLine t l Rows) w p r c) → LineSafe t l (columnPass q) h v
     column-safe c j q e v same =
-        line-safe t l bits (columnPass q) h (λ r. rows (fixedLine t l Rows) w p r c) tall
+        line-safe t l bits (columnPass q) h (λ r. rows (fixedLine t l Rows) w p r c)
         (subst (λ (b : Bool). LineSized t l (columnPass b) h (λ r. rows (fixedLine t l Rows) w p r c)) e (inside .inColumns c j)) (column-sized c j q e) v same
 
-    -- Every kernel is safe.
+    -- Every pass is safe.
     pub level-safe : SafeLevel t l W w h x
     level-safe = record {
-      onRows = λ r i. line-safe t l bits Rows w (p r) wide (inside .inRows r i) (λ c j. inside .given r c i j) _ (λ c j. ap x (omega arith) ∙ stands r c (omega arith) (omega arith));
+      onRows = λ r i. line-safe t l bits Rows w (p r) (inside .inRows r i) (λ c j. inside .given r c i j) _ (λ c j. ap x (omega arith) ∙ stands r c (omega arith) (omega arith));
       onLowColumns = λ j a. column-safe j (omega arith) true (ltb-true j (lows w) a) _ (λ r i. ap (rowed t l W w h x) (omega arith) ∙ row-stands r j (omega arith) (omega arith) ∙ row-is r j i (omega arith));
       onHighColumns = λ j a. column-safe (lows w + j) (omega arith) false (ltb-false (lows w + j) (lows w) (omega arith)) _ (λ r i. ap (lowed t l W w h x) (omega arith) ∙ low-stands r (lows w + j) (omega arith) (omega arith) ∙ low-is r (lows w + j) i (omega arith) (omega arith));
     }

@@ -7,13 +7,12 @@ use lib.ListN.{length, getD}
 use lib.IntN.{ℤ, pos, _-ℤ_}
 use Rattle.numbers.specs.Lists.{over}
 use Rattle.lines.specs.Planes.{side, levels, rowByRow}
-use Rattle.lines.specs.PlaneLaws.{Roomy, roomy, side-le}
+use Rattle.lines.specs.PlaneLaws.{side-le}
 use Rattle.lines.specs.RowLaws.{place-in}
 use Rattle.width_table.specs.Nodes.{Rows}
 use Rattle.width_table.specs.Limits.{form-levels, form-constants, form-widths, form-input}
 use Rattle.width_table.specs.declared.WidthTable.{WidthTable}
 use Rattle.lifting.specs.Patch.{at, patch, patch-in, patch-above}
-use Rattle.lifting.specs.Kernels.{SafeKernel}
 use Rattle.lifting.specs.Strips.{pixelLine}
 use Rattle.pictures.specs.Pictures.{sample}
 use Rattle.pictures.specs.MemoryLaws.{Stands, stands-over}
@@ -22,28 +21,13 @@ use Rattle.precision.specs.Promise.{promise}
 use Rattle.irreversible.specs.Transforms.{fixedAfter, fixedPlane}
 use Rattle.irreversible.specs.Claims.{Picture}
 use Rattle.irreversible.specs.SizedLaws.{sized}
-use Rattle.irreversible.specs.KernelLaws.{kernelOf}
-use Rattle.irreversible.specs.LevelLaws.{BitsRight, levelWorked, SafeLevel, level-stands, level-beyond, line-safe, level-safe}
+use Rattle.irreversible.specs.LevelLaws.{BitsRight, LineSafe, levelWorked, SafeLevel, level-stands, level-beyond, line-safe, level-safe}
 
 -- the limits of a level of an accepted table
 module _ (t : WidthTable) (ok : AcceptPromise t) where
   -- all bits of a level
   pub bits-right : (l : ℕ) → 1 ≤ l → l ≤ t .levels → BitsRight t l
   bits-right l a b p = record { constants = form-constants t (ok .form); fractions = λ i. form-widths t (ok .form) l a b p i .2; enters = form-input t (ok .form) l a b p }
-
-module _ (t : WidthTable) (pixels : List ℕ) (w h : ℕ) (accepted : Accepted t) (picture : Picture t pixels w h) where
-  ok : AcceptPromise t
-  ok = promise t accepted
-
-  -- each level can be worked
-  pub wide : Roomy (t .levels) w
-  wide = roomy (t .levels) w (picture .width .0)
-
-  pub tall : Roomy (t .levels) h
-  tall = roomy (t .levels) h (picture .height .0)
-
-  some : 1 ≤ w
-  some = omega (arith, picture .width .0)
 
 -- after k levels: the plane stands at the front, and what lies past it is as it was
 pub record After (t : WidthTable) (pixels : List ℕ) (w h k : ℕ) (x₀ x : ℕ → ℤ) : Type 0 where
@@ -66,36 +50,27 @@ after-none t pixels w h x₀ x some e = record {
     zero-add n = omega arith
 
 module _ (t : WidthTable) (pixels : List ℕ) (w h : ℕ) (accepted : Accepted t) (picture : Picture t pixels w h) (k : ℕ) (more : k < t .levels) (x₀ x : ℕ → ℤ) (after : After t pixels w h k x₀ x) where
-  inW : side k w ≤ w
-  inW = side-le k w (some t pixels w h accepted picture)
-
-  inH : side k h ≤ h
-  inH = side-le k h (omega (arith, picture .height .0))
-
   -- one level more
   pub after-more : After t pixels w h (suc k) x₀ (levelWorked t (suc k) w (side k w) (side k h) x)
   unfolding fixedAfter levels
-  after-more =
-      let a = wide t pixels w h accepted picture k more in
-      let b = tall t pixels w h accepted picture k more in
-      record {
-        stands = level-stands t (suc k) w h (side k w) (side k h) a b inW inH x (fixedAfter t k pixels w h) (after .stands);
-        beyond = λ q far. level-beyond t (suc k) w h (side k w) (side k h) a b inW inH x (fixedAfter t k pixels w h) (after .stands) q far ∙ after .beyond q far;
-      }
+  after-more = record {
+    stands = level-stands t (suc k) w h (side k w) (side k h) (side-le k w) (side-le k h) x (fixedAfter t k pixels w h) (after .stands);
+    beyond = λ q far. level-beyond t (suc k) w h (side k w) (side k h) (side-le k w) (side-le k h) x (fixedAfter t k pixels w h) (after .stands) q far ∙ after .beyond q far;
+  }
 
   -- and it is safe
   pub safe-next : SafeLevel t (suc k) w (side k w) (side k h) x
   safe-next =
-      level-safe t (suc k) w h (side k w) (side k h) (wide t pixels w h accepted picture k more) (tall t pixels w h accepted picture k more) inW inH x (fixedAfter t k pixels w h) (after .stands)
+      level-safe t (suc k) w h (side k w) (side k h) (side-le k w) (side-le k h) x (fixedAfter t k pixels w h) (after .stands)
       (bits-right t (promise t accepted) (suc k) (omega arith) more) (sized t pixels w h accepted picture k more)
 
 -- the rows of level 1 are safe on the pixels
-pub pixels-safe : (t : WidthTable) (pixels : List ℕ) (w h : ℕ) → Accepted t → Picture t pixels w h → (r : ℕ) → r < h → SafeKernel (kernelOf t 1 Rows) w (pixelLine pixels (2 ^ (t .depth - 1)) (r * w))
+pub pixels-safe : (t : WidthTable) (pixels : List ℕ) (w h : ℕ) → Accepted t → Picture t pixels w h → (r : ℕ) → r < h → LineSafe t 1 Rows w (pixelLine pixels (2 ^ (t .depth - 1)) (r * w))
 unfolding fixedAfter levels side sample
 pixels-safe t pixels w h accepted picture r i =
     let ok = promise t accepted in
     let s = sized t pixels w h accepted picture 0 (form-levels t (ok .form) .0) in
-    line-safe t 1 (bits-right t ok 1 (omega arith) (form-levels t (ok .form) .0)) Rows w (sample pixels (t .depth) w r) (wide t pixels w h accepted picture 0 (form-levels t (ok .form) .0)) (s .inRows r i) (λ c j. s .given r c i j) _ (λ c j. refl)
+    line-safe t 1 (bits-right t ok 1 (omega arith) (form-levels t (ok .form) .0)) Rows w (sample pixels (t .depth) w r) (s .inRows r i) (λ c j. s .given r c i j) _ (λ c j. refl)
 
 -- all levels
 pub after-all : (t : WidthTable) (pixels : List ℕ) (w h : ℕ) (old new : List ℤ) → 1 ≤ w → w * h ≤ length old → length new ≡ length old → After t pixels w h (t .levels) (at old) (at new) → new ≡ over (rowByRow w h (fixedPlane t pixels w h)) old

@@ -11,6 +11,7 @@
 --   Demand3      two-steps : TwoSteps, widths : Widths; two-steps-strip, widths-strip: the same of strips of any size
 --   CallLaws     call-near, call-widths: demand 3 of every call that is not refused
 --   CaseLaws     pass-is: the pass by cases is the pass
+--   Unchanged    fixed-unchanged: sides that were admitted before job 6 give what they gave
 --   Constants    no-tie, is-nearest: a constant at F bits is the nearest multiple, for F from 1 to 24
 --   Subbands     kept-LL, kept-HL, kept-LH, kept-HH: the kept node of each subband of each level
 --   Sizes        sum-size, product-size: 64 bits hold the sum of a stage
@@ -21,7 +22,7 @@
 -- Proofs: Pass (by the rule of the crate stages, which is sound), Level lead to Demand3, in this order.
 -- For the code, which works lines by the kernels of the lifting crate:
 --   StepLaws     a stage as a step or a scaling of that crate
---   KernelLaws   a pass as a kernel: worked-fixed
+--   KernelLaws   a pass as a kernel: worked-fixed; of a single sample as a scaling: single-fixed
 --   SafeLaws     kernel-safe: no number on the way leaves its machine type where the values are sized
 --   ConstantTable, LevelBits   the constants at 32 bits, which round to the nearest at fewer; the bits of a level
 --   LevelLaws    a level in memory: level-stands, level-safe
@@ -43,6 +44,7 @@ pub mod Narrow
 pub mod SizedLaws
 pub mod CallLaws
 pub mod CaseLaws
+pub mod Unchanged
 pub mod StepLaws
 pub mod KernelLaws
 pub mod StagesLaws

@@ -27,7 +27,8 @@ use Rattle.width_table.specs.Limits.{form-levels}
 use Rattle.width_table.specs.Numbered.{nodeOf}
 use Rattle.width_table.specs.declared.WidthTable.{WidthTable}
 use Rattle.width_table.specs.Table.{maxLevels, constantBits, integerBits, fractionBits, inputBits}
-use Rattle.precision.specs.Bounds.{boundAfter, boundAt, rowBound, passBound, entering, boundOf}
+use Rattle.precision.specs.SingleLaws.{same-bound}
+use Rattle.precision.specs.Bounds.{boundAfter, longBound, boundAt, rowBound, passBound, entering, boundOf}
 use Rattle.precision.specs.Verdict.{keptAt, AcceptPromise}
 
 -- ---- products by gains
@@ -151,13 +152,16 @@ gain-under n i h = rw (gain-to n i h, gain-to (last n) i h) (leb→le (gainTo n 
 
 module _ (F : Node → ℕ) (fi : ℕ) (b : Bound) (f : Node → ℕ) where
   node-is : (n : Node) → boundAt F fi b f n ≡ boundAfter F fi b f (sideOf n) (suc (stageOf n))
-  unfolding boundAt
-  node-is P1 = refl
-  node-is U1 = refl
-  node-is P2 = refl
-  node-is U2 = refl
-  node-is G1 = refl
-  node-is G2 = refl
+  unfolding longBound
+  node-is n = same-bound F fi b f n ∙ stage-is n
+    where
+      stage-is : (n : Node) → longBound F fi b f n ≡ boundAfter F fi b f (sideOf n) (suc (stageOf n))
+      stage-is P1 = refl
+      stage-is U1 = refl
+      stage-is P2 = refl
+      stage-is U2 = refl
+      stage-is G1 = refl
+      stage-is G2 = refl
 
   node-range : (n : Node) → boundAt F fi b f n .range ≡ timesGain (b .range) (gainTo n 0)
   unfolding Rule.boundAt rangeAt brought

@@ -1,10 +1,10 @@
 -- What a pass makes of good values: a value is good where the exact one lies within a range and the fixed-point one within an error of it.
 use Prim.Native.Nat.{ℕ, suc, _+_, _*_, _-_, _^_, _<_, _≤_}
-use mathlib.Core.Path.{_≡_, sym, ap, subst}
-use mathlib.Core.Bool.{true, false}
+use mathlib.Core.Path.{_≡_, sym, ap, subst, subst₂}
+use mathlib.Core.Bool.{Bool, true, false}
 use native.Mathlib.Omega.{arith}
 use native.Mathlib.Nat.{mul-pos, mul-le-mul-right, mul-lt-mul-of-pos-right, lt-of-mul-lt-mul-right}
-use lib.Dec.{ltb}
+use lib.Dec.{ltb, lit≤}
 use lib.Pow.{pow-pos, pow-add}
 use lib.IntN.{ℤ, pos, negℤ, natAbs, _+ℤ_, _*ℤ_}
 use lib.Signed.{mag, _≤ℤ_, _<ℤ_}
@@ -12,21 +12,25 @@ use Rattle.numbers.specs.Dif.{by-dif, difs}
 use Rattle.numbers.specs.Abs.{mag-of-abs, abs-of-dif}
 use Rattle.exact.specs.Fractions.{Frac, _⊕_, neg}
 use Rattle.lines.specs.Lines.{lows, Liftable, lowsFirst, onHighs, onLows}
-use Rattle.exact.specs.Exact.{exactPass, low₀, high₀, p1, u1, p2, u2, g1, g2}
-use Rattle.stages.specs.Fixed.{meant}
-use Rattle.irreversible.specs.Fixed.{fixedPass, valueAt, countAt, atP1, atU1, atP2, atU2, atG1, atG2}
+use Rattle.lines.specs.OneLaws.{one-single, one-long, by-one}
+use Rattle.exact.specs.Exact.{exactLong, exactPass, low₀, high₀, p1, u1, p2, u2, g1, g2}
+use Rattle.stages.specs.Fixed.{meant, cut}
+use Rattle.irreversible.specs.Fixed.{fixedLong, fixedPass, valueAt, countAt, atP1, atU1, atP2, atU2, atG1, atG2}
 use Rattle.width_table.specs.Nodes.{Node, P1, U1, P2, U2, G1, G2, lastNode}
 use Rattle.stages.specs.Rule.{Bound}
-use Rattle.precision.specs.Bounds.{boundAfter, boundAt}
+use Rattle.precision.specs.Bounds.{boundAfter, longBound, boundAt}
+use Rattle.precision.specs.PlaceLaws.{range-is}
+use Rattle.precision.specs.SingleLaws.{times-least, same-bound}
 use Rattle.exact.specs.FracLaws.{within-near}
 use Rattle.stages.specs.Stages.{Side, low, high, forward, made, bits}
 use Rattle.stages.specs.Rule.{together}
 use Rattle.stages.specs.OnLine.{count, exactAfter, fixedMade, fixedAfter}
 use Rattle.stages.specs.Sound.{Good, good}
+use Rattle.stages.specs.Single.{single-good, good-most}
 use Rattle.width_table.specs.Numbered.{nodeOf}
 use Rattle.stages.specs.Own.{pow-split}
 use Rattle.irreversible.specs.Claims.{Near, Holds}
-use Rattle.numbers.specs.Tests.{by-ltb}
+use Rattle.numbers.specs.Tests.{by-ltb, ltb-true}
 
 -- the nodes' bits are at most 32 (a table's are at most 20)
 abbrev pub Small : (Node → ℕ) → Type 0
@@ -57,24 +61,49 @@ module _ (F : Node → ℕ) (fi : ℕ) (b : Bound) (f : Node → ℕ) (n : ℕ) 
   exactAt G1 = g1 n x
   exactAt G2 = g2 n x
 
+  long-good : (i : Node) (k : ℕ) → k < countAt n i → Good (longBound F fi b f i) (f i) (valueAt F fi f n v i k) (exactAt i k)
+  unfolding longBound bits fixedAfter fixedMade exactAfter made atP1 atU1 atP2 atU2 atG1 atG2 p1 u1 p2 u2 g1 g2 low₀ high₀ onHighs onLows
+  long-good P1 k i = after 1 high k i
+  long-good U1 k i = after 2 low k i
+  long-good P2 k i = after 3 high k i
+  long-good U2 k i = after 4 low k i
+  long-good G1 k i = after 5 low k i
+  long-good G2 k i = after 6 high k i
+
+  -- the larger bound of G1 is the same
   pub node-good : (i : Node) (k : ℕ) → k < countAt n i → Good (boundAt F fi b f i) (f i) (valueAt F fi f n v i k) (exactAt i k)
-  unfolding boundAt bits fixedAfter fixedMade exactAfter made atP1 atU1 atP2 atU2 atG1 atG2 p1 u1 p2 u2 g1 g2 low₀ high₀ onHighs onLows
-  node-good P1 k i = after 1 high k i
-  node-good U1 k i = after 2 low k i
-  node-good P2 k i = after 3 high k i
-  node-good U2 k i = after 4 low k i
-  node-good G1 k i = after 5 low k i
-  node-good G2 k i = after 6 high k i
+  node-good i k h = subst (λ (c : Bound). Good c (f i) (valueAt F fi f n v i k) (exactAt i k)) (sym (same-bound F fi b f i)) (long-good i k h)
 
--- ---- the lows first, then the highs
-
-module _ (F : Node → ℕ) (fi : ℕ) (b : Bound) (f : Node → ℕ) (n : ℕ) (v : ℕ → ℤ) (x : ℕ → Frac) (works : Liftable n) (small : Small f) (given : (k : ℕ) → k < n → Good b fi (v k) (x k)) where
-  pub pass-good : (i : ℕ) → i < n → Good (boundAt F fi b f (lastNode (ltb i (lows n)))) (f (lastNode (ltb i (lows n)))) (fixedPass F fi f n v i) (exactPass n x i)
-  unfolding fixedPass exactPass lowsFirst
-  pass-good i h =
+  -- the lows first, then the highs
+  line-good : (i : ℕ) → i < n → Good (boundAt F fi b f (lastNode (ltb i (lows n)))) (f (lastNode (ltb i (lows n)))) (fixedLong F fi f n v i) (exactLong n x i)
+  unfolding fixedLong exactLong lowsFirst
+  line-good i h =
       by-ltb (λ q. Good (boundAt F fi b f (lastNode q)) (f (lastNode q)) (elim q [ true ↦ atG1 F fi f n v i | false ↦ atG2 F fi f n v (i - lows n) ]) (elim q [ true ↦ g1 n x i | false ↦ g2 n x (i - lows n) ])) i (lows n)
-      (λ j. node-good F fi b f n v x works small given G1 i j)
-      (λ j. node-good F fi b f n v x works small given G2 (i - lows n) (omega arith))
+      (λ j. node-good G1 i j)
+      (λ j. node-good G2 (i - lows n) (omega arith))
+
+-- ---- a single sample, and any line
+
+-- the range of G1 is not below the input's
+range-least : (F : Node → ℕ) (fi : ℕ) (b : Bound) (f : Node → ℕ) → b .range ≤ boundAt F fi b f G1 .range
+unfolding boundAt
+range-least F fi b f = omega (arith, times-least (b .range) 127934 (lit≤ tt), range-is F fi b f 5 (lit≤ tt, lit≤ tt))
+
+sample-good : (F : Node → ℕ) (fi : ℕ) (b : Bound) (f : Node → ℕ) (v : ℤ) (x : Frac) → Small f → Good b fi v x → Good (boundAt F fi b f G1) (f G1) (cut fi (f G1) v) x
+unfolding boundAt
+sample-good F fi b f v x small g = good-most (range-least F fi b f) (omega arith) (single-good fi b (f G1) v x (small G1) g)
+
+module _ (F : Node → ℕ) (fi : ℕ) (b : Bound) (f : Node → ℕ) (n : ℕ) (v : ℕ → ℤ) (x : ℕ → Frac) (small : Small f) (given : (k : ℕ) → k < n → Good b fi (v k) (x k)) where
+  pub pass-good : (i : ℕ) → i < n → Good (boundAt F fi b f (lastNode (ltb i (lows n)))) (f (lastNode (ltb i (lows n)))) (fixedPass F fi f n v i) (exactPass n x i)
+  unfolding fixedPass exactPass
+  pass-good i h = by-one _ n
+      (λ one. subst₂ (Good _ _) (sym (one-single (cut fi (f G1)) (fixedLong F fi f) n v i one)) (sym (one-single (λ a. a) exactLong n x i one))
+      (subst (λ (q : Bool). Good (boundAt F fi b f (lastNode q)) (f (lastNode q)) (cut fi (f G1) (v i)) (x i)) (sym (ltb-true i (lows n) (omega arith))) (sample-good F fi b f (v i) (x i) small (given i h))))
+      (λ works. subst₂ (Good _ _) (sym (one-long (cut fi (f G1)) (fixedLong F fi f) n v i works)) (sym (one-long (λ a. a) exactLong n x i works)) (line-good F fi b f n v x works small given i h))
+
+  -- the first value, where it is the only one
+  pub first-good : n ≡ 1 → Good (boundAt F fi b f G1) (f G1) (fixedPass F fi f n v 0) (exactPass n x 0)
+  first-good e = subst (λ (q : Bool). Good (boundAt F fi b f (lastNode q)) (f (lastNode q)) (fixedPass F fi f n v 0) (exactPass n x 0)) (ltb-true 0 (lows n) (omega arith)) (pass-good 0 (omega arith))
 
 -- ---- what good values give
 
@@ -114,6 +143,10 @@ holds b f IB v x small some room g =
     let e : IB - 1 + f ≡ IB + f - 1 = omega arith in
     mag-holds (2 ^ (IB + f - 1)) v (subst (λ (k : ℕ). mag v < 2 ^ k) e (fits b f IB v x small room g))
 
-module _ (F : Node → ℕ) (fi : ℕ) (b : Bound) (f : Node → ℕ) (n : ℕ) (v : ℕ → ℤ) (x : ℕ → Frac) (works : Liftable n) (small : Small f) (given : (k : ℕ) → k < n → Good b fi (v k) (x k)) where
-  pub in-width : (IB : Node → ℕ) → ((i : Node) → 1 ≤ IB i) → ((i : Node) → boundAt F fi b f i .range + boundAt F fi b f i .error + 2 ^ (32 - f i) ≤ 2 ^ (IB i - 1) * 2 ^ 32) → (i : Node) (k : ℕ) → k < countAt n i → Holds (IB i) (f i) (valueAt F fi f n v i k)
-  in-width IB some room i k h = holds _ _ _ _ _ (small i) (some i) (room i) (node-good F fi b f n v x works small given i k h)
+module _ (F : Node → ℕ) (fi : ℕ) (b : Bound) (f : Node → ℕ) (n : ℕ) (v : ℕ → ℤ) (x : ℕ → Frac) (small : Small f) (given : (k : ℕ) → k < n → Good b fi (v k) (x k))
+    (IB : Node → ℕ) (some : (i : Node) → 1 ≤ IB i) (room : (i : Node) → boundAt F fi b f i .range + boundAt F fi b f i .error + 2 ^ (32 - f i) ≤ 2 ^ (IB i - 1) * 2 ^ 32) where
+  pub long-in-width : Liftable n → (i : Node) (k : ℕ) → k < countAt n i → Holds (IB i) (f i) (valueAt F fi f n v i k)
+  long-in-width works i k h = holds _ _ _ _ _ (small i) (some i) (room i) (node-good F fi b f n v x works small given i k h)
+
+  pub single-in-width : n ≡ 1 → Holds (IB G1) (f G1) (fixedPass F fi f n v 0)
+  single-in-width e = holds _ _ _ _ _ (small G1) (some G1) (room G1) (first-good F fi b f n v x small given e)

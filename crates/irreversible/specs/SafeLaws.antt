@@ -18,12 +18,12 @@ use Rattle.lifting.specs.Steps.{Safe, SumSafe, FactorSafe}
 use Rattle.lifting.specs.Runs.{as-type}
 use Rattle.lifting.specs.Passes.{evens}
 use Rattle.lifting.specs.Kernels.{SafeKernel}
-use Rattle.stages.specs.Fixed.{nearest, step, scale}
+use Rattle.stages.specs.Fixed.{nearest, cut, step, scale}
 use Rattle.irreversible.specs.Fixed.{valueAt, countAt, atP1, atU1, atP2, atU2, atG1, atG2}
 use Rattle.irreversible.specs.Constants.{constantOf}
 use Rattle.irreversible.specs.Sizes.{product-size}
 use Rattle.irreversible.specs.Sized.{Sized}
-use Rattle.irreversible.specs.StepLaws.{stepTop, stepOf, factorOf, step-applied, scale-applied}
+use Rattle.irreversible.specs.StepLaws.{stepTop, stepOf, factorOf, step-applied, scale-applied, singleOf, single-applied}
 use Rattle.irreversible.specs.KernelLaws.{stageOf, scalingOf, kernelFrom, sU1, sP2, sU2, sG1, sG2, first-highs, first-lows, second-highs, second-lows}
 use Rattle.width_table.specs.Table.{maxConstantBits, maxFractionBits}
 
@@ -135,6 +135,15 @@ module _ (n : Node) (F fm : ℕ) (const : ConstantBits F) (small : fm ≤ maxFra
           product = fits-64 57 _ (omega arith) (subst (λ (z : ℤ). natAbs (nearest (constantOf n) F *ℤ pos (2 ^ (top - (F + fm))) *ℤ z) ≤ 2 ^ 57) (+ℤ-idr x) (sum-size top (omega arith) (omega arith) x (pos 0) (sized-most fm x hx) (omega arith)));
           result = subst (λ (z : ℤ). SFits w32 z) (sym (scale-applied (constantOf n) F fm f x)) (sized-fits f _ less h);
         }
+
+-- a single sample likewise
+pub single-safe : (fi f : ℕ) → fi ≤ maxFractionBits → f ≤ maxFractionBits → (x : ℤ) → Sized fi x → Sized f (cut fi f x) → FactorSafe (singleOf fi f) x
+unfolding singleOf
+single-safe fi f few less x hx h = record {
+  short = omega arith;
+  product = fits-64 31 _ (omega arith) (times-size (max fi f - fi) (11 + fi) 31 (pos (2 ^ (max fi f - fi))) x (le-refl _) (sized-most fi x hx) (omega arith));
+  result = subst (λ (z : ℤ). SFits w32 z) (sym (single-applied fi f x)) (sized-fits f _ less h);
+}
 
 -- ---- a pass
 

@@ -2,11 +2,12 @@
 -- level 1 (proved in SizedLaws).
 use Prim.Native.Nat.{ℕ, suc, _+_, _^_, _<_}
 use mathlib.Core.List.{List}
+use mathlib.Core.Path.{_≡_}
 use lib.Dec.{ltb}
 use lib.IntN.{ℤ, natAbs}
-use Rattle.lines.specs.Lines.{lows}
+use Rattle.lines.specs.Lines.{lows, Liftable}
 use Rattle.lines.specs.Planes.{Plane, side, rows}
-use Rattle.width_table.specs.Nodes.{Node, Pass, Rows, columnPass}
+use Rattle.width_table.specs.Nodes.{Node, G1, Pass, Rows, columnPass}
 use Rattle.width_table.specs.declared.WidthTable.{WidthTable}
 use Rattle.width_table.specs.Table.{constantBits, fractionBits, inputBits}
 use Rattle.pictures.specs.Pictures.{sample}
@@ -19,11 +20,11 @@ use Rattle.irreversible.specs.Claims.{Picture, Strip}
 abbrev pub SizedTo : ℕ → ℕ → ℤ → Type 0
 SizedTo e f v = natAbs v < 2 ^ (e + f)
 
--- each value that a pass of level l over n samples v leaves in a node
-abbrev pub LineSizedTo : ℕ → WidthTable → ℕ → Pass → ℕ → (ℕ → ℤ) → Type 0
-LineSizedTo e t l p n v =
-    (i : Node) (k : ℕ) → k < countAt n i
-    → SizedTo e (fractionBits t l p i) (valueAt (constantBits t) (inputBits t l p) (fractionBits t l p) n v i k)
+-- each value that a pass of level l over n samples v leaves: two samples or more in every node, a single one in G1 alone
+pub record LineSizedTo (e : ℕ) (t : WidthTable) (l : ℕ) (p : Pass) (n : ℕ) (v : ℕ → ℤ) : Type 0 where
+  pub long : Liftable n → (i : Node) (k : ℕ) → k < countAt n i
+      → SizedTo e (fractionBits t l p i) (valueAt (constantBits t) (inputBits t l p) (fractionBits t l p) n v i k)
+  pub single : n ≡ 1 → SizedTo e (fractionBits t l p G1) (fixedLine t l p n v 0)
 
 -- each value of level l, which is fed w columns and h rows of the plane p: what enters, each row, and each column of what the rows leave
 pub record LevelSizedTo (e : ℕ) (t : WidthTable) (l w h : ℕ) (p : Plane ℤ) : Type 0 where

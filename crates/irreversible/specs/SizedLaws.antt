@@ -14,9 +14,8 @@ use Rattle.stages.specs.Fixed.{meant}
 use Rattle.stages.specs.Own.{pow-split}
 use Rattle.stages.specs.Rule.{Bound}
 use Rattle.stages.specs.Sound.{Good}
-use Rattle.lines.specs.Lines.{lows, Liftable}
+use Rattle.lines.specs.Lines.{lows}
 use Rattle.lines.specs.Planes.{Plane, side, levels}
-use Rattle.lines.specs.PlaneLaws.{roomy}
 use Rattle.width_table.specs.Nodes.{Node, G1, G2, Pass, Rows, LowColumns, HighColumns, columnPass, lastNode}
 use Rattle.width_table.specs.Limits.{form-levels, form-widths, form-input}
 use Rattle.width_table.specs.declared.WidthTable.{WidthTable}
@@ -24,11 +23,10 @@ use Rattle.width_table.specs.Table.{maxFractionBits, constantBits, fractionBits
 use Rattle.precision.specs.Bounds.{boundAt, rowBound, passBound, entering, boundOf}
 use Rattle.precision.specs.Verdict.{AcceptPromise}
 use Rattle.precision.specs.Promise.{promise}
-use Rattle.irreversible.specs.Fixed.{valueAt, countAt}
-use Rattle.irreversible.specs.Transforms.{fixedAfter}
+use Rattle.irreversible.specs.Transforms.{fixedLine, fixedAfter}
 use Rattle.irreversible.specs.Claims.{Strip}
 use Rattle.irreversible.specs.Sized.{SizedTo, LineSizedTo, LevelSizedTo, AllSized, FirstSized}
-use Rattle.irreversible.specs.Pass.{Small, node-good}
+use Rattle.irreversible.specs.Pass.{Small, node-good, first-good}
 use Rattle.irreversible.specs.Level.{rowV, rowX, row-good}
 use Rattle.irreversible.specs.Demand3.{exactAfter, after, strip-of}
 use Rattle.irreversible.specs.Narrow.{eleven-bits, enters-eleven, five-bits, enters-five}
@@ -48,27 +46,31 @@ good-sized e b f v x small room g =
 
 -- ---- a line
 
-line-sized : (e : ℕ) (F : Node → ℕ) (fi : ℕ) (b : Bound) (f : Node → ℕ) (n : ℕ) (v : ℕ → ℤ) (x : ℕ → Frac) → Liftable n → Small f → ((i : Node) → Room e (boundAt F fi b f i) (f i)) → ((k : ℕ) → k < n → Good b fi (v k) (x k))
-    → (i : Node) (k : ℕ) → k < countAt n i → SizedTo e (f i) (valueAt F fi f n v i k)
-line-sized e F fi b f n v x big small room given i k h = good-sized e _ _ _ _ (small i) (room i) (node-good F fi b f n v x big small given i k h)
+module _ (e : ℕ) (t : WidthTable) (l : ℕ) (p : Pass) (b : Bound) (n : ℕ) (v : ℕ → ℤ) (x : ℕ → Frac) (small : Small (fractionBits t l p)) (room : (i : Node) → Room e (boundAt (constantBits t) (inputBits t l p) b (fractionBits t l p) i) (fractionBits t l p i)) (given : (k : ℕ) → k < n → Good b (inputBits t l p) (v k) (x k)) where
+  line-sized : LineSizedTo e t l p n v
+  unfolding fixedLine
+  line-sized = record {
+    long = λ works i k h. good-sized e _ _ _ _ (small i) (room i) (node-good (constantBits t) (inputBits t l p) b (fractionBits t l p) n v x works small given i k h);
+    single = λ one. good-sized e _ _ _ _ (small G1) (room G1) (first-good (constantBits t) (inputBits t l p) b (fractionBits t l p) n v x small given one);
+  }
 
 -- ---- a level
 
-module _ (e : ℕ) (t : WidthTable) (l : ℕ) (bits : (p : Pass) (n : Node) → fractionBits t l p n ≤ maxFractionBits) (w h : ℕ) (wide : Liftable w) (tall : Liftable h) (b : Bound) (v : Plane ℤ) (x : Plane Frac) (given : (r c : ℕ) → r < h → c < w → Good b (inputBits t l Rows) (v r c) (x r c)) (room : (p : Pass) (n : Node) → Room e (passBound t l b p n) (fractionBits t l p n)) where
+module _ (e : ℕ) (t : WidthTable) (l : ℕ) (bits : (p : Pass) (n : Node) → fractionBits t l p n ≤ maxFractionBits) (w h : ℕ) (b : Bound) (v : Plane ℤ) (x : Plane Frac) (given : (r c : ℕ) → r < h → c < w → Good b (inputBits t l Rows) (v r c) (x r c)) (room : (p : Pass) (n : Node) → Room e (passBound t l b p n) (fractionBits t l p n)) where
   small : (p : Pass) → Small (fractionBits t l p)
   small p n = omega (arith, bits p n)
 
   rows-sized : (r : ℕ) → r < h → LineSizedTo e t l Rows w (v r)
   unfolding passBound rowBound
-  rows-sized r i = line-sized e (constantBits t) (inputBits t l Rows) b (fractionBits t l Rows) w (v r) (x r) wide (small Rows) (room Rows) (λ k q. given r k i q)
+  rows-sized r i = line-sized e t l Rows b w (v r) (x r) (small Rows) (room Rows) (λ k q. given r k i q)
 
   column-sized : (q : Bool) (c : ℕ) → ((k : ℕ) → k < h → Good (rowBound t l b (lastNode q)) (fractionBits t l Rows (lastNode q)) (rowV t l w v k c) (rowX w x k c)) → LineSizedTo e t l (columnPass q) h (λ k. rowV t l w v k c)
   unfolding passBound
-  column-sized true c g = line-sized e (constantBits t) (inputBits t l LowColumns) (rowBound t l b G1) (fractionBits t l LowColumns) h (λ k. rowV t l w v k c) (λ k. rowX w x k c) tall (small LowColumns) (room LowColumns) g
-  column-sized false c g = line-sized e (constantBits t) (inputBits t l HighColumns) (rowBound t l b G2) (fractionBits t l HighColumns) h (λ k. rowV t l w v k c) (λ k. rowX w x k c) tall (small HighColumns) (room HighColumns) g
+  column-sized true c g = line-sized e t l LowColumns (rowBound t l b G1) h (λ k. rowV t l w v k c) (λ k. rowX w x k c) (small LowColumns) (room LowColumns) g
+  column-sized false c g = line-sized e t l HighColumns (rowBound t l b G2) h (λ k. rowV t l w v k c) (λ k. rowX w x k c) (small HighColumns) (room HighColumns) g
 
   columns-sized : (c : ℕ) → c < w → LineSizedTo e t l (columnPass (ltb c (lows w))) h (λ k. rowV t l w v k c)
-  columns-sized c j = column-sized (ltb c (lows w)) c (λ k q. row-good t l bits w h wide tall b v x given k c q j)
+  columns-sized c j = column-sized (ltb c (lows w)) c (λ k q. row-good t l bits w h b v x given k c q j)
 
 -- ---- a level of a strip
 
@@ -78,13 +80,11 @@ module _ (e : ℕ) (t : WidthTable) (ok : AcceptPromise t) (pixels : List ℕ) (
   unfolding rowV
   level-sized =
       let bits : (p : Pass) (n : Node) → fractionBits t (suc k) p n ≤ maxFractionBits = λ p n. form-widths t (ok .form) (suc k) (omega arith) i p n .2 in
-      let wide = roomy (t .levels) w (strip .width) k i in
-      let tall = roomy (t .levels) h (strip .height) k i in
       let good : (r c : ℕ) → r < side k h → c < side k w → Good (entering t (suc k)) (inputBits t (suc k) Rows) (fixedAfter t k pixels w h r c) (exactAfter t ok pixels w h strip k r c) = λ r c a b. after t ok pixels w h strip k (omega arith) .inside r c (a, b) in
       record {
         given = λ r c a b. good-sized e _ _ _ _ (omega (arith, form-input t (ok .form) (suc k) (omega arith) i Rows)) enters (good r c a b);
-        inRows = rows-sized e t (suc k) bits (side k w) (side k h) wide tall (entering t (suc k)) (fixedAfter t k pixels w h) (exactAfter t ok pixels w h strip k) good room;
-        inColumns = columns-sized e t (suc k) bits (side k w) (side k h) wide tall (entering t (suc k)) (fixedAfter t k pixels w h) (exactAfter t ok pixels w h strip k) good room;
+        inRows = rows-sized e t (suc k) bits (side k w) (side k h) (entering t (suc k)) (fixedAfter t k pixels w h) (exactAfter t ok pixels w h strip k) good room;
+        inColumns = columns-sized e t (suc k) bits (side k w) (side k h) (entering t (suc k)) (fixedAfter t k pixels w h) (exactAfter t ok pixels w h strip k) good room;
       }
 
 -- every level

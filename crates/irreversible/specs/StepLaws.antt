@@ -4,7 +4,7 @@ use mathlib.Core.List.{List, [], _∷_}
 use mathlib.Core.Path.{_≡_, sym, _∙_, ap, ap₂}
 use native.Mathlib.Omega.{arith}
 use lib.Pow.{pow-add}
-use lib.IntN.{ℤ, pos, _+ℤ_, _*ℤ_}
+use lib.IntN.{ℤ, pos, _+ℤ_, _*ℤ_, *ℤ-comm}
 use Rattle.numbers.specs.Floor.{floorDiv}
 use Rattle.numbers.specs.Quote.{terms, vars, ring}
 use Rattle.exact.specs.Fractions.{Frac}
@@ -65,3 +65,13 @@ scale-applied c F fm f x =
     let top : ℕ = max (F + fm) f in
     let e : f - full ≡ top - full = omega arith in
     sym (ap₂ (λ (z : ℤ) (b : ℕ). floorDiv z (2 ^ b)) (product-law (nearest c F) x (pos (2 ^ (f - full))) ∙ ap (λ (b : ℕ). nearest c F *ℤ pos (2 ^ b) *ℤ x) e) (fall full f))
+
+-- A single sample of fi bits, cut to f bits (document 02, job 6), as a scaling by a power of 2.
+unfoldable pub singleOf : ℕ → ℕ → Factor
+singleOf fi f = let top = max fi f in Plain (pos (2 ^ (top - fi))) (top - f)
+
+pub single-applied : (fi f : ℕ) (x : ℤ) → scaledBy (singleOf fi f) x ≡ cut fi f x
+unfolding singleOf cut
+single-applied fi f x =
+    let e : max fi f - fi ≡ f - fi = omega arith in
+    ap₂ (λ (z : ℤ) (b : ℕ). floorDiv z (2 ^ b)) (ap (λ (b : ℕ). pos (2 ^ b) *ℤ x) e ∙ *ℤ-comm (pos (2 ^ (f - fi))) x) (sym (fall fi f))

@@ -5,6 +5,7 @@ ghost use lib.IntN.{pos, _*ℤ_};
 ghost use mir.Syntax.{w64};
 ghost use mir.Val.{SFits};
 ghost use Rattle.lifting.specs.Patch.{at};
+ghost use Rattle.lifting.specs.Steps.{SameFactor};
 ghost use Rattle.width_table.specs.Table.{maxFractionBits};
 ghost use Rattle.lines.specs.Planes.{rowByRow};
 ghost use Rattle.numbers.specs.Floor.{floorDiv};
@@ -12,17 +13,17 @@ ghost use Rattle.numbers.specs.Lists.{over};
 ghost use Rattle.refusals.specs.Told.{told};
 ghost use Rattle.stages.specs.Fixed.{nearest};
 ghost use Rattle.irreversible.specs.Constants.{constantOf};
-ghost use Rattle.irreversible.specs.Transforms.{fixedPlane};
+ghost use Rattle.irreversible.specs.Transforms.{fixedLine, fixedPlane};
 ghost use Rattle.irreversible.specs.Calls.{fixedAnswer, fixedPlaneAfter, fixedWork};
 ghost use Rattle.width_table.specs.Numbered.{nodeOf, passOf, IsNode, IsPass};
-ghost use Rattle.irreversible.specs.StepLaws.{stepTop, stepOf, factorOf};
-ghost use Rattle.irreversible.specs.KernelLaws.{stageOf, scalingOf, kernelOf};
+ghost use Rattle.irreversible.specs.StepLaws.{stepTop, stepOf, factorOf, singleOf};
+ghost use Rattle.irreversible.specs.KernelLaws.{stageOf, scalingOf, kernelOf, singleFor};
 ghost use Rattle.irreversible.specs.StagesLaws.{AsStages};
 ghost use Rattle.irreversible.specs.SafeLaws.{ConstantBits};
-ghost use Rattle.irreversible.specs.LevelLaws.{columned, levelWorked};
+ghost use Rattle.irreversible.specs.LevelLaws.{rowed, columned, levelWorked};
 ghost use Rattle.irreversible.specs.LevelBits.{IsLevel};
-ghost use Rattle.irreversible.specs.CallSteps.{ColumnsReady, LevelReady, Ready, answerOf};
-ghost use Rattle.lifting.specs.Kernels.{SameKernel};
+ghost use Rattle.irreversible.specs.CallSteps.{RowsReady, ColumnsReady, BothReady, LevelReady, Ready, answerOf};
+ghost use Rattle.lifting.specs.Kernels.{SameKernel, columnsBy};
 ghost use Rattle.pictures.specs.MemoryLaws.{loaded};
 use lifting::Factor;
 use lifting::Kernel;
@@ -191,6 +192,88 @@ pub fn kernel_of(table: WidthTable, level: u8, pass: u8) -> Kernel
     }
 }
 
+// A single sample of so many bits, cut to those of its node, as a scaling by a power of 2.
+fn single_factor(value: u8, kept: u8) -> Factor
+    requires { ⌜ (value ≤ maxFractionBits) × (kept ≤ maxFractionBits) ⌝ }
+    ensures { λ r. ⌜ r ≡ singleOf value kept ⌝ }
+{
+    let top = larger(value, kept);
+    let c = power(top - value);
+    Factor::Plain {
+        c,
+        cut: (top - kept) as u32,
+    }
+}
+
+// What a pass makes of a single sample: it is cut to the bits of G1.
+pub fn single_of(table: WidthTable, level: u8, pass: u8) -> Factor
+    requires { ⌜ IsLevel table level × IsPass pass ⌝ }
+    ensures { λ r. ⌜ SameFactor (singleFor table level (passOf pass)) r ⌝ }
+{
+    let enters = table.input_bits(level, pass);
+    let kept = table.fraction_bits(level, pass, WidthTable::G1);
+    lifting::quickest_factor(single_factor(enters, kept))
+}
+
+// The rows of a level: the first w values of h rows of a plane whose rows are `stride` long.
+fn work_rows(
+    table: WidthTable,
+    level: u8,
+    plane: &mut [i32],
+    tile: &mut [i32],
+    stride: usize,
+    w: usize,
+    h: usize,
+)
+    requires { ⌜ RowsReady table level (now plane) (now tile) stride w h ⌝ }
+    ensures { λ _. ⌜ at (now (plane .exit)) ≡ rowed table level stride w h (at (now (plane .entry))) ⌝ }
+{
+    if w < 2 {
+        let single = single_of(table, level, WidthTable::ROWS);
+        lifting::scale_part(plane, stride, 0, w, h, single);
+        return;
+    }
+    lifting::rows(
+        plane,
+        tile,
+        stride,
+        w,
+        h,
+        kernel_of(table, level, WidthTable::ROWS),
+    );
+}
+
+// w columns of h rows, from column `from` on, by a pass.
+fn columns_by(
+    table: WidthTable,
+    level: u8,
+    pass: u8,
+    plane: &mut [i32],
+    tile: &mut [i32],
+    stride: usize,
+    from: usize,
+    w: usize,
+    h: usize,
+)
+    requires { ⌜ ColumnsReady table level (passOf pass) (now plane) (now tile) stride from w h × IsPass pass ⌝ }
+    ensures { λ _. ⌜ at (now (plane .exit)) ≡ columnsBy (fixedLine table level (passOf pass)) stride from w h (at (now (plane .entry))) ⌝ }
+{
+    if h < 2 {
+        let single = single_of(table, level, pass);
+        lifting::scale_part(plane, stride, from, w, h, single);
+        return;
+    }
+    lifting::columns(
+        plane,
+        tile,
+        stride,
+        from,
+        w,
+        h,
+        kernel_of(table, level, pass),
+    );
+}
+
 // The columns of a level of the w columns and h rows at the front of a plane whose rows are `stride` long.
 fn work_columns(
     table: WidthTable,
@@ -201,27 +284,31 @@ fn work_columns(
     w: usize,
     h: usize,
 )
-    requires { ⌜ ColumnsReady table level (now plane) (now tile) stride w h ⌝ }
+    requires { ⌜ BothReady table level (now plane) (now tile) stride w h ⌝ }
     ensures { λ _. ⌜ at (now (plane .exit)) ≡ columned table level stride w h (at (now (plane .entry))) ⌝ }
 {
     let low = (w + 1) / 2;
-    lifting::columns(
+    columns_by(
+        table,
+        level,
+        WidthTable::LOW_COLUMNS,
         plane,
         tile,
         stride,
         0,
         low,
         h,
-        kernel_of(table, level, WidthTable::LOW_COLUMNS),
     );
-    lifting::columns(
+    columns_by(
+        table,
+        level,
+        WidthTable::HIGH_COLUMNS,
         plane,
         tile,
         stride,
         low,
         w / 2,
         h,
-        kernel_of(table, level, WidthTable::HIGH_COLUMNS),
     );
 }
 
@@ -238,15 +325,30 @@ fn work_level(
     requires { ⌜ LevelReady table level (now plane) (now tile) stride w h ⌝ }
     ensures { λ _. ⌜ at (now (plane .exit)) ≡ levelWorked table level stride w h (at (now (plane .entry))) ⌝ }
 {
-    lifting::rows(
-        plane,
-        tile,
-        stride,
-        w,
-        h,
-        kernel_of(table, level, WidthTable::ROWS),
-    );
+    work_rows(table, level, plane, tile, stride, w, h);
     work_columns(table, level, plane, tile, stride, w, h);
+}
+
+// The rows of the first level, from the pixels.
+fn pixel_rows(
+    table: WidthTable,
+    pixels: &[u16],
+    plane: &mut [i32],
+    tile: &mut [i32],
+    w: usize,
+    h: usize,
+)
+    requires { ⌜ Ready table (now pixels) (now plane) (now tile) w h ⌝ }
+    ensures { λ _. ⌜ at (now (plane .exit)) ≡ rowed table 1 w w h (loaded (now (pixels .entry)) (2 ^ (table .depth - 1)) w h (at (now (plane .entry)))) ⌝ }
+{
+    let middle = pictures::middle(table.depth);
+    if w < 2 {
+        lifting::put_pixels(pixels, middle, plane, w * h);
+        work_rows(table, 1, plane, tile, w, w, h);
+        return;
+    }
+    let kernel = kernel_of(table, 1, WidthTable::ROWS);
+    lifting::pixel_rows(pixels, middle, plane, tile, w, h, kernel);
 }
 
 // The first level, whose rows are those of the picture.
@@ -261,9 +363,7 @@ fn first_level(
     requires { ⌜ Ready table (now pixels) (now plane) (now tile) w h ⌝ }
     ensures { λ _. ⌜ at (now (plane .exit)) ≡ levelWorked table 1 w w h (loaded (now (pixels .entry)) (2 ^ (table .depth - 1)) w h (at (now (plane .entry)))) ⌝ }
 {
-    let middle = pictures::middle(table.depth);
-    let kernel = kernel_of(table, 1, WidthTable::ROWS);
-    lifting::pixel_rows(pixels, middle, plane, tile, w, h, kernel);
+    pixel_rows(table, pixels, plane, tile, w, h);
     work_columns(table, 1, plane, tile, w, w, h);
 }
 
@@ -304,7 +404,7 @@ fn answer(
     match precision::judge(table) {
         Outcome::Refused(why) => Outcome::Refused(why),
         Outcome::Done => {
-            match pictures::room_right(table.levels, w, h, pixels.len(), second, third) {
+            match pictures::room_right(w, h, pixels.len(), second, third) {
                 Outcome::Refused(why) => Outcome::Refused(why),
                 Outcome::Done => pictures::pixels_right(table.depth, w, h, pixels),
             }

@@ -17,7 +17,7 @@ pixels-right-requires c κs =
     let j = m .before .before .before in
     let a = j .before .before .args in
     let ok = promise (a .table) (sym (j .judge .ensures) ∙ ap told (m .before .enum-told .given .1)) in
-    let room = sized-done (a .table .levels) (a .w) (a .h) (length (a .pixels .now)) (a .second) (a .third) (sym (m .room-right .ensures) ∙ ap told (c .enum-told2 .given .1)) in
+    let room = sized-done (a .w) (a .h) (length (a .pixels .now)) (a .second) (a .third) (sym (m .room-right .ensures) ∙ ap told (c .enum-told2 .given .1)) in
     (form-depth (a .table) (ok .form) .1, room .wide .1, room .tall .1, room .first)
 
 returns : tie.Need-returns
@@ -34,8 +34,8 @@ returns-2 c =
     let j = m .before .before .before in
     let a = j .before .before .args in
     sym (then-right (verdict (a .table)) _ (sym (j .judge .ensures) ∙ ap told (m .before .enum-told .given .1))
-    ∙ sized-then (a .table .levels) (a .w) (a .h) (length (a .pixels .now)) (a .second) (a .third) _
-    ∙ then-refused (sized (a .table .levels) (a .w) (a .h) (length (a .pixels .now)) (a .second) (a .third)) _ _ (sym (m .room-right .ensures) ∙ ap told (c .before .why2 .given .1)))
+    ∙ sized-then (a .w) (a .h) (length (a .pixels .now)) (a .second) (a .third) _
+    ∙ then-refused (sized (a .w) (a .h) (length (a .pixels .now)) (a .second) (a .third)) _ _ (sym (m .room-right .ensures) ∙ ap told (c .before .why2 .given .1)))
 
 returns-3 : tie.Need-returns-3
 unfolding answerOf
@@ -45,8 +45,8 @@ returns-3 c =
     let a = j .before .before .args in
     c .pixels-right .ensures
     ∙ sym (then-right (verdict (a .table)) _ (sym (j .judge .ensures) ∙ ap told (m .before .enum-told .given .1))
-    ∙ sized-then (a .table .levels) (a .w) (a .h) (length (a .pixels .now)) (a .second) (a .third) _
-    ∙ then-right (sized (a .table .levels) (a .w) (a .h) (length (a .pixels .now)) (a .second) (a .third)) _ (sym (m .room-right .ensures) ∙ ap told (c .before .enum-told2 .given .1)))
+    ∙ sized-then (a .w) (a .h) (length (a .pixels .now)) (a .second) (a .third) _
+    ∙ then-right (sized (a .w) (a .h) (length (a .pixels .now)) (a .second) (a .third)) _ (sym (m .room-right .ensures) ∙ ap told (c .before .enum-told2 .given .1)))
 
 pub answer-spec : {M : Type 1} → statement M
 answer-spec =

@@ -14,9 +14,9 @@ use Rattle.lifting.specs.declared.Factor.{Factor}
 use Rattle.lifting.specs.declared.Pair.{Pair}
 use Rattle.lifting.specs.declared.Kernel.{Kernel}
 use Rattle.lifting.specs.declared.Kernel.the-variants.{Two}
-use Rattle.lifting.specs.Steps.{applied, scaledBy}
+use Rattle.lifting.specs.Steps.{applied, scaledBy, SameFactor}
 use Rattle.lifting.specs.Passes.{evens, odds}
-use Rattle.lifting.specs.Kernels.{worked, firstHighs, firstLows, secondHighs, secondLows}
+use Rattle.lifting.specs.Kernels.{worked, SameKernel, firstHighs, firstLows, secondHighs, secondLows}
 use Rattle.stages.specs.Fixed.{nearest, cut, step, scale}
 use Rattle.irreversible.specs.Fixed.{atP1, atU1, atP2, atU2, atG1, atG2, fixedLong, fixedPass}
 use Rattle.irreversible.specs.Transforms.{fixedLine}
@@ -110,3 +110,11 @@ unfolding fixedLine fixedPass
 single-fixed t l p n one =
     (fun-ext λ x. fun-ext λ k. single-applied (inputBits t l p) (fractionBits t l p G1) (x k))
     ∙ sym (single-line (cut (inputBits t l p) (fractionBits t l p G1)) (fixedLong (constantBits t) (inputBits t l p) (fractionBits t l p)) n one)
+
+-- the same in whatever form kernel and cut are run
+module _ (t : WidthTable) (l : ℕ) (p : Pass) (n : ℕ) where
+  pub kernel-line : {k : Kernel} → SameKernel (kernelOf t l p) k → Liftable n → worked k n ≡ fixedLine t l p n
+  kernel-line e works = (λ u. e .same u n) ∙ worked-fixed t l p n works
+
+  pub factor-line : {g : Factor} → SameFactor (singleFor t l p) g → n < 2 → (λ x k. scaledBy g (x k)) ≡ fixedLine t l p n
+  factor-line e one = (fun-ext λ x. fun-ext λ k. e .same (x k)) ∙ single-fixed t l p n one

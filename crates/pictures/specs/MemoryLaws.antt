@@ -74,6 +74,13 @@ worked-same (Undo pair) n works x y e =
 abbrev pub loaded : List ℕ → ℕ → ℕ → ℕ → (ℕ → ℤ) → ℕ → ℤ
 loaded pixels middle w h x = patch 0 (w * h) (λ k. pos (getD pixels k 0) -ℤ pos middle) x
 
+-- pixels put there as they are
+pub put-loaded : (pixels : List ℕ) (middle w h : ℕ) (x : ℕ → ℤ) → patch 0 (w * h) (pixelLine pixels middle 0) x ≡ loaded pixels middle w h x
+put-loaded pixels middle w h x = λ u. patch 0 (w * h) (λ k. pos (getD pixels (none k u) 0) -ℤ pos middle) x
+  where
+    none : (k : ℕ) → 0 + k ≡ k
+    none k = omega arith
+
 module _ (k : Kernel) (pixels : List ℕ) (middle w h : ℕ) (x : ℕ → ℤ) (some : 1 ≤ w) where
   -- rows do not meet
   rows-apart : (i j : ℕ) → i < j → (p q : ℕ) → p < w → q < w → lineAt 0 w i + p ≡ lineAt 0 w j + q → ⊥

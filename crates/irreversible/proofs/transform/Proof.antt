@@ -58,13 +58,13 @@ add-across : tie.Need-add-across-2 Inv-loop μ-loop
 add-across c =
     let l = c .before .before .before .before .before .before in
     let s = start (l .before .before .before) in
-    omega (arith, side-le (l .loop .k) (s .args .w) (omega (arith, s .pre .picture .width .0)), s .pre .picture .width .1)
+    omega (arith, side-le (l .loop .k) (s .args .w), s .pre .picture .width .1)
 
 add-down : tie.Need-add-down-2 Inv-loop μ-loop
 add-down c =
     let l = c .before .before .before .before .before .before in
     let s = start (l .before .before .before) in
-    omega (arith, side-le (l .loop .k) (s .args .h) (omega (arith, s .pre .picture .height .0)), s .pre .picture .height .1)
+    omega (arith, side-le (l .loop .k) (s .args .h), s .pre .picture .height .1)
 
 loop-again : tie.Need-loop-again Inv-loop μ-loop
 unfolding side

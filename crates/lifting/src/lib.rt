@@ -770,7 +770,7 @@ fn raised_scale_here(buf: &mut [i32], from: usize, n: usize, c: u32, pad: u64, b
 }
 
 // The same by a scaling in either form, dispatched once.
-fn scale_here(buf: &mut [i32], from: usize, n: usize, g: Factor)
+pub fn scale_here(buf: &mut [i32], from: usize, n: usize, g: Factor)
     requires { ⌜ from + n ≤ length (now buf) ⌝ }
     requires { ⌜ ((j : ℕ) → j < n → FactorSafe g (at (now buf) (from + j))) ⌝ }
     ensures { λ _. ⌜ at (now (buf .exit)) ≡ patch from n (λ j. scaledBy g (at (now (buf .entry)) (from + j))) (at (now (buf .entry))) ⌝ }

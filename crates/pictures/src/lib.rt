@@ -52,13 +52,7 @@ pub fn slice_holds(n: usize, length: usize) -> Outcome
 }
 
 // Refusals 8 and 9, for three slices of so many elements.
-pub fn room_right(
-    w: usize,
-    h: usize,
-    first: usize,
-    second: usize,
-    third: usize,
-) -> Outcome
+pub fn room_right(w: usize, h: usize, first: usize, second: usize, third: usize) -> Outcome
     ensures { λ r. ⌜ told r ≡ sided w h then holds (w * h) first then holds (w * h) second then holds (w * h) third ⌝ }
 {
     match sides_right(w, h) {

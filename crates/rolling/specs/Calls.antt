@@ -19,7 +19,7 @@ use Rattle.irreversible.specs.Transforms.{fixedLine}
 use Rattle.rolling.specs.declared.Taken.{Taken}
 use Rattle.rolling.specs.declared.Taken.the-variants.{Zero}
 use Rattle.rolling.specs.declared.Scan.{Scan}
-use Rattle.rolling.specs.Schedule.{Line, Held, next, anyTaken, twoTaken, evenTaken, passOf, stacked, heldAfter, lineGives, endGives}
+use Rattle.rolling.specs.Schedule.{Line, Held, next, anyTaken, evenTaken, passOf, stacked, heldAfter, lineGives, endGives}
 
 -- ---- begin
 
@@ -33,7 +33,7 @@ scanOf t = record { table = t; width = 0; taken = Zero; ended = answered (beginA
 
 -- The width of a scan: 0 before the first line, then that of the lines, which is admitted.
 unfoldable pub lineWidthRight : Taken → ℕ → Bool
-lineWidthRight k w = cond (anyTaken k) (sideRight 1 w) (eqb w 0)
+lineWidthRight k w = cond (anyTaken k) (sideRight w) (eqb w 0)
 
 -- A scan that goes on: it began and has not ended. (Whatever else is handed over counts as ended: a table with which no scan begins, a
 -- width that no scan has after so many lines.)
@@ -93,7 +93,7 @@ module _ (s : Scan) (pixels : List ℕ) (w : ℕ) (held out : List ℤ) where
   unfoldable pub lineAnswer : Answer Unit
   lineAnswer =
       asks (goesOn s && (not (anyTaken (s .taken)) || eqb w (s .width))) 14
-      (asks (sideRight 1 w) 8
+      (asks (sideRight w) 8
       (holds w (length pixels) then holds (heldLines * w) (length held) then holds (outLines * w) (length out) then
       pixelsRight (s .table .depth) w 1 pixels))
 
@@ -122,10 +122,10 @@ module _ (s : Scan) (pixels : List ℕ) (w : ℕ) (held out : List ℤ) where
 -- ---- the end
 
 module _ (s : Scan) (held out : List ℤ) where
-  -- 14 after the end, or after fewer than two lines; 9
+  -- 14 after the end, or before the first line; 9
   unfoldable pub endAnswer : Answer Unit
   endAnswer =
-      asks (goesOn s && twoTaken (s .taken)) 14
+      asks (goesOn s && anyTaken (s .taken)) 14
       (holds (heldLines * s .width) (length held) then holds (outLines * s .width) (length out))
 
   -- the lines that it gives

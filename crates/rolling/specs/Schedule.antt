@@ -12,7 +12,7 @@ use Rattle.lines.specs.Planes.{Plane}
 use Rattle.width_table.specs.Nodes.{P1, U1, P2, U2, G1, G2, Pass, columnPass}
 use Rattle.width_table.specs.declared.WidthTable.{WidthTable}
 use Rattle.width_table.specs.Table.{constantBits, fractionBits, inputBits}
-use Rattle.stages.specs.Fixed.{step, scale}
+use Rattle.stages.specs.Fixed.{cut, step, scale}
 use Rattle.rolling.specs.declared.Taken.{Taken}
 use Rattle.rolling.specs.declared.Taken.the-variants.{Zero, One, Two, Three, Four, OddMany, EvenMany}
 
@@ -36,7 +36,7 @@ next Four = OddMany
 next OddMany = EvenMany
 next EvenMany = OddMany
 
--- at least one line, at least two
+-- at least one line
 abbrev pub anyTaken : Taken → Bool
 anyTaken Zero = false
 anyTaken One = true
@@ -45,15 +45,6 @@ anyTaken Three = true
 anyTaken Four = true
 anyTaken OddMany = true
 anyTaken EvenMany = true
-
-abbrev pub twoTaken : Taken → Bool
-twoTaken Zero = false
-twoTaken One = false
-twoTaken Two = true
-twoTaken Three = true
-twoTaken Four = true
-twoTaken OddMany = true
-twoTaken EvenMany = true
 
 -- an even number, from two on: the next line is a low line that finds a high line before it
 abbrev pub evenTaken : Taken → Bool
@@ -126,6 +117,10 @@ module _ (t : WidthTable) (w : ℕ) where
 
   unfoldable pub lineG2 : Line → Line
   lineG2 x c = scale zetaInverse (constantBits t G2) (fractionBits t 1 (passOf w c) P2) (fractionBits t 1 (passOf w c) G2) (x c)
+
+  -- A single line (document 02, job 6): in each column the only sample, cut to G1's bits.
+  unfoldable pub lineSingle : Line → Line
+  lineSingle x c = cut (inputBits t 1 (passOf w c)) (fractionBits t 1 (passOf w c) G1) (x c)
 
   -- A low line x that comes after a high line makes these ready: P1 of that high line, U1 of the low line before it, and P2 and U2 of
   -- the high and the low line before those.
@@ -206,10 +201,10 @@ module _ (t : WidthTable) (w : ℕ) where
     abbrev pub endOdd : List Line
     endOdd = lineG1 oddU2 ∷ lineG2 oddP2 ∷ lineG1 (lineU2 oddU1 oddP2 oddP2) ∷ []
 
-  -- the lines that the end gives (none after fewer than two lines: refused)
+  -- the lines that the end gives (none before the first line: refused)
   unfoldable pub endGives : Taken → Held → List Line
   endGives Zero held = []
-  endGives One held = []
+  endGives One held = lineSingle (held .low) ∷ []
   endGives Two held = endEven Two held
   endGives Three held = endOdd Three held
   endGives Four held = endEven Four held

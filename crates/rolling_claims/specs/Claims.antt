@@ -87,14 +87,14 @@ firstLines t strip w h k = rowByRow w k (inTurn h (fixedPlane t strip w h))
 abbrev pub BeforeEnd : Type 0
 BeforeEnd =
     (t : WidthTable) (s : Scan) (held : List ℤ) (n : ℕ) (strip : List ℕ) (given : List ℤ) → Calls t s held n strip given → s .ended ≡ false
-    → (more : List ℕ) (h : ℕ) → 2 ≤ h → n ≤ h
+    → (more : List ℕ) (h : ℕ) → n ≤ h
     → given ≡ firstLines t (strip ++ more) (s .width) h (ready n)
 
--- After the end, what came out is the whole transform, for any number of lines from 2.
+-- After the end, what came out is the whole transform, for any number of lines from 1 (document 02, job 6).
 abbrev pub AfterEnd : Type 0
 AfterEnd =
     (t : WidthTable) (s : Scan) (held : List ℤ) (h : ℕ) (strip : List ℕ) (given : List ℤ) → Calls t s held h strip given → s .ended ≡ true
-    → (2 ≤ h) × (given ≡ firstLines t strip (s .width) h h)
+    → (1 ≤ h) × (given ≡ firstLines t strip (s .width) h h)
 
 -- A line gives what it makes ready, an end what is left; neither gives more than four.
 abbrev pub Counts : Type 0
@@ -110,13 +110,13 @@ OneWidth =
     → (length strip ≡ n * s .width)
     × ((pixels : List ℕ) (w m : ℕ) (out : List ℤ) (s′ : Scan) (held′ out′ : List ℤ) → LineCall s pixels w held out (done m) s′ held′ out′ → (s′ .width ≡ w) × (1 ≤ n → w ≡ s .width))
 
--- 14 comes for a line after the end or of another width than the first accepted one, for an end after the end or after fewer than two
--- lines, and for no other. (n is the true number of lines.)
+-- 14 comes for a line after the end or of another width than the first accepted one, for an end after the end or before the first
+-- line, and for no other. (n is the true number of lines.)
 abbrev pub Fourteen : Type 0
 Fourteen =
     (t : WidthTable) (s : Scan) (held : List ℤ) (n : ℕ) (strip : List ℕ) (given : List ℤ) → Calls t s held n strip given
     → ((pixels : List ℕ) (w : ℕ) (other out : List ℤ) → (lineAnswer s pixels w other out ≡ refused (14, [])) ↔ (T (s .ended) ⊎ ((1 ≤ n) × ¬ (w ≡ s .width))))
-    × ((other out : List ℤ) → (endAnswer s other out ≡ refused (14, [])) ↔ (T (s .ended) ⊎ (n < 2)))
+    × ((other out : List ℤ) → (endAnswer s other out ≡ refused (14, [])) ↔ (T (s .ended) ⊎ (n ≡ 0)))
 
 -- A scan that no calls left is answered 14, whatever is lent with it.
 abbrev pub ForeignRefused : Type 0
@@ -141,12 +141,12 @@ SoundLeft =
 -- No value on the way leaves its width, for any number of lines: demand 3's second half.
 abbrev pub InWidths : Type 0
 InWidths =
-    (t : WidthTable) (s : Scan) (held : List ℤ) (n : ℕ) (strip : List ℕ) (given : List ℤ) → Calls t s held n strip given → 2 ≤ n
+    (t : WidthTable) (s : Scan) (held : List ℤ) (n : ℕ) (strip : List ℕ) (given : List ℤ) → Calls t s held n strip given → 1 ≤ n
     → LevelInWidth t 1 (s .width) n (sample strip (t .depth) (s .width))
 
 -- Each coefficient of the strip lies within two of its own steps of the exact one, for any number of lines: demand 3's first half.
 abbrev pub NearExact : Type 0
 NearExact =
-    (t : WidthTable) (s : Scan) (held : List ℤ) (n : ℕ) (strip : List ℕ) (given : List ℤ) → Calls t s held n strip given → 2 ≤ n
+    (t : WidthTable) (s : Scan) (held : List ℤ) (n : ℕ) (strip : List ℕ) (given : List ℤ) → Calls t s held n strip given → 1 ≤ n
     → (r c : ℕ) → r < n → c < s .width
     → Near (fixedPlane t strip (s .width) n r c) (bitsPlane t (s .width) n r c) (exactPlane strip (t .depth) (t .levels) (s .width) n r c)

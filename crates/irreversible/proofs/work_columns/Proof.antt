@@ -20,13 +20,15 @@ columns-by-requires-2 : tie.Need-columns-by-requires-2
 columns-by-requires-2 c κs =
     let o = c .before .before .before .before in
     let s = o .before .before .before in
-    let a = s .args in
-    (record {
-      is-level = s .pre .is-level;
-      part = part-of (s .pre .part) _ (omega arith) (lows (a .w)) (highs (a .w)) (omega arith);
-      down = omega (arith, s .pre .down);
-      safe = λ j i. as-type (λ u. LineSafe (a .table) (a .level) HighColumns (a .h) (columnOf (a .stride) (lows (a .w)) (sym (o .columns-by .ensures) u) j)) (s .pre .high j i);
-    }, (omega arith, omega arith))
+    let a = s .args in (
+      record {
+        is-level = s .pre .is-level;
+        part = part-of (s .pre .part) _ (omega arith) (lows (a .w)) (highs (a .w)) (omega arith);
+        down = omega (arith, s .pre .down);
+        safe = λ j i. as-type (λ u. LineSafe (a .table) (a .level) HighColumns (a .h) (columnOf (a .stride) (lows (a .w)) (sym (o .columns-by .ensures) u) j)) (s .pre .high j i);
+      },
+      (omega arith, omega arith),
+    )
 
 returns : tie.Need-returns
 returns c =

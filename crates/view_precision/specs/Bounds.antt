@@ -1,4 +1,4 @@
--- Range and error bounds of the inverse (document 02, job 1), by the judge's rule for any pass (Rule of the crate stages).
+-- Range and error bounds of the inverse (document 02, jobs 1 and 6), by the judge's rule for any pass (Rule of the crate stages).
 use Prim.Native.Nat.{ℕ, zero, suc, _+_, _*_, _-_, _^_, max}
 use mathlib.Core.Bool.{Bool, true, _&&_}
 use mathlib.Core.List.{[], _∷_}
@@ -7,19 +7,37 @@ use Rattle.numbers.specs.Tests.{every}
 use Rattle.refusals.specs.Answers.{Answer, passed, asks, _then_}
 use Rattle.stages.specs.Stages.{Side, low, high, inverse}
 use Rattle.stages.specs.Rule as Rule
-use Rattle.stages.specs.Rule.{Bound, apart}
+use Rattle.stages.specs.Rule.{Bound, apart, ownLift, brought}
 use Rattle.unlifting.specs.Fixed.{nodeBits, inverseBits}
 use Rattle.width_table.specs.Nodes.{Node, P1, U1, P2, U2, G1, G2, Pass, Rows, LowColumns, HighColumns}
 use Rattle.width_table.specs.declared.WidthTable.{WidthTable}
 use Rattle.width_table.specs.Table.{integerBits, fractionBits}
 use Rattle.precision.specs.Verdict.{verdict}
 
+-- the larger of two bounds, range and error each by itself
+unfoldable pub larger : Bound → Bound → Bound
+larger x y = record { range = max (x .range) (y .range); error = max (x .error) (y .error) }
+
 -- One pass, fed lows with bound a and highs with bound b: every node has 20 bits, every constant 24. (The bits of what is fed do not
 -- matter, since 20 are below 24 and any more, and 0 stand for them: `bound-free`, Pass of the crate viewing.)
 module _ (a b : Bound) where
-  -- of a side after m stages
+  -- of a side after m stages, on lines of two values or more
   abbrev pub boundAfter : Side → ℕ → Bound
   boundAfter = Rule.boundAt inverse (apart a b) (λ i. inverseBits) (λ s. 0) (λ i. nodeBits)
+
+  -- The even output, which U1 undone leaves, on lines from one value (document 02, job 6): the larger of that and the low input.
+  unfoldable pub even : Bound
+  even = larger (boundAfter low 5) a
+
+  -- The odd output, which P1 undone leaves. Its own error goes by the even output, which it multiplies.
+  unfoldable pub odd : Bound
+  odd =
+      let own = ownLift inverseBits nodeBits nodeBits nodeBits (even .range + even .error) in
+      let earlier = Rule.owns inverse (apart a b) (λ i. inverseBits) (λ s. 0) (λ i. nodeBits) 5 in
+      record {
+        range = boundAfter high 6 .range;
+        error = brought inverse (λ x. x .error) (apart a b) high 6 + Rule.ownsBring inverse (apart a b) (λ i. inverseBits) (λ s. 0) (λ i. nodeBits) 6 (own ∷ earlier) high 6;
+      }
 
   -- a node is named by the stage that is undone there
   unfoldable pub boundAt : Node → Bound
@@ -27,12 +45,12 @@ module _ (a b : Bound) where
   boundAt G2 = boundAfter high 2
   boundAt U2 = boundAfter low 3
   boundAt P2 = boundAfter high 4
-  boundAt U1 = boundAfter low 5
-  boundAt P1 = boundAfter high 6
+  boundAt U1 = even
+  boundAt P1 = odd
 
-  -- What a pass gives on: the larger of the even (U1) and the odd (P1) output, range and error each by itself.
-  unfoldable pub larger : Bound
-  larger = record { range = max (boundAt U1 .range) (boundAt P1 .range); error = max (boundAt U1 .error) (boundAt P1 .error) }
+  -- What a pass gives on: the larger of the even and the odd output.
+  unfoldable pub passGives : Bound
+  passGives = larger even odd
 
 -- A stored coefficient: range 2^(IB-1), and an error of so many of its steps, which are 2^-f: none in viewing (document 02, job 1).
 unfoldable pub stored : WidthTable → ℕ → ℕ → Pass → Node → Bound
@@ -42,10 +60,10 @@ stored t steps l p n = record { range = 2 ^ (integerBits t l p n - 1) * 2 ^ 32; 
 module _ (t : WidthTable) (steps l : ℕ) (b : Bound) where
   -- what feeds the rows as lows and as highs
   unfoldable pub fromLow : Bound
-  fromLow = larger b (stored t steps l LowColumns G2)
+  fromLow = passGives b (stored t steps l LowColumns G2)
 
   unfoldable pub fromHigh : Bound
-  fromHigh = larger (stored t steps l HighColumns G1) (stored t steps l HighColumns G2)
+  fromHigh = passGives (stored t steps l HighColumns G1) (stored t steps l HighColumns G2)
 
   unfoldable pub passBound : Pass → Node → Bound
   passBound LowColumns = boundAt b (stored t steps l LowColumns G2)
@@ -54,7 +72,7 @@ module _ (t : WidthTable) (steps l : ℕ) (b : Bound) where
 
   -- what the level gives to the next finer one, or as pixels
   unfoldable pub levelGives : Bound
-  levelGives = larger fromLow fromHigh
+  levelGives = passGives fromLow fromHigh
 
 -- levels k to 1, where b bounds the low-low that level k takes
 unfoldable pub givesFrom : WidthTable → ℕ → ℕ → Bound → Bound

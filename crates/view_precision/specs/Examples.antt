@@ -1,5 +1,5 @@
 -- Tables that are viewable, one of each L, and tables that are refused 13, by computation; their pixel bounds, and their distances
--- from scan to view. So the verdict is not always the same.
+-- from scan to view. So the verdict is not always the same. And a table that job 6 of document 02 newly refuses.
 use Prim.Native.Nat.{ℕ, zero, suc, _+_, _-_, _^_}
 use mathlib.Core.Bool.{Bool, true, false}
 use mathlib.Core.List.{List, [], _∷_, _++_}
@@ -18,13 +18,19 @@ use Rattle.stages.specs.Rule as Rule
 use Rattle.precision.specs.Bounds as Judge
 use Rattle.precision.specs.Verdict.{judged, firstRefusal, verdict}
 use Rattle.view_precision.specs.Bounds
+use Rattle.view_precision.specs.Before
+use Rattle.view_precision.specs.Before.{pixelBoundBefore, viewDistanceBefore, nodesRightBefore, viewVerdictBefore}
 use Rattle.view_precision.specs.Bounds.{startBound, pixelBound, viewDistance, nodesRight, viewable, viewVerdict}
 
 -- ---- tables: depth B, L levels, all F 24, all nodes (IB, 20), kept ones (IB, f)
 
+-- P1, U1, P2, U2 of a pass
+abbrev lifted : ℕ → List ℕ
+lifted IB = IB ∷ 20 ∷ IB ∷ 20 ∷ IB ∷ 20 ∷ IB ∷ 20 ∷ []
+
 -- the nodes of a pass: f of G1, of G2
 abbrev pass : ℕ → ℕ → ℕ → List ℕ
-pass IB g1 g2 = IB ∷ 20 ∷ IB ∷ 20 ∷ IB ∷ 20 ∷ IB ∷ 20 ∷ IB ∷ g1 ∷ IB ∷ g2 ∷ []
+pass IB g1 g2 = lifted IB ++ (IB ∷ g1 ∷ IB ∷ g2 ∷ [])
 
 -- a level: f of its kept nodes, of its low-low
 abbrev level : ℕ → ℕ → ℕ → List ℕ
@@ -45,6 +51,15 @@ withKept f B L IB = record {
 abbrev pub uniform : ℕ → ℕ → ℕ → WidthTable
 uniform = withKept 2
 
+-- One level, depth 8: low-low is (12, 2), the other kept nodes are (6, 2), all others (12, 20).
+abbrev pub lowWide : WidthTable
+lowWide = record {
+  depth = 8;
+  levels = 1;
+  constants = 24 ∷ 24 ∷ 24 ∷ 24 ∷ 24 ∷ 24 ∷ [];
+  nodes = pass 12 20 20 ++ (lifted 12 ++ (12 ∷ 2 ∷ 6 ∷ 2 ∷ [])) ++ (lifted 12 ++ (6 ∷ 2 ∷ 6 ∷ 2 ∷ [])) ++ repeat (maxLevels - 1) (repeat 36 (0 ∷ []));
+}
+
 -- The answer on a table; whether its nodes and its pixel bound are in order (13); its pixel bound, and its distance from scan to view, in
 -- whole numbers of 2^-32.
 pub record Figures : Type 0 where
@@ -63,22 +78,34 @@ figures t = record {
   distance = viewDistance t;
 }
 
+-- before job 6
+abbrev pub figuresBefore : WidthTable → Figures
+figuresBefore t = record {
+  answer = viewVerdictBefore t;
+  nodes = nodesRightBefore t (t .levels) (startBound t 0);
+  pixel = ltb (pixelBoundBefore t) (2 ^ (32 - (t .depth + 1)));
+  bound = pixelBoundBefore t;
+  distance = viewDistanceBefore t;
+}
+
 abbrev are : Answer Unit → Bool → Bool → ℕ → ℕ → Figures
 are a n p b d = record { answer = a; nodes = n; pixel = p; bound = b; distance = d }
 
 -- computed once for all
 all-figures :
-    figures (uniform 8 1 4) ∷ figures (uniform 8 2 5) ∷ figures (uniform 8 3 7) ∷ figures (uniform 5 4 9) ∷ figures (uniform 3 5 11) ∷ figures (uniform 8 1 12) ∷ figures (uniform 1 5 12) ∷ figures (withKept 14 8 1 4) ∷ []
+    figures (uniform 8 1 4) ∷ figures (uniform 8 2 5) ∷ figures (uniform 8 3 7) ∷ figures (uniform 5 4 9) ∷ figures (uniform 3 5 11) ∷ figures (uniform 8 1 12) ∷ figures (uniform 1 5 12) ∷ figures (withKept 14 8 1 4) ∷ figures lowWide ∷ figuresBefore lowWide ∷ []
     ≡ are passed true true 291199 9605421042
     ∷ are passed true true 1114755 16554898633
-    ∷ are passed true true 6686207 23034871209
-    ∷ are passed true true 39090519 29099792010
-    ∷ are passed true true 215008464 34896500876
+    ∷ are passed true true 6689379 23034874406
+    ∷ are passed true true 39139847 29099841435
+    ∷ are passed true true 215474719 34896967360
     ∷ are (refused (13, [])) true false 46147652 9651277484
-    ∷ are (refused (13, [])) false true 429531006 35111023425
+    ∷ are (refused (13, [])) false true 430463521 35111956164
     ∷ are passed true true 291199 2636210
+    ∷ are (refused (13, [])) true false 8442504 9613572342
+    ∷ are passed true true 8263100 9613392938
     ∷ []
-unfolding viewVerdict viewable pixelBound viewDistance nodesRight Bounds.givesFrom Bounds.levelGives Bounds.passBound Bounds.fromLow Bounds.fromHigh Bounds.stored Bounds.larger Bounds.boundAt verdict formRight every firstRefusal judged Judge.boundOf Judge.entering Judge.passBound Judge.rowBound Judge.boundAt Rule.boundAt Rule.rangeAt Rule.errorAt Rule.owns Rule.ownsBring Rule.ownFrom Rule.brought Rule.ownLift Rule.ownScale Rule.loss Rule.timesGain bits upDiv gain exactGain sumFrom sumTo inputAnswer nodeAnswer held made wholesOf lift _⊕_ _⊗_ neg whole magnitude
+unfolding viewVerdict viewable pixelBound viewDistance nodesRight Bounds.givesFrom Bounds.levelGives Bounds.passBound Bounds.fromLow Bounds.fromHigh Bounds.stored Bounds.larger Bounds.even Bounds.odd Bounds.boundAt Bounds.passGives viewVerdictBefore Before.viewableBefore pixelBoundBefore viewDistanceBefore nodesRightBefore Before.givesFromBefore Before.levelGivesBefore Before.passBoundBefore Before.fromLowBefore Before.fromHighBefore Before.boundAtBefore Before.passGivesBefore verdict formRight every firstRefusal judged Judge.boundOf Judge.entering Judge.passBound Judge.rowBound Judge.boundAt Judge.longBound Rule.boundAt Rule.rangeAt Rule.errorAt Rule.owns Rule.ownsBring Rule.ownFrom Rule.brought Rule.ownLift Rule.ownScale Rule.loss Rule.timesGain bits upDiv gain exactGain sumFrom sumTo inputAnswer nodeAnswer held made wholesOf lift _⊕_ _⊗_ neg whole magnitude
 all-figures = refl
 
 abbrev nth : ℕ → List Figures → Figures
@@ -104,7 +131,7 @@ level-5 = ap (λ l. nth 4 l .answer) all-figures
 pub pixel-refused : figures (uniform 8 1 12) ≡ are (refused (13, [])) true false 46147652 9651277484
 pixel-refused = ap (nth 5) all-figures
 
-pub node-refused : figures (uniform 1 5 12) ≡ are (refused (13, [])) false true 429531006 35111023425
+pub node-refused : figures (uniform 1 5 12) ≡ are (refused (13, [])) false true 430463521 35111956164
 node-refused = ap (nth 6) all-figures
 
 -- One whose distance from scan to view is less than a sixth of a grey, which is 2^24 here.
@@ -113,3 +140,10 @@ fine = ap (λ l. nth 7 l .answer) all-figures
 
 pub fine-distance : viewDistance (withKept 14 8 1 4) ≡ 2636210
 fine-distance = ap (λ l. nth 7 l .distance) all-figures
+
+-- Newly refused 13 (document 02, job 6): half a grey is 8388608 here, the pixel bound was below it, and the larger one is not.
+pub newly-refused : figures lowWide ≡ are (refused (13, [])) true false 8442504 9613572342
+newly-refused = ap (nth 8) all-figures
+
+pub viewable-before : figuresBefore lowWide ≡ are passed true true 8263100 9613392938
+viewable-before = ap (nth 9) all-figures

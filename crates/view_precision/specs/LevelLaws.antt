@@ -16,9 +16,9 @@ use Rattle.width_table.specs.Table.{maxLevels, maxIntegerBits, integerBits, fra
 use Rattle.width_table.specs.Limits.{form-levels, form-widths}
 use Rattle.stages.specs.Rule.{Bound}
 use Rattle.precision.specs.Verdict.{verdict}
-use Rattle.view_precision.specs.Bounds.{boundAt, larger, stored, fromLow, fromHigh, passBound, passRight, levelGives, givesFrom, startBound, pixelBound, viewDistance, nodesRight, viewable, viewVerdict, stepsAllowed}
+use Rattle.view_precision.specs.Bounds.{boundAt, passGives, stored, fromLow, fromHigh, passBound, passRight, levelGives, givesFrom, startBound, pixelBound, viewDistance, nodesRight, viewable, viewVerdict, stepsAllowed}
 use Rattle.view_precision.specs.Places.{mostEntering, Within, mostFed, Small, levelRight, levelsRight}
-use Rattle.view_precision.specs.SizeLaws.{larger-most}
+use Rattle.view_precision.specs.SizeLaws.{gives-most}
 
 -- ---- sizes
 
@@ -39,31 +39,31 @@ module _ (t : WidthTable) (form : T (formRight t)) (steps : ℕ) (few : steps �
   module _ (b : Bound) (n : ℕ) (h : n ≤ mostEntering) (w : Within n b) where
     pub low-within : Within (n + 2) (fromLow t steps l b)
     unfolding fromLow
-    low-within = larger-most b (stored t steps l LowColumns G2) n 1 (lit≤ tt) (omega arith) (lit≤ tt) w (stored-within LowColumns G2)
+    low-within = gives-most b (stored t steps l LowColumns G2) n 1 (lit≤ tt) (omega arith) (lit≤ tt) w (stored-within LowColumns G2)
 
     pub high-within : Within 3 (fromHigh t steps l b)
     unfolding fromHigh
-    high-within = larger-most (stored t steps l HighColumns G1) (stored t steps l HighColumns G2) 1 1 (lit≤ tt) (lit≤ tt) (lit≤ tt) (stored-within HighColumns G1) (stored-within HighColumns G2)
+    high-within = gives-most (stored t steps l HighColumns G1) (stored t steps l HighColumns G2) 1 1 (lit≤ tt) (lit≤ tt) (lit≤ tt) (stored-within HighColumns G1) (stored-within HighColumns G2)
 
     -- a level adds no more than eight times what is stored
     pub level-within : Within (n + 8) (levelGives t steps l b)
     unfolding levelGives
-    level-within = let z : n + 2 + 2 * 3 ≡ n + 8 = omega arith in subst (λ (k : ℕ). Within k (larger (fromLow t steps l b) (fromHigh t steps l b))) z (larger-most (fromLow t steps l b) (fromHigh t steps l b) (n + 2) 3 (lit≤ tt) (omega arith) (lit≤ tt) low-within high-within)
+    level-within = let z : n + 2 + 2 * 3 ≡ n + 8 = omega arith in subst (λ (k : ℕ). Within k (passGives (fromLow t steps l b) (fromHigh t steps l b))) z (gives-most (fromLow t steps l b) (fromHigh t steps l b) (n + 2) 3 (lit≤ tt) (omega arith) (lit≤ tt) low-within high-within)
 
 -- ---- one level, as the program has it
 
 module _ (t : WidthTable) (steps l : ℕ) (b : Bound) where
-  pub low-is : {x low : Bound} → x ≡ stored t steps l LowColumns G2 → low ≡ larger b x → low ≡ fromLow t steps l b
+  pub low-is : {x low : Bound} → x ≡ stored t steps l LowColumns G2 → low ≡ passGives b x → low ≡ fromLow t steps l b
   unfolding fromLow
-  low-is e d = d ∙ ap (larger b) e
+  low-is e d = d ∙ ap (passGives b) e
 
-  pub high-is : {x y high : Bound} → x ≡ stored t steps l HighColumns G1 → y ≡ stored t steps l HighColumns G2 → high ≡ larger x y → high ≡ fromHigh t steps l b
+  pub high-is : {x y high : Bound} → x ≡ stored t steps l HighColumns G1 → y ≡ stored t steps l HighColumns G2 → high ≡ passGives x y → high ≡ fromHigh t steps l b
   unfolding fromHigh
-  high-is e f d = d ∙ ap₂ larger e f
+  high-is e f d = d ∙ ap₂ passGives e f
 
-  pub gives-is : {low high rows : Bound} → low ≡ fromLow t steps l b → high ≡ fromHigh t steps l b → rows ≡ larger low high → rows ≡ levelGives t steps l b
+  pub gives-is : {low high rows : Bound} → low ≡ fromLow t steps l b → high ≡ fromHigh t steps l b → rows ≡ passGives low high → rows ≡ levelGives t steps l b
   unfolding levelGives
-  gives-is e f d = d ∙ ap₂ larger e f
+  gives-is e f d = d ∙ ap₂ passGives e f
 
   pub right-is : {x y z low high : Bound} {p q r : Bool}
       → x ≡ stored t steps l LowColumns G2 → p ≡ passRight (boundAt b x)

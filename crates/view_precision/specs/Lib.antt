@@ -1,8 +1,10 @@
--- The precision analysis of viewing (document 02, job 1).
+-- The precision analysis of viewing (document 02, jobs 1 and 6).
 --   Bounds     range and error of each node of the inverse, the pixel bound, refusal 13; the distance from scan to view
+--   Before     the judge before job 6
 -- Proved of them:
---   Odd        odd-larger : the odd output of a pass has the larger range and the larger error
---   Examples   tables that are viewable, tables that are refused 13, pixel bounds and distances as numbers
+--   Odd        odd-larger : what a pass gives on is the larger of the odd output and the low input
+--   BeforeLaws viewable-still : a table that is viewable was viewable before job 6
+--   Examples   tables that are viewable, tables that are refused 13, one of them newly; pixel bounds and distances as numbers
 -- For the program:
 --   Places     stages, sources of errors and bounds by number
 --   PlaceLaws  these are the bounds of Bounds
@@ -10,6 +12,8 @@
 --   LevelLaws  what the program has after some levels, and its two answers
 pub mod Bounds
 pub mod Odd
+pub mod Before
+pub mod BeforeLaws
 pub mod Examples
 pub mod Places
 pub mod PlaceLaws

@@ -6,7 +6,7 @@ use mathlib.Core.Path.{_≡_, refl, sym, _∙_, ap, ap₂, subst}
 use native.Mathlib.Omega.{arith}
 use native.Mathlib.Decide.{decLt}
 use lib.Dec.{lit<}
-use borrow.Author.Tests.{le-leb, lt-leb}
+use borrow.Author.Tests.{le-leb, lt-leb, eq-eqb, ne-eqb}
 use lib.ListN.{set}
 use Rattle.numbers.specs.Tests.{every, ltb-true, ltb-false, left-false, right-false}
 use Rattle.exact.specs.Fractions.{upDiv}
@@ -20,8 +20,9 @@ use Rattle.stages.specs.Rule.{Bound, apart, timesGain, loss, ownLift, ownScale,
 use Rattle.stages.specs.Held.{weighed}
 use Rattle.stages.specs.RuleLaws as RuleLaws
 use Rattle.stages.specs.RuleLaws.{timesGain-zero, timesGain-none, weighed-ext, error-sum, bound-start, bound-kept}
-use Rattle.view_precision.specs.Bounds.{boundAt, atMost15, passRight}
-use Rattle.view_precision.specs.Places.{stages, sources, scalings, nodeAfter, gainAt, carriedTo, boundFrom, total, totalFrom, ownFrom, ownAt, ownsBelow}
+use Rattle.view_precision.specs.Bounds.{larger, boundAfter, even, odd, boundAt, atMost15, passRight}
+use Rattle.view_precision.specs.Odd.{ownOdd, odd-differs}
+use Rattle.view_precision.specs.Places.{stages, sources, scalings, evenStage, nodeAfter, gainAt, carriedTo, boundFrom, nodeFrom, total, totalFrom, ownFrom, ownAt, ownsBelow}
 
 -- ---- the six stages by number
 
@@ -43,8 +44,14 @@ module _ (a b : Bound) where
   abbrev error : Side → ℕ → ℕ
   error = Rule.errorAt inverse (apart a b) (λ i. inverseBits) (λ s. 0) (λ i. nodeBits)
 
-  abbrev bound : Side → ℕ → Bound
-  bound = Rule.boundAt inverse (apart a b) (λ i. inverseBits) (λ s. 0) (λ i. nodeBits)
+  -- `boundAt`, but of the even output that on lines of two values or more
+  abbrev long : Node → Bound
+  long G1 = boundAt a b G1
+  long G2 = boundAt a b G2
+  long U2 = boundAt a b U2
+  long P2 = boundAt a b P2
+  long U1 = boundAfter a b low 5
+  long P1 = boundAt a b P1
 
   pub owns-next : (j : ℕ) → j < stages → set (ownsBelow a b (j + 2)) (j + 2) (ownAt a b (j + 2)) ≡ ownsBelow a b (j + 3)
   unfolding ownsBelow
@@ -65,14 +72,14 @@ module _ (a b : Bound) where
       (ap (λ (x : Bound). ownScale inverseBits 0 nodeBits (total x)) (bound-kept inverse (apart a b) (λ i. inverseBits) (λ s. 0) (λ i. nodeBits) 0 high refl ∙ bound-start inverse (apart a b) (λ i. inverseBits) (λ s. 0) (λ i. nodeBits) high))
       refl refl refl refl
 
-  range-is : (j : ℕ) → j < stages → timesGain (a .range) (gainAt 0 j) + timesGain (b .range) (gainAt 1 j) ≡ boundAt a b (nodeAfter j) .range
-  unfolding boundAt Rule.boundAt Rule.rangeAt brought
+  range-is : (j : ℕ) → j < stages → timesGain (a .range) (gainAt 0 j) + timesGain (b .range) (gainAt 1 j) ≡ long (nodeAfter j) .range
+  unfolding boundAt odd Rule.boundAt Rule.rangeAt brought
   range-is = by-stage _ (at 0 (lit< tt)) (at 1 (lit< tt)) (at 2 (lit< tt)) (at 3 (lit< tt)) (at 4 (lit< tt)) (at 5 (lit< tt))
     where
       at : (j : ℕ) → j < stages → timesGain (a .range) (gainAt 0 j) + timesGain (b .range) (gainAt 1 j) ≡ timesGain (a .range) (gain inverse (stage inverse j .side) (suc j) lows) + timesGain (b .range) (gain inverse (stage inverse j .side) (suc j) highs)
       at j h = ap₂ (λ (g h : ℕ). timesGain (a .range) g + timesGain (b .range) h) (sym (inverse-gain 0 j (lit< tt) h)) (sym (inverse-gain 1 j (lit< tt) h))
 
-  -- the error of a node by numbers
+  -- the error of a node by numbers, on lines of two values or more
   error-at : (j : ℕ) → j < stages → error (stage inverse j .side) (suc j) ≡ timesGain (a .error) (gainAt 0 j) + timesGain (b .error) (gainAt 1 j) + weighed (λ i. gainAt (suc (suc i)) j) own (suc j)
   unfolding brought
   error-at j h =
@@ -84,7 +91,7 @@ module _ (a b : Bound) where
         weighed-ext (λ i. gain inverse (stage inverse j .side) (suc j) (node i)) (λ i. gainAt (suc (suc i)) j) own (suc j) (λ i l. inverse-gain (suc (suc i)) j (omega arith) h),
       )
 
-  error-is : (j : ℕ) → j < stages → carriedTo (ownsBelow a b sources) j sources ≡ boundAt a b (nodeAfter j) .error
+  error-is : (j : ℕ) → j < stages → carriedTo (ownsBelow a b sources) j sources ≡ long (nodeAfter j) .error
   unfolding carriedTo ownsBelow ownAt boundAt Rule.boundAt weighed
   error-is =
       by-stage _
@@ -93,14 +100,18 @@ module _ (a b : Bound) where
       (simp timesGain-none (omega (arith, error-at 2 (lit< tt))))
       (simp timesGain-none (omega (arith, error-at 3 (lit< tt))))
       (simp timesGain-none (omega (arith, error-at 4 (lit< tt))))
-      (omega (arith, error-at 5 (lit< tt)))
+      (omega (arith, error-at 5 (lit< tt), odd-differs a b, ap (timesGain (own 5)) (inverse-gain 7 5 (lit< tt) (lit< tt)), ap (timesGain (ownOdd a b)) (inverse-gain 7 5 (lit< tt) (lit< tt))))
 
-  pub bound-is : (j : ℕ) → j < stages → boundFrom (a .range) (b .range) (ownsBelow a b sources) j ≡ boundAt a b (nodeAfter j)
-  bound-is j h = ap₂ (λ (r e : ℕ). record { range = r; error = e }) (range-is j h) (error-is j h)
+  long-is : (j : ℕ) → j < stages → boundFrom (a .range) (b .range) (ownsBelow a b sources) j ≡ long (nodeAfter j)
+  long-is j h = ap₂ (λ (r e : ℕ). record { range = r; error = e }) (range-is j h) (error-is j h)
+
+  pub node-is : (j : ℕ) → j < stages → nodeFrom a b (ownsBelow a b sources) j ≡ boundAt a b (nodeAfter j)
+  unfolding boundAt even
+  node-is = by-stage _ (long-is 0 (lit< tt)) (long-is 1 (lit< tt)) (long-is 2 (lit< tt)) (long-is 3 (lit< tt)) (ap (λ (x : Bound). larger x a) (long-is 4 (lit< tt))) (long-is 5 (lit< tt))
 
   -- from what the sources before a stage have of their own
   pub total-is : (j : ℕ) → j < stages → totalFrom a b (ownsBelow a b (j + 2)) j ≡ totalBefore j
-  unfolding carriedTo ownsBelow ownAt totalBefore boundAt Rule.boundAt weighed
+  unfolding carriedTo ownsBelow ownAt totalBefore boundAt even larger Rule.boundAt weighed
   total-is =
       by-stage _
       refl
@@ -123,13 +134,24 @@ module _ (a b : Bound) where
       ∙ owns-again j h
       ∙ ap (ownsBelow a b) z
 
-  pub node-bound : (j : ℕ) → j < stages → {own : List ℕ} {x : Bound} → own ≡ ownsBelow a b sources → x ≡ boundFrom (a .range) (b .range) own j → x ≡ boundAt a b (nodeAfter j)
-  node-bound j h e1 e2 = e2 ∙ ap (λ (own : List ℕ). boundFrom (a .range) (b .range) own j) e1 ∙ bound-is j h
+  pub node-bound : (j : ℕ) → j < stages → {own : List ℕ} {x : Bound} → own ≡ ownsBelow a b sources → x ≡ nodeFrom a b own j → x ≡ boundAt a b (nodeAfter j)
+  node-bound j h e1 e2 = e2 ∙ ap (λ (own : List ℕ). nodeFrom a b own j) e1 ∙ node-is j h
 
-pub total-later : (a b : Bound) (own : List ℕ) (j : ℕ) → 2 ≤ j → totalFrom a b own j ≡ total (boundFrom (a .range) (b .range) own (j - 1))
+pub total-later : (a b : Bound) (own : List ℕ) (j : ℕ) → 2 ≤ j → totalFrom a b own j ≡ total (nodeFrom a b own (j - 1))
 total-later a b own zero h = absurd (omega arith)
 total-later a b own (suc zero) h = absurd (omega arith)
-total-later a b own (suc (suc j)) h = let z : suc j ≡ suc (suc j) - 1 = omega arith in ap (λ (k : ℕ). total (boundFrom (a .range) (b .range) own k)) z
+total-later a b own (suc (suc j)) h = let z : suc j ≡ suc (suc j) - 1 = omega arith in ap (λ (k : ℕ). total (nodeFrom a b own k)) z
+
+-- the even output and any other
+module _ (a b : Bound) (own : List ℕ) (j : ℕ) where
+  abbrev picked : Bool → Bound
+  picked t = elim t [ true ↦ larger (boundFrom (a .range) (b .range) own j) a | false ↦ boundFrom (a .range) (b .range) own j ]
+
+  pub node-even : j ≡ evenStage → larger (boundFrom (a .range) (b .range) own j) a ≡ nodeFrom a b own j
+  node-even h = sym (ap picked (eq-eqb j evenStage h))
+
+  pub node-other : (j ≡ evenStage → ⊥) → boundFrom (a .range) (b .range) own j ≡ nodeFrom a b own j
+  node-other h = sym (ap picked (ne-eqb j evenStage h))
 
 -- the own error of a stage by its kind
 module _ (j r : ℕ) where

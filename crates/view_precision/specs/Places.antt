@@ -2,7 +2,7 @@
 use Prim.Native.Nat.{ℕ, zero, suc, _+_, _*_, _-_, _^_, _≤_}
 use mathlib.Core.Bool.{Bool, true, false, _&&_}
 use mathlib.Core.List.{List, [], _∷_}
-use lib.Dec.{ltb}
+use lib.Dec.{eqb, ltb}
 use lib.ListN.{getD}
 use Rattle.exact.specs.Fractions.{upDiv}
 use Rattle.unlifting.specs.Fixed.{nodeBits, inverseBits}
@@ -13,7 +13,8 @@ use Rattle.stages.specs.Stages.{inverse}
 use Rattle.stages.specs.GainTable.{inverseGains}
 use Rattle.stages.specs.Rule.{Bound, apart, timesGain}
 use Rattle.stages.specs.RuleLaws as RuleLaws
-use Rattle.view_precision.specs.Bounds.{passBound, passRight, levelGives}
+use Rattle.view_precision.specs.Bounds.{larger, passBound, passRight, levelGives}
+use Rattle.view_precision.specs.Odd.{ownOdd}
 use Rattle.view_precision.specs.declared.Bound as Code
 
 -- stages from 0; sources: 0 the lows, 1 the highs, from 2 on the stages
@@ -26,6 +27,10 @@ sources = stages + 2
 -- those that scale come first
 abbrev pub scalings : ℕ
 scalings = 2
+
+-- that which leaves the even output
+abbrev pub evenStage : ℕ
+evenStage = 4
 
 -- the node that a stage leaves
 abbrev pub nodeAfter : ℕ → Node
@@ -45,9 +50,17 @@ unfoldable pub carriedTo : List ℕ → ℕ → ℕ → ℕ
 carriedTo x j zero = 0
 carriedTo x j (suc n) = carriedTo x j n + timesGain (getD x n 0) (gainAt n j)
 
--- the bound of what stage j leaves, from the ranges of the lows and the highs and from what each source has of its own
+-- the bound of what stage j leaves on lines of two values or more, from the ranges of the lows and the highs and from what each source
+-- has of its own
 abbrev pub boundFrom : ℕ → ℕ → List ℕ → ℕ → Bound
 boundFrom low high own j = record { range = timesGain low (gainAt 0 j) + timesGain high (gainAt 1 j); error = carriedTo own j sources }
+
+-- on lines from one value: that of the even output is the larger of that and the lows
+abbrev pub nodeFrom : Bound → Bound → List ℕ → ℕ → Bound
+nodeFrom a b own j = elim (eqb j evenStage) [
+  | true ↦ larger (boundFrom (a .range) (b .range) own j) a
+  | false ↦ boundFrom (a .range) (b .range) own j
+]
 
 abbrev pub total : Bound → ℕ
 total b = b .range + b .error
@@ -56,7 +69,7 @@ total b = b .range + b .error
 abbrev pub totalFrom : Bound → Bound → List ℕ → ℕ → ℕ
 totalFrom a b own zero = total a
 totalFrom a b own (suc zero) = total b
-totalFrom a b own (suc (suc j)) = total (boundFrom (a .range) (b .range) own (suc j))
+totalFrom a b own (suc (suc j)) = total (nodeFrom a b own (suc j))
 
 -- the own error of stage j, where r is the range plus error of the value that it multiplies; some of it is always cut off, since the bits
 -- of a node are fewer than those of a constant
@@ -68,11 +81,19 @@ ownFrom j r = elim (ltb j scalings) [
 
 -- One pass, as in Bounds.
 module _ (a b : Bound) where
+  abbrev rule : ℕ → ℕ
+  rule = RuleLaws.ownAt inverse (apart a b) (λ i. inverseBits) (λ s. 0) (λ i. nodeBits)
+
   -- what a source has of its own: the lows and the highs their errors, a stage its own error
   unfoldable pub ownAt : ℕ → ℕ
   ownAt zero = a .error
   ownAt (suc zero) = b .error
-  ownAt (suc (suc j)) = RuleLaws.ownAt inverse (apart a b) (λ i. inverseBits) (λ s. 0) (λ i. nodeBits) j
+  ownAt (suc (suc zero)) = rule 0
+  ownAt (suc (suc (suc zero))) = rule 1
+  ownAt (suc (suc (suc (suc zero)))) = rule 2
+  ownAt (suc (suc (suc (suc (suc zero))))) = rule 3
+  ownAt (suc (suc (suc (suc (suc (suc zero)))))) = rule 4
+  ownAt (suc (suc (suc (suc (suc (suc (suc j))))))) = ownOdd a b
 
   -- the same of the sources below k, and zeros
   unfoldable pub ownsBelow : ℕ → List ℕ

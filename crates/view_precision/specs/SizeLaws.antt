@@ -1,21 +1,21 @@
--- What the program computes of a pass fits in 64 bits, and what a pass gives on grows by no more than what is stored (`larger-most`).
+-- What the program computes of a pass fits in 64 bits, and what a pass gives on grows by no more than what is stored (`gives-most`).
 use Prim.Native.Nat.{ℕ, zero, suc, _+_, _*_, _-_, _/_, _%_, _^_, _<_, _≤_}
 use mathlib.Core.Bool.{Bool, true, false}
 use mathlib.Core.List.{List, [], _∷_}
 use mathlib.Core.Path.{_≡_, sym, _∙_, ap, subst}
 use native.Mathlib.Omega.{arith}
 use native.Mathlib.Nat.{mul-le-mul-left, mul-le-mul-right, le-trans}
-use lib.Dec.{T, ltb, leb, leb→le, lit≤, lit<}
+use lib.Dec.{T, eqb, ltb, leb, leb→le, lit≤, lit<}
 use lib.ListN.{getD, set, replicate}
 use Rattle.numbers.specs.Tests.{every, both}
 use Rattle.exact.specs.Fractions.{upDiv}
 use Rattle.unlifting.specs.Fixed.{nodeBits, inverseBits}
 use Rattle.stages.specs.GainTable.{inverseGains}
 use Rattle.stages.specs.Rule.{Bound, timesGain}
-use Rattle.view_precision.specs.Bounds.{larger}
+use Rattle.view_precision.specs.Bounds.{larger, odd, boundAt, passGives}
 use Rattle.view_precision.specs.Odd.{odd-larger}
-use Rattle.view_precision.specs.Places.{stages, sources, scalings, gainAt, carriedTo, boundFrom, total, totalFrom, ownFrom, ownAt, ownsBelow, Within, mostFed, largest, Small, AllSmall, mostTotal}
-use Rattle.view_precision.specs.PlaceLaws.{own-is, total-is, owns-again, bound-is}
+use Rattle.view_precision.specs.Places.{stages, sources, scalings, evenStage, gainAt, carriedTo, boundFrom, nodeFrom, total, totalFrom, ownFrom, ownAt, ownsBelow, Within, mostFed, largest, Small, AllSmall, mostTotal}
+use Rattle.view_precision.specs.PlaceLaws.{own-is, total-is, owns-again, node-is}
 
 -- ---- products by a gain
 
@@ -61,8 +61,16 @@ unfolding carriedTo
 carried-small own j h zero = lit≤ tt
 carried-small own j h (suc n) = omega (arith, carried-small own j h n, times-small (getD own n 0) n j (h n))
 
-pub bound-small : (low high : ℕ) (own : List ℕ) (j : ℕ) → low ≤ largest → high ≤ largest → AllSmall own → total (boundFrom low high own j) ≤ mostTotal
-bound-small low high own j h k s = omega (arith, times-small low 0 j h, times-small high 1 j k, carried-small own j s sources)
+pub node-small : (a b : Bound) → Small a → Small b → (own : List ℕ) → AllSmall own → (j : ℕ) → total (nodeFrom a b own j) ≤ mostTotal
+unfolding larger
+node-small a b sa sb own s j = go (eqb j evenStage)
+  where
+    range : timesGain (a .range) (gainAt 0 j) + timesGain (b .range) (gainAt 1 j) ≤ 8 * largest
+    range = omega (arith, times-small (a .range) 0 j (sa .range), times-small (b .range) 1 j (sb .range))
+
+    go : (t : Bool) → total (elim t [ true ↦ larger (boundFrom (a .range) (b .range) own j) a | false ↦ boundFrom (a .range) (b .range) own j ]) ≤ mostTotal
+    go true = omega (arith, sa .range, sa .error, range, carried-small own j s sources)
+    go false = omega (arith, range, carried-small own j s sources)
 
 own-small : (j r : ℕ) → r ≤ mostTotal → ownFrom j r ≤ 2 ^ 32
 unfolding ownFrom upDiv
@@ -92,7 +100,7 @@ module _ (a b : Bound) (sa : Small a) (sb : Small b) where
   pub total-small : (own : List ℕ) → AllSmall own → (j : ℕ) → totalFrom a b own j ≤ mostTotal
   total-small own s zero = omega (arith, sa .range, sa .error)
   total-small own s (suc zero) = omega (arith, sb .range, sb .error)
-  total-small own s (suc (suc j)) = bound-small (a .range) (b .range) own (suc j) (sa .range) (sb .range) s
+  total-small own s (suc (suc j)) = node-small a b sa sb own s (suc j)
 
   pub owns-small : (j : ℕ) → j ≤ stages → AllSmall (ownsBelow a b (j + 2))
   unfolding ownsBelow ownAt
@@ -105,11 +113,10 @@ module _ (a b : Bound) (sa : Small a) (sb : Small b) where
   stage-small : (j : ℕ) → j < stages → ownAt a b (j + 2) ≤ 2 ^ 32
   stage-small j h = subst (λ (x : ℕ). x ≤ 2 ^ 32) (sym (own-is a b j h)) (own-small j _ (subst (λ (x : ℕ). x ≤ mostTotal) (total-is a b j h) (total-small _ (owns-small j (omega arith)) j)))
 
--- What a pass gives on.
-pub larger-most : (a b : Bound) (n m : ℕ) → 1 ≤ m → n ≤ mostFed → m ≤ mostFed → Within n a → Within m b → Within (n + 2 * m) (larger a b)
-unfolding carriedTo ownsBelow ownAt
-larger-most a b n m one hn hm wa wb =
-    subst (Within (n + 2 * m)) (bound-is a b 5 (lit< tt) ∙ sym (odd-larger a b)) (record {
+odd-most : (a b : Bound) (n m : ℕ) → 1 ≤ m → n ≤ mostFed → m ≤ mostFed → Within n a → Within m b → Within (n + 2 * m) (odd a b)
+unfolding boundAt carriedTo ownsBelow ownAt
+odd-most a b n m one hn hm wa wb =
+    subst (Within (n + 2 * m)) (node-is a b 5 (lit< tt)) (record {
       range = omega (arith, wa .range, wb .range, times-most (a .range) (gainAt 0 5), times-most (b .range) (gainAt 1 5));
       error = omega (
         arith,
@@ -134,3 +141,13 @@ larger-most a b n m one hn hm wa wb =
 
     own : (j : ℕ) → j < stages → timesGain (ownAt a b (j + 2)) (gainAt (j + 2) 5) * 65536 ≤ 2 ^ 32 * gainAt (j + 2) 5 + 65535
     own j h = le-trans (times-most (ownAt a b (j + 2)) (gainAt (j + 2) 5)) (omega (arith, mul-le-mul-right (gainAt (j + 2) 5) (stage-small a b sa sb j h)))
+
+-- What a pass gives on.
+pub gives-most : (a b : Bound) (n m : ℕ) → 1 ≤ m → n ≤ mostFed → m ≤ mostFed → Within n a → Within m b → Within (n + 2 * m) (passGives a b)
+unfolding larger
+gives-most a b n m one hn hm wa wb =
+    let w = odd-most a b n m one hn hm wa wb in
+    subst (Within (n + 2 * m)) (sym (odd-larger a b)) (record {
+      range = omega (arith, w .range, wa .range);
+      error = omega (arith, w .error, wa .error);
+    })

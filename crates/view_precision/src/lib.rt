@@ -1,4 +1,4 @@
-// The precision analysis of viewing (document 02, job 1). Every definition that the contracts cite is in specs/.
+// The precision analysis of viewing (document 02, jobs 1 and 6). Every definition that the contracts cite is in specs/.
 // All bounds are whole numbers of 2^-32.
 use refusals::Outcome;
 use refusals::Refusal;
@@ -14,8 +14,8 @@ ghost use Rattle.width_table.specs.Nodes.{Rows, passNumber};
 ghost use Rattle.width_table.specs.Numbered.{nodeOf, passOf, IsNode};
 ghost use Rattle.width_table.specs.Table.{formRight};
 ghost use Rattle.precision.specs.Places.{At};
-ghost use Rattle.view_precision.specs.Bounds.{boundAt, larger, stored, levelGives, givesFrom, startBound, passRight, stepsAllowed, viewDistance, viewVerdict};
-ghost use Rattle.view_precision.specs.Places.{stages, sources, mostEntering, largest, mostTotal, gainAt, carriedTo, boundFrom, totalFrom, ownFrom, ownsBelow, meant, Small, AllSmall, Within, levelRight, levelsRight};
+ghost use Rattle.view_precision.specs.Bounds.{larger, boundAt, passGives, stored, levelGives, givesFrom, startBound, passRight, stepsAllowed, viewDistance, viewVerdict};
+ghost use Rattle.view_precision.specs.Places.{stages, sources, mostEntering, largest, mostTotal, gainAt, carriedTo, boundFrom, nodeFrom, totalFrom, ownFrom, ownsBelow, meant, Small, AllSmall, Within, levelRight, levelsRight};
 
 // Range and error.
 struct Bound {
@@ -69,6 +69,16 @@ fn larger_of(x: u64, y: u64) -> u64
     if x < y { y } else { x }
 }
 
+// The larger of two bounds, range and error each by itself.
+fn larger(x: Bound, y: Bound) -> Bound
+    ensures { λ r. ⌜ meant r ≡ larger (meant x) (meant y) ⌝ }
+{
+    Bound {
+        range: larger_of(x.range, y.range),
+        error: larger_of(x.error, y.error),
+    }
+}
+
 // Both.
 fn both(x: bool, y: bool) -> bool
     ensures { λ r. ⌜ r ≡ (x && y) ⌝ }
@@ -107,7 +117,7 @@ fn times_gain(x: u64, from: u8, to: u8) -> u64
 // The error of what a stage leaves: what each source has of its own, carried to it.
 fn error_at(own: [u64; Bound::SOURCES as usize], stage: u8) -> u64
     requires { ⌜ (stage < stages) × AllSmall own ⌝ }
-    ensures { λ r. ⌜ (r ≡ carriedTo own stage sources) × (r ≤ sources * (4 * largest)) ⌝ }
+    ensures { λ r. ⌜ r ≡ carriedTo own stage sources ⌝ }
 {
     let mut error = 0;
     for from in 0..Bound::SOURCES {
@@ -116,14 +126,28 @@ fn error_at(own: [u64; Bound::SOURCES as usize], stage: u8) -> u64
     error
 }
 
-// Range and error of what a stage leaves, from the ranges of the lows and the highs and from what each source has of its own.
+// Range and error of what a stage leaves on lines of two values or more, from the ranges of the lows and the highs and from what each
+// source has of its own.
 fn bound_at(low: u64, high: u64, own: [u64; Bound::SOURCES as usize], stage: u8) -> Bound
     requires { ⌜ (low ≤ largest) × (high ≤ largest) × (stage < stages) × AllSmall own ⌝ }
-    ensures { λ r. ⌜ (meant r ≡ boundFrom low high own stage) × (r .range + r .error ≤ mostTotal) ⌝ }
+    ensures { λ r. ⌜ meant r ≡ boundFrom low high own stage ⌝ }
 {
     Bound {
         range: times_gain(low, Bound::LOWS, stage) + times_gain(high, Bound::HIGHS, stage),
         error: error_at(own, stage),
+    }
+}
+
+// The same on lines from one value: a single low is the even output, whose bound is the larger of that and the lows'.
+fn node_at(low: Bound, high: Bound, own: [u64; Bound::SOURCES as usize], stage: u8) -> Bound
+    requires { ⌜ (stage < stages) × AllSmall own × Small (meant low) × Small (meant high) ⌝ }
+    ensures { λ r. ⌜ (meant r ≡ nodeFrom (meant low) (meant high) own stage) × (r .range + r .error ≤ mostTotal) ⌝ }
+{
+    let bound = bound_at(low.range, high.range, own, stage);
+    if stage == Bound::EVEN {
+        larger(bound, low)
+    } else {
+        bound
     }
 }
 
@@ -138,7 +162,7 @@ fn total_before(low: Bound, high: Bound, own: [u64; Bound::SOURCES as usize], st
     if stage == 1 {
         return high.range + high.error;
     }
-    let bound = bound_at(low.range, high.range, own, stage - 1);
+    let bound = node_at(low, high, own, stage - 1);
     bound.range + bound.error
 }
 
@@ -175,7 +199,7 @@ fn nodes_right(low: Bound, high: Bound, own: [u64; Bound::SOURCES as usize]) -> 
     ensures { λ r. ⌜ r ≡ passRight (boundAt (meant low) (meant high)) ⌝ }
 {
     for stage in 0..Bound::STAGES {
-        let bound = bound_at(low.range, high.range, own, stage);
+        let bound = node_at(low, high, own, stage);
         if bound.range + bound.error <= Bound::MOST {} else {
             return false;
         }
@@ -193,17 +217,14 @@ struct Given {
 fn work_pass(low: Bound, high: Bound) -> Given
     requires { ⌜ Small (meant low) × Small (meant high) ⌝ }
     ensures right { λ r. ⌜ r .right ≡ passRight (boundAt (meant low) (meant high)) ⌝ }
-    ensures bound { λ r. ⌜ meant (r .bound) ≡ larger (meant low) (meant high) ⌝ }
+    ensures bound { λ r. ⌜ meant (r .bound) ≡ passGives (meant low) (meant high) ⌝ }
 {
     let own = own_errors(low, high);
-    let even = bound_at(low.range, high.range, own, Bound::EVEN);
-    let odd = bound_at(low.range, high.range, own, Bound::ODD);
+    let even = node_at(low, high, own, Bound::EVEN);
+    let odd = node_at(low, high, own, Bound::ODD);
     Given {
         right: nodes_right(low, high, own),
-        bound: Bound {
-            range: larger_of(even.range, odd.range),
-            error: larger_of(even.error, odd.error),
-        },
+        bound: larger(even, odd),
     }
 }
 

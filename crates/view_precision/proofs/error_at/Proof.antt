@@ -32,7 +32,7 @@ loop-again c = rw (add-one (c .before .before .loop .from)) (omega (arith, c .ti
 returns : tie.Need-returns Inv-loop μ-loop
 returns c =
     let s = c .before .before .args in
-    (c .before .loop .inv .1 ∙ ap (carriedTo (s .t1) (s .stage)) (omega arith), omega arith)
+    c .before .loop .inv .1 ∙ ap (carriedTo (s .t1) (s .stage)) (omega arith)
 
 pub error-at-spec : {M : Type 1} → statement M
 error-at-spec =

@@ -14,18 +14,18 @@ Inv-loop low high own stage₀ stage = (stage ≤ stages) × RightBelow (boundAt
 abbrev μ-loop : tie.MeasureT-loop
 μ-loop low high own stage₀ stage = stages - stage
 
-bound-at-requires : tie.Need-bound-at-requires Inv-loop μ-loop
-bound-at-requires c κs =
+node-at-requires : tie.Need-node-at-requires Inv-loop μ-loop
+node-at-requires c κs =
     let s = c .before .before in
     let a = s .args in
-    (s .pre .0 .0 .range, s .pre .0 .1 .range, omega arith, subst AllSmall (sym (s .pre .1)) (owns-small (meant (a .low)) (meant (a .high)) (s .pre .0 .0) (s .pre .0 .1) stages (omega arith)))
+    (omega arith, subst AllSmall (sym (s .pre .1)) (owns-small (meant (a .low)) (meant (a .high)) (s .pre .0 .0) (s .pre .0 .1) stages (omega arith)), s .pre .0 .0, s .pre .0 .1)
 
 -- the bound is that of the node
-held : (c : tie.After-struct-known Inv-loop μ-loop) → meant (c .before .bound-at .result) ≡ boundAt (meant (c .before .before .before .before .args .low)) (meant (c .before .before .before .before .args .high)) (nodeAfter (c .before .before .before .loop .stage))
+held : (c : tie.After-struct-known Inv-loop μ-loop) → meant (c .before .node-at .result) ≡ boundAt (meant (c .before .before .before .before .args .low)) (meant (c .before .before .before .before .args .high)) (nodeAfter (c .before .before .before .loop .stage))
 held c =
     let i = c .before .before .before in
     let s = i .before in
-    node-bound (meant (s .args .low)) (meant (s .args .high)) (i .loop .stage) (omega arith) (s .pre .1) (c .before .bound-at .ensures .0)
+    node-bound (meant (s .args .low)) (meant (s .args .high)) (i .loop .stage) (omega arith) (s .pre .1) (c .before .node-at .ensures .0)
 
 returns : tie.Need-returns Inv-loop μ-loop
 returns c =
@@ -54,7 +54,7 @@ nodes-right-spec =
     Inv-loop
     μ-loop
     (λ c. (omega arith, λ i h. absurd (omega arith)))
-    bound-at-requires
+    node-at-requires
     (λ c. omega arith)
     returns
     (λ c. omega arith)

@@ -30,7 +30,7 @@ returns-3 : tie.Need-returns-3
 returns-3 c =
     let b = c .before in
     let s = b .before .before .before in
-    is-total s _ (ap total (b .bound-at .ensures .0) ∙ sym (total-later (meant (s .args .low)) (meant (s .args .high)) (s .args .own) (s .args .stage) (omega arith)))
+    is-total s _ (ap total (b .node-at .ensures .0) ∙ sym (total-later (meant (s .args .low)) (meant (s .args .high)) (s .args .own) (s .args .stage) (omega arith)))
 
 pub total-before-spec : {M : Type 1} → statement M
 total-before-spec =
@@ -41,6 +41,6 @@ total-before-spec =
     (λ c. omega arith)
     returns-2
     (λ c. omega arith)
-    (λ c κs. let s = c .before .before in (s .pre .2 .range, s .pre .3 .range, omega arith, s .pre .1))
+    (λ c κs. let s = c .before .before in (omega arith, s .pre .1, s .pre .2, s .pre .3))
     (λ c. omega arith)
     returns-3)

@@ -77,12 +77,12 @@ module _ (bytes : List ℕ) (zero : code (checked bytes) ≡ 0) (pixels : List �
   check-works plane work a b c =
       let t = tableIn bytes in
       let formed = then-done (form bytes) (verdict t) (checked-zero bytes zero) .0 in
-      let room : Room (t .levels) w h (length pixels) (length plane) (length work) = record { wide = picture .width; tall = picture .height; first = a; second = b; third = c } in
+      let room : Room w h (length pixels) (length plane) (length work) = record { wide = picture .width; tall = picture .height; first = a; second = b; third = c } in
       ap (λ (o : Answer Unit). code o)
       (then-right (form bytes) _ formed
       ∙ then-right (verdict t) _ accepted
-      ∙ sized-then (t .levels) w h (length pixels) (length plane) (length work) _
-      ∙ then-right (sized (t .levels) w h (length pixels) (length plane) (length work)) _ (sized-right (t .levels) w h (length pixels) (length plane) (length work) room)
+      ∙ sized-then w h (length pixels) (length plane) (length work) _
+      ∙ then-right (sized w h (length pixels) (length plane) (length work)) _ (sized-right w h (length pixels) (length plane) (length work) room)
       ∙ pixels-right (t .depth) w h pixels a (picture .depth))
 
 -- ---- where suz_view97 answers 0

@@ -25,7 +25,7 @@ use Rattle.pictures.specs.Pictures.{planeOf}
 use Rattle.view_precision.specs.Bounds.{viewable, viewVerdict}
 use Rattle.viewing.specs.Calls.{inWidth, coefficientsRight, viewAnswer}
 use Rattle.rolling.specs.declared.Scan.{Scan}
-use Rattle.rolling.specs.Schedule.{anyTaken, twoTaken}
+use Rattle.rolling.specs.Schedule.{anyTaken}
 use Rattle.rolling.specs.Calls.{beginAnswer, goesOn, heldLines, outLines, lineAnswer, endAnswer}
 use Rattle.scan_bytes.specs.ScanBytes.{scanLength}
 use Rattle.engine.specs.Answers.{checked, answer97, viewChecked, viewAnswer97}
@@ -79,7 +79,7 @@ fixed-from-one : (t : WidthTable) (w h : ℕ) (pixels : List ℕ) (plane work : 
 unfolding fixedAnswer sided pixelsRight
 fixed-from-one t w h pixels plane work =
     then-from-one (verdict t) _ (verdict-from-one t)
-    (then-from-one (sided (t .levels) w h) _ (last-from-one (sideRight (t .levels) w && sideRight (t .levels) h) 8 (omega arith))
+    (then-from-one (sided w h) _ (last-from-one (sideRight w && sideRight h) 8 (omega arith))
     (then-from-one (holds (w * h) (length pixels)) _ (holds-from-one _ _)
     (then-from-one (holds (w * h) (length plane)) _ (holds-from-one _ _)
     (then-from-one (holds (w * h) (length work)) _ (holds-from-one _ _)
@@ -105,7 +105,7 @@ view-from-one : (t : WidthTable) (w h : ℕ) (plane : List ℤ) (pixels : List �
 unfolding viewAnswer sided coefficientsRight
 view-from-one t w h plane pixels work =
     then-from-one (viewVerdict t) _ (view-verdict-from-one t)
-    (then-from-one (sided (t .levels) w h) _ (last-from-one (sideRight (t .levels) w && sideRight (t .levels) h) 8 (omega arith))
+    (then-from-one (sided w h) _ (last-from-one (sideRight w && sideRight h) 8 (omega arith))
     (then-from-one (holds (w * h) (length pixels)) _ (holds-from-one _ _)
     (then-from-one (holds (w * h) (length plane)) _ (holds-from-one _ _)
     (then-from-one (holds (w * h) (length work)) _ (holds-from-one _ _)
@@ -131,7 +131,7 @@ pub line-from-one : (s : Scan) (pixels : List ℕ) (w : ℕ) (held out : List �
 unfolding lineAnswer pixelsRight
 line-from-one s pixels w held out =
     asks-from-one (goesOn s && (not (anyTaken (s .taken)) || eqb w (s .width))) (14, []) _ (omega arith)
-    (asks-from-one (sideRight 1 w) (8, []) _ (omega arith)
+    (asks-from-one (sideRight w) (8, []) _ (omega arith)
     (then-from-one (holds w (length pixels)) _ (holds-from-one _ _)
     (then-from-one (holds (heldLines * w) (length held)) _ (holds-from-one _ _)
     (then-from-one (holds (outLines * w) (length out)) _ (holds-from-one _ _)
@@ -140,7 +140,7 @@ line-from-one s pixels w held out =
 pub end-from-one : (s : Scan) (held out : List ℤ) → FromOne (endAnswer s held out)
 unfolding endAnswer
 end-from-one s held out =
-    asks-from-one (goesOn s && twoTaken (s .taken)) (14, []) _ (omega arith)
+    asks-from-one (goesOn s && anyTaken (s .taken)) (14, []) _ (omega arith)
     (then-from-one (holds (heldLines * s .width) (length held)) _ (holds-from-one _ _) (holds-from-one _ _))
 
 -- an answer of 0 that gives something

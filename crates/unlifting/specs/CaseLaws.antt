@@ -1,14 +1,15 @@
 -- The fixed-point inverse by cases is the fixed-point inverse, at every place of every length from 2 (`back-is`).
 use Prim.Native.Nat.{ℕ}
-use mathlib.Core.Path.{refl}
+use mathlib.Core.Path.{refl, sym, _∙_}
 use lib.IntN.{ℤ}
 use Rattle.lines.specs.Lines.{lows, highs, Liftable}
 use Rattle.lines.specs.LineLaws.{Equal, interleaved-equal}
 use Rattle.lines.specs.BackLaws.{equal}
 use Rattle.lines.specs.CaseLaws.{respects-equal, highs-are, lows-are}
 use Rattle.exact.specs.Exact.{alpha, beta, gamma, delta}
-use Rattle.unlifting.specs.Fixed.{unstep, atU2, atP2, atU1, atP1, fixedBack}
+use Rattle.unlifting.specs.Fixed.{unstep, atU2, atP2, atU1, atP1, fixedBackLong, fixedBack}
 use Rattle.unlifting.specs.Stages.{unstep-end}
+use Rattle.unlifting.specs.Single.{back-long}
 use Rattle.unlifting.specs.Cases.{atU2ByCases, atP2ByCases, atU1ByCases, atP1ByCases, fixedBackByCases}
 
 module _ (fl fh n : ℕ) (works : Liftable n) (y : ℕ → ℤ) where
@@ -28,6 +29,9 @@ module _ (fl fh n : ℕ) (works : Liftable n) (y : ℕ → ℤ) where
   unfolding atP1ByCases atP1
   p1-is = highs-are equal (respects-equal (unstep alpha)) (unstep-end alpha) n works u1-is p2-is
 
+  long-is : Equal n (fixedBackByCases fl fh n y) (fixedBackLong fl fh n y)
+  unfolding fixedBackByCases fixedBackLong
+  long-is = interleaved-equal n u1-is p1-is
+
   pub back-is : Equal n (fixedBackByCases fl fh n y) (fixedBack fl fh n y)
-  unfolding fixedBackByCases fixedBack
-  back-is = interleaved-equal n u1-is p1-is
+  back-is k h = long-is k h ∙ sym (back-long fl fh n y k works)

@@ -137,7 +137,7 @@ module _ {b : Strip} {i : ℕ} {t : Turn} {low high : ℤ} {y : ℕ → ℤ} (q 
   pub column-line : i < lows (b .lines) + 2 → Ready (columnLine b y) i (lows (b .lines)) (highs (b .lines)) t (scaledBy atInverse (cutBits (b .lowbits)) low) (scaledBy atZeta (cutBits (b .highbits)) high)
   unfolding atG1 atG2
   column-line within = record {
-    undoable = record { two = two; small = q .safe .small };
+    undoable = record { two = two; small = q .safe .small .long two };
     lowsAre = refl;
     highsAre = refl;
     within = within;

@@ -1,8 +1,9 @@
--- The fixed-point inverse of one line (document 02, job 1). Values are whole numbers without limit: v at f fractional bits means v / 2^f.
+-- The fixed-point inverse of one line (document 02, jobs 1 and 6). Values are whole numbers without limit: v at f fractional bits means v / 2^f.
 -- Every node has 20 fractional bits, every constant 24.
 use Prim.Native.Nat.{ℕ, _+_, _*_, _^_, _<_, _≤_}
 use lib.IntN.{ℤ, pos, natAbs, _+ℤ_, _-ℤ_, _*ℤ_}
-use Rattle.lines.specs.Lines.{lows, highs, onHighs, onLows, interleaved}
+use Rattle.lines.specs.Lines.{lows, highs, Liftable, onHighs, onLows, interleaved}
+use Rattle.lines.specs.Planes.{OnLine, fromOne}
 use Rattle.exact.specs.Fractions.{Frac}
 use Rattle.exact.specs.Exact.{alpha, beta, gamma, delta, zeta, zetaInverse}
 use Rattle.stages.specs.Fixed.{nearest, cut, scale}
@@ -23,7 +24,7 @@ limit = 2 ^ 15 * 2 ^ nodeBits
 unfoldable pub unstep : Frac → ℤ → ℤ → ℤ → ℤ
 unstep c own x y = cut (inverseBits + nodeBits) nodeBits (own *ℤ pos (2 ^ inverseBits) -ℤ nearest c inverseBits *ℤ (x +ℤ y))
 
--- One line of n values y, the lows first: the lows have fl bits, the highs fh. A node is named by the stage that is undone there.
+-- One line of n values y, two or more, the lows first: the lows have fl bits, the highs fh. A node is named by the stage that is undone there.
 module _ (fl fh : ℕ) (n : ℕ) (y : ℕ → ℤ) where
   -- lows times 1 / zeta
   unfoldable pub atG1 : ℕ → ℤ
@@ -45,15 +46,24 @@ module _ (fl fh : ℕ) (n : ℕ) (y : ℕ → ℤ) where
   unfoldable pub atP1 : ℕ → ℤ
   atP1 = onHighs (unstep alpha) n atU1 atP2
 
-  -- each value to its place: U1 undone gives the even places, P1 undone the odd ones
-  unfoldable pub fixedBack : ℕ → ℤ
-  fixedBack = interleaved atU1 atP1
+  -- each value of two or more to its place: U1 undone gives the even places, P1 undone the odd ones
+  unfoldable pub fixedBackLong : ℕ → ℤ
+  fixedBackLong = interleaved atU1 atP1
 
   -- no value on the way is above 2^15 in magnitude
-  pub record Small : Type 0 where
+  pub record SmallLong : Type 0 where
     pub g1 : (k : ℕ) → k < lows n → natAbs (atG1 k) ≤ limit
     pub g2 : (k : ℕ) → k < highs n → natAbs (atG2 k) ≤ limit
     pub u2 : (k : ℕ) → k < lows n → natAbs (atU2 k) ≤ limit
     pub p2 : (k : ℕ) → k < highs n → natAbs (atP2 k) ≤ limit
     pub u1 : (k : ℕ) → k < lows n → natAbs (atU1 k) ≤ limit
     pub p1 : (k : ℕ) → k < highs n → natAbs (atP1 k) ≤ limit
+
+-- A pass undone. A single low value of fl bits enters at the bits of a node, uncut (document 02, job 6).
+unfoldable pub fixedBack : ℕ → ℕ → OnLine ℤ
+fixedBack fl fh = fromOne (cut fl nodeBits) (fixedBackLong fl fh)
+
+-- no value on the way is above 2^15 in magnitude: of two values or more at every stage, of a single one what it enters as
+pub record Small (fl fh n : ℕ) (y : ℕ → ℤ) : Type 0 where
+  pub long : Liftable n → SmallLong fl fh n y
+  pub single : n < 2 → (k : ℕ) → k < n → natAbs (fixedBack fl fh n y k) ≤ limit

@@ -12,11 +12,13 @@ use lib.Seq.{getD-set-same, getD-set-other}
 use mir.Syntax.{w64}
 use Rattle.lines.specs.Lines.{lows, highs, Liftable}
 use Rattle.lines.specs.LineLaws.{even-place, odd-place, by-parity}
-use Rattle.lifting.specs.Patch.{at}
+use Rattle.lifting.specs.Patch.{at, patch, patch-in}
+use Rattle.lifting.specs.PatchLines.{lineAt, lines-apart, lines-is}
 use Rattle.lifting.specs.Turns.{back}
 use Rattle.unlifting.specs.declared.Turn.{Turn}
-use Rattle.unlifting.specs.Fixed.{nodeBits, inverseBits, atG1, atG2, fixedBack, limit}
-use Rattle.unlifting.specs.Planes.{Safe}
+use Rattle.unlifting.specs.Fixed.{nodeBits, inverseBits, atG1, atG2, fixedBackLong, fixedBack, limit}
+use Rattle.unlifting.specs.Planes.{Safe, rowsBack}
+use Rattle.unlifting.specs.Single.{back-same, back-long}
 use Rattle.unlifting.specs.Stages.{scaledBy, limit-fits, read, size-read, atInverse, atZeta, scaled-inverse, scaled-zeta}
 use Rattle.unlifting.specs.Turns.{Line, Held, Gives, Turned, Ready, SomeReady, low-size, high-size, ready-read, turned-read, lineG1, lineG2, lineU1, lineP1}
 
@@ -28,7 +30,6 @@ rowLine x from w = record { fl = nodeBits; fh = nodeBits; n = w; y = λ c. x (fr
 pub record RowReady (work : List ℤ) (line from w : ℕ) : Type 0 where
   pub held : from + w ≤ length work
   pub room : w + 6 ≤ line
-  pub two : Liftable w
   pub short : w < 2 ^ 31
   pub safe : Safe nodeBits nodeBits w (λ c. at work (from + c))
 
@@ -36,9 +37,10 @@ pub record RowReady (work : List ℤ) (line from w : ℕ) : Type 0 where
 abbrev pub Stand : Line → ℕ → (ℕ → ℤ) → Type 0
 Stand l i z = (k : ℕ) → 2 ≤ k → k < i → (z (2 * k) ≡ lineU1 l (k - 2)) × (k - 2 < highs (l .n) → z (2 * k + 1) ≡ lineP1 l (k - 2))
 
--- turns start to end - 1 of a row
+-- turns start to end - 1 of a row of two values or more
 pub record RowTurns (work line : List ℤ) (from w start end : ℕ) (t : Turn) (inner : Bool) : Type 0 where
   pub ready : RowReady work (length line) from w
+  pub two : Liftable w
   pub order : start ≤ end
   pub within : end ≤ lows w + 2
   pub middle : inner ≡ true → (2 ≤ start) × ((i : ℕ) → i < end → start ≤ i → i < highs w)
@@ -73,13 +75,13 @@ high-place : (i w : ℕ) → 2 ≤ w → lows w + min i (highs w - 1) < w
 high-place i w h = omega arith
 
 -- low i and high i of the row, or the last ones, are small
-module _ {work : List ℤ} {line from w : ℕ} (q : RowReady work line from w) (i a b : ℕ) (low-at : a ≡ min i (lows w - 1)) (high-at : b ≡ min i (highs w - 1)) where
+module _ {work : List ℤ} {line from w : ℕ} (q : RowReady work line from w) (two : Liftable w) (i a b : ℕ) (low-at : a ≡ min i (lows w - 1)) (high-at : b ≡ min i (highs w - 1)) where
   low-in : natAbs (at work (from + a)) ≤ limit
-  low-in = q .safe .enters a (omega (arith, low-place i w (q .two .least)))
+  low-in = q .safe .enters a (omega (arith, low-place i w (two .least)))
 
   high-in : natAbs (at work (from + lows w + b)) ≤ limit
   high-in = subst (λ (p : ℕ). natAbs (at work p) ≤ limit) (let e : from + (lows w + b) ≡ from + lows w + b = omega arith in e)
-      (q .safe .enters (lows w + b) (omega (arith, high-place i w (q .two .least))))
+      (q .safe .enters (lows w + b) (omega (arith, high-place i w (two .least))))
 
   -- read back from their bits too
   pub low-small : natAbs (back w64 (at work (from + a))) ≤ limit
@@ -93,7 +95,7 @@ module _ {work : List ℤ} {line from w : ℕ} (q : RowReady work line from w) (
       → low ≡ scaledBy atInverse inverseBits (back w64 (at work (from + a))) → high ≡ scaledBy atZeta inverseBits (back w64 (at work (from + lows w + b)))
       → Ready (rowLine (at work) from w) i (lows w) (highs w) t low high
   turn-ready t low high h held e f = record {
-    undoable = record { two = q .two; small = q .safe .small };
+    undoable = record { two = two; small = q .safe .small .long two };
     lowsAre = refl;
     highsAre = refl;
     within = h;
@@ -150,10 +152,11 @@ between w end i e h g = omega arith
 end-within : (w end : ℕ) → end ≡ max 2 (highs w) → (2 ≤ end) × (end ≤ lows w + 2)
 end-within w end e = (omega arith, omega arith)
 
-module _ {work : List ℤ} {n from w : ℕ} (q : RowReady work n from w) (line : List ℤ) (as-long : length line ≡ n) (t : Turn) where
+module _ {work : List ℤ} {n from w : ℕ} (q : RowReady work n from w) (two : Liftable w) (line : List ℤ) (as-long : length line ≡ n) (t : Turn) where
   pub turns-first : RowTurns work line from w 0 2 t false
   turns-first = record {
     ready = ready-with q as-long;
+    two = two;
     order = omega arith;
     within = omega arith;
     middle = λ e. absurd (false≢true e);
@@ -165,6 +168,7 @@ module _ {work : List ℤ} {n from w : ℕ} (q : RowReady work n from w) (line :
     pub turns-inner : RowTurned work line from w 2 t → RowTurns work line from w 2 end t true
     turns-inner d = record {
       ready = ready-with q as-long;
+      two = two;
       order = end-within w end e .0;
       within = end-within w end e .1;
       middle = λ _. (omega arith, λ i h g. between w end i e h g);
@@ -175,6 +179,7 @@ module _ {work : List ℤ} {n from w : ℕ} (q : RowReady work n from w) (line :
     pub turns-last : RowTurned work line from w end t → RowTurns work line from w end (lows w + 2) t false
     turns-last d = record {
       ready = ready-with q as-long;
+      two = two;
       order = end-within w end e .1;
       within = omega arith;
       middle = λ e. absurd (false≢true e);
@@ -182,12 +187,28 @@ module _ {work : List ℤ} {n from w : ℕ} (q : RowReady work n from w) (line :
       stand = d .stand;
     }
 
-pub row-undone : {work line : List ℤ} {from w : ℕ} {t : Turn} → RowTurned work line from w (lows w + 2) t → RowUndone work line from w
-unfolding fixedBack
-row-undone {work} {line} {from} {w} d =
-    let l = rowLine (at work) from w in
-    by-parity (λ k. at line (4 + k) ≡ fixedBack nodeBits nodeBits w (λ c. at work (from + c)) k) w
-    (λ i h. ap (at line) (let e : 4 + 2 * i ≡ 2 * (i + 2) = omega arith in e) ∙ d .stand (i + 2) (omega arith) (omega arith) .0
-    ∙ ap (lineU1 l) (let e : i + 2 - 2 ≡ i = omega arith in e) ∙ sym (even-place (lineU1 l) (lineP1 l) i))
-    (λ i h. ap (at line) (let e : 4 + (2 * i + 1) ≡ 2 * (i + 2) + 1 = omega arith in e) ∙ d .stand (i + 2) (omega arith) (omega arith) .1 (omega arith)
-    ∙ ap (lineP1 l) (let e : i + 2 - 2 ≡ i = omega arith in e) ∙ sym (odd-place (lineU1 l) (lineP1 l) i))
+module _ {work line : List ℤ} {from w : ℕ} {t : Turn} (d : RowTurned work line from w (lows w + 2) t) where
+  long-undone : (k : ℕ) → k < w → at line (4 + k) ≡ fixedBackLong nodeBits nodeBits w (λ c. at work (from + c)) k
+  unfolding fixedBackLong
+  long-undone =
+      let l = rowLine (at work) from w in
+      by-parity (λ k. at line (4 + k) ≡ fixedBackLong nodeBits nodeBits w (λ c. at work (from + c)) k) w
+      (λ i h. ap (at line) (let e : 4 + 2 * i ≡ 2 * (i + 2) = omega arith in e) ∙ d .stand (i + 2) (omega arith) (omega arith) .0
+      ∙ ap (lineU1 l) (let e : i + 2 - 2 ≡ i = omega arith in e) ∙ sym (even-place (lineU1 l) (lineP1 l) i))
+      (λ i h. ap (at line) (let e : 4 + (2 * i + 1) ≡ 2 * (i + 2) + 1 = omega arith in e) ∙ d .stand (i + 2) (omega arith) (omega arith) .1 (omega arith)
+      ∙ ap (lineP1 l) (let e : i + 2 - 2 ≡ i = omega arith in e) ∙ sym (odd-place (lineU1 l) (lineP1 l) i))
+
+  pub row-undone : Liftable w → RowUndone work line from w
+  row-undone two k h = long-undone k h ∙ sym (back-long nodeBits nodeBits w (λ c. at work (from + c)) k two)
+
+-- ---- rows of a single value
+
+-- the row is copied
+pub row-single : (work : List ℤ) (from w : ℕ) (x y : ℕ → ℤ) → w < 2 → y ≡ patch 4 w (λ j. at work (from + j)) x → (k : ℕ) → k < w → y (4 + k) ≡ fixedBack nodeBits nodeBits w (λ c. at work (from + c)) k
+row-single work from w x y one is k h = ap (λ (f : ℕ → ℤ). f (4 + k)) is ∙ patch-in 4 w (λ j. at work (from + j)) x k h ∙ sym (back-same nodeBits w (λ c. at work (from + c)) k one)
+
+-- rows stay as they are
+pub rows-single : (stride w h : ℕ) (x : ℕ → ℤ) → w < 2 → w ≤ stride → x ≡ rowsBack stride w h x
+rows-single stride w h x one narrow = lines-is (lineAt 0 stride) w _ x (λ i k l. lines-apart 0 stride w i k narrow (omega arith)) h x
+    (λ i j p q. sym (back-same nodeBits w _ j one))
+    (λ p off. refl)

@@ -90,7 +90,7 @@ sum-law own k s m = let ρ : List ℤ = own ∷ k ∷ s ∷ m ∷ [] in ring ρ 
 flip : (a b : ℤ) → a +ℤ b ≡ b +ℤ a
 flip a b = let ρ : List ℤ = a ∷ b ∷ [] in ring ρ (search (terms, vars ρ) depth 30) (search (terms, vars ρ) depth 30) tt
 
-once : (z : ℤ) → z *ℤ pos 1 ≡ z
+pub once : (z : ℤ) → z *ℤ pos 1 ≡ z
 once z = let ρ : List ℤ = z ∷ [] in ring ρ (search (terms, vars ρ) depth 30) (search (terms, vars ρ) depth 30) tt
 
 -- own less a product, which has 24 bits more, cut once

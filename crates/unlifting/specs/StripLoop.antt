@@ -13,7 +13,8 @@ use Rattle.lifting.specs.PatchLines.{lineAt, lines-is}
 use Rattle.lifting.specs.Strips.{same-line}
 use Rattle.unlifting.specs.declared.Strip.{Strip}
 use Rattle.unlifting.specs.declared.Site.{Site}
-use Rattle.unlifting.specs.Fixed.{fixedBack}
+use Rattle.unlifting.specs.Fixed.{fixedBackLong, fixedBack}
+use Rattle.unlifting.specs.Single.{back-long}
 use Rattle.unlifting.specs.Turns.{Held, Gives, turn-held, turn-gives, lineU1, lineP1}
 use Rattle.unlifting.specs.Columns.{turnIn, turnOut, columnLine, ColumnReady, column-line}
 use Rattle.unlifting.specs.Strips.{source, undone, Placed, Fed, highPlace, evenPlace, PlaneTurned, StripReady, source-low, source-high, pick}
@@ -49,7 +50,7 @@ module _ (a : Site) (w : ℕ) (narrow : w ≤ a .stride) where
 
 module _ {plane work work′ state : List ℤ} {a : Site} {b : Strip} {i : ℕ} {state₀ line₀ : ℕ} (ready : StripReady plane work state₀ line₀ a b) (done : StripDone plane work work′ state a b i) (within : i < lows (b .lines) + 2) where
   two : Liftable (b .lines)
-  two = ready .placed .lies .two
+  two = ready .placed .two
 
   apart : (r k j v : ℕ) → j < b .columns → v < b .columns → (r ≡ k → ⊥) → lineAt (a .from) (a .stride) r + j ≡ lineAt (a .from) (a .stride) k + v → ⊥
   apart = other-line a (b .columns) (omega (arith, ready .placed .lies .narrow))
@@ -139,18 +140,23 @@ module _ {plane work work′ state : List ℤ} {a : Site} {b : Strip} {state₀ 
   new : ℕ → ℕ → ℤ
   new r j = fixedBack (b .lowbits) (b .highbits) (b .lines) (source a (b .lines) (at plane) (at work) j) r
 
-  pub strip-all : at work′ ≡ undone a (b .lowbits) (b .highbits) (b .columns) (b .lines) (at plane) (at work)
-  unfolding new fixedBack
-  strip-all = lines-is (lineAt (a .from) (a .stride)) (b .columns) new (at work) (λ u v l p q hp hq e. other-line a (b .columns) (omega (arith, ready .placed .lies .narrow)) u v p q hp hq (omega arith) e) (b .lines) (at work′)
-      (λ r j h g. by-parity (λ r. at work′ (lineAt (a .from) (a .stride) r + j) ≡ new r j) (b .lines)
+  long : (r j : ℕ) → r < b .lines → j < b .columns → at work′ (lineAt (a .from) (a .stride) r + j) ≡ fixedBackLong (b .lowbits) (b .highbits) (b .lines) (source a (b .lines) (at plane) (at work) j) r
+  unfolding fixedBackLong
+  long r j h g = by-parity (λ r. at work′ (lineAt (a .from) (a .stride) r + j) ≡ fixedBackLong (b .lowbits) (b .highbits) (b .lines) (source a (b .lines) (at plane) (at work) j) r) (b .lines)
       (λ k l. done .even k j (omega arith) g ∙ sym (even-place _ _ k))
-      (λ k l. done .odd k j (omega arith) l g ∙ sym (odd-place _ _ k)) r h)
+      (λ k l. done .odd k j (omega arith) l g ∙ sym (odd-place _ _ k)) r h
+
+  pub strip-all : at work′ ≡ undone a (b .lowbits) (b .highbits) (b .columns) (b .lines) (at plane) (at work)
+  unfolding new
+  strip-all = lines-is (lineAt (a .from) (a .stride)) (b .columns) new (at work) (λ u v l p q hp hq e. other-line a (b .columns) (omega (arith, ready .placed .lies .narrow)) u v p q hp hq (omega arith) e) (b .lines) (at work′)
+      (λ r j h g. long r j h g ∙ sym (back-long (b .lowbits) (b .highbits) (b .lines) (source a (b .lines) (at plane) (at work) j) r (ready .placed .two)))
       (λ p off. done .kept p (λ k j h g e. off (2 * k) j (omega arith) g (sym e)) (λ k j h q g e. off (2 * k + 1) j (omega arith) g (sym e)))
 
 -- the same, of slices as long
 pub placed-as : {plane work state line : ℕ} {a : Site} {b : Strip} → Placed plane work state line a b → (w l m : ℕ) → w ≡ work → l ≡ state → m ≡ line → Placed plane w l m a b
 placed-as q w l m ew el em = record {
-  lies = record { two = q .lies .two; few = q .lies .few; narrow = q .lies .narrow; inPlane = q .lies .inPlane; inWork = λ k h. omega (arith, q .lies .inWork k h) };
+  two = q .two;
+  lies = record { few = q .lies .few; narrow = q .lies .narrow; inPlane = q .lies .inPlane; inWork = λ k h. omega (arith, q .lies .inWork k h) };
   narrow = q .narrow;
   room = omega (arith, q .room);
   spare = omega (arith, q .spare);

@@ -30,10 +30,10 @@ odd-line n i h = omega arith
 
 module _ {plane work state line : ℕ} {a : Site} {b : Strip} (s : Placed plane work state line a b) (i : ℕ) where
   pub high-fits : highPlace a b i + b .columns ≤ plane
-  high-fits = s .lies .inPlane _ (high-line (b .lines) i (s .lies .two .least))
+  high-fits = s .lies .inPlane _ (high-line (b .lines) i (s .two .least))
 
   pub even-fits : i < lows (b .lines) + 2 → evenPlace a i + b .columns ≤ work
-  even-fits h = s .lies .inWork _ (even-line (b .lines) i (s .lies .two .least) h)
+  even-fits h = s .lies .inWork _ (even-line (b .lines) i (s .two .least) h)
 
   pub odd-fits : i - 2 < highs (b .lines) → evenPlace a i + a .stride + b .columns ≤ work
   odd-fits h = omega (arith, s .lies .inWork (2 * (i - 2) + 1) (odd-line (b .lines) i h))
@@ -42,7 +42,7 @@ module _ {plane state : List ℤ} {work line : ℕ} {a : Site} {b : Strip} {i : 
   -- written at once
   pub sized-inner : 2 ≤ i → i < highs (b .lines) → Sized plane state work (highPlace a b i) (evenPlace a i) (a .stride) b i true
   sized-inner two h = record {
-    two = s .lies .two;
+    two = s .two;
     few = s .lies .few;
     narrow = s .narrow;
     room = s .room;
@@ -58,7 +58,7 @@ module _ {plane state : List ℤ} {work line : ℕ} {a : Site} {b : Strip} {i : 
   -- by way of a line
   pub sized-outer : Sized plane state line (highPlace a b i) 0 (b .room) b i false
   sized-outer = record {
-    two = s .lies .two;
+    two = s .two;
     few = s .lies .few;
     narrow = s .narrow;
     room = s .room;

@@ -5,18 +5,20 @@ use mathlib.Core.Bool.{Bool, true, false}
 use mathlib.Core.List.{List}
 use Prim.Native.Nat.{ℕ, _+_, _*_, _-_, _^_, _<_, _≤_, min}
 use native.Mathlib.Omega.{arith}
-use lib.Dec.{ltb}
+use lib.Dec.{ltb, lit<}
 use lib.IntN.{ℤ}
 use lib.ListN.{length}
 use Rattle.lines.specs.Lines.{lows, highs, Liftable}
 use Rattle.numbers.specs.Tests.{ltb-true, ltb-false}
-use Rattle.lifting.specs.Patch.{at, patch, patch-in, patch-below}
-use Rattle.lifting.specs.PatchLines.{lineAt, patchLines, lines-out}
+use Rattle.lifting.specs.Patch.{at, patch, patch-in, patch-below, patch-above}
+use Rattle.lifting.specs.PatchLines.{lineAt, patchLines, lines-out, lines-none, lines-more}
 use Rattle.lifting.specs.Strips.{value-as-was, strips-more}
+use Rattle.stages.specs.Fixed.{cut}
 use Rattle.unlifting.specs.declared.Strip.{Strip}
 use Rattle.unlifting.specs.declared.Site.{Site}
 use Rattle.unlifting.specs.Fixed.{nodeBits, fixedBack}
 use Rattle.unlifting.specs.Planes.{Safe}
+use Rattle.unlifting.specs.Single.{back-single}
 use Rattle.unlifting.specs.Columns.{turnIn, ColumnReady, TurnedAt}
 
 -- Column j of n values, the lows first. The highs are stored: value k stands on line k of the plane. So do the lows where they are stored;
@@ -32,16 +34,20 @@ source a n plane work j k =
 abbrev pub undone : Site → ℕ → ℕ → ℕ → ℕ → (ℕ → ℤ) → (ℕ → ℤ) → ℕ → ℤ
 undone a fl fh w n plane work = patchLines (lineAt (a .from) (a .stride)) w n (λ r j. fixedBack fl fh n (source a n plane work j) r) work
 
+-- of a single line: each low goes there at the bits of a node
+abbrev pub singles : Site → ℕ → ℕ → (ℕ → ℤ) → (ℕ → ℤ) → ℕ → ℤ
+singles a fl w plane x = patch (a .from) w (λ j. cut fl nodeBits (source a 1 plane x j 0)) x
+
 -- w columns of n lines lie in a plane and in a work area of so many values
 pub record Lies (plane work : ℕ) (a : Site) (w n : ℕ) : Type 0 where
-  pub two : Liftable n
   pub few : n < 2 ^ 31
   pub narrow : a .from + w ≤ a .stride
   pub inPlane : (k : ℕ) → k < n → lineAt (a .from) (a .width) k + w ≤ plane
   pub inWork : (k : ℕ) → k < n → lineAt (a .from) (a .stride) k + w ≤ work
 
--- a strip lies there, and what is held of it has room
+-- a strip of two lines or more lies there, and what is held of it has room
 pub record Placed (plane work state line : ℕ) (a : Site) (b : Strip) : Type 0 where
+  pub two : Liftable (b .lines)
   pub lies : Lies plane work a (b .columns) (b .lines)
   pub narrow : b .columns ≤ b .room
   pub room : 5 * b .room ≤ state
@@ -138,3 +144,19 @@ module _ (a : Site) (fl fh d s h : ℕ) (narrow : a .from + (d + s) ≤ a .strid
 
 pub undone-none : (a : Site) (fl fh h : ℕ) (plane x : ℕ → ℤ) → x ≡ undone a fl fh 0 h plane x
 undone-none a fl fh h plane x = fun-ext λ p. sym (lines-out (lineAt (a .from) (a .stride)) 0 _ x h p (λ i j l m e. omega arith))
+
+-- ---- columns of a single value
+
+pub undone-single : (a : Site) (fl fh w : ℕ) (plane x : ℕ → ℤ) → singles a fl w plane x ≡ undone a fl fh w 1 plane x
+undone-single a fl fh w plane x =
+    let first : a .from ≡ lineAt (a .from) (a .stride) 0 = omega arith in
+    lines-more (lineAt (a .from) (a .stride)) w (λ r j. fixedBack fl fh 1 (source a 1 plane x j) r) x 0 x _ _ (lines-none (lineAt (a .from) (a .stride)) w _ x)
+    (ap (λ (p : ℕ). patch p w (λ j. cut fl nodeBits (source a 1 plane x j 0)) x) first) (λ j h. sym (back-single fl fh 1 (source a 1 plane x j) 0 (lit< tt)))
+
+-- the low of the column after the first j of them is still where it was
+pub single-now : (a : Site) (fl j : ℕ) (plane x y : ℕ → ℤ) → y ≡ singles a fl j plane x → source a 1 plane y j 0 ≡ source a 1 plane x j 0
+single-now a fl j plane x y is =
+    source-low a 1 plane y j 0 (lit< tt)
+    ∙ ap (λ (z : ℤ). pick (plane (lineAt (a .from) (a .width) 0 + j)) z (a .stored))
+    (ap (λ (f : ℕ → ℤ). f (lineAt (a .from) (a .stride) (2 * 0) + j)) is ∙ patch-above (a .from) j _ x _ (omega arith))
+    ∙ sym (source-low a 1 plane x j 0 (lit< tt))

@@ -16,7 +16,7 @@ use mir.Facts.{toZ-ofZ}
 use Rattle.lifting.specs.Runs.{as-type}
 use Rattle.lifting.specs.Turns.{back}
 use Rattle.unlifting.specs.declared.Turn.{Turn}
-use Rattle.unlifting.specs.Fixed.{unstep, atG1, atG2, atU2, atP2, atU1, atP1, Small, limit}
+use Rattle.unlifting.specs.Fixed.{unstep, atG1, atG2, atU2, atP2, atU1, atP1, SmallLong, limit}
 use Rattle.unlifting.specs.Cases.{unstepEnd}
 use Rattle.unlifting.specs.Stages.{Inside, read, inside-read, step-read, end-read, unstep-end}
 
@@ -168,7 +168,7 @@ pub record Line : Type 0 where
 -- it can be undone: no value on the way is large
 pub record Undoable (l : Line) : Type 0 where
   pub two : Liftable (l .n)
-  pub small : Small (l .fl) (l .fh) (l .n) (l .y)
+  pub small : SmallLong (l .fl) (l .fh) (l .n) (l .y)
 
 module _ (l : Line) where
   -- place i, or the last one

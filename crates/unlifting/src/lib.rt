@@ -1,11 +1,10 @@
 // The 9/7 lifting undone in 64-bit values (document 02, job 1): a line turn by turn, its four stages together. Rows are undone one by one,
-// columns side by side in strips, so that memory is passed over once.
+// columns side by side in strips, so that memory is passed over once. A single value has no stages (document 02, job 6).
 ghost use mathlib.Core.Path.{_≡_};
 ghost use mathlib.Core.Bool.{true};
 ghost use Prim.Native.Nat.{ℕ, _+_, _*_, _<_, _≤_, min, max};
 ghost use lib.ListN.{length};
 ghost use lib.IntN.{natAbs};
-ghost use Rattle.lines.specs.Lines.{Liftable};
 ghost use Rattle.lifting.specs.Patch.{at, Free, patch};
 ghost use Rattle.lifting.specs.Kernels.{Part, rowOf};
 ghost use Rattle.unlifting.specs.Fixed.{nodeBits, limit};
@@ -14,7 +13,7 @@ ghost use Rattle.unlifting.specs.Stages.{Inside, Constant, movedBy, ende
 ghost use Rattle.unlifting.specs.Turns.{LowAsks, LowTurned, HighAsks, HighTurned, SomeReady, Turned};
 ghost use Rattle.unlifting.specs.Rows.{RowReady, RowTurns, RowTurned, RowUndone};
 ghost use Rattle.unlifting.specs.Columns.{turnIn, Kept, ColumnTurn, ColumnTurned, StripTurn, StripTurned};
-ghost use Rattle.unlifting.specs.Strips.{source, undone, Lies, Fed, highPlace, PlaneTurn, PlaneTurned, StripReady};
+ghost use Rattle.unlifting.specs.Strips.{source, undone, singles, Lies, Fed, highPlace, PlaneTurn, PlaneTurned, StripReady};
 
 // ---- the constants
 
@@ -36,6 +35,9 @@ const DELTA: i64 = 7440810;
 const ZETA: i64 = 19287161;
 
 const ZETA_INVERSE: i64 = 14593904;
+
+// 1 at the bits of a node.
+const ONE: i64 = 1 << NODE_BITS;
 
 // ---- one value
 
@@ -281,6 +283,10 @@ pub fn row(work: &[i64], line: &mut [i64], from: usize, w: usize)
     ensures row { λ _. ⌜ RowUndone (now (work .entry)) (now (line .exit)) from w ⌝ }
     ensures line { λ _. ⌜ Free (now (line .entry)) (now (line .exit)) ⌝ }
 {
+    if w < 2 {
+        copy_run(work, from, line, LEAD, w);
+        return;
+    }
     let none = Turn {
         g2: 0,
         u2: 0,
@@ -297,11 +303,15 @@ pub fn row(work: &[i64], line: &mut [i64], from: usize, w: usize)
 
 // The first w values of each of h rows, row r starting at r * stride, undone in place.
 pub fn rows(work: &mut [i64], line: &mut [i64], stride: usize, w: usize, h: usize)
-    requires { ⌜ Part (now work) stride 0 w h × Liftable w × (w + 6 ≤ length (now line)) ⌝ }
+    requires { ⌜ Part (now work) stride 0 w h × (w + 6 ≤ length (now line)) ⌝ }
     requires { ⌜ ((r : ℕ) → r < h → Safe nodeBits nodeBits w (rowOf stride 0 (at (now work)) r)) ⌝ }
     ensures work { λ _. ⌜ at (now (work .exit)) ≡ rowsBack stride w h (at (now (work .entry))) ⌝ }
     ensures line { λ _. ⌜ Free (now (line .entry)) (now (line .exit)) ⌝ }
 {
+    // a single value has the bits of a node already
+    if w < 2 {
+        return;
+    }
     for r in 0..h {
         row(work, line, r * stride, w);
         copy_run(line, LEAD, work, r * stride, w);
@@ -547,8 +557,32 @@ fn undo_strip(
     }
 }
 
-// w columns of h lines, undone strip by strip: a fifth as many columns at once as `state` has elements. The lows have lowbits bits, the
-// highs highbits.
+// The low of column j of a single line.
+fn single_low(plane: &[i32], work: &[i64], a: Site, j: usize) -> i64
+    requires { ⌜ (a .from + j < length (now plane)) × (a .from + j < length (now work)) ⌝ }
+    ensures { λ r. ⌜ r ≡ source a 1 (at (now (plane .entry))) (at (now (work .entry))) j 0 ⌝ }
+{
+    let from = a.from;
+    if a.stored {
+        return plane[from + j] as i64;
+    }
+    work[from + j]
+}
+
+// w columns of a single line: each low, of lowbits bits, goes to the work area at the bits of a node; nothing is cut.
+fn single_line(plane: &[i32], work: &mut [i64], a: Site, w: usize, lowbits: u32)
+    requires { ⌜ Lies (length (now plane)) (length (now work)) a w 1 × (lowbits ≤ nodeBits) ⌝ }
+    requires { ⌜ ((j : ℕ) → j < w → natAbs (source a 1 (at (now plane)) (at (now work)) j 0) ≤ limit) ⌝ }
+    ensures { λ _. ⌜ at (now (work .exit)) ≡ singles a lowbits w (at (now (plane .entry))) (at (now (work .entry))) ⌝ }
+{
+    let from = a.from;
+    for j in 0..w {
+        work[from + j] = scaled(single_low(plane, work, a, j), ONE, lowbits);
+    }
+}
+
+// w columns of h lines, undone strip by strip: a fifth as many columns at once as `state` has elements; a single line by itself. The lows
+// have lowbits bits, the highs highbits.
 pub fn columns(
     plane: &[i32],
     work: &mut [i64],
@@ -566,6 +600,13 @@ pub fn columns(
     ensures state { λ _. ⌜ Free (now (state .entry)) (now (state .exit)) ⌝ }
     ensures line { λ _. ⌜ Free (now (line .entry)) (now (line .exit)) ⌝ }
 {
+    if h == 0 {
+        return;
+    }
+    if h == 1 {
+        single_line(plane, work, a, w, lowbits);
+        return;
+    }
     let room = state.len() / 5;
     let width = a.width;
     let stride = a.stride;

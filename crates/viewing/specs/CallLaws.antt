@@ -41,7 +41,7 @@ module _ (IB f : ℕ) (v : ℤ) where
   holds-fits h = and-intro (leZ (negℤ (pos (2 ^ (IB + f - 1)))) v) (ltZ v (pos (2 ^ (IB + f - 1)))) (h .0 .le) (h .1 .lt)
 
 module _ (t : WidthTable) (w h : ℕ) (plane : List ℤ) where
-  pub held-done : Admitted (t .levels) w → Admitted (t .levels) h → coefficientsRight t w h plane ≡ passed → Stored t w h (planeOf w plane)
+  pub held-done : Admitted w → Admitted h → coefficientsRight t w h plane ≡ passed → Stored t w h (planeOf w plane)
   unfolding coefficientsRight inWidth
   held-done wide tall e = record {
     width = wide;
@@ -59,19 +59,19 @@ module _ (t : WidthTable) (w h : ℕ) (plane : List ℤ) where
 
 module _ (t : WidthTable) (w h : ℕ) (plane : List ℤ) (pixels : List ℕ) (work : List ℤ) where
   abbrev room : Type 0
-  room = Room (t .levels) w h (length pixels) (length plane) (length work)
+  room = Room w h (length pixels) (length plane) (length work)
 
   module _ (e : viewAnswer t w h plane pixels work ≡ passed) where
     pub call-viewable : Viewable t
     unfolding viewAnswer
     call-viewable = then-done (viewVerdict t) _ e .0
 
-    judged : (sized (t .levels) w h (length pixels) (length plane) (length work) ≡ passed) × (coefficientsRight t w h plane ≡ passed)
+    judged : (sized w h (length pixels) (length plane) (length work) ≡ passed) × (coefficientsRight t w h plane ≡ passed)
     unfolding viewAnswer
-    judged = then-done (sized (t .levels) w h (length pixels) (length plane) (length work)) _ (sym (sized-then (t .levels) w h (length pixels) (length plane) (length work) _) ∙ then-done (viewVerdict t) _ e .1)
+    judged = then-done (sized w h (length pixels) (length plane) (length work)) _ (sym (sized-then w h (length pixels) (length plane) (length work) _) ∙ then-done (viewVerdict t) _ e .1)
 
     pub call-room : room
-    call-room = sized-done (t .levels) w h (length pixels) (length plane) (length work) (judged .0)
+    call-room = sized-done w h (length pixels) (length plane) (length work) (judged .0)
 
     pub call-stored : Stored t w h (planeOf w plane)
     call-stored = held-done t w h plane (call-room .wide) (call-room .tall) (judged .1)
@@ -105,6 +105,6 @@ module _ (t : WidthTable) (w h : ℕ) (plane : List ℤ) (pixels : List ℕ) (wo
   unfolding viewAnswer
   call-done v r s =
       then-right (viewVerdict t) _ v
-      ∙ sized-then (t .levels) w h (length pixels) (length plane) (length work) (coefficientsRight t w h plane)
-      ∙ then-right (sized (t .levels) w h (length pixels) (length plane) (length work)) _ (sized-right (t .levels) w h (length pixels) (length plane) (length work) r)
+      ∙ sized-then w h (length pixels) (length plane) (length work) (coefficientsRight t w h plane)
+      ∙ then-right (sized w h (length pixels) (length plane) (length work)) _ (sized-right w h (length pixels) (length plane) (length work) r)
       ∙ held-right t w h plane s

@@ -12,9 +12,8 @@ use lib.ListN.{length, getD}
 use Rattle.numbers.specs.Lists.{over}
 use Rattle.refusals.specs.Answers.{Reason, Answer, refused, passed, _then_}
 use Rattle.refusals.specs.AnswerLaws.{answered-done, answered-refused}
-use Rattle.lines.specs.Lines.{Liftable}
 use Rattle.lines.specs.Planes.{Plane, rows, columns, levelsBack, side, rowByRow}
-use Rattle.lines.specs.PlaneLaws.{roomy, side-le, columns-first-in, columns-first-keeps}
+use Rattle.lines.specs.PlaneLaws.{side-le, columns-first-in, columns-first-keeps}
 use Rattle.width_table.specs.declared.WidthTable.{WidthTable}
 use Rattle.width_table.specs.Limits.{form-depth, form-levels}
 use Rattle.width_table.specs.Nodes.{G1, Rows, LowColumns, columnPass}
@@ -44,8 +43,6 @@ pub record LevelReady (t : WidthTable) (l : ℕ) (plane work : List ℤ) (state 
   pub is-level : IsLevel t l
   pub part : Part work S 0 w h
   pub inPlane : (r : ℕ) → r < h → lineAt 0 W r + w ≤ length plane
-  pub columns : Liftable w
-  pub rows : Liftable h
   pub across : w + 6 ≤ line
   pub some : 5 ≤ state
   pub spare : 2 * state ≤ 5 * line
@@ -108,10 +105,10 @@ module _ {t : WidthTable} {plane : List ℤ} {work₀ state₀ line₀ w h : ℕ
   some-columns = omega (arith, ready .stored .width .0)
 
   inW : (k : ℕ) → side k w ≤ w
-  inW k = side-le k w some-columns
+  inW k = side-le k w
 
   inH : (k : ℕ) → side k h ≤ h
-  inH k = side-le k h (omega (arith, ready .stored .height .0))
+  inH k = side-le k h
 
   pub levels-some : 1 ≤ t .levels
   levels-some = form-levels t (view-promise t (ready .viewable) .form) .0
@@ -158,12 +155,6 @@ module _ {t : WidthTable} {plane : List ℤ} {work₀ state₀ line₀ w h : ℕ
 
   -- level k + 1, of those that are left, can be taken back
   module _ (k : ℕ) (within : k < t .levels) (x₀ x : ℕ → ℤ) (left : Left t w h (suc k) (at plane) x₀ x) where
-    wide : Liftable (side k w)
-    wide = roomy (t .levels) w (ready .stored .width .0) k within
-
-    tall : Liftable (side k h)
-    tall = roomy (t .levels) h (ready .stored .height .0) k within
-
     standing : Standing t (suc k) w (w * 2 ^ k) (side k w) (side k h) (at plane) x (left .taken)
     unfolding side
     standing = record {
@@ -177,15 +168,13 @@ module _ {t : WidthTable} {plane : List ℤ} {work₀ state₀ line₀ w h : ℕ
     apart-here = omega (arith, inW k, spread-wide k)
 
     safe-here : SafeLevel t (suc k) w (w * 2 ^ k) (side k w) (side k h) (at plane) x
-    safe-here = level-safe t (suc k) w (w * 2 ^ k) (side k w) (side k h) wide tall apart-here (at plane) x (left .taken) standing (left .small .0) (λ r c i j. left .bounded r c (omega (arith, inH k)) (omega (arith, inW k)))
+    safe-here = level-safe t (suc k) w (w * 2 ^ k) (side k w) (side k h) apart-here (at plane) x (left .taken) standing (left .small .0) (λ r c i j. left .bounded r c (omega (arith, inH k)) (omega (arith, inW k)))
 
     pub level-ready : (work : List ℤ) (state line : ℕ) → length work ≡ work₀ → state ≡ state₀ → line ≡ line₀ → x ≡ at work → LevelReady t (suc k) plane work state line w (w * 2 ^ k) (side k w) (side k h)
     level-ready work state line ew el em e = record {
       is-level = record { accepted = view-accepted t (ready .viewable); least = omega arith; most = within };
       part = part-at k work within ew;
       inPlane = λ r i. omega (arith, inW k, mul-le-mul-right {m = r + 1} {n = h} w (omega (arith, inH k)), mul-comm w h, ready .second);
-      columns = wide;
-      rows = tall;
       across = omega (arith, inW k, ready .across);
       some = omega (arith, ready .some);
       spare = omega (arith, ready .spare);
@@ -205,11 +194,11 @@ module _ {t : WidthTable} {plane : List ℤ} {work₀ state₀ line₀ w h : ℕ
       all = λ f. absurd (omega arith);
       below = λ r c a i j. left .below r c (less h a) i j ∙ sym (columns-first-keeps (viewLine t (suc k) Rows) (λ low. viewLine t (suc k) (columnPass low)) .below (side k w) (side k h) (left .taken) r c a);
       beyond = λ r c a i j. left .beyond r c (less w a) i j ∙ sym (columns-first-keeps (viewLine t (suc k) Rows) (λ low. viewLine t (suc k) (columnPass low)) .beyond (side k w) (side k h) (left .taken) r c a);
-      left = λ f r c i j. level-at t (suc k) w (w * 2 ^ k) (side k w) (side k h) wide tall apart-here (at plane) x (left .taken) standing r c i j;
+      left = λ f r c i j. level-at t (suc k) w (w * 2 ^ k) (side k w) (side k h) apart-here (at plane) x (left .taken) standing r c i j;
       small = left .small .1;
       bounded = level-bounded (left .small .0) w h (left .bounded);
       gives = left .gives;
-      past = λ q far. level-beyond t (suc k) w (w * 2 ^ k) (side k w) (side k h) wide tall apart-here (at plane) x (left .taken) standing (w * h) (λ r i. omega (arith, inW k, row-in k r i)) q far ∙ left .past q far;
+      past = λ q far. level-beyond t (suc k) w (w * 2 ^ k) (side k w) (side k h) apart-here (at plane) x (left .taken) standing (w * h) (λ r i. omega (arith, inW k, row-in k r i)) q far ∙ left .past q far;
     })
 
   -- the last of them, whose rows are shown
@@ -235,7 +224,6 @@ module _ {t : WidthTable} {plane : List ℤ} {work₀ state₀ line₀ w h : ℕ
         part = subst (λ (s : ℕ). Part work s 0 w h) once (part-at 0 work one el);
         room = room;
         across = omega (arith, ready .across);
-        wide = wide 0 one x₀ x left;
         safe = λ r i. as-type (λ u. Safe nodeBits nodeBits w (rowOf (once u) 0 (sym columns-here u) r)) (safe-here 0 one x₀ x left .onRows r i);
       }
 
@@ -244,7 +232,7 @@ module _ {t : WidthTable} {plane : List ℤ} {work₀ state₀ line₀ w h : ℕ
       unfolding viewFrom levelsBack side viewLine columns
       rows-give r c i j =
           (λ u. fixedBack nodeBits nodeBits w (rowOf (sym once u) 0 (columns-here u) r) c)
-          ∙ line-reads t 1 Rows w (wide 0 one x₀ x left) _ _ (λ k b. column-at t 1 w (w * 2 ^ 0) w h (wide 0 one x₀ x left) (tall 0 one x₀ x left) (apart-here 0 one x₀ x left) (at plane) x (left .taken) (standing 0 one x₀ x left) r k i b) c j
+          ∙ line-reads t 1 Rows w _ _ (λ k b. column-at t 1 w (w * 2 ^ 0) w h (apart-here 0 one x₀ x left) (at plane) x (left .taken) (standing 0 one x₀ x left) r k i b) c j
           ∙ sym (columns-first-in (viewLine t 1 Rows) (λ low. viewLine t 1 (columnPass low)) w h (left .taken) r c i j)
           ∙ ap (λ (q : Plane ℤ). q r c) (left .gives)
 
@@ -256,7 +244,7 @@ module _ {t : WidthTable} {plane : List ℤ} {work₀ state₀ line₀ w h : ℕ
       unfolding side
       work-cleared old new was room same e = all-cleared (t .depth) w h some-columns (at work) old new (omega (arith, ready .third)) same
           (λ q far. ap (λ (f : ℕ → ℤ). f q) columns-here
-          ∙ columned-beyond t 1 w (w * 2 ^ 0) w h (wide 0 one x₀ x left) (tall 0 one x₀ x left) (apart-here 0 one x₀ x left) (at plane) x (left .taken) (standing 0 one x₀ x left) (w * h) (λ r i. row-in 0 r i) q far
+          ∙ columned-beyond t 1 w (w * 2 ^ 0) w h (apart-here 0 one x₀ x left) (at plane) x (left .taken) (standing 0 one x₀ x left) (w * h) (λ r i. row-in 0 r i) q far
           ∙ left .past q far ∙ ap (λ (f : ℕ → ℤ). f q) (sym was)) e
 
 -- ---- the answer
@@ -265,16 +253,16 @@ module _ {t : WidthTable} {plane : List ℤ} {work₀ state₀ line₀ w h : ℕ
 unfoldable pub answerOf : WidthTable → ℕ → ℕ → List ℤ → ℕ → ℕ → Answer Unit
 answerOf t w h plane a c =
     viewVerdict t
-    then sided (t .levels) w h
+    then sided w h
     then holds (w * h) a
     then holds (w * h) (length plane)
     then holds (w * h) c
     then coefficientsRight t w h plane
 
 -- 12 is judged where the steps before it passed
-pub lookable : (t : WidthTable) (w h : ℕ) (plane : List ℤ) (a c : ℕ) → viewVerdict t ≡ passed → sized (t .levels) w h a (length plane) c ≡ passed → Lookable t w h (length plane)
+pub lookable : (t : WidthTable) (w h : ℕ) (plane : List ℤ) (a c : ℕ) → viewVerdict t ≡ passed → sized w h a (length plane) c ≡ passed → Lookable t w h (length plane)
 lookable t w h plane a c v e =
-    let room = sized-done (t .levels) w h a (length plane) c e in
+    let room = sized-done w h a (length plane) c e in
     record { accepted = view-accepted t v; width = room .wide; height = room .tall; room = room .second }
 
 module _ (t : WidthTable) (w h : ℕ) (plane : List ℤ) (pixels : List ℕ) (work : List ℤ) where

@@ -35,7 +35,7 @@ module _ (t : WidthTable) (w h : ℕ) (plane : List ℤ) (pixels : List ℕ) (wo
   unfoldable pub viewAnswer : Answer Unit
   viewAnswer =
       viewVerdict t
-      then sided (t .levels) w h
+      then sided w h
       then holds (w * h) (length pixels)
       then holds (w * h) (length plane)
       then holds (w * h) (length work)

@@ -34,8 +34,8 @@ HeldBy t n v = Holds (integerBits t (n .level) (n .pass) (n .node)) (fractionBit
 
 -- A plane of admitted size whose coefficients are in the widths of their kept nodes (not refused 8 or 12).
 pub record Stored (t : WidthTable) (w h : ℕ) (p : Plane ℤ) : Type 0 where
-  pub width : Admitted (t .levels) w
-  pub height : Admitted (t .levels) h
+  pub width : Admitted w
+  pub height : Admitted h
   pub held : (r c : ℕ) → r < h → c < w → HeldBy t (keptNode (t .levels) w h r c) (p r c)
 
 -- ---- every pixel before rounding lies within the bound of the exact inverse of what was stored

@@ -2,7 +2,7 @@
 -- (`too-deep`); tables of that depth can be viewed (`deepest-viewed`), and tables of the next depth are accepted (`next-refused`). For the
 -- ranges of the forward transform do not depend on the table, so that what the columns of level l leave has at least 2 l integer bits; and
 -- the bounds of viewing grow with the ranges of what is stored.
-use Prim.Native.Nat.{ℕ, zero, suc, _+_, _*_, _-_, _^_, _<_, _≤_, max}
+use Prim.Native.Nat.{ℕ, zero, suc, _+_, _*_, _-_, _^_, _<_, _≤_}
 use mathlib.Core.Bool.{Bool, true, false}
 use mathlib.Core.List.{List, [], _∷_, _++_}
 use mathlib.Core.Path.{_≡_, refl, _∙_, ap}
@@ -15,13 +15,12 @@ use Rattle.exact.specs.Exact.{lift}
 use Rattle.numbers.specs.Tests.{every, right-false, ltb-false}
 use Rattle.refusals.specs.Answers.{Answer, passed, refused}
 use Rattle.refusals.specs.AnswerLaws.{asks-wrong, then-right}
-use Rattle.stages.specs.Stages.{Side, inverse, made, bits}
+use Rattle.stages.specs.Stages.{made, bits}
 use Rattle.stages.specs.Gains.{gain, exactGain, sumFrom, sumTo, inputAnswer, nodeAnswer, held}
 use Rattle.stages.specs.Rule as Rule
-use Rattle.stages.specs.Rule.{Bound, apart}
-use Rattle.stages.specs.RuleLaws.{AtMost, apart-at-most, bound-grows}
-use Rattle.unlifting.specs.Fixed.{nodeBits, inverseBits}
-use Rattle.width_table.specs.Nodes.{Node, P1, U1, P2, U2, G1, G2, columnPass, lastNode}
+use Rattle.stages.specs.Rule.{Bound}
+use Rattle.stages.specs.RuleLaws.{AtMost}
+use Rattle.width_table.specs.Nodes.{columnPass, lastNode}
 use Rattle.width_table.specs.Limits.{form-depth, form-levels}
 use Rattle.width_table.specs.declared.WidthTable.{WidthTable}
 use Rattle.width_table.specs.Table.{maxDepth, maxLevels, maxConstantBits, maxIntegerBits, maxFractionBits, levelBytes, integerBits, formRight}
@@ -29,7 +28,9 @@ use Rattle.precision.specs.Bounds as Judge
 use Rattle.precision.specs.Verdict.{judged, firstRefusal, verdict, Accepted, AcceptPromise}
 use Rattle.precision.specs.Promise.{promise}
 use Rattle.view_precision.specs.Bounds
-use Rattle.view_precision.specs.Bounds.{boundAt, larger, stored, levelGives, givesFrom, startBound, pixelBound, nodesRight, viewable, viewVerdict}
+use Rattle.view_precision.specs.Before.{boundAtBefore, passGivesBefore}
+use Rattle.view_precision.specs.BeforeLaws.{gives-more}
+use Rattle.view_precision.specs.Bounds.{stored, levelGives, givesFrom, startBound, pixelBound, nodesRight, viewable, viewVerdict}
 use Rattle.irreversible.specs.Narrow.{least-bits}
 
 -- the greatest depth at which a table of L levels, 1 to 5, can be viewed (document 02, job 1: refusal 13)
@@ -41,40 +42,15 @@ deepest (suc (suc (suc zero))) = 9
 deepest (suc (suc (suc (suc zero)))) = 7
 deepest (suc (suc (suc (suc (suc L))))) = 5
 
--- ---- a pass grows with what enters
-
-module _ {a a' b b' : Bound} (h : AtMost a a') (k : AtMost b b') where
-  after-grows : (s : Side) (m : ℕ) → AtMost (Bounds.boundAfter a b s m) (Bounds.boundAfter a' b' s m)
-  after-grows = bound-grows inverse (apart a b) (apart a' b') (λ i. inverseBits) (λ s. 0) (λ i. nodeBits) (apart-at-most h k)
-
-  node-grows : (n : Node) → AtMost (boundAt a b n) (boundAt a' b' n)
-  unfolding boundAt
-  node-grows P1 = after-grows _ _
-  node-grows U1 = after-grows _ _
-  node-grows P2 = after-grows _ _
-  node-grows U2 = after-grows _ _
-  node-grows G1 = after-grows _ _
-  node-grows G2 = after-grows _ _
-
-  larger-grows : AtMost (larger a b) (larger a' b')
-  unfolding larger
-  larger-grows = record {
-    range = maxima _ _ _ _ (node-grows U1 .range) (node-grows P1 .range);
-    error = maxima _ _ _ _ (node-grows U1 .error) (node-grows P1 .error);
-  }
-    where
-      maxima : (x x' y y' : ℕ) → x ≤ x' → y ≤ y' → max x y ≤ max x' y'
-      maxima x x' y y' i j = omega arith
-
 -- ---- the least that can be stored
 
 -- what the columns of level l leave: 2 l integer bits, no error
 abbrev leastStored : ℕ → Bound
 leastStored l = record { range = 2 ^ (2 * l - 1) * 2 ^ 32; error = 0 }
 
--- what level l, and levels k to 1, give of it, where b bounds the low-low
+-- what level l, and levels k to 1, give of it at least, where b bounds the low-low (lines of two or more suffice)
 leastGives : ℕ → Bound → Bound
-leastGives l b = larger (larger b (leastStored l)) (larger (leastStored l) (leastStored l))
+leastGives l b = passGivesBefore (passGivesBefore b (leastStored l)) (passGivesBefore (leastStored l) (leastStored l))
 
 leastFrom : ℕ → Bound → Bound
 leastFrom zero b = b
@@ -90,7 +66,7 @@ module _ (t : WidthTable) (ok : AcceptPromise t) where
 
   gives-least : (l : ℕ) → 1 ≤ l → l ≤ t .levels → {b b' : Bound} → AtMost b b' → AtMost (leastGives l b) (levelGives t 0 l b')
   unfolding leastGives levelGives Bounds.fromLow Bounds.fromHigh
-  gives-least l i j h = larger-grows (larger-grows h (stored-least l i j true false)) (larger-grows (stored-least l i j false true) (stored-least l i j false false))
+  gives-least l i j h = gives-more (gives-more h (stored-least l i j true false)) (gives-more (stored-least l i j false true) (stored-least l i j false false))
 
   from-least : (k : ℕ) → k ≤ t .levels → {b b' : Bound} → AtMost b b' → AtMost (leastFrom k b) (givesFrom t 0 k b')
   unfolding leastFrom givesFrom
@@ -112,7 +88,7 @@ numbers = 552196 ∷ 2201719 ∷ 9809170 ∷ 44357886 ∷ []
 
 -- of 2 to 5 levels, in whole numbers of 2^-32, computed once for all
 least-pixels : leastPixel 2 ∷ leastPixel 3 ∷ leastPixel 4 ∷ leastPixel 5 ∷ [] ≡ numbers
-unfolding leastFrom leastGives larger boundAt Rule.boundAt Rule.rangeAt Rule.errorAt Rule.owns Rule.ownsBring Rule.ownFrom Rule.brought Rule.ownLift Rule.ownScale Rule.loss Rule.timesGain bits upDiv gain exactGain sumFrom sumTo inputAnswer nodeAnswer held made wholesOf lift _⊕_ _⊗_ neg whole magnitude
+unfolding leastFrom leastGives passGivesBefore boundAtBefore Bounds.larger Rule.boundAt Rule.rangeAt Rule.errorAt Rule.owns Rule.ownsBring Rule.ownFrom Rule.brought Rule.ownLift Rule.ownScale Rule.loss Rule.timesGain bits upDiv gain exactGain sumFrom sumTo inputAnswer nodeAnswer held made wholesOf lift _⊕_ _⊗_ neg whole magnitude
 least-pixels = refl
 
 nth : (k : ℕ) → getD (leastPixel 2 ∷ leastPixel 3 ∷ leastPixel 4 ∷ leastPixel 5 ∷ []) k 0 ≡ getD numbers k 0
@@ -186,7 +162,7 @@ answer k l = getD l k passed
 verdicts :
     viewVerdict (leastTable (deepest 1) 1) ∷ viewVerdict (leastTable (deepest 2) 2) ∷ viewVerdict (leastTable (deepest 3) 3) ∷ viewVerdict (leastTable (deepest 4) 4) ∷ viewVerdict (leastTable (deepest 5) 5) ∷ verdict (leastTable (deepest 2 + 1) 2) ∷ verdict (leastTable (deepest 3 + 1) 3) ∷ verdict (leastTable (deepest 4 + 1) 4) ∷ verdict (leastTable (deepest 5 + 1) 5) ∷ []
     ≡ passed ∷ passed ∷ passed ∷ passed ∷ passed ∷ passed ∷ passed ∷ passed ∷ passed ∷ []
-unfolding viewVerdict viewable pixelBound nodesRight givesFrom levelGives Bounds.passBound Bounds.fromLow Bounds.fromHigh stored verdict formRight every firstRefusal judged Judge.boundOf Judge.entering Judge.passBound Judge.rowBound Judge.boundAt larger boundAt Rule.boundAt Rule.rangeAt Rule.errorAt Rule.owns Rule.ownsBring Rule.ownFrom Rule.brought Rule.ownLift Rule.ownScale Rule.loss Rule.timesGain bits upDiv gain exactGain sumFrom sumTo inputAnswer nodeAnswer held made wholesOf lift _⊕_ _⊗_ neg whole magnitude
+unfolding viewVerdict viewable pixelBound nodesRight givesFrom levelGives Bounds.passBound Bounds.fromLow Bounds.fromHigh stored verdict formRight every firstRefusal judged Judge.boundOf Judge.entering Judge.passBound Judge.rowBound Judge.boundAt Judge.longBound Bounds.larger Bounds.even Bounds.odd Bounds.passGives Bounds.boundAt Rule.boundAt Rule.rangeAt Rule.errorAt Rule.owns Rule.ownsBring Rule.ownFrom Rule.brought Rule.ownLift Rule.ownScale Rule.loss Rule.timesGain bits upDiv gain exactGain sumFrom sumTo inputAnswer nodeAnswer held made wholesOf lift _⊕_ _⊗_ neg whole magnitude
 verdicts = refl
 
 -- A table of each L that can be viewed at the greatest depth.

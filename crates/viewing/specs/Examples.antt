@@ -3,17 +3,17 @@
 use Prim.Native.Nat.{ℕ, _+_, _*_, _/_, _^_}
 use mathlib.Core.List.{List, [], _∷_, _++_}
 use mathlib.Core.Path.{_≡_, refl, ap}
-use lib.Dec.{lit<, lit≤}
+use lib.Dec.{lit≤}
 use lib.IntN.{ℤ, pos, negℤ}
 use lib.ListN.{getD}
 use Rattle.numbers.specs.Tests.{every}
 use Rattle.refusals.specs.Answers.{passed, refused}
 use Rattle.lines.specs.Lines.{lowAfter, highBefore, highAfter, onHighs, onLows, interleaved}
-use Rattle.lines.specs.Planes.{Plane, rows, columns, within, side, columnsFirst, levelsBack, tabulate, rowByRow}
+use Rattle.lines.specs.Planes.{Plane, fromOne, rows, columns, within, side, columnsFirst, levelsBack, tabulate, rowByRow}
 use Rattle.stages.specs.Fixed.{nearest, cut, scale}
 use Rattle.pictures.specs.Pictures.{planeOf}
 use Rattle.pictures.specs.PictureLaws.{pixel-below}
-use Rattle.unlifting.specs.Fixed.{unstep, atG1, atG2, atU2, atP2, atU1, atP1, fixedBack}
+use Rattle.unlifting.specs.Fixed.{unstep, atG1, atG2, atU2, atP2, atU1, atP1, fixedBackLong, fixedBack}
 use Rattle.view_precision.specs.Examples.{withKept, uniform, level-1, fine-distance}
 use Rattle.irreversible.specs.Claims.{Picture, keptNode}
 use Rattle.irreversible.specs.Transforms.{fixedPlane}
@@ -32,7 +32,7 @@ values l k = getD l k (pos 0)
 pub lines-back :
     tabulate 3 (fixedBack 2 3 3 (values (pos 3 ∷ negℤ (pos 2) ∷ pos 5 ∷ []))) ++ tabulate 2 (fixedBack 0 0 2 (values (pos 1 ∷ negℤ (pos 1) ∷ [])))
     ≡ pos 199346 ∷ pos 556087 ∷ negℤ (pos 940803) ∷ pos 1482909 ∷ negℤ (pos 5) ∷ []
-unfolding tabulate fixedBack interleaved atG1 atG2 atU2 atP2 atU1 atP1 onHighs onLows lowAfter highBefore highAfter unstep scale cut nearest
+unfolding tabulate fixedBack fixedBackLong fromOne interleaved atG1 atG2 atU2 atP2 atU1 atP1 onHighs onLows lowAfter highBefore highAfter unstep scale cut nearest
 lines-back = refl
 
 -- ---- planes before rounding, and as shown at depth 8
@@ -42,11 +42,11 @@ first = pos 1 ∷ negℤ (pos 3) ∷ pos 2 ∷ pos 0 ∷ pos 5 ∷ negℤ (pos 4
 
 -- one level, 3 columns and 2 rows
 pub one-level : rowByRow 3 2 (viewPlane (uniform 8 1 4) 3 2 (planeOf 3 first)) ≡ negℤ (pos 519599) ∷ pos 327673 ∷ negℤ (pos 1970772) ∷ pos 378133 ∷ negℤ (pos 65546) ∷ pos 539372 ∷ []
-unfolding rowByRow tabulate viewPlane viewFrom levelsBack columnsFirst viewLine within rows columns side fixedBack interleaved atG1 atG2 atU2 atP2 atU1 atP1 onHighs onLows lowAfter highBefore highAfter unstep scale cut nearest
+unfolding rowByRow tabulate viewPlane viewFrom levelsBack columnsFirst viewLine within rows columns side fixedBack fixedBackLong fromOne interleaved atG1 atG2 atU2 atP2 atU1 atP1 onHighs onLows lowAfter highBefore highAfter unstep scale cut nearest
 one-level = refl
 
 pub one-level-shown : rowByRow 3 2 (viewPicture (uniform 8 1 4) 3 2 (planeOf 3 first)) ≡ 1 ∷ 208 ∷ 0 ∷ 220 ∷ 112 ∷ 255 ∷ []
-unfolding viewPicture pixel grey rowByRow tabulate viewPlane viewFrom levelsBack columnsFirst viewLine within rows columns side fixedBack interleaved atG1 atG2 atU2 atP2 atU1 atP1 onHighs onLows lowAfter highBefore highAfter unstep scale cut nearest
+unfolding viewPicture pixel grey rowByRow tabulate viewPlane viewFrom levelsBack columnsFirst viewLine within rows columns side fixedBack fixedBackLong fromOne interleaved atG1 atG2 atU2 atP2 atU1 atP1 onHighs onLows lowAfter highBefore highAfter unstep scale cut nearest
 one-level-shown = refl
 
 abbrev second : Plane ℤ
@@ -54,7 +54,7 @@ second = planeOf 3 (pos 7 ∷ negℤ (pos 3) ∷ pos 2 ∷ pos 1 ∷ pos 5 ∷ n
 
 -- two levels, 3 columns and 3 rows, at row 0 and column 2
 pub two-levels-shown : viewPicture (uniform 8 2 5) 3 3 second 0 2 ≡ 28
-unfolding viewPicture pixel grey viewPlane viewFrom levelsBack columnsFirst viewLine within rows columns side fixedBack interleaved atG1 atG2 atU2 atP2 atU1 atP1 onHighs onLows lowAfter highBefore highAfter unstep scale cut nearest
+unfolding viewPicture pixel grey viewPlane viewFrom levelsBack columnsFirst viewLine within rows columns side fixedBack fixedBackLong fromOne interleaved atG1 atG2 atU2 atP2 atU1 atP1 onHighs onLows lowAfter highBefore highAfter unstep scale cut nearest
 two-levels-shown = refl
 
 -- ---- rounding: halves up, and limits
@@ -79,11 +79,11 @@ unfolding coefficientsRight every rowByRow tabulate inWidth keptNode side
 first-held = refl
 
 pub first-stored : Stored (uniform 8 1 4) 3 2 (planeOf 3 first)
-first-stored = held-done (uniform 8 1 4) 3 2 first (lit< tt, lit≤ tt) (lit< tt, lit≤ tt) first-held
+first-stored = held-done (uniform 8 1 4) 3 2 first (lit≤ tt, lit≤ tt) (lit≤ tt, lit≤ tt) first-held
 
 -- a call that is done
 pub first-viewed : viewAnswer (uniform 8 1 4) 3 2 first (0 ∷ 0 ∷ 0 ∷ 0 ∷ 0 ∷ 0 ∷ []) first ≡ passed
-first-viewed = call-done (uniform 8 1 4) 3 2 first (0 ∷ 0 ∷ 0 ∷ 0 ∷ 0 ∷ 0 ∷ []) first level-1 (record { wide = (lit< tt, lit≤ tt); tall = (lit< tt, lit≤ tt); first = lit≤ tt; second = lit≤ tt; third = lit≤ tt }) first-stored
+first-viewed = call-done (uniform 8 1 4) 3 2 first (0 ∷ 0 ∷ 0 ∷ 0 ∷ 0 ∷ 0 ∷ []) first level-1 (record { wide = (lit≤ tt, lit≤ tt); tall = (lit≤ tt, lit≤ tt); first = lit≤ tt; second = lit≤ tt; third = lit≤ tt }) first-stored
 
 -- ---- a picture, and what is stored of it
 
@@ -92,7 +92,7 @@ scan = 0 ∷ 255 ∷ 128 ∷ 7 ∷ 200 ∷ 31 ∷ []
 
 pub scan-picture : Picture (uniform 8 1 4) scan 3 2
 unfolding every
-scan-picture = record { width = (lit< tt, lit≤ tt); height = (lit< tt, lit≤ tt); depth = pixel-below 8 3 2 scan (lit≤ tt) tt }
+scan-picture = record { width = (lit≤ tt, lit≤ tt); height = (lit≤ tt, lit≤ tt); depth = pixel-below 8 3 2 scan (lit≤ tt) tt }
 
 pub scan-stored : Stored (uniform 8 1 4) 3 2 (fixedPlane (uniform 8 1 4) scan 3 2)
 scan-stored = forward-stored (uniform 8 1 4) scan 3 2 (view-accepted (uniform 8 1 4) level-1) scan-picture (fixedPlane (uniform 8 1 4) scan 3 2) (λ r c i j. refl)

@@ -6,7 +6,7 @@ use native.Mathlib.Omega.{arith}
 use lib.Dec.{T, ltb}
 use lib.IntN.{ℤ}
 use Rattle.numbers.specs.Tests.{by-ltb, ltb-true, ltb-false}
-use Rattle.lines.specs.Lines.{lows, highs, Liftable}
+use Rattle.lines.specs.Lines.{lows, highs}
 use Rattle.lines.specs.Planes.{Plane, columns, rows}
 use Rattle.exact.specs.Fractions.{Frac}
 use Rattle.exact.specs.Inverse.{exactBack}
@@ -23,8 +23,7 @@ use Rattle.viewing.specs.Pass.{Fed, pass-good, pass-small}
 
 -- What level l takes in a part of w columns and h rows: its low-low has bound b, the other three are stored with errors of so many steps.
 pub record Takes (t : WidthTable) (steps l : ℕ) (b : Bound) (w h : ℕ) (p : Plane ℤ) (q : Plane Frac) : Type 0 where
-  pub wide : Liftable w
-  pub tall : Liftable h
+  pub few : (s : Pass) → enteringBits t l s G1 ≤ nodeBits
   pub ll : (r c : ℕ) → r < lows h → c < lows w → Good b (enteringBits t l LowColumns G1) (p r c) (q r c)
   pub lh : (r c : ℕ) → r < highs h → c < lows w → Good (stored t steps l LowColumns G2) (fractionBits t l LowColumns G2) (p (lows h + r) c) (q (lows h + r) c)
   pub hl : (r c : ℕ) → r < lows h → lows w ≤ c → c < w → Good (stored t steps l HighColumns G1) (fractionBits t l HighColumns G1) (p r c) (q r c)
@@ -61,8 +60,8 @@ module _ {t : WidthTable} {steps l : ℕ} {b : Bound} {w h : ℕ} {p : Plane ℤ
 
   column-fed : (s : Bool) (c : ℕ) → OnSide s c → Fed (enteringBits t l (columnPass s) G1) (enteringBits t l (columnPass s) G2) (lowIn s) (highIn s) h (λ k. p k c) (λ k. q k c)
   unfolding OnSide lowIn highIn
-  column-fed true c i = record { works = g .tall; lows-good = λ r j. g .ll r c j i; highs-good = λ r j. g .lh r c j i }
-  column-fed false c i = record { works = g .tall; lows-good = λ r j. g .hl r c j (i .0) (i .1); highs-good = λ r j. g .hh r c j (i .0) (i .1) }
+  column-fed true c i = record { few = g .few LowColumns; lows-good = λ r j. g .ll r c j i; highs-good = λ r j. g .lh r c j i }
+  column-fed false c i = record { few = g .few HighColumns; lows-good = λ r j. g .hl r c j (i .0) (i .1); highs-good = λ r j. g .hh r c j (i .0) (i .1) }
 
   column-good : (s : Bool) (c : ℕ) → OnSide s c → (r : ℕ) → r < h → Good (gives s) nodeBits (viewLine t l (columnPass s) h (λ k. p k c) r) (exactBack h (λ k. q k c) r)
   unfolding lowIn highIn gives viewLine fromLow fromHigh
@@ -76,7 +75,7 @@ module _ {t : WidthTable} {steps l : ℕ} {b : Bound} {w h : ℕ} {p : Plane ℤ
   row-fed : (r : ℕ) → r < h → Fed nodeBits nodeBits (fromLow t steps l b) (fromHigh t steps l b) w (columnV t l w h p r) (columnX h q r)
   unfolding gives
   row-fed r i = record {
-    works = g .wide;
+    few = omega arith;
     lows-good = λ c j. subst (λ (s : Bool). Good (gives s) nodeBits (columnV t l w h p r c) (columnX h q r c)) (ltb-true c (lows w) j) (columns-good r c i (omega arith));
     highs-good = λ c j. subst (λ (s : Bool). Good (gives s) nodeBits (columnV t l w h p r (lows w + c)) (columnX h q r (lows w + c))) (ltb-false (lows w + c) (lows w) (omega arith)) (columns-good r (lows w + c) i (omega arith));
   }

@@ -18,12 +18,12 @@ use Rattle.lines.specs.Planes.{Plane, columns}
 use Rattle.lines.specs.PlaneLaws.{columns-first-in}
 use Rattle.width_table.specs.Nodes.{G1, G2, Pass, Rows, LowColumns, HighColumns, columnPass}
 use Rattle.width_table.specs.declared.WidthTable.{WidthTable}
-use Rattle.stages.specs.Fixed.{scale}
+use Rattle.stages.specs.Fixed.{cut, scale}
 use Rattle.lifting.specs.PatchLines.{lineAt, lines-apart, lines-in, lines-out}
 use Rattle.lifting.specs.Kernels.{rowOf, rowsBy}
 use Rattle.lifting.specs.Strips.{same-line}
-use Rattle.pictures.specs.MemoryLaws.{Reads}
-use Rattle.unlifting.specs.Fixed.{nodeBits, inverseBits, unstep, atG1, atG2, atU2, atP2, atU1, atP1, fixedBack, Small, limit}
+use Rattle.pictures.specs.MemoryLaws.{Reads, one-reads}
+use Rattle.unlifting.specs.Fixed.{nodeBits, inverseBits, unstep, atG1, atG2, atU2, atP2, atU1, atP1, fixedBackLong, fixedBack, SmallLong, Small, limit}
 use Rattle.unlifting.specs.declared.Site.{Site}
 use Rattle.unlifting.specs.Planes.{Safe}
 use Rattle.unlifting.specs.Strips.{source, undone, source-stored, source-left, source-high}
@@ -31,7 +31,7 @@ use Rattle.viewing.specs.View.{enteringBits, viewLine, viewLevel}
 use Rattle.viewing.specs.Claims.{LevelSmall}
 use Rattle.viewing.specs.Words.{Bounded, columns-bounded}
 
--- ---- a line taken back reads its own values only
+-- ---- a line taken back reads its own values only: two or more
 
 module _ (fl fh n : ℕ) (works : Liftable n) (x y : ℕ → ℤ) (same : Equal n x y) where
   same-G1 : Equal (lows n) (atG1 fl fh n x) (atG1 fl fh n y)
@@ -58,13 +58,13 @@ module _ (fl fh n : ℕ) (works : Liftable n) (x y : ℕ → ℤ) (same : Equal 
   unfolding atP1
   same-P1 = on-highs-equal n same-U1 same-P2 (unstep alpha)
 
-  back-same : Equal n (fixedBack fl fh n x) (fixedBack fl fh n y)
-  unfolding fixedBack
-  back-same = interleaved-equal n same-U1 same-P1
+  long-same : Equal n (fixedBackLong fl fh n x) (fixedBackLong fl fh n y)
+  unfolding fixedBackLong
+  long-same = interleaved-equal n same-U1 same-P1
 
   -- and is safe where a line of the same values is
-  small-same : Small fl fh n y → Small fl fh n x
-  small-same s = record {
+  small-long : SmallLong fl fh n y → SmallLong fl fh n x
+  small-long s = record {
     g1 = λ k h. subst (λ (z : ℤ). natAbs z ≤ limit) (sym (same-G1 k h)) (s .g1 k h);
     g2 = λ k h. subst (λ (z : ℤ). natAbs z ≤ limit) (sym (same-G2 k h)) (s .g2 k h);
     u2 = λ k h. subst (λ (z : ℤ). natAbs z ≤ limit) (sym (same-U2 k h)) (s .u2 k h);
@@ -73,13 +73,24 @@ module _ (fl fh n : ℕ) (works : Liftable n) (x y : ℕ → ℤ) (same : Equal 
     p1 = λ k h. subst (λ (z : ℤ). natAbs z ≤ limit) (sym (same-P1 k h)) (s .p1 k h);
   }
 
-  safe-same : ((k : ℕ) → k < n → natAbs (y k) ≤ limit) → Small fl fh n y → Safe fl fh n x
-  safe-same small s = record { enters = λ k h. subst (λ (z : ℤ). natAbs z ≤ limit) (sym (same k h)) (small k h); small = small-same s }
+-- from length 1
+back-reads : (fl fh : ℕ) → Reads (fixedBack fl fh)
+unfolding fixedBack
+back-reads fl fh = one-reads (cut fl nodeBits) (fixedBackLong fl fh) (long-same fl fh)
+
+safe-same : (fl fh n : ℕ) (x y : ℕ → ℤ) → Equal n x y → ((k : ℕ) → k < n → natAbs (y k) ≤ limit) → Small fl fh n y → Safe fl fh n x
+safe-same fl fh n x y same small s = record {
+  enters = λ k h. subst (λ (z : ℤ). natAbs z ≤ limit) (sym (same k h)) (small k h);
+  small = record {
+    long = λ works. small-long fl fh n works x y same (s .long works);
+    single = λ one k h. subst (λ (z : ℤ). natAbs z ≤ limit) (sym (back-reads fl fh n x y same k h)) (s .single one k h);
+  };
+}
 
 -- a pass of a level
 pub line-reads : (t : WidthTable) (l : ℕ) (p : Pass) → Reads (viewLine t l p)
 unfolding viewLine
-line-reads t l p n works x y same = back-same (enteringBits t l p G1) (enteringBits t l p G2) n works x y same
+line-reads t l p = back-reads (enteringBits t l p G1) (enteringBits t l p G2)
 
 -- ---- one level
 
@@ -121,7 +132,7 @@ pub record Standing (t : WidthTable) (l W S w h : ℕ) (plane x : ℕ → ℤ) (
   pub beyond : (r c : ℕ) → lows w ≤ c → r < h → c < w → plane (r * W + c) ≡ p r c
   pub left : (l ≡ t .levels → ⊥) → (r c : ℕ) → r < lows h → c < lows w → x (lineAt 0 S (2 * r) + c) ≡ p r c
 
-module _ (t : WidthTable) (l W S w h : ℕ) (wide : Liftable w) (tall : Liftable h) (apart : w ≤ S) (plane x : ℕ → ℤ) (p : Plane ℤ) (stands : Standing t l W S w h plane x p) where
+module _ (t : WidthTable) (l W S w h : ℕ) (apart : w ≤ S) (plane x : ℕ → ℤ) (p : Plane ℤ) (stands : Standing t l W S w h plane x p) where
   -- the columns of the part taken back
   abbrev columnsOf : Plane ℤ
   columnsOf = columns (λ c. viewLine t l (columnPass (ltb c (lows w)))) h p
@@ -156,19 +167,19 @@ module _ (t : WidthTable) (l W S w h : ℕ) (wide : Liftable w) (tall : Liftable
       by-ltb (λ q. columned t l W S w h plane x (lineAt 0 S r + c) ≡ viewLine t l (columnPass q) h (λ k. p k c) r) c (lows w)
       (λ a. lines-out (lineAt (lows w) S) (highs w) _ _ h _ (λ u v d e f. omega (arith, same-line 0 S u r (lows w + v) c (omega arith) (omega arith) (omega arith) .1))
       ∙ lines-in (lineAt 0 S) (lows w) _ x (λ u v d. lines-apart 0 S (lows w) u v (omega arith) (omega arith)) h r c i a
-      ∙ line-reads t l LowColumns h tall _ _ (λ k b. low-source c k a b) r i)
+      ∙ line-reads t l LowColumns h _ _ (λ k b. low-source c k a b) r i)
       (λ a. let e : lineAt 0 S r + c ≡ lineAt (lows w) S r + (c - lows w) = omega arith in
       let f : lows w + (c - lows w) ≡ c = omega arith in
       ap (columned t l W S w h plane x) e
       ∙ lines-in (lineAt (lows w) S) (highs w) _ _ (λ u v d. lines-apart (lows w) S (highs w) u v (omega arith) (omega arith)) h r (c - lows w) i (omega arith)
-      ∙ line-reads t l HighColumns h tall _ _ (λ k b. high-source _ (c - lows w) k (omega arith) b ∙ ap (p k) f) r i)
+      ∙ line-reads t l HighColumns h _ _ (λ k b. high-source _ (c - lows w) k (omega arith) b ∙ ap (p k) f) r i)
 
   -- what the level leaves
   pub level-at : (r c : ℕ) → r < h → c < w → levelBack t l W S w h plane x (lineAt 0 S r + c) ≡ viewLevel t l w h p r c
   unfolding columns
   level-at r c i j =
       lines-in (lineAt 0 S) w _ (columned t l W S w h plane x) (λ u v d. lines-apart 0 S w u v apart (omega arith)) h r c i j
-      ∙ line-reads t l Rows w wide _ _ (λ k b. column-at r k i b) c j
+      ∙ line-reads t l Rows w _ _ (λ k b. column-at r k i b) c j
       ∙ sym (columns-first-in (viewLine t l Rows) (λ low. viewLine t l (columnPass low)) w h p r c i j)
 
   -- What lies past the part is as it was.
@@ -185,12 +196,12 @@ module _ (t : WidthTable) (l W S w h : ℕ) (wide : Liftable w) (tall : Liftable
   module _ (small : LevelSmall t l w h p) (bounded : Bounded w h p) where
     column-safe : (c : ℕ) → c < w → (q : Bool) → ltb c (lows w) ≡ q → (v : ℕ → ℤ) → ((r : ℕ) → r < h → v r ≡ p r c) → SafeLine t l (columnPass q) h v
     column-safe c j q e v same =
-        safe-same (enteringBits t l (columnPass q) G1) (enteringBits t l (columnPass q) G2) h tall v (λ r. p r c) same (λ r i. bounded r c i j)
+        safe-same (enteringBits t l (columnPass q) G1) (enteringBits t l (columnPass q) G2) h v (λ r. p r c) same (λ r i. bounded r c i j)
         (subst (λ (b : Bool). Small (enteringBits t l (columnPass b) G1) (enteringBits t l (columnPass b) G2) h (λ r. p r c)) e (small .inColumns c j))
 
     pub level-safe : SafeLevel t l W S w h plane x
     level-safe = record {
       onLowColumns = λ j a. column-safe j (omega arith) true (ltb-true j (lows w) a) _ (λ r i. low-source j r a i);
       onHighColumns = λ j a. column-safe (lows w + j) (omega arith) false (ltb-false (lows w + j) (lows w) (omega arith)) _ (λ r i. high-source _ j r a i);
-      onRows = λ r i. safe-same nodeBits nodeBits w wide _ (columnsOf r) (λ c j. column-at r c i j) (λ c j. columns-bounded small r c i j) (small .inRows r i);
+      onRows = λ r i. safe-same nodeBits nodeBits w _ (columnsOf r) (λ c j. column-at r c i j) (λ c j. columns-bounded small r c i j) (small .inRows r i);
     }

@@ -14,10 +14,11 @@ use Rattle.numbers.specs.Lists.{In, here, there, every-in}
 use Rattle.numbers.specs.Dif.{by-dif, difs}
 use Rattle.lines.specs.Lines.{lows, highs, Liftable, onHighs, onLows}
 use Rattle.lines.specs.LineLaws.{even-place, odd-place, by-parity}
+use Rattle.lines.specs.OneLaws.{one-single, one-long, by-one}
 use Rattle.exact.specs.Fractions.{Frac, _≈_, _⊕_, neg, upDiv}
-use Rattle.exact.specs.FracLaws.{≈-refl, ≈-sym, ≈-trans, ⊕-cong, neg-⊗-l, within-near, within-most}
+use Rattle.exact.specs.FracLaws.{≈-refl, ≈-sym, ≈-trans, ⊕-cong, neg-⊗-l, within-near}
 use Rattle.exact.specs.Exact.{lift, alpha, beta, gamma, delta}
-use Rattle.exact.specs.Inverse.{unlift, unG1, unG2, unU2, unP2, unU1, unP1, exactBack}
+use Rattle.exact.specs.Inverse.{unlift, unG1, unG2, unU2, unP2, unU1, unP1, exactBackLong, exactBack}
 use Rattle.stages.specs.Stages.{Side, low, high, lifts, stage, inverse, made, bits}
 use Rattle.stages.specs.Fixed.{meant, nearest, cut, step}
 use Rattle.stages.specs.OnLine.{count, exactAfter, fixedMade, fixedAfter}
@@ -25,9 +26,12 @@ use Rattle.stages.specs.Rule as Rule
 use Rattle.stages.specs.Rule.{Bound, loss, ownScale, Entering, apart, brought, rangeAt, ownFrom, ownsBring, owns, errorAt}
 use Rattle.stages.specs.Held.{enters, made-cong}
 use Rattle.stages.specs.Sound.{Good, good-≈, good}
+use Rattle.stages.specs.Single.{single-good, good-most}
 use Rattle.width_table.specs.Nodes.{Node, P1, U1, P2, U2, G1, G2}
-use Rattle.unlifting.specs.Fixed.{nodeBits, inverseBits, unstep, atG1, atG2, atU2, atP2, atU1, atP1, fixedBack, Small, limit}
-use Rattle.view_precision.specs.Bounds.{boundAfter, boundAt, larger, atMost15, passRight}
+use Rattle.unlifting.specs.Fixed.{nodeBits, inverseBits, unstep, atG1, atG2, atU2, atP2, atU1, atP1, fixedBackLong, fixedBack, Small, limit}
+use Rattle.view_precision.specs.Bounds.{larger, boundAfter, even, odd, boundAt, passGives, atMost15, passRight}
+use Rattle.view_precision.specs.Odd.{odd-range, odd-error}
+use Rattle.precision.specs.PlaceLaws.{loss-none}
 use Rattle.irreversible.specs.Fixed.{countAt}
 
 -- ---- a stage undone is a stage with the constant negated
@@ -191,9 +195,9 @@ module _ (fl fh n : ℕ) (v : ℕ → ℤ) where
   unfolding atP1 onHighs fixedAfter fixedMade bits
   fixedP1 k = unstepped alpha negates-alpha (fixedP2 k) (fixedU1 k) (fixedU1 _)
 
--- A line whose lows are good for a at fl bits, and whose highs are good for b at fh bits.
+-- A line whose lows, at fl bits, no more than a node's, are good for a, and whose highs are good for b at fh bits.
 pub record Fed (fl fh : ℕ) (a b : Bound) (n : ℕ) (v : ℕ → ℤ) (x : ℕ → Frac) : Type 0 where
-  pub works : Liftable n
+  pub few : fl ≤ nodeBits
   pub lows-good : (k : ℕ) → k < lows n → Good a fl (v k) (x k)
   pub highs-good : (k : ℕ) → k < highs n → Good b fh (v (lows n + k)) (x (lows n + k))
 
@@ -202,35 +206,50 @@ module _ {fl fh : ℕ} {a b : Bound} {n : ℕ} {v : ℕ → ℤ} {x : ℕ → Fr
   entered low = fed .lows-good
   entered high = fed .highs-good
 
-  -- each side after m stages
-  after : (m : ℕ) → m ≤ 6 → (s : Side) (k : ℕ) → k < count n s → Good (boundAfter a b s m) (bits inverse (bitsFed fl fh) (λ i. nodeBits) m s) (fixed fl fh n v m s k) (exactly n x m s k)
-  after m h s k i =
-      subst (λ (t : Bound). Good t (bits inverse (bitsFed fl fh) (λ i. nodeBits) m s) (fixed fl fh n v m s k) (exactly n x m s k)) (bound-free (apart a b) (bitsFed fl fh) s m h)
-      (good inverse (apart a b) (λ i. inverseBits) (bitsFed fl fh) (λ i. nodeBits) n (split n v) (split n x) (fed .works) (λ m. omega arith) entered m s k i)
+  -- two values or more
+  module _ (works : Liftable n) where
+    -- each side after m stages
+    after : (m : ℕ) → m ≤ 6 → (s : Side) (k : ℕ) → k < count n s → Good (boundAfter a b s m) (bits inverse (bitsFed fl fh) (λ i. nodeBits) m s) (fixed fl fh n v m s k) (exactly n x m s k)
+    after m h s k i =
+        subst (λ (t : Bound). Good t (bits inverse (bitsFed fl fh) (λ i. nodeBits) m s) (fixed fl fh n v m s k) (exactly n x m s k)) (bound-free (apart a b) (bitsFed fl fh) s m h)
+        (good inverse (apart a b) (λ i. inverseBits) (bitsFed fl fh) (λ i. nodeBits) n (split n v) (split n x) works (λ m. omega arith) entered m s k i)
 
-  node-good : (i : Node) (k : ℕ) → k < countAt n i → Good (boundAt a b i) nodeBits (leftAt fl fh n v i k) (exactAt n x i k)
-  unfolding boundAt bits fixedAfter fixedMade exactAfter made atG1 atG2 unG1 unG2
-  node-good G1 k i = after 1 (lit≤ tt) low k i
-  node-good G2 k i = after 2 (lit≤ tt) high k i
-  node-good U2 k i = good-≈ (fixedU2 fl fh n v k) (exactU2 n x k) (after 3 (lit≤ tt) low k i)
-  node-good P2 k i = good-≈ (fixedP2 fl fh n v k) (exactP2 n x k) (after 4 (lit≤ tt) high k i)
-  node-good U1 k i = good-≈ (fixedU1 fl fh n v k) (exactU1 n x k) (after 5 (lit≤ tt) low k i)
-  node-good P1 k i = good-≈ (fixedP1 fl fh n v k) (exactP1 n x k) (after 6 (lit≤ tt) high k i)
+    even-good : (k : ℕ) → k < lows n → Good (even a b) nodeBits (atU1 fl fh n v k) (unU1 n x k)
+    unfolding even larger bits
+    even-good k i = good-most (omega arith) (omega arith) (good-≈ (fixedU1 fl fh n v k) (exactU1 n x k) (after 5 (lit≤ tt) low k i))
 
-  even-good : (k : ℕ) → k < lows n → Good (larger a b) nodeBits (atU1 fl fh n v k) (unU1 n x k)
-  unfolding larger
-  even-good k i = record { range = within-most (omega arith) (node-good U1 k i .range); error = within-most (omega arith) (node-good U1 k i .error) }
+    odd-good : (k : ℕ) → k < highs n → Good (odd a b) nodeBits (atP1 fl fh n v k) (unP1 n x k)
+    unfolding bits
+    odd-good k i = good-most (odd-range a b) (odd-error a b) (good-≈ (fixedP1 fl fh n v k) (exactP1 n x k) (after 6 (lit≤ tt) high k i))
 
-  odd-good : (k : ℕ) → k < highs n → Good (larger a b) nodeBits (atP1 fl fh n v k) (unP1 n x k)
-  unfolding larger
-  odd-good k i = record { range = within-most (omega arith) (node-good P1 k i .range); error = within-most (omega arith) (node-good P1 k i .error) }
+    node-good : (i : Node) (k : ℕ) → k < countAt n i → Good (boundAt a b i) nodeBits (leftAt fl fh n v i k) (exactAt n x i k)
+    unfolding boundAt bits fixedAfter fixedMade exactAfter made atG1 atG2 unG1 unG2
+    node-good G1 k i = after 1 (lit≤ tt) low k i
+    node-good G2 k i = after 2 (lit≤ tt) high k i
+    node-good U2 k i = good-≈ (fixedU2 fl fh n v k) (exactU2 n x k) (after 3 (lit≤ tt) low k i)
+    node-good P2 k i = good-≈ (fixedP2 fl fh n v k) (exactP2 n x k) (after 4 (lit≤ tt) high k i)
+    node-good U1 k i = even-good k i
+    node-good P1 k i = odd-good k i
+
+    long-good : (k : ℕ) → k < n → Good (passGives a b) nodeBits (fixedBackLong fl fh n v k) (exactBackLong n x k)
+    unfolding fixedBackLong exactBackLong passGives larger
+    long-good = by-parity (λ k. Good (passGives a b) nodeBits (fixedBackLong fl fh n v k) (exactBackLong n x k)) n
+        (λ k i. subst₂ (Good (passGives a b) nodeBits) (sym (even-place (atU1 fl fh n v) (atP1 fl fh n v) k)) (sym (even-place (unU1 n x) (unP1 n x) k)) (good-most (omega arith) (omega arith) (even-good k i)))
+        (λ k i. subst₂ (Good (passGives a b) nodeBits) (sym (odd-place (atU1 fl fh n v) (atP1 fl fh n v) k)) (sym (odd-place (unU1 n x) (unP1 n x) k)) (good-most (omega arith) (omega arith) (odd-good k i)))
+
+  -- a single value is the even output, of which nothing is cut
+  single-even : n < 2 → (k : ℕ) → k < n → Good (even a b) nodeBits (fixedBack fl fh n v k) (exactBack n x k)
+  unfolding fixedBack exactBack even larger
+  single-even one k i =
+      subst₂ (Good (even a b) nodeBits) (sym (one-single (cut fl nodeBits) (fixedBackLong fl fh) n v k one)) (sym (one-single (λ y. y) exactBackLong n x k one))
+      (good-most (omega arith) (omega (arith, loss-none nodeBits fl (fed .few))) (single-good fl a nodeBits (v k) (x k) (lit≤ tt) (fed .lows-good k (omega arith))))
 
   -- what the pass gives on, at each place
-  pub pass-good : (k : ℕ) → k < n → Good (larger a b) nodeBits (fixedBack fl fh n v k) (exactBack n x k)
-  unfolding fixedBack exactBack
-  pass-good = by-parity (λ k. Good (larger a b) nodeBits (fixedBack fl fh n v k) (exactBack n x k)) n
-      (λ k i. subst₂ (Good (larger a b) nodeBits) (sym (even-place (atU1 fl fh n v) (atP1 fl fh n v) k)) (sym (even-place (unU1 n x) (unP1 n x) k)) (even-good k i))
-      (λ k i. subst₂ (Good (larger a b) nodeBits) (sym (odd-place (atU1 fl fh n v) (atP1 fl fh n v) k)) (sym (odd-place (unU1 n x) (unP1 n x) k)) (odd-good k i))
+  pub pass-good : (k : ℕ) → k < n → Good (passGives a b) nodeBits (fixedBack fl fh n v k) (exactBack n x k)
+  unfolding fixedBack exactBack passGives larger
+  pass-good k i = by-one _ n
+      (λ one. good-most (omega arith) (omega arith) (single-even one k i))
+      (λ works. subst₂ (Good (passGives a b) nodeBits) (sym (one-long (cut fl nodeBits) (fixedBackLong fl fh) n v k works)) (sym (one-long (λ y. y) exactBackLong n x k works)) (long-good works k i))
 
 -- ---- sizes
 
@@ -257,8 +276,11 @@ each-right : (b : Node → Bound) → T (passRight b) → (i : Node) → b i .ra
 each-right b ok i = leb→le _ _ (every-in (λ n. atMost15 (b n)) (undone-nodes i) ok)
 
 module _ {fl fh : ℕ} {a b : Bound} {n : ℕ} {v : ℕ → ℤ} {x : ℕ → Frac} (fed : Fed fl fh a b n v x) (right : T (passRight (boundAt a b))) where
-  node-small : (i : Node) (k : ℕ) → k < countAt n i → natAbs (leftAt fl fh n v i k) ≤ limit
-  node-small i k h = small (boundAt a b i) _ _ (each-right (boundAt a b) right i) (node-good fed i k h)
-
   pub pass-small : Small fl fh n v
-  pass-small = record { g1 = node-small G1; g2 = node-small G2; u2 = node-small U2; p2 = node-small P2; u1 = node-small U1; p1 = node-small P1 }
+  unfolding boundAt
+  pass-small =
+      let node : Liftable n → (i : Node) (k : ℕ) → k < countAt n i → natAbs (leftAt fl fh n v i k) ≤ limit = λ works i k h. small (boundAt a b i) _ _ (each-right (boundAt a b) right i) (node-good fed works i k h) in
+      record {
+        long = λ works. record { g1 = node works G1; g2 = node works G2; u2 = node works U2; p2 = node works P2; u1 = node works U1; p1 = node works P1 };
+        single = λ one k h. small (even a b) _ _ (each-right (boundAt a b) right U1) (single-even fed one k h);
+      }

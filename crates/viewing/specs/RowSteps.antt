@@ -7,7 +7,6 @@ use native.Mathlib.Nat.{mul-le-mul-right, mul-comm}
 use lib.IntN.{ℤ, pos, natAbs}
 use lib.ListN.{length, getD}
 use Rattle.numbers.specs.Lists.{over}
-use Rattle.lines.specs.Lines.{Liftable}
 use Rattle.lines.specs.Planes.{Plane, rowByRow}
 use Rattle.lifting.specs.Patch.{at, patch, patch-in, patch-above, patch-is}
 use Rattle.lifting.specs.PatchLines.{lineAt, patchLines, lines-apart, lines-out, lines-in, lines-more, packed-lines}
@@ -42,7 +41,6 @@ pub record RowsReady (B : ℕ) (work : List ℤ) (pixels line w h : ℕ) : Type 
   pub part : Part work w 0 w h
   pub room : w * h ≤ pixels
   pub across : w + 6 ≤ line
-  pub wide : Liftable w
   pub safe : (r : ℕ) → r < h → Safe nodeBits nodeBits w (rowOf w 0 (at work) r)
 
 -- r rows are shown, and cleared
@@ -66,7 +64,6 @@ module _ {B : ℕ} {work : List ℤ} {pixels line w h : ℕ} (ready : RowsReady 
     row = record {
       held = omega (arith, ready .part .fits r more);
       room = omega (arith, ready .across);
-      two = ready .wide;
       short = omega (arith, ready .part .wide);
       safe = subst (Safe nodeBits nodeBits w) (sym next-row) (ready .safe r more);
     };

@@ -13,7 +13,7 @@ use lib.Signed.{_≤ℤ_, _<ℤ_}
 use Rattle.numbers.specs.Dif.{by-dif, difs, plus}
 use Rattle.numbers.specs.Floor.{floor-≤, floor-<}
 use Rattle.lines.specs.Planes.{Plane}
-use Rattle.lines.specs.PlaneLaws.{Agree, roomy}
+use Rattle.lines.specs.PlaneLaws.{Agree}
 use Rattle.exact.specs.Fractions.{_⊕_, neg}
 use Rattle.exact.specs.FracLaws.{≈-refl, ⊕-cong, neg-cong, within-≈, within-most}
 use Rattle.exact.specs.Picture.{exactSample, exactPlane}
@@ -43,9 +43,7 @@ module _ (t : WidthTable) (pixels : List ℕ) (w h : ℕ) (ok : Viewable t) (pic
       let P = view-promise t ok in
       let some = form-levels t (P .form) .0 in
       record {
-        some = some;
-        wide = roomy (t .levels) w (picture .width .0);
-        tall = roomy (t .levels) h (picture .height .0);
+        form = P .form;
         good = λ r c i j.
             let k = keptNode (t .levels) w h r c in
             let K = kept-everywhere (t .levels) w h r c some i j in
@@ -59,7 +57,7 @@ module _ (t : WidthTable) (pixels : List ℕ) (w h : ℕ) (ok : Viewable t) (pic
   pub scan-near : (r c : ℕ) → r < h → c < w → Close (viewPlane t w h p r c) (exactSample pixels (t .depth) w r c) (viewDistance t)
   unfolding viewDistance
   scan-near r c i j =
-      within-≈ (⊕-cong (≈-refl _) (neg-cong (picture-undone pixels (t .depth) (t .levels) w h (scan-good .wide) (scan-good .tall) r c)))
+      within-≈ (⊕-cong (≈-refl _) (neg-cong (picture-undone pixels (t .depth) (t .levels) w h r c)))
       (view-good t stepsAllowed w h scan-good r c i j .error)
 
 pub scan-to-view : ScanToView

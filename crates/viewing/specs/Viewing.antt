@@ -15,7 +15,7 @@ use Rattle.refusals.specs.Answers.{passed, asks}
 use Rattle.refusals.specs.AnswerLaws.{asks-done, then-done}
 use Rattle.lines.specs.Lines.{lows}
 use Rattle.lines.specs.Planes.{Plane, side, rows, columns, columnsFirst, levelsBack}
-use Rattle.lines.specs.PlaneLaws.{columns-first-in, columns-first-keeps, Roomy, roomy}
+use Rattle.lines.specs.PlaneLaws.{columns-first-in, columns-first-keeps}
 use Rattle.exact.specs.Fractions.{Frac}
 use Rattle.exact.specs.FracLaws.{≈-sym, ⊕-neg, within-≈, within-zero}
 use Rattle.exact.specs.Inverse.{exactBack, exactInverse}
@@ -24,9 +24,9 @@ use Rattle.stages.specs.Rule.{Bound}
 use Rattle.stages.specs.Sound.{Q, Good}
 use Rattle.width_table.specs.Nodes.{G1, Pass, Rows, LowColumns, HighColumns, TableNode, columnPass}
 use Rattle.width_table.specs.declared.WidthTable.{WidthTable}
-use Rattle.width_table.specs.Table.{integerBits, fractionBits}
+use Rattle.width_table.specs.Table.{integerBits, fractionBits, formRight}
 use Rattle.width_table.specs.Limits.{form-levels, form-widths}
-use Rattle.precision.specs.Verdict.{verdict, Accepted, AcceptPromise}
+use Rattle.precision.specs.Verdict.{verdict, keptAt, Accepted, AcceptPromise}
 use Rattle.precision.specs.Promise.{promise}
 use Rattle.unlifting.specs.Fixed.{nodeBits}
 use Rattle.view_precision.specs.Bounds.{stored, startBound, passBound, passRight, levelGives, givesFrom, pixelBound, nodesRight, viewable, viewVerdict}
@@ -64,11 +64,9 @@ below-side (suc k) n x j = below-side k n x (omega arith)
 abbrev pub GoodFor : WidthTable → ℕ → TableNode → ℤ → Frac → Type 0
 GoodFor t steps n v x = Good (stored t steps (n .level) (n .pass) (n .node)) (fractionBits t (n .level) (n .pass) (n .node)) v x
 
--- A plane of admitted sides of which each coefficient is good for its kept node.
+-- A plane of which each coefficient is good for its kept node, under a table of right form.
 pub record GoodPlane (t : WidthTable) (steps w h : ℕ) (p : Plane ℤ) (q : Plane Frac) : Type 0 where
-  pub some : 0 < t .levels
-  pub wide : Roomy (t .levels) w
-  pub tall : Roomy (t .levels) h
+  pub form : T (formRight t)
   pub good : (r c : ℕ) → r < h → c < w → GoodFor t steps (keptNode (t .levels) w h r c) (p r c) (q r c)
 
 module _ (t : WidthTable) (steps w h : ℕ) where
@@ -97,14 +95,21 @@ module _ (t : WidthTable) (steps w h : ℕ) where
   abbrev backX : ℕ → Plane Frac → Plane Frac
   backX k q = columnsFirst exactBack (λ low. exactBack) (side k w) (side k h) q
 
-  module _ (wide : Roomy (t .levels) w) (tall : Roomy (t .levels) h) where
+  -- no level takes more bits than those of a node
+  entering-few : T (formRight t) → (l : ℕ) → 1 ≤ l → l ≤ t .levels → (s : Pass) → enteringBits t l s G1 ≤ nodeBits
+  entering-few form l a b s = go (keptAt (t .levels) l s G1)
+    where
+      go : (q : Bool) → elim q [ true ↦ fractionBits t l s G1 | false ↦ nodeBits ] ≤ nodeBits
+      go true = form-widths t form l a b s G1 .2
+      go false = omega arith
+
+  module _ (form : T (formRight t)) where
     module _ (k : ℕ) (i : k < t .levels) (b : Bound) (p : Plane ℤ) (q : Plane Frac) (s : Before (suc k) b p q) where
       -- what level k + 1 takes
       takes : Takes t steps (suc k) b (side k w) (side k h) p q
       unfolding side
       takes = record {
-        wide = wide k i;
-        tall = tall k i;
+        few = entering-few form (suc k) (omega arith) i;
         ll = λ r c x y. s .inside r c (x, y);
         lh = λ r c x y. place (lows (side k h) + r) c (omega arith) (omega arith) (λ z. absurd (omega arith)) (kept-LH w h (lows (side k h) + r) c (t .levels) k i (omega arith) (omega arith) y);
         hl = λ r c x y z. place r c (omega arith) z (λ u. absurd (omega arith)) (kept-HL w h r c (t .levels) k i x y z);
@@ -146,28 +151,28 @@ module _ (t : WidthTable) (steps w h : ℕ) where
       next : Before k (levelGives t steps (suc k) b) (backV k p) (backX k q)
       next = record { inside = inside-next; outside = outside-next }
 
-    after : (k : ℕ) → k ≤ t .levels → 0 < t .levels → (b : Bound) (p : Plane ℤ) (q : Plane Frac) → Before k b p q → (r c : ℕ) → r < h → c < w → Good (givesFrom t steps k b) nodeBits (viewFrom t k w h p r c) (exactInverse k w h q r c)
+    after : (k : ℕ) → k ≤ t .levels → (b : Bound) (p : Plane ℤ) (q : Plane Frac) → Before k b p q → (r c : ℕ) → r < h → c < w → Good (givesFrom t steps k b) nodeBits (viewFrom t k w h p r c) (exactInverse k w h q r c)
     unfolding viewFrom exactInverse levelsBack givesFrom side
-    after zero i some b p q s r c x y = subst (λ (f : ℕ). Good b f (p r c) (q r c)) (inner-bits 0 some) (s .inside r c (x, y))
-    after (suc k) i some b p q s r c x y = after k (omega arith) some (levelGives t steps (suc k) b) (backV k p) (backX k q) (next k i b p q s) r c x y
+    after zero i b p q s r c x y = subst (λ (f : ℕ). Good b f (p r c) (q r c)) (inner-bits 0 (form-levels t form .0)) (s .inside r c (x, y))
+    after (suc k) i b p q s r c x y = after k (omega arith) (levelGives t steps (suc k) b) (backV k p) (backX k q) (next k i b p q s) r c x y
 
   module _ {p : Plane ℤ} {q : Plane Frac} (g : GoodPlane t steps w h p q) where
     start : Before (t .levels) (startBound t steps) p q
     start = record {
       inside = λ r c j.
           subst (λ (f : ℕ). Good (startBound t steps) f (p r c) (q r c)) (sym last-bits)
-          (subst (λ (n : TableNode). GoodFor t steps n (p r c) (q r c)) (kept-LL w h r c (t .levels) (g .some) (j .0) (j .1)) (g .good r c (below-side (t .levels) h r (j .0)) (below-side (t .levels) w c (j .1))));
+          (subst (λ (n : TableNode). GoodFor t steps n (p r c) (q r c)) (kept-LL w h r c (t .levels) (form-levels t (g .form) .0) (j .0) (j .1)) (g .good r c (below-side (t .levels) h r (j .0)) (below-side (t .levels) w c (j .1))));
       outside = λ r c x y n. g .good r c x y;
     }
 
     -- Where each coefficient is good for its kept node, each pixel before rounding is good for what level 1 gives.
     pub view-good : (r c : ℕ) → r < h → c < w → Good (givesFrom t steps (t .levels) (startBound t steps)) nodeBits (viewPlane t w h p r c) (exactInverse (t .levels) w h q r c)
     unfolding viewPlane
-    view-good = after (g .wide) (g .tall) (t .levels) (omega arith) (g .some) (startBound t steps) p q start
+    view-good = after (g .form) (t .levels) (omega arith) (startBound t steps) p q start
 
 -- ---- sizes, where coefficients start without error
 
-module _ (t : WidthTable) (w h : ℕ) (wide : Roomy (t .levels) w) (tall : Roomy (t .levels) h) where
+module _ (t : WidthTable) (w h : ℕ) (form : T (formRight t)) where
   each-small : (k : ℕ) → k ≤ t .levels → (b : Bound) (p : Plane ℤ) (q : Plane Frac) → Before t 0 w h k b p q → T (nodesRight t k b) → EachSmall t k w h p
   unfolding nodesRight
   each-small zero i b p q s right = tt
@@ -175,8 +180,8 @@ module _ (t : WidthTable) (w h : ℕ) (wide : Roomy (t .levels) w) (tall : Roomy
       let P = passBound t 0 (suc k) b in
       let (first, second, third, rest) = four (passRight (P LowColumns)) (passRight (P HighColumns)) (passRight (P Rows)) (nodesRight t k (levelGives t 0 (suc k) b)) right in
       let each : (s : Pass) → T (passRight (P s)) = elim [ Rows ↦ third | LowColumns ↦ first | HighColumns ↦ second ] in (
-        level-small (takes t 0 w h wide tall k i b p q s) each,
-        each-small k (omega arith) (levelGives t 0 (suc k) b) (backV t 0 w h k p) (backX t 0 w h k q) (next t 0 w h wide tall k i b p q s) rest,
+        level-small (takes t 0 w h form k i b p q s) each,
+        each-small k (omega arith) (levelGives t 0 (suc k) b) (backV t 0 w h k p) (backX t 0 w h k q) (next t 0 w h form k i b p q s) rest,
       )
 
 -- ---- stored coefficients
@@ -201,9 +206,7 @@ module _ (t : WidthTable) (w h : ℕ) (p : Plane ℤ) (ok : Viewable t) (s : Sto
   stored-good =
       let form = view-promise t ok .form in
       record {
-        some = form-levels t form .0;
-        wide = roomy (t .levels) w (s .width .0);
-        tall = roomy (t .levels) h (s .height .0);
+        form = form;
         good = λ r c x y.
             let N = keptNode (t .levels) w h r c in
             let K = kept-everywhere (t .levels) w h r c (form-levels t form .0) x y in
@@ -218,7 +221,7 @@ module _ (t : WidthTable) (w h : ℕ) (p : Plane ℤ) (ok : Viewable t) (s : Sto
   near r c x y = view-good t 0 w h stored-good r c x y .error
 
   each : EachSmall t (t .levels) w h p
-  each = each-small t w h (stored-good .wide) (stored-good .tall) (t .levels) (omega arith) (startBound t 0) p (storedPlane t w h p) (start t 0 w h stored-good) (view-right t ok .0)
+  each = each-small t w h (stored-good .form) (t .levels) (omega arith) (startBound t 0) p (storedPlane t w h p) (start t 0 w h stored-good) (view-right t ok .0)
 
 pub within-bound : WithinBound
 within-bound = near

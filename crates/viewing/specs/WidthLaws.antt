@@ -71,8 +71,8 @@ tells-fits t l p n x from W w h r look = record {
 -- a plane of admitted sides under an accepted table can be looked at
 pub record Lookable (t : WidthTable) (w h n : ℕ) : Type 0 where
   pub accepted : Accepted t
-  pub width : Admitted (t .levels) w
-  pub height : Admitted (t .levels) h
+  pub width : Admitted w
+  pub height : Admitted h
   pub room : w * h ≤ n
 
 -- HL, LH and HH

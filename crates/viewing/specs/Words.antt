@@ -9,13 +9,15 @@ use lib.Signed.{_≤ℤ_, _<ℤ_}
 use Rattle.numbers.specs.Dif.{by-dif, difs}
 use Rattle.lines.specs.Lines.{lows}
 use Rattle.lines.specs.LineLaws.{even-place, odd-place, by-parity}
+use Rattle.lines.specs.OneLaws.{one-long, by-one}
 use Rattle.lines.specs.Planes.{Plane, columns}
 use Rattle.lines.specs.PlaneLaws.{columns-first-in, columns-first-keeps, by-part}
 use Rattle.width_table.specs.Nodes.{Rows, columnPass}
 use Rattle.width_table.specs.declared.WidthTable.{WidthTable}
 use Rattle.width_table.specs.Table.{maxIntegerBits, maxFractionBits}
 use Rattle.width_table.specs.Limits.{form-levels, form-widths}
-use Rattle.unlifting.specs.Fixed.{atU1, atP1, fixedBack, Small, limit}
+use Rattle.stages.specs.Fixed.{cut}
+use Rattle.unlifting.specs.Fixed.{nodeBits, atU1, atP1, fixedBackLong, fixedBack, Small, limit}
 use Rattle.irreversible.specs.Claims.{keptNode, Holds}
 use Rattle.irreversible.specs.Subbands.{kept-everywhere}
 use Rattle.viewing.specs.View.{viewLine, viewLevel}
@@ -30,10 +32,13 @@ Bounded w h p = (r c : ℕ) → r < h → c < w → natAbs (p r c) ≤ limit
 
 -- what a pass leaves
 pub back-size : {fl fh n : ℕ} {y : ℕ → ℤ} → Small fl fh n y → (k : ℕ) → k < n → natAbs (fixedBack fl fh n y k) ≤ limit
-unfolding fixedBack
-back-size {fl} {fh} {n} {y} s = by-parity (λ k. natAbs (fixedBack fl fh n y k) ≤ limit) n
-    (λ k i. subst (λ (z : ℤ). natAbs z ≤ limit) (sym (even-place (atU1 fl fh n y) (atP1 fl fh n y) k)) (s .u1 k i))
-    (λ k i. subst (λ (z : ℤ). natAbs z ≤ limit) (sym (odd-place (atU1 fl fh n y) (atP1 fl fh n y) k)) (s .p1 k i))
+unfolding fixedBack fixedBackLong
+back-size {fl} {fh} {n} {y} s k h = by-one _ n
+    (λ one. s .single one k h)
+    (λ works. subst (λ (z : ℤ). natAbs z ≤ limit) (sym (one-long (cut fl nodeBits) (fixedBackLong fl fh) n y k works))
+    (by-parity (λ k. natAbs (fixedBackLong fl fh n y k) ≤ limit) n
+    (λ k i. subst (λ (z : ℤ). natAbs z ≤ limit) (sym (even-place (atU1 fl fh n y) (atP1 fl fh n y) k)) (s .long works .u1 k i))
+    (λ k i. subst (λ (z : ℤ). natAbs z ≤ limit) (sym (odd-place (atU1 fl fh n y) (atP1 fl fh n y) k)) (s .long works .p1 k i)) k h))
 
 module _ {t : WidthTable} {l w h : ℕ} {p : Plane ℤ} (s : LevelSmall t l w h p) where
   pub columns-bounded : Bounded w h (columns (λ c. viewLine t l (columnPass (ltb c (lows w)))) h p)

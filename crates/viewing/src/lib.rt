@@ -399,7 +399,7 @@ fn answer(
     match view_precision::judge(table) {
         Outcome::Refused(why) => Outcome::Refused(why),
         Outcome::Done => {
-            match pictures::room_right(table.levels, w, h, first, plane.len(), third) {
+            match pictures::room_right(w, h, first, plane.len(), third) {
                 Outcome::Refused(why) => Outcome::Refused(why),
                 Outcome::Done => coefficients_right(table, plane, w, h),
             }

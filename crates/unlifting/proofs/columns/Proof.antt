@@ -1,14 +1,17 @@
--- `unlifting::columns` meets its contract. The loop's invariant: the first `done` columns are undone.
+-- `unlifting::columns` meets its contract. A single line goes by itself. The loop's invariant: the first `done` columns are undone.
 -- Assumes nothing.
 use mathlib.Core.Path.{_≡_, refl, sym, ap, subst, _∙_}
 use mathlib.Core.Bool.{Bool}
 use Prim.Native.Nat.{ℕ, _+_, _*_, _-_, _≤_}
 use native.Mathlib.Omega.{arith}
+use lib.IntN.{natAbs}
 use lib.ListN.{length}
 use Rattle.lifting.specs.Patch.{at}
+use Rattle.lifting.specs.PatchLines.{lines-none, lines-to}
 use Rattle.unlifting.specs.declared.Site.{Site}
+use Rattle.unlifting.specs.Fixed.{limit}
 use Rattle.unlifting.specs.Planes.{Safe}
-use Rattle.unlifting.specs.Strips.{undone, source-as-was, undone-more, undone-none}
+use Rattle.unlifting.specs.Strips.{source, undone, Lies, source-as-was, undone-more, undone-none, undone-single}
 use Rattle.unlifting.proofs.columns.Statement.{statement}
 use Rattle.unlifting.proofs.columns.Tie as tie
 
@@ -24,22 +27,41 @@ abbrev μ-loop : tie.MeasureT-loop
 μ-loop plane work₀ state₀ line₀ w h lowbits highbits room width stride from stored done₀ work state line done = w - done
 
 -- the strip's width
-width : (c : tie.After-smaller Inv-loop μ-loop) → let a = c .before .before .before .args in (1 ≤ c .smaller .result) × (c .before .before .loop .done + c .smaller .result ≤ a .w) × (5 * c .smaller .result ≤ length (a .state .now))
+width : (c : tie.After-smaller Inv-loop μ-loop) → let a = c .before .before .before .before .before .args in (1 ≤ c .smaller .result) × (c .before .before .loop .done + c .smaller .result ≤ a .w) × (5 * c .smaller .result ≤ length (a .state .now))
 width c = (omega (arith, c .smaller .ensures), omega (arith, c .smaller .ensures), omega (arith, c .smaller .ensures))
+
+single-line-requires : tie.Need-single-line-requires Inv-loop μ-loop
+single-line-requires c κs =
+    let s = c .before .before .before in
+    let a = s .args in
+    let e : a .h ≡ 1 = omega arith in (
+      (subst (Lies _ _ (a .a) (a .w)) e (s .pre .0 .0), s .pre .0 .3),
+      λ j g. subst (λ (h : ℕ). natAbs (source (a .a) h (at (a .plane .now)) (at (a .work .now)) j 0) ≤ limit) e (s .pre .1 j g .enters 0 (omega arith)),
+    )
+
+returns-2 : tie.Need-returns-2 Inv-loop μ-loop
+returns-2 c =
+    let s = c .before .before .before .before .before in
+    let a = s .args in
+    let e : 1 ≡ a .h = omega arith in (
+      c .before .single-line .ensures ∙ undone-single (a .a) (a .lowbits) (a .highbits) (a .w) (at (a .plane .now)) (at (a .work .now))
+          ∙ ap (λ (h : ℕ). undone (a .a) (a .lowbits) (a .highbits) (a .w) h (at (a .plane .now)) (at (a .work .now))) e,
+      (refl, refl),
+    )
 
 undo-strip-requires : tie.Need-undo-strip-requires Inv-loop μ-loop
 undo-strip-requires c κs =
     let m = c .before .before .before in
     let l = m .before .before in
     let t = l .loop in
-    let s = l .before in
+    let s = l .before .before .before in
     let a = s .args in
     let q = s .pre .0 .0 in
     let z = width m in
     record {
       placed = record {
+        two = record { least = omega arith };
         lies = record {
-          two = q .two;
           few = q .few;
           narrow = omega (arith, q .narrow);
           inPlane = λ k h. omega (arith, q .inPlane k h);
@@ -63,7 +85,7 @@ loop-again c =
     let m = f .before .before .before .before in
     let l = m .before .before in
     let t = l .loop in
-    let s = l .before in
+    let s = l .before .before .before in
     let a = s .args in
     let z = width m in (
       omega arith,
@@ -73,10 +95,10 @@ loop-again c =
       undone-more (a .a) (a .lowbits) (a .highbits) (t .done) (m .smaller .result) (a .h) (omega (arith, s .pre .0 .0 .narrow)) (at (a .plane .now)) (at (a .work .now)) _ (t .inv .4) _ (f .undo-strip .ensures),
     )
 
-returns : tie.Need-returns Inv-loop μ-loop
-returns c =
+returns-3 : tie.Need-returns-3 Inv-loop μ-loop
+returns-3 c =
     let t = c .before .loop in
-    let a = c .before .before .args in
+    let a = c .before .before .before .before .args in
     let e : t .done ≡ a .w = omega arith in
     (t .inv .4 ∙ ap (λ (w : ℕ). undone (a .a) (a .lowbits) (a .highbits) w (a .h) (at (a .plane .now)) (at (a .work .now))) e, (t .inv .2, t .inv .3))
 
@@ -86,10 +108,14 @@ columns-spec =
     (tie.spec
     Inv-loop
     μ-loop
+    (λ c. (lines-to _ _ 0 _ _ _ _ (lines-none _ _ _ _) (omega arith), (refl, refl)))
+    single-line-requires
+    (λ c. omega arith)
+    returns-2
     (λ c. (omega arith, refl, refl, refl, undone-none _ _ _ _ _ _))
     (λ c. omega arith)
     (λ c κs. tt)
-    (λ c. omega (arith, c .before .before .before .pre .0 .0 .narrow))
+    (λ c. omega (arith, c .before .before .before .before .before .pre .0 .0 .narrow))
     undo-strip-requires
     (λ c. omega (arith, width (c .before .before .before .before .before .before .before)))
     (λ c. omega (arith, width (c .before .before .before .before .before .before .before)))
@@ -97,4 +123,4 @@ columns-spec =
     (λ c. omega (arith, c .before .loop .inv .1))
     (λ c. omega (arith, c .before .loop .inv .2))
     (λ c. omega (arith, c .before .loop .inv .3))
-    returns)
+    returns-3)

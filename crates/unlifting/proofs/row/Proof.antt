@@ -1,32 +1,45 @@
--- `unlifting::row` meets its contract: its first two turns, those away from its ends, and the others.
+-- `unlifting::row` meets its contract: a single value, or the first two turns, those away from the row's ends, and the others.
 -- Assumes nothing.
 use native.Mathlib.Omega.{arith}
-use Rattle.unlifting.specs.Rows.{turns-first, turns-inner, turns-last, row-undone}
+use Rattle.lines.specs.Lines.{Liftable}
+use Rattle.unlifting.specs.Rows.{turns-first, turns-inner, turns-last, row-undone, row-single}
 use Rattle.unlifting.proofs.row.Statement.{statement}
 use Rattle.unlifting.proofs.row.Tie as tie
 
+-- two values or more
+long : (c : tie.Else1) → Liftable (c .before .args .w)
+long c = record { least = omega arith }
+
 row-turns-requires : tie.Need-row-turns-requires
-row-turns-requires c κs = turns-first (c .before .pre) _ (omega arith) _
+row-turns-requires c κs = turns-first (c .before .before .pre) (long (c .before)) _ (omega arith) _
 
 row-turns-requires-2 : tie.Need-row-turns-requires-2
 row-turns-requires-2 c κs =
     let g = c .before in
     let t = g .before .before in
-    turns-inner (t .before .before .pre) _ (omega arith) _ _ (g .larger .ensures) (t .row-turns .ensures)
+    turns-inner (t .before .before .before .pre) (long (t .before .before)) _ (omega arith) _ _ (g .larger .ensures) (t .row-turns .ensures)
 
 row-turns-requires-3 : tie.Need-row-turns-requires-3
 row-turns-requires-3 c κs =
     let t = c .before .before in
     let g = t .before .before in
-    turns-last (g .before .before .before .before .pre) _ (omega arith) _ _ (g .larger .ensures) (t .row-turns2 .ensures)
+    turns-last (g .before .before .before .before .before .pre) (long (g .before .before .before .before)) _ (omega arith) _ _ (g .larger .ensures) (t .row-turns2 .ensures)
 
 returns : tie.Need-returns
-returns c = (row-undone (c .before .row-turns3 .ensures), omega arith)
+returns c =
+    let s = c .before .before .before .before in
+    (row-single (s .args .work .now) (s .args .from) (s .args .w) _ _ (omega arith) (c .before .copy-run .ensures), omega arith)
+
+returns-2 : tie.Need-returns-2
+returns-2 c = (row-undone (c .before .row-turns3 .ensures) (long (c .before .before .before .before .before .before .before .before .before .before)), omega arith)
 
 pub row-spec : {M : Type 1} → statement M
 row-spec =
     tie.close
     (tie.spec
+    (λ c κs. (omega arith, omega arith))
+    (λ c. omega arith)
+    returns
     row-turns-requires
     (λ c κs. tt)
     row-turns-requires-2
@@ -34,4 +47,4 @@ row-spec =
     (λ c. omega arith)
     row-turns-requires-3
     (λ c. omega arith)
-    returns)
+    returns-2)

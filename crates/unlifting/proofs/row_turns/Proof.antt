@@ -30,13 +30,13 @@ scaled-requires : tie.Need-scaled-requires Inv-loop μ-loop
 scaled-requires c κs =
     let p2 = c .before in
     let p1 = p2 .before in
-    (low-small (p1 .before .before .before .pre .ready) (p1 .before .before .loop .i) (p1 .place .result) (p2 .place2 .result) (p1 .place .ensures) (p2 .place2 .ensures), lit≤ tt, lit< tt)
+    (low-small (p1 .before .before .before .pre .ready) (p1 .before .before .before .pre .two) (p1 .before .before .loop .i) (p1 .place .result) (p2 .place2 .result) (p1 .place .ensures) (p2 .place2 .ensures), lit≤ tt, lit< tt)
 
 scaled-requires-2 : tie.Need-scaled-requires-2 Inv-loop μ-loop
 scaled-requires-2 c κs =
     let p2 = c .before .before .before in
     let p1 = p2 .before in
-    (high-small (p1 .before .before .before .pre .ready) (p1 .before .before .loop .i) (p1 .place .result) (p2 .place2 .result) (p1 .place .ensures) (p2 .place2 .ensures), lit≤ tt, lit< tt)
+    (high-small (p1 .before .before .before .pre .ready) (p1 .before .before .before .pre .two) (p1 .before .before .loop .i) (p1 .place .result) (p2 .place2 .result) (p1 .place .ensures) (p2 .place2 .ensures), lit≤ tt, lit< tt)
 
 -- turn i is ready
 ready : (c : tie.After-scaled2 Inv-loop μ-loop) → let l = c .before .before .before .before .before .before .before in let a = l .before .args in
@@ -46,7 +46,7 @@ ready c =
     let p2 = s1 .before .before in
     let p1 = p2 .before in
     let l = p1 .before .before in
-    turn-ready (l .before .pre .ready) (l .loop .i) (p1 .place .result) (p2 .place2 .result) (p1 .place .ensures) (p2 .place2 .ensures)
+    turn-ready (l .before .pre .ready) (l .before .pre .two) (l .loop .i) (p1 .place .result) (p2 .place2 .result) (p1 .place .ensures) (p2 .place2 .ensures)
     (l .loop .t) (s1 .scaled .result) (c .scaled2 .result) (omega arith) (l .loop .inv .3) (s1 .scaled .ensures) (c .scaled2 .ensures)
 
 turned-requires : tie.Need-turned-requires Inv-loop μ-loop

@@ -1,4 +1,4 @@
--- `unlifting::rows` meets its contract. The loop's invariant: the first r rows are done.
+-- `unlifting::rows` meets its contract. A single value stays. The loop's invariant: the first r rows are done.
 -- Assumes nothing.
 use mathlib.Core.Path.{_≡_, refl, sym, subst, _∙_}
 use Prim.Native.Nat.{_*_, _-_, _≤_}
@@ -9,6 +9,7 @@ use Rattle.lifting.specs.PatchLines.{lines-none, lines-to}
 use Rattle.lifting.specs.Strips.{row-kept, row-next}
 use Rattle.unlifting.specs.Fixed.{nodeBits, fixedBack}
 use Rattle.unlifting.specs.Planes.{Safe, rowsBack}
+use Rattle.unlifting.specs.Rows.{rows-single}
 use Rattle.unlifting.proofs.rows.Statement.{statement}
 use Rattle.unlifting.proofs.rows.Tie as tie
 
@@ -23,12 +24,11 @@ row-requires : tie.Need-row-requires Inv-loop μ-loop
 row-requires c κs =
     let i = c .before .before in
     let t = i .before in
-    let a = t .before in
+    let a = t .before .before in
     let part = a .pre .0 .0 in
     let there = part .fits (t .loop .r) (i .loop-test .taken) in record {
       held = omega arith;
       room = omega arith;
-      two = a .pre .0 .1;
       short = omega (arith, part .narrow, part .wide);
       safe = subst (Safe nodeBits nodeBits (a .args .w)) (sym (row-kept (a .args .stride) (a .args .w) (t .loop .r) (t .loop .r * a .args .stride) (omega (arith, part .narrow)) _ _ _ (t .loop .inv .3) (omega arith))) (a .pre .1 (t .loop .r) (i .loop-test .taken));
     }
@@ -36,14 +36,14 @@ row-requires c κs =
 copy-run-requires : tie.Need-copy-run-requires Inv-loop μ-loop
 copy-run-requires c κs =
     let i = c .before .before .before .before .before .before in
-    let there = i .before .before .pre .0 .0 .fits (i .before .loop .r) (i .loop-test .taken) in
+    let there = i .before .before .before .pre .0 .0 .fits (i .before .loop .r) (i .loop-test .taken) in
     (omega arith, omega arith)
 
 loop-again : tie.Need-loop-again Inv-loop μ-loop
 loop-again c =
     let n = c .before .before .before .before .before in
     let t = n .before .before .before .before in
-    let a = t .before in (
+    let a = t .before .before in (
       omega arith,
       omega arith,
       omega arith,
@@ -51,8 +51,8 @@ loop-again c =
           (c .before .copy-run .ensures ∙ patch-ext _ _ _ _ _ (n .row .ensures .0)),
     )
 
-returns : tie.Need-returns Inv-loop μ-loop
-returns c = (lines-to _ _ _ _ _ _ _ (c .before .loop .inv .3) (omega arith), c .before .loop .inv .2)
+returns-2 : tie.Need-returns-2 Inv-loop μ-loop
+returns-2 c = (lines-to _ _ _ _ _ _ _ (c .before .loop .inv .3) (omega arith), c .before .loop .inv .2)
 
 pub rows-spec : {M : Type 1} → statement M
 rows-spec =
@@ -60,14 +60,15 @@ rows-spec =
     (tie.spec
     Inv-loop
     μ-loop
+    (λ c. (rows-single _ _ _ _ (omega arith) (omega (arith, c .before .pre .0 .0 .narrow)), refl))
     (λ c. (omega arith, refl, refl, lines-none _ _ _ _))
-    (λ c. omega (arith, c .before .before .before .before .pre .0 .0 .fits (c .before .before .before .loop .r) (c .before .before .loop-test .taken)))
+    (λ c. omega (arith, c .before .before .before .before .before .pre .0 .0 .fits (c .before .before .before .loop .r) (c .before .before .loop-test .taken)))
     row-requires
-    (λ c. omega (arith, c .before .before .before .before .before .before .before .before .pre .0 .0 .fits (c .before .before .before .before .before .before .before .loop .r) (c .before .before .before .before .before .before .loop-test .taken)))
+    (λ c. omega (arith, c .before .before .before .before .before .before .before .before .before .pre .0 .0 .fits (c .before .before .before .before .before .before .before .loop .r) (c .before .before .before .before .before .before .loop-test .taken)))
     copy-run-requires
     (λ c. omega arith)
     (λ c. omega arith)
     loop-again
     (λ c. omega arith)
     (λ c. omega arith)
-    returns)
+    returns-2)

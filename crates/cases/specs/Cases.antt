@@ -5,13 +5,13 @@ use mathlib.Core.Path.{_≡_, refl}
 use lib.IntN.{ℤ, pos, negsuc}
 use lib.ListN.{getD, length}
 use Rattle.lines.specs.Lines.{lowAfter, highBefore, highAfter, onHighs, onLows, lowsFirst}
-use Rattle.lines.specs.Planes.{tabulate}
+use Rattle.lines.specs.Planes.{fromOne, tabulate}
 use Rattle.exact.specs.Fractions.{_⊕_, _⊗_, whole, magnitude, upDiv, wholesOf}
 use Rattle.exact.specs.Exact.{alpha, lift}
 use Rattle.stages.specs.Stages as S
 use Rattle.stages.specs.Stages.{forward, made}
 use Rattle.stages.specs.Gains.{samples, node, held, sumTo, inputAnswer, nodeAnswer, sumFrom, exactGain, gain}
-use Rattle.reversible.specs.Reversible.{predict, update, high, low, reversiblePass}
+use Rattle.reversible.specs.Reversible.{predict, update, high, low, reversibleLong, reversiblePass}
 use Rattle.stages.specs.Fixed.{step, cut, nearest}
 use Rattle.listing.specs.Listing.{copyText}
 use Rattle.listing.specs.Cases.{document}
@@ -44,5 +44,5 @@ pub record Table : Type 0 where
   pub gains : gain forward S.high 1 samples ∷ gain forward S.low 2 (node 0) ∷ gain forward S.low 5 (node 3) ∷ [] ≡ 273434 ∷ 6945 ∷ 75341 ∷ []
 
 pub table : Table
-unfolding reversiblePass low high onHighs onLows lowAfter highBefore highAfter lowsFirst predict update tabulate step cut nearest gain exactGain sumFrom sumTo inputAnswer nodeAnswer held made wholesOf upDiv lift _⊕_ _⊗_ whole magnitude
+unfolding reversiblePass reversibleLong fromOne low high onHighs onLows lowAfter highBefore highAfter lowsFirst predict update tabulate step cut nearest gain exactGain sumFrom sumTo inputAnswer nodeAnswer held made wholesOf upDiv lift _⊕_ _⊗_ whole magnitude
 table = record { passes = refl; alpha-one = refl; stage-0 = refl; stage-2 = refl; stage-down = refl; listing = document; gains = refl }

@@ -46,9 +46,9 @@ module _ (bytes : List ℕ) where
       let e = count f in
       let z = f .few in
       then-right (limited (copyDepth bytes) (copyLevels bytes)) _ (asks-right (depthRight (copyDepth bytes) && levelsRight (copyLevels bytes)) _ _ (f .limited))
-      ∙ sized-then (copyLevels bytes) (copyWidth bytes) (copyHeight bytes) (length (copyPixels bytes)) (length plane) (length work) _
-      ∙ then-right (sized (copyLevels bytes) (copyWidth bytes) (copyHeight bytes) (length (copyPixels bytes)) (length plane) (length work)) _
-      (sized-right _ _ _ _ _ _ (record { wide = f .wide; tall = f .tall; first = omega arith; second = omega arith; third = omega arith }))
+      ∙ sized-then (copyWidth bytes) (copyHeight bytes) (length (copyPixels bytes)) (length plane) (length work) _
+      ∙ then-right (sized (copyWidth bytes) (copyHeight bytes) (length (copyPixels bytes)) (length plane) (length work)) _
+      (sized-right _ _ _ _ _ (record { wide = f .wide; tall = f .tall; first = omega arith; second = omega arith; third = omega arith }))
 
   -- ---- the text of each answer
 
@@ -91,7 +91,7 @@ module _ (bytes : List ℕ) (head : Head) (is : head ≡ headIn bytes) (right : 
 
   -- the sizes that the code counts with
   pub area : (head .w * head .h ≡ copySize bytes) × (copySize bytes ≤ maxPixels) × (length bytes ≡ headBytes + 2 * copySize bytes) × (1 ≤ head .w)
-  area = (ap (λ (t : Head). t .w * t .h) is, formed .few, formed .exact, subst (λ (t : Head). 1 ≤ t .w) (sym is) (omega (arith, formed .wide .0)))
+  area = (ap (λ (t : Head). t .w * t .h) is, formed .few, formed .exact, subst (λ (t : Head). 1 ≤ t .w) (sym is) (formed .wide .0))
 
   module _ (old after : List ℕ) (plane work : List ℤ) (o : Answer Unit) (read : after ≡ over (copyPixels bytes) old)
       (answer : o ≡ forwardAnswer (head .depth) (head .levels) (head .w) (head .h) (take (head .w * head .h) after) plane work)
@@ -112,7 +112,7 @@ module _ (bytes : List ℕ) (head : Head) (is : head ≡ headIn bytes) (right : 
         let written = e ∙ (λ i. forwardPlane columnsThenRows (is i .depth) (is i .levels) (is i .w) (is i .h) (same-pixels i) plane work)
         ∙ plane-written _ _ _ _ _ _ _ (forward-judges bytes plane work formed for-plane for-work ∙ v) in
         (λ i. headText (is i) ++ rowLines (is i .w) (planeOf (is i .w) new) 0 (is i .h))
-        ∙ ap (λ (t : List ℕ). headText (headIn bytes) ++ t) (rows-written (copyWidth bytes) (copyHeight bytes) _ new plane (omega (arith, formed .wide .0)) written)
+        ∙ ap (λ (t : List ℕ). headText (headIn bytes) ++ t) (rows-written (copyWidth bytes) (copyHeight bytes) _ new plane (formed .wide .0) written)
         ∙ sym (text-done bytes right v)
 
 -- ---- what is written

@@ -58,12 +58,12 @@ abbrev limits : List ℕ → Bool
 limits bytes = depthRight (copyDepth bytes) && levelsRight (copyLevels bytes)
 
 abbrev sizes : List ℕ → Answer Unit
-sizes bytes = sided (copyLevels bytes) (copyWidth bytes) (copyHeight bytes) then holds (copySize bytes) maxPixels
+sizes bytes = sided (copyWidth bytes) (copyHeight bytes) then holds (copySize bytes) maxPixels
 
-pub sizes-done : (bytes : List ℕ) → sizes bytes ≡ passed → Admitted (copyLevels bytes) (copyWidth bytes) × Admitted (copyLevels bytes) (copyHeight bytes) × (copySize bytes ≤ maxPixels)
+pub sizes-done : (bytes : List ℕ) → sizes bytes ≡ passed → Admitted (copyWidth bytes) × Admitted (copyHeight bytes) × (copySize bytes ≤ maxPixels)
 sizes-done bytes e =
-    let s = then-done (sided (copyLevels bytes) (copyWidth bytes) (copyHeight bytes)) _ e in
-    let d = sided-done _ _ _ (s .0) in
+    let s = then-done (sided (copyWidth bytes) (copyHeight bytes)) _ e in
+    let d = sided-done _ _ (s .0) in
     (d .0, d .1, holds-done _ _ (s .1))
 
 -- what is left when the sizes are right
@@ -74,7 +74,7 @@ module _ (bytes : List ℕ) where
   in-parts : copyForm bytes ≡ asks (leb headBytes (length bytes)) 1 (asks (limits bytes) 4 (sizes bytes then body bytes))
   unfolding copyForm sided holds
   in-parts = ap (λ (o : Answer Unit). asks (leb headBytes (length bytes)) 1 (asks (limits bytes) 4 o))
-      (apart (sideRight (copyLevels bytes) (copyWidth bytes) && sideRight (copyLevels bytes) (copyHeight bytes)) (leb (copySize bytes) maxPixels) (body bytes))
+      (apart (sideRight (copyWidth bytes) && sideRight (copyHeight bytes)) (leb (copySize bytes) maxPixels) (body bytes))
 
   pub form-short : length bytes < headBytes → copyForm bytes ≡ refused (1, [])
   form-short h = in-parts ∙ ap (λ (t : Bool). asks t 1 (asks (limits bytes) 4 (sizes bytes then body bytes))) (lt-leb headBytes (length bytes) h)
@@ -109,8 +109,8 @@ module _ (bytes : List ℕ) where
 -- what a right form says
 pub record Formed (bytes : List ℕ) : Type 0 where
   pub limited : T (limits bytes)
-  pub wide : Admitted (copyLevels bytes) (copyWidth bytes)
-  pub tall : Admitted (copyLevels bytes) (copyHeight bytes)
+  pub wide : Admitted (copyWidth bytes)
+  pub tall : Admitted (copyHeight bytes)
   pub few : copySize bytes ≤ maxPixels
   pub exact : length bytes ≡ headBytes + 2 * copySize bytes
 
@@ -157,7 +157,7 @@ pub why-same : (bytes : List ℕ) (n : ℕ) → headBytes ≤ n → whyLong (tak
 why-same bytes n h = λ i. refusalOf (depthRight (same 0 (omega arith) i) && levelsRight (same 1 (omega arith) i))
     (let w = same 2 (omega arith) i * 256 + same 3 (omega arith) i in
     let h = same 4 (omega arith) i * 256 + same 5 (omega arith) i in
-    sided (same 1 (omega arith) i) w h then holds (w * h) maxPixels)
+    sided w h then holds (w * h) maxPixels)
   where
     same : (k : ℕ) → k < headBytes → getD (take n bytes) k 0 ≡ getD bytes k 0
     same k g = getD-take n bytes k 0 (omega arith)

@@ -113,7 +113,7 @@ module _ (bytes : List ℕ) where
   copyForm =
       asks (leb headBytes (length bytes)) 1
       (asks (depthRight copyDepth && levelsRight copyLevels) 4
-      (asks (sideRight copyLevels copyWidth && sideRight copyLevels copyHeight) 8
+      (asks (sideRight copyWidth && sideRight copyHeight) 8
       (asks (leb copySize maxPixels) 9
       (asks (leb (2 * copySize) (length bytes - headBytes)) 1
       (asks (leb (length bytes - headBytes) (2 * copySize)) 5

@@ -175,10 +175,10 @@ fn head_of(bytes: &[u8]) -> Head
 }
 
 // Refusals 8 and 9: admitted sides, and no more pixels than there is memory for.
-fn size_right(levels: u8, w: usize, h: usize) -> Outcome
-    ensures { λ r. ⌜ told r ≡ sided levels w h then holds (w * h) maxPixels ⌝ }
+fn size_right(w: usize, h: usize) -> Outcome
+    ensures { λ r. ⌜ told r ≡ sided w h then holds (w * h) maxPixels ⌝ }
 {
-    match sides_right(levels, w, h) {
+    match sides_right(w, h) {
         Outcome::Refused(why) => Outcome::Refused(why),
         Outcome::Done => slice_holds(w * h, MAX_PIXELS),
     }
@@ -197,7 +197,7 @@ fn form_of(bytes: &[u8]) -> Outcome
     }
     let w = head.w as usize;
     let h = head.h as usize;
-    match size_right(head.levels, w, h) {
+    match size_right(w, h) {
         Outcome::Refused(why) => Outcome::Refused(why),
         Outcome::Done => {
             let body = bytes.len() - HEAD;

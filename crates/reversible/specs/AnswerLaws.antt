@@ -2,7 +2,7 @@
 use mathlib.Core.List.{List, []}
 use lib.IntN.{ℤ}
 use lib.ListN.{length}
-use Prim.Native.Nat.{ℕ, _*_, _-_, _≤_}
+use Prim.Native.Nat.{ℕ, _*_}
 use mathlib.Core.Bool.{Bool, true, false, not, _&&_}
 use mathlib.Core.Path.{_≡_, sym, _∙_, ap, subst}
 use lib.Dec.{T}
@@ -29,17 +29,17 @@ module _ (B L : ℕ) (o : Answer Unit) where
 
 -- ---- a call that is allowed
 
-pub allowed-room : (B L w h a b c : ℕ) → limited B L then sized L w h a b c ≡ passed → CallRoom B L w h a b c
+pub allowed-room : (B L w h a b c : ℕ) → limited B L then sized w h a b c ≡ passed → CallRoom B L w h a b c
 allowed-room B L w h a b c e =
-    let (d, s) = then-done (limited B L) (sized L w h a b c) e in
+    let (d, s) = then-done (limited B L) (sized w h a b c) e in
     let (x, y) = both (depthRight B) (levelsRight L) (asks-done (depthRight B && levelsRight L) (4, []) passed d .0) in
-    record { depth = between-≤ 1 maxDepth B x; some = between-≤ 1 maxLevels L y .0; few = between-≤ 1 maxLevels L y .1; room = sized-done L w h a b c s }
+    record { depth = between-≤ 1 maxDepth B x; some = between-≤ 1 maxLevels L y .0; few = between-≤ 1 maxLevels L y .1; room = sized-done w h a b c s }
 
 -- ---- forward
 
 module _ (B L w h : ℕ) (pixels : List ℕ) (plane work : List ℤ) where
   abbrev allowed : Answer Unit
-  allowed = limited B L then sized L w h (length pixels) (length plane) (length work)
+  allowed = limited B L then sized w h (length pixels) (length plane) (length work)
 
   -- the call's answer, and what it leaves in the plane and in the work area
   abbrev pub Forwarded : Answer Unit → List ℤ → List ℤ → Type 0
@@ -51,7 +51,7 @@ module _ (B L w h : ℕ) (pixels : List ℕ) (plane work : List ℤ) where
 
   chain : forwardAnswer B L w h pixels plane work ≡ allowed then pixelsRight B w h pixels
   unfolding forwardAnswer
-  chain = ap (λ (o : Answer Unit). limited B L then o) (sized-then L w h (length pixels) (length plane) (length work) _) ∙ then-assoc (limited B L) _ _
+  chain = ap (λ (o : Answer Unit). limited B L then o) (sized-then w h (length pixels) (length plane) (length work) _) ∙ then-assoc (limited B L) _ _
 
   pub forward-not-allowed : (r : Reason) → allowed ≡ refused r → Forwarded (refused r) plane work
   forward-not-allowed r e = not-done r (chain ∙ then-refused allowed _ r e)
@@ -72,7 +72,7 @@ module _ (B L w h : ℕ) (pixels : List ℕ) (plane work : List ℤ) where
 
 module _ (order : Order) (B L w h : ℕ) (plane : List ℤ) (pixels : List ℕ) (work : List ℤ) where
   abbrev may : Answer Unit
-  may = limited B L then sized L w h (length pixels) (length plane) (length work)
+  may = limited B L then sized w h (length pixels) (length plane) (length work)
 
   -- the call's answer, and what it leaves in the pixels and in the work area
   abbrev pub Backed : Answer Unit → List ℕ → List ℤ → Type 0

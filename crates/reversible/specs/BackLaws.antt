@@ -7,12 +7,12 @@ use lib.Dec.{T}
 use lib.IntN.{ℤ, pos, natAbs, negℤ}
 use Rattle.numbers.specs.Abs.{abs-≤}
 use Rattle.lines.specs.Planes.{side, levelsBack}
-use Rattle.lines.specs.PlaneLaws.{Agree}
+use Rattle.lines.specs.PlaneLaws.{side-le, Agree}
 use Rattle.lifting.specs.Kernels.{rowOf}
 use Rattle.pictures.specs.Looks.{Tells, Between}
 use Rattle.reversible.specs.Reversible.{Order, back}
 use Rattle.reversible.specs.LevelLaws.{Sized, planeAt}
-use Rattle.reversible.specs.LoopLaws.{BackLeft, sides, back-part}
+use Rattle.reversible.specs.LoopLaws.{BackLeft, back-part}
 use Rattle.reversible.specs.Needs.{LevelsRoom}
 
 -- ---- the answer of all levels back
@@ -45,8 +45,8 @@ module _ (order : Order) {L w h n m : ℕ} (p : LevelsRoom L w h n m) (k : ℕ) 
   pub look-large : r ≡ false → BackDone order L w h x y false
   look-large e = record {
     done = λ t. absurd t;
-    none = λ small. subst T e (look .told (λ a u b v. let s = sides L w h (p .across) (p .down) k i in
-        let z = back-part L w h (p .across) (p .down) order (k + 1) (omega arith) (p .few) x y left small a b (omega (arith, s .in-h)) (omega (arith, s .in-w)) in
+    none = λ small. subst T e (look .told (λ a u b v.
+        let z = back-part w h order L (k + 1) (omega (arith, p .few)) x y left small a b (omega (arith, side-le k h)) (omega (arith, side-le k w)) in
         sized-between largest (rowOf w 0 y a b) (subst (λ (k : ℕ). natAbs (y k) ≤ largest) (here a b) (omega arith))));
   }
 

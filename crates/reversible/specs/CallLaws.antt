@@ -13,7 +13,7 @@ use Rattle.numbers.specs.Tests.{every}
 use Rattle.numbers.specs.Lists.{over}
 use Rattle.refusals.specs.Answers.{refused, passed, asks, _then_}
 use Rattle.refusals.specs.AnswerLaws.{asks-done, asks-right, asks-wrong, asks-refused, then-done, then-right, answered-done}
-use Rattle.lines.specs.PlaneLaws.{Roomy, roomy, Agree}
+use Rattle.lines.specs.PlaneLaws.{Agree}
 use Rattle.lines.specs.RowLaws.{place-in, rows-length, rows-same, rows-take, every-row, rows-map}
 use Rattle.width_table.specs.Table.{depthRight, levelsRight}
 use Rattle.pictures.specs.Pictures.{pixelsRight, sample, planeOf}
@@ -25,23 +25,23 @@ use Rattle.reversible.specs.Calls.{limited, forwardAnswer, forwardPlane,
 
 -- ---- there and back
 
-allowed : (B L w h a b c : ℕ) → T (depthRight B && levelsRight L) → Room L w h a b c → limited B L then sized L w h a b c ≡ passed
-allowed B L w h a b c d r = then-right (limited B L) _ (asks-right (depthRight B && levelsRight L) _ _ d) ∙ sized-right L w h a b c r
+allowed : (B L w h a b c : ℕ) → T (depthRight B && levelsRight L) → Room w h a b c → limited B L then sized w h a b c ≡ passed
+allowed B L w h a b c d r = then-right (limited B L) _ (asks-right (depthRight B && levelsRight L) _ _ d) ∙ sized-right w h a b c r
 
 -- what a done forward call tells
 record ForwardDone (B L w h : ℕ) (pixels : List ℕ) (plane work : List ℤ) : Type 0 where
   limits : T (depthRight B && levelsRight L)
-  room : Room L w h (length pixels) (length plane) (length work)
+  room : Room w h (length pixels) (length plane) (length work)
   right : T (every (λ p. ltb p (2 ^ B)) (take (w * h) pixels))
 
 forward-done : (B L w h : ℕ) (pixels : List ℕ) (plane work : List ℤ) → forwardAnswer B L w h pixels plane work ≡ passed → ForwardDone B L w h pixels plane work
 unfolding forwardAnswer
 forward-done B L w h pixels plane work e =
     let a = then-done (limited B L) _ e in
-    let b = then-done (sized L w h (length pixels) (length plane) (length work)) _ (sym (sized-then L w h (length pixels) (length plane) (length work) _) ∙ a .1) in
+    let b = then-done (sized w h (length pixels) (length plane) (length work)) _ (sym (sized-then w h (length pixels) (length plane) (length work) _) ∙ a .1) in
     record {
       limits = asks-done (depthRight B && levelsRight L) _ _ (a .0) .0;
-      room = sized-done L w h (length pixels) (length plane) (length work) (b .0);
+      room = sized-done w h (length pixels) (length plane) (length work) (b .0);
       right = pixels-done B w h pixels (b .1);
     }
 
@@ -53,16 +53,7 @@ module _ (order : Order) (B L w h : ℕ) (pixels : List ℕ) (plane work : List 
   facts = forward-done B L w h pixels plane work e
 
   some-w : 1 ≤ w
-  some-w = omega (arith, facts .room .wide .0)
-
-  some-h : 1 ≤ h
-  some-h = omega (arith, facts .room .tall .0)
-
-  roomy-w : Roomy L w
-  roomy-w = roomy L w (facts .room .wide .0)
-
-  roomy-h : Roomy L h
-  roomy-h = roomy L h (facts .room .tall .0)
+  some-w = facts .room .wide .0
 
   is-over : made ≡ over (planeIn order B L w h pixels) plane
   unfolding forwardPlane
@@ -80,7 +71,7 @@ module _ (order : Order) (B L w h : ℕ) (pixels : List ℕ) (plane work : List 
   value : (r c : ℕ) → r < h → c < w → back order L w h (planeOf w made) r c +ℤ pos (2 ^ (B - 1)) ≡ pos (getD pixels (r * w + c) 0)
   unfolding sample
   value r c i j =
-      ap (λ (z : ℤ). z +ℤ pos (2 ^ (B - 1))) (goes-back order B L w h roomy-w roomy-h some-w some-h made room-made (sample pixels B w) front r c i j)
+      ap (λ (z : ℤ). z +ℤ pos (2 ^ (B - 1))) (goes-back order B L w h some-w made room-made (sample pixels B w) front r c i j)
       ∙ take-add (pos (getD pixels (r * w + c) 0)) (pos (2 ^ (B - 1)))
 
   pixel-right : (r c : ℕ) → r < h → c < w → getD pixels (r * w + c) 0 < 2 ^ B
@@ -114,7 +105,7 @@ module _ (order : Order) (B L w h : ℕ) (pixels : List ℕ) (plane work : List 
 
 record BackDone (order : Order) (B L w h : ℕ) (plane : List ℤ) (pixels : List ℕ) (work : List ℤ) : Type 0 where
   limits : T (depthRight B && levelsRight L)
-  room : Room L w h (length pixels) (length plane) (length work)
+  room : Room w h (length pixels) (length plane) (length work)
   right : T (hasPicture order B L w h plane)
 
 back-done : (order : Order) (B L w h : ℕ) (plane : List ℤ) (pixels : List ℕ) (work : List ℤ) → backAnswer order B L w h plane pixels work ≡ passed → BackDone order B L w h plane pixels work
@@ -124,7 +115,7 @@ back-done order B L w h plane pixels work e =
     let b = then-done (limited B L) _ (a .0) in
     record {
       limits = asks-done (depthRight B && levelsRight L) _ _ (b .0) .0;
-      room = sized-done L w h (length pixels) (length plane) (length work) (b .1);
+      room = sized-done w h (length pixels) (length plane) (length work) (b .1);
       right = asks-done (hasPicture order B L w h plane) _ _ (a .1) .0;
     }
 
@@ -136,22 +127,13 @@ module _ (order : Order) (B L w h : ℕ) (plane : List ℤ) (pixels : List ℕ) 
   known = back-done order B L w h plane pixels work e
 
   big-w : 1 ≤ w
-  big-w = omega (arith, known .room .wide .0)
-
-  big-h : 1 ≤ h
-  big-h = omega (arith, known .room .tall .0)
-
-  wide-w : Roomy L w
-  wide-w = roomy L w (known .room .wide .0)
-
-  wide-h : Roomy L h
-  wide-h = roomy L h (known .room .tall .0)
+  big-w = known .room .wide .0
 
   abbrev came : List ℕ
   came = map natAbs (pixelsBack order B L w h plane)
 
   right-came : Picture B w h came
-  right-came = found-picture order B L w h wide-w wide-h big-w big-h plane (known .room .second) (known .right)
+  right-came = found-picture order B L w h big-w plane (known .room .second) (known .right)
 
   over-came : picture ≡ over came pixels
   unfolding backPixels
@@ -171,8 +153,8 @@ module _ (order : Order) (B L w h : ℕ) (plane : List ℤ) (pixels : List ℕ) 
 
   same-plane : planeIn order B L w h picture ≡ take (w * h) plane
   same-plane =
-      rows-same w h big-w (forward order L w h (sample picture B w)) (forward order L w h (sample came B w)) (forward-agrees order L w h wide-w wide-h (sample picture B w) (sample came B w) same-samples)
-      ∙ found-plane order B L w h wide-w wide-h big-w big-h plane (known .room .second) (known .right)
+      rows-same w h big-w (forward order L w h (sample picture B w)) (forward order L w h (sample came B w)) (forward-agrees order L w h (sample picture B w) (sample came B w) same-samples)
+      ∙ found-plane order B L w h big-w plane (known .room .second) (known .right)
 
   pub comes-forward-done : forwardAnswer B L w h picture plane' work' ≡ passed
   unfolding forwardAnswer pixelsRight
@@ -180,8 +162,8 @@ module _ (order : Order) (B L w h : ℕ) (plane : List ℤ) (pixels : List ℕ) 
       let k = known in
       let a = then-done (limited B L) _ (allowed B L w h (length picture) (length plane') (length work') (k .limits) (record { wide = k .room .wide; tall = k .room .tall; first = room-picture; second = rp; third = rw' })) in
       then-right (limited B L) _ (a .0)
-      ∙ sized-then L w h (length picture) (length plane') (length work') _
-      ∙ then-right (sized L w h (length picture) (length plane') (length work')) _ (a .1)
+      ∙ sized-then w h (length picture) (length plane') (length work') _
+      ∙ then-right (sized w h (length picture) (length plane') (length work')) _ (a .1)
       ∙ asks-right (every (λ p. ltb p (2 ^ B)) (take (w * h) picture)) _ _ (subst (λ (l : List ℕ). T (every (λ p. ltb p (2 ^ B)) l)) (sym front-came) (right-came .right))
 
   -- a plane that goes back comes out the same when worked forward
@@ -201,14 +183,12 @@ module _ (order : Order) (B L w h : ℕ) (plane : List ℤ) (pixels : List ℕ) 
   unfolding backAnswer
   by-picture = then-right (backAllowed B L w h plane pixels work) _ e
 
-  room-back : Room L w h (length pixels) (length plane) (length work)
+  room-back : Room w h (length pixels) (length plane) (length work)
   unfolding backAllowed
-  room-back = sized-done L w h (length pixels) (length plane) (length work) (then-done (limited B L) _ e .1)
+  room-back = sized-done w h (length pixels) (length plane) (length work) (then-done (limited B L) _ e .1)
 
   exactly : T (hasPicture order B L w h plane) ↔ Copied
-  exactly =
-      let r = room-back in
-      has-picture order B L w h (roomy L w (r .wide .0)) (roomy L h (r .tall .0)) (omega (arith, r .wide .0)) (omega (arith, r .tall .0)) plane (r .second)
+  exactly = has-picture order B L w h (room-back .wide .0) plane (room-back .second)
 
   pub done-exactly : (backAnswer order B L w h plane pixels work ≡ passed) ↔ Copied
   done-exactly = (

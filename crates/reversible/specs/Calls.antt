@@ -1,6 +1,6 @@
 -- The 5/3 calls (document 01: why a strip or book comes back): the answer, and each lent slice afterwards. Transform and refusal 11 go by
 -- the order of rows and columns of the call (document 02, job 4).
-use Prim.Native.Nat.{ℕ, _+_, _*_, _-_, _^_}
+use Prim.Native.Nat.{ℕ, _*_, _-_, _^_}
 use mathlib.Core.Bool.{Bool, _&&_}
 use mathlib.Core.List.{List, map}
 use lib.ListN.{length}
@@ -24,7 +24,7 @@ module _ (B L w h : ℕ) (pixels : List ℕ) (plane work : List ℤ) where
   unfoldable pub forwardAnswer : Answer Unit
   forwardAnswer =
       limited B L
-      then sided L w h
+      then sided w h
       then holds (w * h) (length pixels)
       then holds (w * h) (length plane)
       then holds (w * h) (length work)
@@ -55,7 +55,7 @@ module _ (B L w h : ℕ) (plane : List ℤ) (pixels : List ℕ) (work : List ℤ
   unfoldable pub backAllowed : Answer Unit
   backAllowed =
       limited B L
-      then sided L w h
+      then sided w h
       then holds (w * h) (length pixels)
       then holds (w * h) (length plane)
       then holds (w * h) (length work)

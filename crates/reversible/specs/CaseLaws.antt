@@ -1,6 +1,6 @@
 -- The 5/3 by cases is the 5/3, at every place of every length from 2 (`pass-is`, `back-is`).
 use Prim.Native.Nat.{ℕ}
-use mathlib.Core.Path.{_≡_, refl, sym, ap}
+use mathlib.Core.Path.{_≡_, refl, sym, _∙_, ap}
 use lib.Dec.{lit<, lit≤}
 use lib.IntN.{ℤ, pos, _+ℤ_, _-ℤ_}
 use Rattle.numbers.specs.Floor.{floorDiv, half-twice, quarter-twice}
@@ -8,8 +8,9 @@ use Rattle.lines.specs.Lines.{lows, highs, Liftable, lowsFirst}
 use Rattle.lines.specs.Cases.{highsByCases, lowsByCases, ofHigh, ofLow}
 use Rattle.lines.specs.LineLaws.{Equal, first-equal, interleaved-equal}
 use Rattle.lines.specs.BackLaws.{equal}
+use Rattle.lines.specs.OneLaws.{one-long}
 use Rattle.lines.specs.CaseLaws.{respects-equal, Reduced, highs-are, lows-are}
-use Rattle.reversible.specs.Reversible.{predict, update, unpredict, unupdate, high, low, reversiblePass, lowBack, highBack, backPass}
+use Rattle.reversible.specs.Reversible.{predict, update, unpredict, unupdate, high, low, reversibleLong, reversiblePass, lowBack, highBack, backLong, backPass}
 use Rattle.reversible.specs.Cases.{predictEnd, updateEnd, unpredictEnd, unupdateEnd, highByCases, lowByCases, passByCases, lowBackByCases, highBackByCases, backByCases}
 
 -- ---- the reduced equations
@@ -44,8 +45,8 @@ module _ (n : ℕ) (works : Liftable n) where
 
     -- forward: source document 004, equations 1, 2 and 4 to 6
     pub pass-is : Equal n (passByCases n x) (reversiblePass n x)
-    unfolding passByCases reversiblePass
-    pass-is = first-equal n low-is high-is
+    unfolding passByCases reversiblePass reversibleLong
+    pass-is k h = first-equal n low-is high-is k h ∙ sym (one-long (λ v. v) reversibleLong n x k works)
 
   module _ (y : ℕ → ℤ) where
     low-back-is : Equal (lows n) (lowBackByCases n y) (lowBack n y)
@@ -58,8 +59,8 @@ module _ (n : ℕ) (works : Liftable n) where
 
     -- back
     pub back-is : Equal n (backByCases n y) (backPass n y)
-    unfolding backByCases backPass
-    back-is = interleaved-equal n low-back-is high-back-is
+    unfolding backByCases backPass backLong
+    back-is k h = interleaved-equal n low-back-is high-back-is k h ∙ sym (one-long (λ v. v) backLong n y k works)
 
 -- ---- the shortest lines, where the ends meet
 

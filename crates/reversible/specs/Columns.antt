@@ -33,7 +33,7 @@ module _ (pixels : List ℕ) (middle w h c : ℕ) where
 
 -- a picture whose columns can be worked, and a plane for them
 pub record PixelRoom (pixels : List ℕ) (middle plane w h : ℕ) : Type 0 where
-  pub wide : Liftable w
+  pub some : 1 ≤ w
   pub tall : Liftable h
   pub held : w * h ≤ length pixels
   pub room : w * h ≤ plane
@@ -159,7 +159,7 @@ module _ (pixels : List ℕ) (middle w h : ℕ) where
     -- all lines are done
     pub columns-done : {plane : ℕ} → PixelRoom pixels middle plane w h → n ≡ highs h → m ≡ lows h → y ≡ columnsWorked forwardKernel w 0 w h (loaded pixels middle w h x)
     unfolding worked
-    columns-done p en em = pixel-columns-worked forwardKernel pixels middle w h x (p .wide) (p .tall) y
+    columns-done p en em = pixel-columns-worked forwardKernel pixels middle w h x (p .some) (p .tall) y
         (λ r c i j. by-half (λ r. y (r * w + c) ≡ worked forwardKernel h (sampleColumn pixels middle w c) r) h
         (λ k a. done .lows-stand k c (omega arith) j ∙ sym (first-low h (lowAt pixels middle w h c) (highAt pixels middle w h c) k a))
         (λ k a. done .highs-stand .stand k c (omega arith) a j ∙ sym (first-high h (lowAt pixels middle w h c) (highAt pixels middle w h c) k)) r i)
@@ -167,7 +167,7 @@ module _ (pixels : List ℕ) (middle w h : ℕ) where
 
 -- the same picture, and a plane as long
 pub room-as : {pixels : List ℕ} {middle plane w h : ℕ} → PixelRoom pixels middle plane w h → (n : ℕ) → n ≡ plane → PixelRoom pixels middle n w h
-room-as p n e = record { wide = p .wide; tall = p .tall; held = p .held; room = omega (arith, p .room); safe = p .safe }
+room-as p n e = record { some = p .some; tall = p .tall; held = p .held; room = omega (arith, p .room); safe = p .safe }
 
 -- all highs stand where as many do as there are
 pub highs-all : {n k : ℕ} {pixels : List ℕ} {middle w h : ℕ} {y : ℕ → ℤ} → HighsTo n pixels middle w h y → highs h ≤ n → HighsTo k pixels middle w h y

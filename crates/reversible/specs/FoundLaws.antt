@@ -13,7 +13,7 @@ use Rattle.numbers.specs.Dif.{by-dif, difs}
 use Rattle.numbers.specs.Lists.{over}
 use Rattle.numbers.specs.Tests.{both, and-intro}
 use Rattle.lines.specs.Planes.{Plane}
-use Rattle.lines.specs.PlaneLaws.{roomy, Agree}
+use Rattle.lines.specs.PlaneLaws.{Agree}
 use Rattle.lines.specs.RowLaws.{place-in, rows-length, rows-at, every-row, every-row-at}
 use Rattle.lifting.specs.Patch.{at, patch, patch-in, patch-above}
 use Rattle.pictures.specs.Pictures.{planeOf}
@@ -72,16 +72,13 @@ pub record Found (order : Order) (B L w h : ℕ) (plane : List ℤ) (y : ℕ →
 
 module _ (order : Order) {B L w h a b c : ℕ} (room : CallRoom B L w h a b c) (plane : List ℤ) (x mid y : ℕ → ℤ) (copied : mid ≡ patch 0 (w * h) (at plane) x) where
   some-w : 1 ≤ w
-  some-w = omega (arith, room .room .wide .0)
-
-  some-h : 1 ≤ h
-  some-h = omega (arith, room .room .tall .0)
+  some-w = room .room .wide .0
 
   abbrev sampleAt : Plane ℤ
   sampleAt = back order L w h (planeOf w plane)
 
   same : Agree w h (back order L w h (planeAt w mid)) sampleAt
-  same = back-agrees order L w h (roomy L w (room .room .wide .0)) (roomy L h (room .room .tall .0)) (planeAt w mid) (planeOf w plane)
+  same = back-agrees order L w h (planeAt w mid) (planeOf w plane)
       (λ r c i j. ap (λ (f : ℕ → ℤ). f (r * w + c)) copied ∙ ap (patch 0 (w * h) (at plane) x) (omega arith) ∙ patch-in 0 (w * h) (at plane) x (r * w + c) (place-in w h some-w r c i j))
 
   abbrev pixelAt : Plane ℤ
@@ -147,7 +144,7 @@ module _ {order : Order} {B L w h n m k : ℕ} (room : CallRoom B L w h n m k) (
     (written : (λ k. getD after k 0) ≡ patch 0 (w * h) (λ k. natAbs (y k +ℤ pos (2 ^ (B - 1)))) (λ k. getD pixels k 0)) where
   new-length : length (map natAbs (pixelsBack order B L w h plane)) ≡ w * h
   unfolding pixelsBack
-  new-length = length-map (pixelsBack order B L w h plane) natAbs ∙ rows-length w h (omega (arith, room .room .wide .0)) (λ r c. back order L w h (planeOf w plane) r c +ℤ pos (2 ^ (B - 1)))
+  new-length = length-map (pixelsBack order B L w h plane) natAbs ∙ rows-length w h (room .room .wide .0) (λ r c. back order L w h (planeOf w plane) r c +ℤ pos (2 ^ (B - 1)))
 
   pub taken : length pixels ≡ n → length after ≡ n → TakenBack order B L w h plane pixels after true
   taken e d = record {

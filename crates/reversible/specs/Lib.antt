@@ -9,6 +9,7 @@
 --   CallLaws         there-and-back, back-and-there; done-exactly, eleven-exactly
 --   OneToOne         same-picture: two pictures with the same plane are one
 --   TwoOrders        worked copies: the two orders are two
+--   Unchanged        sides that were admitted before job 6
 -- For the proofs of the code:
 --   Orders           the order as the code names it
 --   Sizes            the kernels of the code are the passes; how large their values become
@@ -39,3 +40,4 @@ pub mod FoundLaws
 pub mod AnswerLaws
 pub mod OneToOne
 pub mod TwoOrders
+pub mod Unchanged

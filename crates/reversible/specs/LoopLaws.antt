@@ -1,13 +1,11 @@
 -- The levels one after another in memory: what the loops of the code carry from level to level.
-use Prim.Native.Nat.{ℕ, zero, suc, _+_, _*_, _-_, _<_, _≤_, _^_}
+use Prim.Native.Nat.{ℕ, zero, suc, _+_, _*_, _<_, _≤_, _^_}
 use mathlib.Core.Path.{_≡_, refl, sym, _∙_, subst}
 use native.Mathlib.Numerals.{add-one}
 use native.Mathlib.Omega.{arith}
 use lib.IntN.{ℤ, natAbs}
-use Rattle.lines.specs.Lines.{Liftable}
 use Rattle.lines.specs.Planes.{Plane, levels, levelsBack, side}
-use Rattle.lines.specs.PlaneLaws.{Roomy, roomy, side-le, Agree}
-use Rattle.pictures.specs.Pictures.{Admitted}
+use Rattle.lines.specs.PlaneLaws.{side-le, Agree}
 use Rattle.pictures.specs.MemoryLaws.{Stands}
 use Rattle.reversible.specs.Reversible.{Order, columnsThenRows, forward, backLevel, back}
 use Rattle.reversible.specs.ReversibleLaws.{back-forward, back-agrees}
@@ -24,13 +22,6 @@ four-pow (suc (suc (suc (suc zero)))) h = omega arith
 four-pow (suc (suc (suc (suc (suc zero))))) h = omega arith
 four-pow (suc (suc (suc (suc (suc (suc k)))))) h = absurd (omega arith)
 
--- what is known of the sides at level k + 1 of L
-pub record Sides (L w h k : ℕ) : Type 0 where
-  pub wide : Liftable (side k w)
-  pub tall : Liftable (side k h)
-  pub in-w : side k w ≤ w
-  pub in-h : side k h ≤ h
-
 -- forward: k levels of what stood in memory as x are done
 pub record ForwardDone (w h k : ℕ) (x y : ℕ → ℤ) : Type 0 where
   pub stands : Stands w h y (forward columnsThenRows k w h (planeAt w x))
@@ -43,58 +34,46 @@ pub record BackLeft (order : Order) (L w h k : ℕ) (x y : ℕ → ℤ) : Type 0
 pub one-more : {order : Order} {L w h j : ℕ} {x y : ℕ → ℤ} (k : ℕ) → j ≡ k + 1 → BackLeft order L w h j x y → BackLeft order L w h (k + 1) x y
 one-more {order} {L} {w} {h} {x} {y} k e f = subst (λ (n : ℕ). BackLeft order L w h n x y) e f
 
-module _ (L w h : ℕ) (aw : Admitted L w) (ah : Admitted L h) where
-  pub sides : (k : ℕ) → k < L → Sides L w h k
-  sides k i = record {
-    wide = roomy L w (aw .0) k i;
-    tall = roomy L h (ah .0) k i;
-    in-w = side-le k w (omega (arith, aw .0));
-    in-h = side-le k h (omega (arith, ah .0));
-  }
-
+module _ (w h : ℕ) where
   forward-none : (x : ℕ → ℤ) → ForwardDone w h 0 x x
   unfolding forward levels
   forward-none x = record { stands = λ r c i j. refl; beyond = λ q i. refl }
 
-  pub forward-more : (k : ℕ) → k < L → (x y z : ℕ → ℤ) → ForwardDone w h k x y → z ≡ levelForward w (side k w) (side k h) y → ForwardDone w h (k + 1) x z
+  pub forward-more : (k : ℕ) (x y z : ℕ → ℤ) → ForwardDone w h k x y → z ≡ levelForward w (side k w) (side k h) y → ForwardDone w h (k + 1) x z
   unfolding forward levels
-  forward-more k i x y z f e =
-      let s = sides k i in
+  forward-more k x y z f e =
       subst (λ (n : ℕ). ForwardDone w h n x z) (sym (add-one k)) (subst (λ (m : ℕ → ℤ). ForwardDone w h (suc k) x m) (sym e) (record {
-        stands = forward-stands w h (side k w) (side k h) (s .wide) (s .tall) (s .in-w) (s .in-h) y (forward columnsThenRows k w h (planeAt w x)) (f .stands);
-        beyond = λ q far. forward-beyond w h (side k w) (side k h) (s .wide) (s .tall) (s .in-w) (s .in-h) y q far ∙ f .beyond q far;
+        stands = forward-stands w h (side k w) (side k h) (side-le k w) (side-le k h) y (forward columnsThenRows k w h (planeAt w x)) (f .stands);
+        beyond = λ q far. forward-beyond w h (side k w) (side k h) (side-le k w) (side-le k h) y q far ∙ f .beyond q far;
       }))
 
-  pub forward-first : 1 ≤ L → (x z : ℕ → ℤ) → z ≡ levelForward w w h x → ForwardDone w h 1 x z
+  pub forward-first : (x z : ℕ → ℤ) → z ≡ levelForward w w h x → ForwardDone w h 1 x z
   unfolding side
-  forward-first some x z e = forward-more 0 (omega arith) x x z (forward-none x) e
+  forward-first x z e = forward-more 0 x x z (forward-none x) e
 
-  pub forward-part : (k : ℕ) → k < L → L ≤ maxLevels → (x y : ℕ → ℤ) → ForwardDone w h k x y → Sized (2 ^ 11) w h (planeAt w x) → Sized (2 ^ 21) (side k w) (side k h) (planeAt w y)
-  forward-part k i five x y f small r c a b =
-      let s = sides k i in
-      subst (λ (t : ℤ). natAbs t ≤ 2 ^ 21) (sym (f .stands r c (omega (arith, s .in-h)) (omega (arith, s .in-w))))
-      (omega (arith, four-pow k (omega arith), forward-sized columnsThenRows w h k (λ j t. roomy L w (aw .0) j (omega arith)) (λ j t. roomy L h (ah .0) j (omega arith)) (planeAt w x) small r c (omega (arith, s .in-h)) (omega (arith, s .in-w))))
+  pub forward-part : (k : ℕ) → k ≤ maxLevels → (x y : ℕ → ℤ) → ForwardDone w h k x y → Sized (2 ^ 11) w h (planeAt w x) → Sized (2 ^ 21) (side k w) (side k h) (planeAt w y)
+  forward-part k five x y f small r c a b =
+      let i : r < h = omega (arith, side-le k h) in
+      let j : c < w = omega (arith, side-le k w) in
+      subst (λ (t : ℤ). natAbs t ≤ 2 ^ 21) (sym (f .stands r c i j)) (omega (arith, four-pow k five, forward-sized columnsThenRows w h k (planeAt w x) small r c i j))
 
-  pub back-none : (order : Order) (x : ℕ → ℤ) → BackLeft order L w h L x x
-  back-none order x = record { left = λ r c i j. refl }
+  pub back-none : (order : Order) (L : ℕ) (x : ℕ → ℤ) → BackLeft order L w h L x x
+  back-none order L x = record { left = λ r c i j. refl }
 
-  pub back-more : (order : Order) (k : ℕ) → k < L → (x y z : ℕ → ℤ) → BackLeft order L w h (k + 1) x y → z ≡ levelBack order w (side k w) (side k h) y → BackLeft order L w h k x z
+  pub back-more : (order : Order) (L k : ℕ) (x y z : ℕ → ℤ) → BackLeft order L w h (k + 1) x y → z ≡ levelBack order w (side k w) (side k h) y → BackLeft order L w h k x z
   unfolding back levelsBack
-  back-more order k i x y z f e =
-      let s = sides k i in
+  back-more order L k x y z f e =
       let g = subst (λ (n : ℕ). BackLeft order L w h n x y) (add-one k) f in
       subst (λ (m : ℕ → ℤ). BackLeft order L w h k x m) (sym e) (record {
         left = λ r c a b.
-            back-agrees order k w h (λ j t. roomy L w (aw .0) j (omega arith)) (λ j t. roomy L h (ah .0) j (omega arith)) _ (backLevel order (side k w) (side k h) (planeAt w y))
-            (back-stands w h (side k w) (side k h) (s .wide) (s .tall) (s .in-w) (s .in-h) y (planeAt w y) (λ r c i j. refl) order) r c a b
+            back-agrees order k w h _ (backLevel order (side k w) (side k h) (planeAt w y))
+            (back-stands w h (side k w) (side k h) (side-le k w) (side-le k h) y (planeAt w y) (λ r c i j. refl) order) r c a b
             ∙ g .left r c a b;
       })
 
   -- where the samples that come out are those of a picture, nothing on the way is large
-  pub back-part : (order : Order) (k : ℕ) → k ≤ L → L ≤ maxLevels → (x y : ℕ → ℤ) → BackLeft order L w h k x y → Sized (2 ^ 11) w h (back order L w h (planeAt w x)) → Sized (2 ^ 21) w h (planeAt w y)
-  back-part order k i five x y f small r c a b =
-      let wide : Roomy k w = λ j t. roomy L w (aw .0) j (omega arith) in
-      let tall : Roomy k h = λ j t. roomy L h (ah .0) j (omega arith) in
+  pub back-part : (order : Order) (L k : ℕ) → k ≤ maxLevels → (x y : ℕ → ℤ) → BackLeft order L w h k x y → Sized (2 ^ 11) w h (back order L w h (planeAt w x)) → Sized (2 ^ 21) w h (planeAt w y)
+  back-part order L k five x y f small r c a b =
       let found : Sized (2 ^ 11) w h (back order k w h (planeAt w y)) = λ r c a b. subst (λ (t : ℤ). natAbs t ≤ 2 ^ 11) (sym (f .left r c a b)) (small r c a b) in
-      subst (λ (p : Plane ℤ). natAbs (p r c) ≤ 2 ^ 21) (back-forward order k w h wide tall (planeAt w y))
-      (omega (arith, four-pow k (omega arith), forward-sized order w h k wide tall (back order k w h (planeAt w y)) found r c a b))
+      subst (λ (p : Plane ℤ). natAbs (p r c) ≤ 2 ^ 21) (back-forward order k w h (planeAt w y))
+      (omega (arith, four-pow k five, forward-sized order w h k (back order k w h (planeAt w y)) found r c a b))

@@ -6,24 +6,21 @@ use native.Mathlib.Omega.{arith}
 use lib.IntN.{ℤ, pos, natAbs, _+ℤ_}
 use lib.ListN.{length, getD}
 use lib.Seq.{take-all, ext-getD}
-use Rattle.lines.specs.PlaneLaws.{roomy, Agree}
+use Rattle.lines.specs.PlaneLaws.{Agree}
 use Rattle.lines.specs.RowLaws.{rows-length}
-use Rattle.pictures.specs.Pictures.{Admitted, sample, planeOf}
+use Rattle.pictures.specs.Pictures.{sample, planeOf}
 use Rattle.reversible.specs.Reversible.{Order, forward, back}
 use Rattle.reversible.specs.PictureLaws.{Picture, planeIn, goes-back}
 use Rattle.reversible.specs.ReversibleLaws.{take-add}
 use Rattle.reversible.specs.FoundLaws.{by-place}
 
-module _ (order : Order) (B L w h : ℕ) (aw : Admitted L w) (ah : Admitted L h) (p q : List ℕ) (same : planeIn order B L w h p ≡ planeIn order B L w h q) where
-  some : 1 ≤ w
-  some = omega (arith, aw .0)
-
+module _ (order : Order) (B L w h : ℕ) (some : 1 ≤ w) (p q : List ℕ) (same : planeIn order B L w h p ≡ planeIn order B L w h q) where
   long : length (planeIn order B L w h q) ≡ w * h
   long = rows-length w h some (forward order L w h (sample q B w))
 
   -- the plane goes back to the samples of either
   from : (s : List ℕ) → planeIn order B L w h s ≡ planeIn order B L w h q → Agree w h (back order L w h (planeOf w (planeIn order B L w h q))) (sample s B w)
-  from s e = goes-back order B L w h (roomy L w (aw .0)) (roomy L h (ah .0)) some (omega (arith, ah .0)) (planeIn order B L w h q) (omega (arith, long)) (sample s B w)
+  from s e = goes-back order B L w h some (planeIn order B L w h q) (omega (arith, long)) (sample s B w)
       (e ∙ sym (take-all (w * h) (planeIn order B L w h q) (omega (arith, long))))
 
   pixel : (r c : ℕ) → r < h → c < w → getD p (r * w + c) 0 ≡ getD q (r * w + c) 0

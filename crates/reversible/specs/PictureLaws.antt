@@ -14,7 +14,7 @@ use Rattle.lines.specs.Planes.{Plane, rowByRow}
 use Rattle.pictures.specs.Pictures.{sample, planeOf}
 use Rattle.numbers.specs.Tests.{every, both, and-intro}
 use Rattle.reversible.specs.Reversible.{Order, forward, back}
-use Rattle.lines.specs.PlaneLaws.{Roomy, Agree}
+use Rattle.lines.specs.PlaneLaws.{Agree}
 use Rattle.reversible.specs.ReversibleLaws.{take-add, add-take, forward-back, back-forward, forward-agrees, back-agrees}
 use Rattle.lines.specs.RowLaws.{place-in, rows-length, rows-at, rows-same, rows-take, every-at, every-row, every-row-at}
 use Rattle.reversible.specs.Calls.{pixelsBack, isPixel, hasPicture}
@@ -47,11 +47,11 @@ pixel-pos B (negsuc n) t = absurd t
 pub pixel-is : (B n : ℕ) → n < 2 ^ B → T (isPixel B (pos n))
 pixel-is B n h = and-intro (leZ (pos 0) (pos n)) (ltZ (pos n) (pos (2 ^ B))) (le→leb 0 n (omega arith)) (lt→ltb n (2 ^ B) h)
 
-module _ (order : Order) (B L w h : ℕ) (wide : Roomy L w) (tall : Roomy L h) (some-w : 1 ≤ w) (some-h : 1 ≤ h) (plane : List ℤ) (room : w * h ≤ length plane) where
+module _ (order : Order) (B L w h : ℕ) (some-w : 1 ≤ w) (plane : List ℤ) (room : w * h ≤ length plane) where
   -- a list that is the plane of samples s goes back to them
   pub goes-back : (s : Plane ℤ) → rowByRow w h (forward order L w h s) ≡ take (w * h) plane → Agree w h (back order L w h (planeOf w plane)) s
   goes-back s e r c i j =
-      back-agrees order L w h wide tall (planeOf w plane) (forward order L w h s) same r c i j ∙ ap (λ (p : Plane ℤ). p r c) (forward-back order L w h wide tall s)
+      back-agrees order L w h (planeOf w plane) (forward order L w h s) same r c i j ∙ ap (λ (p : Plane ℤ). p r c) (forward-back order L w h s)
     where
       same : Agree w h (planeOf w plane) (forward order L w h s)
       same r c i j =
@@ -94,7 +94,7 @@ module _ (order : Order) (B L w h : ℕ) (wide : Roomy L w) (tall : Roomy L h) (
     pub found-plane : planeIn order B L w h found ≡ take (w * h) plane
     found-plane =
         rows-same w h some-w (forward order L w h (sample found B w)) (planeOf w plane)
-        (λ r c i j. forward-agrees order L w h wide tall (sample found B w) (back order L w h (planeOf w plane)) sampled r c i j ∙ ap (λ (p : Plane ℤ). p r c) (back-forward order L w h wide tall (planeOf w plane)))
+        (λ r c i j. forward-agrees order L w h (sample found B w) (back order L w h (planeOf w plane)) sampled r c i j ∙ ap (λ (p : Plane ℤ). p r c) (back-forward order L w h (planeOf w plane)))
         ∙ rows-take w h some-w plane (pos 0) room
 
   -- 11 is refused exactly where no picture has the plane in that order

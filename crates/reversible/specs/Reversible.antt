@@ -4,7 +4,7 @@ use Prim.Native.Nat.{ℕ, _+_, _*_}
 use lib.IntN.{ℤ, pos, _+ℤ_, _-ℤ_}
 use Rattle.numbers.specs.Floor.{floorDiv}
 use Rattle.lines.specs.Lines.{lows, onHighs, onLows, lowsFirst, interleaved}
-use Rattle.lines.specs.Planes.{OnPart, rowsFirst, columnsFirst, levels, levelsBack}
+use Rattle.lines.specs.Planes.{OnLine, OnPart, fromOne, rowsFirst, columnsFirst, levels, levelsBack}
 
 -- ---- forward: source document 004, equations 1 and 2
 
@@ -16,7 +16,7 @@ predict own x y = own -ℤ floorDiv (x +ℤ y) 2
 unfoldable pub update : ℤ → ℤ → ℤ → ℤ
 update own x y = own +ℤ floorDiv (x +ℤ y +ℤ pos 2) 4
 
--- one pass over n samples x: the highs, then the lows
+-- one pass over n samples x, two or more: the highs, then the lows
 module _ (n : ℕ) (x : ℕ → ℤ) where
   unfoldable pub high : ℕ → ℤ
   high = onHighs predict n (λ i. x (2 * i)) (λ i. x (2 * i + 1))
@@ -24,9 +24,13 @@ module _ (n : ℕ) (x : ℕ → ℤ) where
   unfoldable pub low : ℕ → ℤ
   low = onLows update n (λ i. x (2 * i)) high
 
-  -- what the pass leaves: the lows first, then the highs
-  unfoldable pub reversiblePass : ℕ → ℤ
-  reversiblePass = lowsFirst n low high
+  -- what two samples or more leave: the lows first, then the highs
+  unfoldable pub reversibleLong : ℕ → ℤ
+  reversibleLong = lowsFirst n low high
+
+-- What a pass leaves. A single sample is its only low value (document 02, job 6).
+unfoldable pub reversiblePass : OnLine ℤ
+reversiblePass = fromOne (λ v. v) reversibleLong
 
 -- The order in which the levels of an exact copy were worked. New copies have the columns before the rows, as JPEG 2000 Part 1 has them
 -- (document 02, job 4); copies made earlier have the rows before the columns (document 01, pictures and planes).
@@ -50,7 +54,7 @@ unpredict own x y = own +ℤ floorDiv (x +ℤ y) 2
 unfoldable pub unupdate : ℤ → ℤ → ℤ → ℤ
 unupdate own x y = own -ℤ floorDiv (x +ℤ y +ℤ pos 2) 4
 
--- one line of n values y, lows first: the lows, then the highs, then each to its place
+-- one line of n values y, two or more, lows first: the lows, then the highs, then each to its place
 module _ (n : ℕ) (y : ℕ → ℤ) where
   unfoldable pub lowBack : ℕ → ℤ
   lowBack = onLows unupdate n y (λ i. y (lows n + i))
@@ -58,8 +62,12 @@ module _ (n : ℕ) (y : ℕ → ℤ) where
   unfoldable pub highBack : ℕ → ℤ
   highBack = onHighs unpredict n lowBack (λ i. y (lows n + i))
 
-  unfoldable pub backPass : ℕ → ℤ
-  backPass = interleaved lowBack highBack
+  unfoldable pub backLong : ℕ → ℤ
+  backLong = interleaved lowBack highBack
+
+-- A pass taken back. A single low value is the sample.
+unfoldable pub backPass : OnLine ℤ
+backPass = fromOne (λ v. v) backLong
 
 -- a level of a copy of that order taken back: new copies undo the rows first, copies made earlier the columns (document 02, job 4)
 abbrev pub backLevel : Order → OnPart ℤ

@@ -1,8 +1,9 @@
 -- How large the values of the 5/3 passes become, and that the machine's steps therefore fit.
 -- A pass forward at most doubles the size of a line's values; a pass back makes it at most three times as large.
-use Prim.Native.Nat.{ℕ, _+_, _*_, _-_, _<_, _≤_, _^_}
+use Prim.Native.Nat.{ℕ, _+_, _*_, _<_, _≤_, _^_}
 use mathlib.Core.Path.{_≡_, refl, sym, subst}
 use native.Mathlib.Omega.{arith}
+use native.Mathlib.Nat.{mul-le-mul-right}
 use lib.IntN.{ℤ, pos, negsuc, natAbs, _+ℤ_}
 use lib.Signed.{shrZ}
 use mir.Syntax.{w32}
@@ -11,6 +12,8 @@ use Rattle.numbers.specs.Abs.{abs-add, abs-sub, mag-of-abs}
 use Rattle.numbers.specs.Dif.{plus, minus, is-self, is-pos, is-add, is-abs}
 use Rattle.lines.specs.Lines.{lows, highs, Liftable, lowAfter, highBefore, highAfter, onHighs, onLows}
 use Rattle.lines.specs.LineLaws.{some-highs, first-low, first-high, even-place, odd-place, by-parity, by-half}
+use Rattle.lines.specs.Planes.{OnLine, fromOne}
+use Rattle.lines.specs.OneLaws.{one-single, one-long, by-one}
 use Rattle.lines.specs.Neighbours.{low-after-in, high-before-in, high-after-in}
 use Rattle.lifting.specs.declared.Step.the-variants.{Predict, Update, Unpredict, Unupdate}
 use Rattle.lifting.specs.declared.Pair.{Pair}
@@ -19,9 +22,13 @@ use Rattle.lifting.specs.declared.Kernel.the-variants.{One, Undo}
 use Rattle.lifting.specs.Steps.{applied, Safe, half, quarter}
 use Rattle.lifting.specs.Passes.{evens, odds}
 use Rattle.lifting.specs.Kernels.{worked, SafeKernel, lowsUndone, highsUndone}
-use Rattle.reversible.specs.Reversible.{predict, update, unpredict, unupdate, high, low, reversiblePass, lowBack, highBack, backPass}
+use Rattle.reversible.specs.Reversible.{predict, update, unpredict, unupdate, high, low, reversibleLong, reversiblePass, lowBack, highBack, backLong, backPass}
 
 -- ---- the kernels of the code are the passes
+
+-- A line by a kernel. A single value is not worked (document 02, job 6).
+abbrev pub workedFrom : Kernel → OnLine ℤ
+workedFrom k = fromOne (λ v. v) (worked k)
 
 abbrev pub forwardKernel : Kernel
 forwardKernel = One (record { highs = Predict; lows = Update })
@@ -32,13 +39,13 @@ backPair = record { highs = Unpredict; lows = Unupdate }
 abbrev pub backKernel : Kernel
 backKernel = Undo backPair
 
-pub forward-kernel : (n : ℕ) (x : ℕ → ℤ) → worked forwardKernel n x ≡ reversiblePass n x
-unfolding worked reversiblePass low high predict update
-forward-kernel n x = refl
+pub forward-kernel : workedFrom forwardKernel ≡ reversiblePass
+unfolding worked reversiblePass reversibleLong low high predict update
+forward-kernel = refl
 
-pub back-kernel : (n : ℕ) (y : ℕ → ℤ) → worked backKernel n y ≡ backPass n y
-unfolding worked backPass lowBack highBack unpredict unupdate
-back-kernel n y = refl
+pub back-kernel : workedFrom backKernel ≡ backPass
+unfolding worked backPass backLong lowBack highBack unpredict unupdate
+back-kernel = refl
 
 -- ---- steps
 
@@ -94,7 +101,7 @@ module _ (own x y : ℤ) (a b : ℕ) (ho : natAbs own ≤ a) where
       unupdate-safe : Safe Unupdate own x y
       unupdate-safe = record { sides = sums .0; more = sums .1; result = small _ (omega (arith, unupdate-size)) }
 
--- ---- lines of n values of size b at most
+-- ---- lines of n values of size b at most, two or more
 
 module _ (n b : ℕ) (x : ℕ → ℤ) (works : Liftable n) (le : (k : ℕ) → k < n → natAbs (x k) ≤ b) where
   -- forward
@@ -109,7 +116,7 @@ module _ (n b : ℕ) (x : ℕ → ℤ) (works : Liftable n) (le : (k : ℕ) → 
   unfolding onLows
   low-size i h = omega (arith, update-size (evens x i) (highIn (highBefore i)) (highIn (highAfter n i)) b b (le (2 * i) (omega arith)) (high-size (highBefore i) (high-before-in n i (some-highs n works) h)) (high-size (highAfter n i) (high-after-in n i (some-highs n works) h)))
 
-  pub forward-size : (k : ℕ) → k < n → natAbs (worked forwardKernel n x k) ≤ 2 * b
+  forward-size : (k : ℕ) → k < n → natAbs (worked forwardKernel n x k) ≤ 2 * b
   unfolding worked
   forward-size = by-half (λ k. natAbs (worked forwardKernel n x k) ≤ 2 * b) n
       (λ i h. subst (λ (z : ℤ). natAbs z ≤ 2 * b) (sym (first-low n (onLows (applied Update) n (evens x) highIn) highIn i h)) (low-size i h))
@@ -137,7 +144,7 @@ module _ (n b : ℕ) (x : ℕ → ℤ) (works : Liftable n) (le : (k : ℕ) → 
   unfolding onHighs
   highBack-size i h = omega (arith, unpredict-size (x (lows n + i)) (lowIn i) (lowIn (lowAfter n i)) b (2 * b) (le (lows n + i) (omega arith)) (lowBack-size i (omega arith)) (lowBack-size (lowAfter n i) (low-after-in n i h)))
 
-  pub back-size : (k : ℕ) → k < n → natAbs (worked backKernel n x k) ≤ 3 * b
+  back-size : (k : ℕ) → k < n → natAbs (worked backKernel n x k) ≤ 3 * b
   unfolding worked
   back-size = by-parity (λ k. natAbs (worked backKernel n x k) ≤ 3 * b) n
       (λ i h. subst (λ (z : ℤ). natAbs z ≤ 3 * b) (sym (even-place lowIn highOut i)) (omega (arith, lowBack-size i h)))
@@ -149,3 +156,20 @@ module _ (n b : ℕ) (x : ℕ → ℤ) (works : Liftable n) (le : (k : ℕ) → 
     on-lows = λ i h. unupdate-safe (x i) (x (lows n + highBefore i)) (x (lows n + highAfter n i)) b b (le i (omega arith)) (omega (arith, le (lows n + highBefore i) (omega (arith, high-before-in n i (some-highs n works) h)))) (omega (arith, le (lows n + highAfter n i) (omega (arith, high-after-in n i (some-highs n works) h)))) (omega arith);
     on-highs = λ i h. unpredict-safe (x (lows n + i)) (lowIn i) (lowIn (lowAfter n i)) b (2 * b) (le (lows n + i) (omega arith)) (lowBack-size i (omega arith)) (lowBack-size (lowAfter n i) (low-after-in n i h)) (omega arith);
   }
+
+-- ---- and from one value on: a pass makes values at most m times as large
+
+abbrev pub Grows : ℕ → OnLine ℤ → Type 0
+Grows m pass = (n b : ℕ) (x : ℕ → ℤ) → ((k : ℕ) → k < n → natAbs (x k) ≤ b) → (k : ℕ) → k < n → natAbs (pass n x k) ≤ m * b
+
+module _ (k : Kernel) (m : ℕ) (some : 1 ≤ m) (grows : (n b : ℕ) (x : ℕ → ℤ) → Liftable n → ((k : ℕ) → k < n → natAbs (x k) ≤ b) → (i : ℕ) → i < n → natAbs (worked k n x i) ≤ m * b) where
+  from-size : Grows m (workedFrom k)
+  from-size n b x le i h = by-one (natAbs (workedFrom k n x i) ≤ m * b) n
+      (λ one. subst (λ (z : ℤ). natAbs z ≤ m * b) (sym (one-single (λ v. v) (worked k) n x i one)) (omega (arith, le i h, mul-le-mul-right b some)))
+      (λ works. subst (λ (z : ℤ). natAbs z ≤ m * b) (sym (one-long (λ v. v) (worked k) n x i works)) (grows n b x works le i h))
+
+pub forward-grows : Grows 2 (workedFrom forwardKernel)
+forward-grows = from-size forwardKernel 2 (omega arith) forward-size
+
+pub back-grows : Grows 3 (workedFrom backKernel)
+back-grows = from-size backKernel 3 (omega arith) back-size

@@ -8,9 +8,8 @@ use lib.IntN.{ℤ, pos, natAbs, _-ℤ_}
 use lib.ListN.{length, getD}
 use Rattle.numbers.specs.Dif.{difs}
 use Rattle.numbers.specs.Lists.{over}
-use Rattle.lines.specs.Lines.{Liftable}
 use Rattle.lines.specs.Planes.{rowByRow}
-use Rattle.lines.specs.PlaneLaws.{roomy, side-none, Agree}
+use Rattle.lines.specs.PlaneLaws.{side-none, Agree}
 use Rattle.lifting.specs.Patch.{at, patch-above}
 use Rattle.pictures.specs.Pictures.{sample}
 use Rattle.pictures.specs.PictureLaws.{pixel-below}
@@ -18,7 +17,7 @@ use Rattle.pictures.specs.MemoryLaws.{loaded, stands-over}
 use Rattle.reversible.specs.Reversible.{columnsThenRows, forward}
 use Rattle.reversible.specs.ReversibleLaws.{forward-agrees}
 use Rattle.reversible.specs.LevelLaws.{Sized, planeAt}
-use Rattle.reversible.specs.LoopLaws.{ForwardDone, sides}
+use Rattle.reversible.specs.LoopLaws.{ForwardDone}
 use Rattle.reversible.specs.Needs.{FirstRoom, ForwardRoom, lines-fit, levels-room, part-here, loaded-at, loaded-sized}
 use Rattle.width_table.specs.Table.{maxDepth}
 
@@ -32,7 +31,7 @@ middle (suc B) h k = let e : suc B - 1 ≡ B = omega arith in (omega (arith, ap 
 
 module _ {B L w h : ℕ} {pixels : List ℕ} {plane work : ℕ} (room : ForwardRoom B L w h pixels plane work) where
   some-w : 1 ≤ w
-  some-w = omega (arith, room .call .room .wide .0)
+  some-w = room .call .room .wide .0
 
   sample-fits : (k : ℕ) → k < w * h → natAbs (pos (getD pixels k 0) -ℤ pos (2 ^ (B - 1))) ≤ 2 ^ 11
   sample-fits k i =
@@ -43,17 +42,10 @@ module _ {B L w h : ℕ} {pixels : List ℕ} {plane work : ℕ} (room : ForwardR
   -- the first level has what it asks
   pub first-room : (l : List ℤ) (tile : ℕ) → length l ≡ plane → w * h ≤ tile → FirstRoom B pixels l tile w h
   first-room l tile e f =
-      let p = room .call .room in
-      let fit = lines-fit w h some-w (omega (arith, p .tall .0)) in
-      let s = sides L w h (p .wide) (p .tall) 0 (omega (arith, room .call .some)) in record {
-        depth = room .call .depth;
-        part = part-here (levels-room (room .call) plane tile (p .second) f) 0 (omega (arith, room .call .some)) l w h e (sym (side-none w)) (sym (side-none h));
-        wide = subst Liftable (side-none w) (s .wide);
-        tall = subst Liftable (side-none h) (s .tall);
-        row = omega arith;
-        column = omega arith;
-        held = p .first;
-        small = sample-fits;
+      let p = room .call .room in record {
+        picture = record { depth = room .call .depth; some = some-w; held = p .first; room = omega (arith, p .second); small = sample-fits };
+        part = part-here (levels-room (room .call) plane tile (p .second) f) 0 l w h e (sym (side-none w)) (sym (side-none h));
+        row = omega (arith, lines-fit w h some-w (p .tall .0));
       }
 
   loaded-samples : (x : ℕ → ℤ) → Agree w h (planeAt w (loaded pixels (2 ^ (B - 1)) w h x)) (sample pixels B w)
@@ -68,5 +60,5 @@ module _ {B L w h : ℕ} {pixels : List ℕ} {plane work : ℕ} (room : ForwardR
       → after ≡ over (rowByRow w h (forward columnsThenRows L w h (sample pixels B w))) l
   worked-plane l after done e f =
       stands-over w h (forward columnsThenRows L w h (sample pixels B w)) l after some-w (omega (arith, room .call .room .second)) (omega arith)
-      (λ r c i j. done .stands r c i j ∙ forward-agrees columnsThenRows L w h (roomy L w (room .call .room .wide .0)) (roomy L h (room .call .room .tall .0)) (planeAt w (loaded pixels (2 ^ (B - 1)) w h (at l))) (sample pixels B w) (loaded-samples (at l)) r c i j)
+      (λ r c i j. done .stands r c i j ∙ forward-agrees columnsThenRows L w h (planeAt w (loaded pixels (2 ^ (B - 1)) w h (at l))) (sample pixels B w) (loaded-samples (at l)) r c i j)
       (λ q far. done .beyond q far ∙ patch-above 0 (w * h) _ (at l) q (omega arith))

@@ -5,10 +5,10 @@ use mathlib.Core.Path.{_≡_, refl}
 use lib.IntN.{ℤ, pos, negsuc}
 use Rattle.numbers.specs.Tests.{every}
 use Rattle.lines.specs.Lines.{lowAfter, highBefore, highAfter, onHighs, onLows, lowsFirst, interleaved}
-use Rattle.lines.specs.Planes.{tabulate, rowByRow, rows, columns, within, side, rowsFirst, columnsFirst, levels, levelsBack}
+use Rattle.lines.specs.Planes.{fromOne, tabulate, rowByRow, rows, columns, within, side, rowsFirst, columnsFirst, levels, levelsBack}
 use Rattle.refusals.specs.Answers.{refused}
 use Rattle.pictures.specs.Pictures.{sided, holds, pixelsRight, sample}
-use Rattle.reversible.specs.Reversible.{columnsThenRows, rowsThenColumns, predict, update, high, low, reversiblePass, forward, unpredict, unupdate, lowBack, highBack, backPass, back}
+use Rattle.reversible.specs.Reversible.{columnsThenRows, rowsThenColumns, predict, update, high, low, reversibleLong, reversiblePass, forward, unpredict, unupdate, lowBack, highBack, backLong, backPass, back}
 use Rattle.reversible.specs.Calls.{forwardAnswer, forwardPlane, pixelsBack, hasPicture, backAllowed, backAnswer, backPixels}
 
 -- the picture 5 7 over 4 4, of three bits
@@ -42,5 +42,5 @@ pub record TwoOrders : Type 0 where
   pub earlier-by-new : backPixels columnsThenRows 3 1 2 2 earlierCopy white blank ≡ 4 ∷ 6 ∷ 3 ∷ 3 ∷ []
 
 pub two-orders : TwoOrders
-unfolding forwardAnswer forwardPlane pixelsBack hasPicture backAllowed backAnswer backPixels sided holds pixelsRight sample every tabulate rowByRow rows columns within side rowsFirst columnsFirst levels levelsBack reversiblePass low high predict update forward unpredict unupdate lowBack highBack backPass back onHighs onLows lowAfter highBefore highAfter lowsFirst interleaved
+unfolding forwardAnswer forwardPlane pixelsBack hasPicture backAllowed backAnswer backPixels sided holds pixelsRight sample every tabulate rowByRow rows columns within side rowsFirst columnsFirst levels levelsBack fromOne reversiblePass reversibleLong low high predict update forward unpredict unupdate lowBack highBack backPass backLong back onHighs onLows lowAfter highBefore highAfter lowsFirst interleaved
 two-orders = record { copied = refl; copied-earlier = refl; restored = refl; restored-earlier = refl; new-by-earlier = refl; earlier-by-new = refl }

@@ -20,10 +20,10 @@ ghost use Rattle.reversible.specs.Reversible.{columnsThenRows, rowsThenC
 ghost use Rattle.reversible.specs.Calls.{limited, forwardAnswer, forwardPlane, forwardWork, backAnswer, backPixels, backWork};
 ghost use Rattle.reversible.specs.Orders.{orderOf};
 ghost use Rattle.reversible.specs.Sizes.{forwardKernel};
-ghost use Rattle.reversible.specs.LevelLaws.{levelForward, levelBack};
+ghost use Rattle.reversible.specs.LevelLaws.{rowsFrom, columnsFrom, levelForward, levelBack};
 ghost use Rattle.reversible.specs.Columns.{highAt, lowAt, PixelRoom, HighsTo};
 ghost use Rattle.reversible.specs.LoopLaws.{ForwardDone};
-ghost use Rattle.reversible.specs.Needs.{LevelRoom, FirstRoom, ForwardRoom, LevelsRoom, CallRoom};
+ghost use Rattle.reversible.specs.Needs.{RowsRoom, ColumnsRoom, LevelRoom, PictureRoom, FirstRoom, ForwardRoom, LevelsRoom, CallRoom};
 ghost use Rattle.reversible.specs.BackLaws.{BackDone};
 ghost use Rattle.reversible.specs.FoundLaws.{IsSample, Found, TakenBack};
 ghost use Rattle.width_table.specs.Table.{maxDepth};
@@ -68,12 +68,41 @@ fn allowed(
     second: usize,
     third: usize,
 ) -> Outcome
-    ensures { λ r. ⌜ told r ≡ limited depth levels then sided levels w h then holds (w * h) first then holds (w * h) second then holds (w * h) third ⌝ }
+    ensures { λ r. ⌜ told r ≡ limited depth levels then sided w h then holds (w * h) first then holds (w * h) second then holds (w * h) third ⌝ }
 {
     if width_table::limits_right(depth, levels) {} else {
         return Outcome::Refused(Refusal::OutsideLimits);
     }
-    pictures::room_right(levels, w, h, first, second, third)
+    pictures::room_right(w, h, first, second, third)
+}
+
+// The rows of a part by a kernel. A single value is not worked: it is its row's only low value (document 02, job 6).
+fn rows_from(plane: &mut [i32], tile: &mut [i32], stride: usize, w: usize, h: usize, kernel: Kernel)
+    requires { ⌜ RowsRoom kernel (now plane) (length (now tile)) stride w h ⌝ }
+    ensures { λ _. ⌜ at (now (plane .exit)) ≡ rowsFrom kernel stride w h (at (now (plane .entry))) ⌝ }
+{
+    if w < 2 {
+        return;
+    }
+    lifting::rows(plane, tile, stride, w, h, kernel);
+}
+
+// The columns likewise.
+fn columns_from(
+    plane: &mut [i32],
+    tile: &mut [i32],
+    stride: usize,
+    w: usize,
+    h: usize,
+    kernel: Kernel,
+)
+    requires { ⌜ ColumnsRoom kernel (now plane) (length (now tile)) stride w h ⌝ }
+    ensures { λ _. ⌜ at (now (plane .exit)) ≡ columnsFrom kernel stride w h (at (now (plane .entry))) ⌝ }
+{
+    if h < 2 {
+        return;
+    }
+    lifting::columns(plane, tile, stride, 0, w, h, kernel);
 }
 
 // One level forward, of a part of w columns and h rows: the columns, then the rows.
@@ -81,8 +110,8 @@ fn level_forward(plane: &mut [i32], tile: &mut [i32], stride: usize, w: usize, h
     requires { ⌜ LevelRoom (2 ^ 21) (now plane) (length (now tile)) stride w h ⌝ }
     ensures { λ _. ⌜ at (now (plane .exit)) ≡ levelForward stride w h (at (now (plane .entry))) ⌝ }
 {
-    lifting::columns(plane, tile, stride, 0, w, h, FORWARD_PASS);
-    lifting::rows(plane, tile, stride, w, h, FORWARD_PASS);
+    columns_from(plane, tile, stride, w, h, FORWARD_PASS);
+    rows_from(plane, tile, stride, w, h, FORWARD_PASS);
 }
 
 // A line of n highs: the pixels from place `own` on, with the lines of lows beside them from `before` and `after` on. Source document
@@ -232,14 +261,26 @@ fn pixel_columns(pixels: &[u16], middle: u16, plane: &mut [i32], w: usize, h: us
     }
 }
 
+// The columns of the first level, on their way into the plane; a single line of pixels goes there as it is.
+fn first_columns(pixels: &[u16], depth: u8, plane: &mut [i32], w: usize, h: usize)
+    requires { ⌜ PictureRoom depth (now pixels) (length (now plane)) w h ⌝ }
+    ensures { λ _. ⌜ at (now (plane .exit)) ≡ columnsFrom forwardKernel w w h (loaded (now (pixels .entry)) (2 ^ (depth - 1)) w h (at (now (plane .entry)))) ⌝ }
+{
+    let middle = pictures::middle(depth);
+    if h < 2 {
+        lifting::put_pixels(pixels, middle, plane, w * h);
+    } else {
+        pixel_columns(pixels, middle, plane, w, h);
+    }
+}
+
 // The first level forward, whose columns are those of the picture.
 fn first_level(pixels: &[u16], depth: u8, plane: &mut [i32], tile: &mut [i32], w: usize, h: usize)
     requires { ⌜ FirstRoom depth (now pixels) (now plane) (length (now tile)) w h ⌝ }
     ensures { λ _. ⌜ at (now (plane .exit)) ≡ levelForward w w h (loaded (now (pixels .entry)) (2 ^ (depth - 1)) w h (at (now (plane .entry)))) ⌝ }
 {
-    let middle = pictures::middle(depth);
-    pixel_columns(pixels, middle, plane, w, h);
-    lifting::rows(plane, tile, w, w, h, FORWARD_PASS);
+    first_columns(pixels, depth, plane, w, h);
+    rows_from(plane, tile, w, w, h, FORWARD_PASS);
 }
 
 // All levels forward, of a picture.
@@ -317,12 +358,12 @@ fn level_back(values: &mut [i32], tile: &mut [i32], stride: usize, w: usize, h: 
 {
     match first {
         First::Columns => {
-            lifting::rows(values, tile, stride, w, h, BACK_PASS);
-            lifting::columns(values, tile, stride, 0, w, h, BACK_PASS);
+            rows_from(values, tile, stride, w, h, BACK_PASS);
+            columns_from(values, tile, stride, w, h, BACK_PASS);
         }
         First::Rows => {
-            lifting::columns(values, tile, stride, 0, w, h, BACK_PASS);
-            lifting::rows(values, tile, stride, w, h, BACK_PASS);
+            columns_from(values, tile, stride, w, h, BACK_PASS);
+            rows_from(values, tile, stride, w, h, BACK_PASS);
         }
     }
 }

@@ -13,6 +13,7 @@
 --   Forward    forward-stored, forward-held, forward-shown: what the 9/7 call stores is never refused 12, and how far the shown pixels are
 --              from the scanned ones
 --   Deepest    too-deep: an accepted table of L levels that is deeper than `deepest L` is refused 13; deepest-viewed: these limits are reached
+--   Unchanged  view-unchanged: sides that were admitted before job 6
 --   Examples   worked lines, planes, greys and widths; a call that is done; a picture, and what is stored of it
 -- Proofs: Pass (by the rule of the crate stages, which is sound), Level lead to Viewing, in this order.
 -- For the proofs of the code:
@@ -35,6 +36,7 @@ pub mod Forward
 pub mod Words
 pub mod Examples
 pub mod Deepest
+pub mod Unchanged
 pub mod WidthLaws
 pub mod PixelSteps
 pub mod LevelSteps

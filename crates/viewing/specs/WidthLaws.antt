@@ -209,14 +209,11 @@ module _ (t : WidthTable) (w h : ℕ) (plane : List ℤ) where
 -- ---- the loop over the levels, whose sides are written otherwise
 
 module _ (t : WidthTable) (w h : ℕ) (plane : List ℤ) (ready : Lookable t w h (length plane)) where
-  some-w : 1 ≤ w
-  some-w = omega (arith, ready .width .0)
-
   in-w : (k : ℕ) → side k w ≤ w
-  in-w k = side-le k w some-w
+  in-w k = side-le k w
 
   in-h : (k : ℕ) → side k h ≤ h
-  in-h k = side-le k h (omega (arith, ready .height .0))
+  in-h k = side-le k h
 
   some-levels : 0 < t .levels
   some-levels = form-levels t (promise t (ready .accepted) .form) .0
@@ -247,7 +244,7 @@ module _ (t : WidthTable) (w h : ℕ) (plane : List ℤ) (ready : Lookable t w h
         right-next e before = subst (RightOutside t w h plane) (sym (add-one k)) (right-more t w h plane k within before (seen .holds (subst T (sym e) tt)))
 
         pub details-wrong : r ≡ false → refused (12, []) ≡ coefficientsRight t w h plane
-        details-wrong e = sym (one-wrong t w h plane some-w (λ f. subst T e (seen .told (details-right t w h plane k within (in-w k) (in-h k) f))))
+        details-wrong e = sym (one-wrong t w h plane (ready .width .0) (λ f. subst T e (seen .told (details-right t w h plane k within (in-w k) (in-h k) f))))
 
     -- low-low
     module _ (last : k ≡ t .levels) (r : Bool) (look : Tells (PartFits t (t .levels) LowColumns G1 (at plane) 0 w across down) r) where
@@ -255,7 +252,7 @@ module _ (t : WidthTable) (w h : ℕ) (plane : List ℤ) (ready : Lookable t w h
       low-seen = as-type (λ u. Tells (PartFits t (t .levels) LowColumns G1 (at plane) 0 w ((ea ∙ ap (λ (n : ℕ). side n w) last) u) ((ed ∙ ap (λ (n : ℕ). side n h) last) u)) r) look
 
       pub low-low-done : r ≡ true → RightOutside t w h plane k → passed ≡ coefficientsRight t w h plane
-      low-low-done e before = sym (all-right t w h plane some-w (right-all t w h plane some-levels (subst (RightOutside t w h plane) last before) (low-seen .holds (subst T (sym e) tt))))
+      low-low-done e before = sym (all-right t w h plane (ready .width .0) (right-all t w h plane some-levels (subst (RightOutside t w h plane) last before) (low-seen .holds (subst T (sym e) tt))))
 
       pub low-low-wrong : r ≡ false → refused (12, []) ≡ coefficientsRight t w h plane
-      low-low-wrong e = sym (one-wrong t w h plane some-w (λ f. subst T e (low-seen .told (low-low-right t w h plane some-levels (in-w (t .levels)) (in-h (t .levels)) f))))
+      low-low-wrong e = sym (one-wrong t w h plane (ready .width .0) (λ f. subst T e (low-seen .told (low-low-right t w h plane some-levels (in-w (t .levels)) (in-h (t .levels)) f))))

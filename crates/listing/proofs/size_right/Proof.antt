@@ -11,11 +11,11 @@ use Rattle.pictures.specs.PixelLaws.{size-fits}
 use Rattle.listing.proofs.size_right.Statement.{statement}
 use Rattle.listing.proofs.size_right.Tie as tie
 
-sides : (c : tie.After-enum-told) → let a = c .before .before .before .args in sided (a .levels) (a .w) (a .h) ≡ passed
+sides : (c : tie.After-enum-told) → let a = c .before .before .before .args in sided (a .w) (a .h) ≡ passed
 sides c = sym (c .before .before .sides-right .ensures) ∙ ap told (c .enum-told .given .1)
 
 mul-slice-holds : tie.Need-mul-slice-holds
-mul-slice-holds c = let a = c .before .before .before .args in omega (arith, size-fits (a .levels) (a .w) (a .h) (sides c))
+mul-slice-holds c = let a = c .before .before .before .args in omega (arith, size-fits (a .w) (a .h) (sides c))
 
 pub size-right-spec : {M : Type 1} → statement M
 size-right-spec =

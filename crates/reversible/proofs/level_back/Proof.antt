@@ -6,11 +6,10 @@ use borrow.Author.Needs.{needs}
 use Prim.Native.Nat.{ℕ}
 use lib.IntN.{ℤ}
 use Rattle.lifting.specs.Patch.{at}
-use Rattle.lifting.specs.Kernels.{rowsWorked, columnsWorked}
 use Rattle.reversible.specs.declared.First.{First}
 use Rattle.reversible.specs.Orders.{orderOf}
 use Rattle.reversible.specs.Sizes.{backKernel}
-use Rattle.reversible.specs.LevelLaws.{levelBack}
+use Rattle.reversible.specs.LevelLaws.{rowsFrom, columnsFrom, levelBack}
 use Rattle.reversible.specs.Needs.{back-columns, back-rows, first-back, then-back-columns, then-back-rows}
 use Rattle.reversible.proofs.level_back.Statement.{statement}
 use Rattle.reversible.proofs.level_back.Tie as tie
@@ -19,21 +18,21 @@ gives : (a : tie.Start) (f : First) (y : ℕ → ℤ) → a .args .first ≡ f �
     → y ≡ levelBack (orderOf (a .args .first)) (a .args .stride) (a .args .w) (a .args .h) (at (a .args .values .now))
 gives a f y e is = is ∙ ap (λ (g : First). levelBack (orderOf g) (a .args .stride) (a .args .w) (a .args .h) (at (a .args .values .now))) (sym e)
 
-columns-requires : tie.Need-columns-requires
-columns-requires c κs = back-columns (then-back-columns (c .before .before .before .before .before .before .before .before .before .pre) _ _ (omega arith) (omega arith) (c .before .before .before .before .rows .ensures .0))
+columns-from-requires : tie.Need-columns-from-requires
+columns-from-requires c κs = back-columns (then-back-columns (c .before .before .before .before .before .before .before .before .before .pre) _ _ (omega arith) (omega arith) (c .before .before .before .before .rows-from .ensures))
 
-rows-requires-2 : tie.Need-rows-requires-2
-rows-requires-2 c κs = back-rows (then-back-rows (c .before .before .before .before .before .before .before .before .before .pre) _ _ (omega arith) (omega arith) (c .before .before .before .before .columns2 .ensures .0))
+rows-from-requires-2 : tie.Need-rows-from-requires-2
+rows-from-requires-2 c κs = back-rows (then-back-rows (c .before .before .before .before .before .before .before .before .before .pre) _ _ (omega arith) (omega arith) (c .before .before .before .before .columns-from2 .ensures))
 
 returns : tie.Need-returns
 returns c =
     let t = c .before .before .before .before .before .before .before .before .before .before in
-    gives (t .before .before) _ _ (t .enum-told .given .1) (c .before .before .columns .ensures .0 ∙ ap (columnsWorked backKernel _ 0 _ _) (c .before .before .before .before .before .before .before .rows .ensures .0))
+    gives (t .before .before) _ _ (t .enum-told .given .1) (c .before .before .columns-from .ensures ∙ ap (columnsFrom backKernel _ _ _) (c .before .before .before .before .before .before .before .rows-from .ensures))
 
 returns-2 : tie.Need-returns-2
 returns-2 c =
     let t = c .before .before .before .before .before .before .before .before .before .before in
-    gives (t .before .before) _ _ (t .enum-told2 .given .1) (c .before .before .rows2 .ensures .0 ∙ ap (rowsWorked backKernel _ _ _) (c .before .before .before .before .before .before .before .columns2 .ensures .0))
+    gives (t .before .before) _ _ (t .enum-told2 .given .1) (c .before .before .rows-from2 .ensures ∙ ap (rowsFrom backKernel _ _ _) (c .before .before .before .before .before .before .before .columns-from2 .ensures))
 
 pub level-back-spec : {M : Type 1} → statement M
 level-back-spec =
@@ -41,10 +40,10 @@ level-back-spec =
     (tie.spec
     (λ c. search needs)
     (λ c κs. back-rows (first-back (c .before .before .before .before .pre)))
-    columns-requires
+    columns-from-requires
     (λ c. search needs)
     (λ c κs. back-columns (first-back (c .before .before .before .before .pre)))
-    rows-requires-2
+    rows-from-requires-2
     (λ c. search needs)
     (λ c. search needs)
     returns

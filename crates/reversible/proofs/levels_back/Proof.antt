@@ -25,7 +25,7 @@ part-between-requires : tie.Need-part-between-requires Inv-loop μ-loop
 part-between-requires c κs =
     let s = c .before .before .before .before .before in
     let t = c .before .before .before .before .loop in
-    part-here (s .pre) (t .k - 1) (omega arith) (t .values) _ _ (omega (arith, t .inv .1)) (c .before .before .side-after .ensures) (c .before .side-after2 .ensures) .fits
+    part-here (s .pre) (t .k - 1) (t .values) _ _ (omega (arith, t .inv .1)) (c .before .before .side-after .ensures) (c .before .side-after2 .ensures) .fits
 
 level-back-requires : tie.Need-level-back-requires Inv-loop μ-loop
 level-back-requires c κs =
@@ -34,7 +34,7 @@ level-back-requires c κs =
     let ea = c .before .before .before .before .before .before .side-after .ensures in
     let ed = c .before .before .before .before .before .side-after2 .ensures in
     let look = c .before .before .before .part-between in
-    level-room largest _ _ _ (s .pre) (t .k - 1) (omega arith) _ _ _ _ (omega (arith, t .inv .1)) (omega (arith, t .inv .2)) ea ed
+    level-room largest (s .pre) (t .k - 1) _ _ _ _ (omega (arith, t .inv .1)) (omega (arith, t .inv .2)) ea ed
     (look-small (orderOf (s .args .first)) (s .pre) (t .k - 1) (omega arith) _ (at (t .values)) (one-more (t .k - 1) (omega arith) (t .inv .3)) _ _ ea ed _ (look .ensures) (subst T (sym (c .before .before .if1 .taken)) tt))
 
 loop-again : tie.Need-loop-again Inv-loop μ-loop
@@ -46,7 +46,7 @@ loop-again c =
       omega arith,
       omega (arith, t .inv .1),
       omega (arith, t .inv .2),
-      back-more _ _ _ (s .pre .across) (s .pre .down) (orderOf (s .args .first)) (t .k - 1) (omega arith) _ (at (t .values)) _ (one-more (t .k - 1) (omega arith) (t .inv .3))
+      back-more _ _ (orderOf (s .args .first)) _ (t .k - 1) _ (at (t .values)) _ (one-more (t .k - 1) (omega arith) (t .inv .3))
           (c .before .before .level-back .ensures ∙ (λ u. levelBack (orderOf (s .args .first)) (s .args .w) (ea u) (ed u) (at (t .values)))),
     )
 
@@ -68,7 +68,7 @@ levels-back-spec =
     (tie.spec
     Inv-loop
     μ-loop
-    (λ c. (omega arith, refl, refl, back-none _ _ _ (c .pre .across) (c .pre .down) _ _))
+    (λ c. (omega arith, refl, refl, back-none _ _ _ _ _))
     (λ c. omega arith)
     (λ c κs. omega (arith, c .before .before .pre .across))
     (λ c κs. omega (arith, c .before .before .before .pre .down))

@@ -7,11 +7,11 @@ use lib.IntN.{ℤ}
 use lib.ListN.{length}
 use Rattle.lines.specs.Lines.{lows}
 use Rattle.lines.specs.Planes.{side}
-use Rattle.lines.specs.PlaneLaws.{side-one, side-more}
+use Rattle.lines.specs.PlaneLaws.{side-one, side-more, side-le}
 use Rattle.lifting.specs.Patch.{at}
 use Rattle.pictures.specs.MemoryLaws.{loaded}
 use Rattle.reversible.specs.LevelLaws.{levelForward}
-use Rattle.reversible.specs.LoopLaws.{ForwardDone, sides, forward-first, forward-more, forward-part}
+use Rattle.reversible.specs.LoopLaws.{ForwardDone, forward-first, forward-more, forward-part}
 use Rattle.reversible.specs.Needs.{levels-room, level-room}
 use Rattle.reversible.specs.StepLaws.{first-room, loaded-small}
 use Rattle.reversible.proofs.levels_forward.Statement.{statement}
@@ -34,38 +34,34 @@ loop-holds c = let s = c .before .before .before .before .before .before in (ome
 -- the first level is done
 first-done : (c : tie.After-tile Inv-loop μ-loop) → let a = c .before .before .before .before .before .before .args in ForwardDone (a .w) (a .h) 1 (loaded (a .pixels .now) (2 ^ (a .depth - 1)) (a .w) (a .h) (at (a .plane .now))) (at (c .before .before .first-level .last .1 .1 .0))
 first-done c =
-    let p = c .before .before .before .before .before .before .pre .call in
-    forward-first _ _ _ (p .room .wide) (p .room .tall) (p .some) _ _ (c .before .before .first-level .ensures)
+    let a = c .before .before .before .before .before .before .args in
+    forward-first (a .w) (a .h) _ _ (c .before .before .first-level .ensures)
 
 level-forward-requires : tie.Need-level-forward-requires Inv-loop μ-loop
 level-forward-requires c κs =
     let s = c .before .before .before .before .before .before .before .before .before .before in
     let t = c .before .before .before .loop in
     let p = s .pre .call in
-    let more = c .before .before .loop-test .taken in
-    level-room (2 ^ 21) _ _ _ (levels-room p (length (t .plane)) (length (t .tile)) (omega (arith, p .room .second)) (omega (arith, p .room .third))) (t .k) more _ _ _ _ refl refl (t .inv .3) (t .inv .4)
-    (forward-part _ _ _ (p .room .wide) (p .room .tall) (t .k) more (p .few) _ _ (t .inv .5 _ (first-done (c .before .before .before .before))) (loaded-small (s .pre) _))
+    level-room (2 ^ 21) (levels-room p (length (t .plane)) (length (t .tile)) (omega (arith, p .room .second)) (omega (arith, p .room .third))) (t .k) _ _ _ _ refl refl (t .inv .3) (t .inv .4)
+    (forward-part _ _ (t .k) (omega (arith, p .few, t .inv .0)) _ _ (t .inv .5 _ (first-done (c .before .before .before .before))) (loaded-small (s .pre) _))
 
 -- the sides of the level that was worked are at most those of a picture
 small-sides : (c : tie.After-tile2 Inv-loop μ-loop) → (c .before .before .before .before .before .before .loop .across ≤ maxSide) × (c .before .before .before .before .before .before .loop .down ≤ maxSide)
 small-sides c =
-    let p = c .before .before .before .before .before .before .before .before .before .before .before .before .before .pre .call .room in
+    let s = c .before .before .before .before .before .before .before .before .before .before .before .before .before in
     let t = c .before .before .before .before .before .before .loop in
-    let s = sides _ _ _ (p .wide) (p .tall) (t .k) (c .before .before .before .before .before .loop-test .taken) in
-    (omega (arith, s .in-w, p .wide .1, t .inv .3), omega (arith, s .in-h, p .tall .1, t .inv .4))
+    (omega (arith, side-le (t .k) (s .args .w), s .pre .call .room .wide .1, t .inv .3), omega (arith, side-le (t .k) (s .args .h), s .pre .call .room .tall .1, t .inv .4))
 
 loop-again : tie.Need-loop-again Inv-loop μ-loop
 loop-again c =
     let s = c .before .before .before .before .before .before .before .before .before .before .before .before .before in
-    let t = c .before .before .before .before .before .before .loop in
-    let p = s .pre .call .room in
-    let more = c .before .before .before .before .before .loop-test .taken in (
+    let t = c .before .before .before .before .before .before .loop in (
       omega arith,
       omega arith,
       omega arith,
       ap lows (t .inv .3) ∙ side-more (t .k) (s .args .w),
       ap lows (t .inv .4) ∙ side-more (t .k) (s .args .h),
-      λ x f. forward-more _ _ _ (p .wide) (p .tall) (t .k) more _ _ _ (t .inv .5 x f)
+      λ x f. forward-more _ _ (t .k) _ _ _ (t .inv .5 x f)
           (c .before .before .level-forward .ensures ∙ (λ i. levelForward (s .args .w) (t .inv .3 i) (t .inv .4 i) (at (t .plane)))),
     )
 

@@ -40,7 +40,7 @@ module _ (a : tie.Start) where
         omega (arith, line-in (a .args .w) (a .args .h) (lows (a .args .h) + a .args .i) (omega arith))
 
   few : a .args .h ≤ a .args .w * a .args .h
-  few = lines-few (a .args .w) (a .args .h) (omega (arith, a .pre .0 .0 .wide))
+  few = lines-few (a .args .w) (a .args .h) (omega (arith, a .pre .0 .0 .some))
 
   held : a .args .w * a .args .h ≤ length (a .args .pixels .now)
   held = a .pre .0 .0 .held

@@ -79,7 +79,7 @@ pixel-columns-spec =
     (λ c. omega arith)
     (λ c. omega arith)
     loop-again
-    (λ c. let s = c .before .before .before in omega (arith, lines-few (s .args .w) (s .args .h) (omega (arith, s .pre .wide)), s .pre .held))
+    (λ c. let s = c .before .before .before in omega (arith, lines-few (s .args .w) (s .args .h) (omega (arith, s .pre .some)), s .pre .held))
     low-at-requires-2
     (λ c. omega arith)
     returns

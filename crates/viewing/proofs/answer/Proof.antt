@@ -32,8 +32,8 @@ returns-2 c =
     let j = m .before .before .before in
     let a = j .before .args in
     sym (then-right (viewVerdict (a .table)) _ (sym (j .judge .ensures) ∙ ap told (m .before .enum-told .given .1))
-    ∙ sized-then (a .table .levels) (a .w) (a .h) (a .first) (length (a .plane .now)) (a .third) _
-    ∙ then-refused (sized (a .table .levels) (a .w) (a .h) (a .first) (length (a .plane .now)) (a .third)) _ _ (sym (m .room-right .ensures) ∙ ap told (c .before .why2 .given .1)))
+    ∙ sized-then (a .w) (a .h) (a .first) (length (a .plane .now)) (a .third) _
+    ∙ then-refused (sized (a .w) (a .h) (a .first) (length (a .plane .now)) (a .third)) _ _ (sym (m .room-right .ensures) ∙ ap told (c .before .why2 .given .1)))
 
 returns-3 : tie.Need-returns-3
 unfolding answerOf
@@ -43,8 +43,8 @@ returns-3 c =
     let a = j .before .args in
     c .coefficients-right .ensures
     ∙ sym (then-right (viewVerdict (a .table)) _ (sym (j .judge .ensures) ∙ ap told (m .before .enum-told .given .1))
-    ∙ sized-then (a .table .levels) (a .w) (a .h) (a .first) (length (a .plane .now)) (a .third) _
-    ∙ then-right (sized (a .table .levels) (a .w) (a .h) (a .first) (length (a .plane .now)) (a .third)) _ (sym (m .room-right .ensures) ∙ ap told (c .before .enum-told2 .given .1)))
+    ∙ sized-then (a .w) (a .h) (a .first) (length (a .plane .now)) (a .third) _
+    ∙ then-right (sized (a .w) (a .h) (a .first) (length (a .plane .now)) (a .third)) _ (sym (m .room-right .ensures) ∙ ap told (c .before .enum-told2 .given .1)))
 
 pub answer-spec : {M : Type 1} → statement M
 answer-spec =

@@ -19,7 +19,6 @@ columns-requires c κs =
     let high = c .stored-bits .ensures in (
       (
         record {
-          two = s .pre .rows;
           few = s .pre .part .few;
           narrow = omega (arith, s .pre .part .narrow);
           inPlane = λ r i. omega (arith, s .pre .inPlane r i);
@@ -49,7 +48,6 @@ columns-requires-2 c κs =
     let high = c .stored-bits3 .ensures in (
       (
         record {
-          two = s .pre .rows;
           few = s .pre .part .few;
           narrow = omega (arith, s .pre .part .narrow);
           inPlane = λ r i. omega (arith, s .pre .inPlane r i);

@@ -16,7 +16,7 @@ rows-requires c κs =
     let o = c .before .before .before .before .before in
     let s = o .before .before .before .before in
     let a = s .args in (
-      (record { narrow = s .pre .part .narrow; few = s .pre .part .few; wide = s .pre .part .wide; fits = λ r i. omega (arith, s .pre .part .fits r i) }, s .pre .columns, omega (arith, s .pre .across)),
+      (record { narrow = s .pre .part .narrow; few = s .pre .part .few; wide = s .pre .part .wide; fits = λ r i. omega (arith, s .pre .part .fits r i) }, omega (arith, s .pre .across)),
       (λ r i. subst (λ (f : ℕ → ℤ). Safe nodeBits nodeBits (a .w) (rowOf (a .stride) 0 f r)) (sym (o .columns-back .ensures)) (s .pre .safe .onRows r i)),
     )
 

@@ -12,6 +12,7 @@
 --   CallLaws     call-near, call-widths: demand 3 of every call that is not refused
 --   CaseLaws     pass-is: the pass by cases is the pass
 --   Unchanged    fixed-unchanged: sides that were admitted before job 6 give what they gave
+--   Examples     strips one sample wide, worked
 --   Constants    no-tie, is-nearest: a constant at F bits is the nearest multiple, for F from 1 to 24
 --   Subbands     kept-LL, kept-HL, kept-LH, kept-HH: the kept node of each subband of each level
 --   Sizes        sum-size, product-size: 64 bits hold the sum of a stage
@@ -45,6 +46,7 @@ pub mod SizedLaws
 pub mod CallLaws
 pub mod CaseLaws
 pub mod Unchanged
+pub mod Examples
 pub mod StepLaws
 pub mod KernelLaws
 pub mod StagesLaws

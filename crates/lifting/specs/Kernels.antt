@@ -157,9 +157,3 @@ rowsWorked k = rowsBy (worked k)
 
 abbrev pub columnsWorked : Kernel → ℕ → ℕ → ℕ → ℕ → (ℕ → ℤ) → ℕ → ℤ
 columnsWorked k = columnsBy (worked k)
-
-pub rows-same : {k r : Kernel} → SameKernel k r → (stride w h : ℕ) (x : ℕ → ℤ) → rowsWorked r stride w h x ≡ rowsWorked k stride w h x
-rows-same e stride w h x = λ u. patchLines (lineAt 0 stride) w h (λ r. e .same u w (rowOf stride 0 x r)) x
-
-pub columns-same : {k r : Kernel} → SameKernel k r → (stride from w h : ℕ) (x : ℕ → ℤ) → columnsWorked r stride from w h x ≡ columnsWorked k stride from w h x
-columns-same e stride from w h x = λ u. patchLines (lineAt from stride) w h (λ r j. e .same u h (columnOf stride from x j) r) x

@@ -4,7 +4,7 @@
 --   Planes     rows and columns in either order, level by level there and back; a plane in memory, row by row
 -- Proved of them:
 --   Mirror     the neighbours are the mirrored samples
---   LineLaws   lengths that a pass works; places of a line that is split or interleaved
+--   LineLaws   lengths that have a low and a high; places of a line that is split or interleaved
 --   Neighbours where the neighbours stand: beside their place, in the middle and at the ends
 --   CaseLaws   the neighbours by cases are the mirrored ones; a filter by cases is the filter
 --   PlaneLaws  inside and outside of a part; sides of the low-low parts

@@ -7,11 +7,8 @@ use lib.Dec.{T, ltb, eqb, ltb→lt, nltb→le, eqb→eq}
 use Rattle.numbers.specs.Tests.{ltb-true, ltb-false}
 use Rattle.lines.specs.Lines.{lows, highs, Liftable, lowsFirst, interleaved}
 
--- a line that a pass works has a sample, a low and a high
+-- a line of two samples or more has a low and a high
 module _ (n : ℕ) (works : Liftable n) where
-  pub some-samples : 1 ≤ n
-  some-samples = omega arith
-
   pub some-lows : 1 ≤ lows n
   some-lows = omega arith
 

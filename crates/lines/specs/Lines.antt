@@ -11,7 +11,7 @@ lows n = (n + 1) / 2
 abbrev pub highs : ℕ → ℕ
 highs n = n / 2
 
--- A pass works lengths from 2: there is a low and a high, and so each has neighbours.
+-- From length 2 there is a low and a high, and so each has neighbours.
 pub record Liftable (n : ℕ) : Type 0 where
   pub least : 2 ≤ n
 

@@ -1,5 +1,5 @@
--- The claim over calls of a rolling scan in the C interface (document 02, job 5): from suz_scan_begin on, with state and held memory handed
--- on as left.
+-- The claim over calls of a rolling scan in the C interface (document 02, jobs 5 and 6): from suz_scan_begin on, with state and held
+-- memory handed on as left.
 use Prim.Native.Nat.{ℕ, suc, _*_, _<_, _≤_}
 use mathlib.Core.Bool.{true, false}
 use mathlib.Core.List.{List, [], _++_, append-nil}
@@ -147,20 +147,20 @@ module _ (bytes state : List ℕ) (held : List ℤ) (n : ℕ) (strip : List ℕ)
   kept = kept-calls bytes calls
 
   -- Before the end, what came out is each line that is ready, and it is the transform's whatever lines follow.
-  pub c-before-end : scanHeld state .ended ≡ false → (more : List ℕ) (h : ℕ) → 2 ≤ h → n ≤ h → all ≡ firstLines (tableIn bytes) (strip ++ more) (scanHeld state .width) h (ready n)
+  pub c-before-end : scanHeld state .ended ≡ false → (more : List ℕ) (h : ℕ) → n ≤ h → all ≡ firstLines (tableIn bytes) (strip ++ more) (scanHeld state .width) h (ready n)
   c-before-end =
-      subst (λ (s : Scan). s .ended ≡ false → (more : List ℕ) (h : ℕ) → 2 ≤ h → n ≤ h → all ≡ firstLines (tableIn bytes) (strip ++ more) (s .width) h (ready n)) (sym (read-is state (kept .scan) (kept .reads)))
+      subst (λ (s : Scan). s .ended ≡ false → (more : List ℕ) (h : ℕ) → n ≤ h → all ≡ firstLines (tableIn bytes) (strip ++ more) (s .width) h (ready n)) (sym (read-is state (kept .scan) (kept .reads)))
       (before-end (tableIn bytes) (kept .scan) held n strip all (kept .calls))
 
   -- After the end, what came out is the whole transform of the strip of the lines accepted.
-  pub c-after-end : scanHeld state .ended ≡ true → (2 ≤ n) × (all ≡ firstLines (tableIn bytes) strip (scanHeld state .width) n n)
+  pub c-after-end : scanHeld state .ended ≡ true → (1 ≤ n) × (all ≡ firstLines (tableIn bytes) strip (scanHeld state .width) n n)
   c-after-end =
-      subst (λ (s : Scan). s .ended ≡ true → (2 ≤ n) × (all ≡ firstLines (tableIn bytes) strip (s .width) n n)) (sym (read-is state (kept .scan) (kept .reads)))
+      subst (λ (s : Scan). s .ended ≡ true → (1 ≤ n) × (all ≡ firstLines (tableIn bytes) strip (s .width) n n)) (sym (read-is state (kept .scan) (kept .reads)))
       (after-end (tableIn bytes) (kept .scan) held n strip all (kept .calls))
 
   -- So it is once an end is accepted: what came out before and what the end gives are the whole transform.
   pub c-whole : {state′ : List ℕ} {held′ out out′ : List ℤ} {given given′ : ℕ} → EndOnBytes state held out given 0 state′ held′ out′ given′
-      → (2 ≤ n) × (all ++ take (given′ * scanHeld state .width) out′ ≡ firstLines (tableIn bytes) strip (scanHeld state .width) n n)
+      → (1 ≤ n) × (all ++ take (given′ * scanHeld state .width) out′ ≡ firstLines (tableIn bytes) strip (scanHeld state .width) n n)
   unfolding scanEnded
   c-whole {state′} {held′} {out} {out′} {given} {given′} call =
       let s = kept .scan in
@@ -169,7 +169,7 @@ module _ (bytes state : List ℕ) (held : List ℤ) (n : ℕ) (strip : List ℕ)
       let e = end-done s held out (on .call) (on .answer-is) in
       let there : EndCall s held out (done m) (on .after) held′ out′ = subst (λ (o : Answer ℕ). EndCall s held out o (on .after) held′ out′) e (on .call) in
       let ended : on .after ≡ scanEnded s held out = there .scan-is ∙ answered-done (scanEnded s held out) s (gives-done (endAnswer s held out) m (sym (there .answer-is)) .0) in
-      let whole : ℕ → Scan → Scan → Type 0 = λ g a b. (2 ≤ n) × (all ++ take (g * a .width) out′ ≡ firstLines (tableIn bytes) strip (b .width) n n) in
+      let whole : ℕ → Scan → Scan → Type 0 = λ g a b. (1 ≤ n) × (all ++ take (g * a .width) out′ ≡ firstLines (tableIn bytes) strip (b .width) n n) in
       subst (λ (g : ℕ). whole g (scanHeld state) (scanHeld state)) (sym (on .given-is ∙ ap (λ (o : Answer ℕ). givenAfter o given) e))
       (subst (λ (a : Scan). whole m a a) (sym (read-is state s (kept .reads)))
       (subst (λ (b : Scan). whole m s b) ended (after-end (tableIn bytes) (on .after) held′ n strip _ (end (kept .calls) there) (ap (λ (s : Scan). s .ended) ended))))

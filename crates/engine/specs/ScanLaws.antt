@@ -14,7 +14,7 @@ use Rattle.width_table.specs.Bytes.{form, tableIn}
 use Rattle.precision.specs.Promise.{promise}
 use Rattle.rolling.specs.declared.Scan.{Scan}
 use Rattle.rolling.specs.Calls.{beginAnswer, scanOf, outLines, lineAnswer, givenByLine, scanAfter, LineCall, endAnswer, givenByEnd, scanEnded, EndCall}
-use Rattle.rolling.specs.AnswerLaws.{begun-one, begun-accepted, on-begun, on-two}
+use Rattle.rolling.specs.AnswerLaws.{begun-one, begun-accepted, on-begun, on-side}
 use Rattle.rolling_claims.specs.History.{line-right, end-right}
 use Rattle.rolling_claims.specs.Possible.{line-few, end-few}
 use Rattle.scan_bytes.specs.ScanBytes.{scanLength, stateBytes, keepable, scanIn, stateWith, stateAfter, numbersAfter, noScan}
@@ -66,7 +66,7 @@ module _ (s : Scan) (held out : List ℤ) {o : Answer ℕ} {s′ : Scan} {held�
   end-renews =
       let right = end-right s held out (end-passes .0) in
       subst (Renews s) (sym (call .scan-is ∙ answered-done (scanEnded s held out) s (end-passes .0)))
-      (record { table = refl; narrow = omega (arith, on-two s (right .goes) (right .two) .1) })
+      (record { table = refl; narrow = omega (arith, on-side s (right .goes) (right .some) .1) })
 
   pub end-kept : keepable s′ ≡ true
   end-kept = renews-kept s s′ end-renews (on-begun s (end-right s held out (end-passes .0) .goes))

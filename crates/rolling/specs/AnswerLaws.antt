@@ -18,9 +18,9 @@ use Rattle.pictures.specs.PixelLaws.{slice-short}
 use Rattle.precision.specs.Verdict.{verdict, Accepted}
 use Rattle.irreversible.specs.LevelBits.{IsLevel}
 use Rattle.rolling.specs.declared.Taken.{Taken}
-use Rattle.rolling.specs.declared.Taken.the-variants.{Zero, One, Two, Three, Four, OddMany, EvenMany}
+use Rattle.rolling.specs.declared.Taken.the-variants.{Zero}
 use Rattle.rolling.specs.declared.Scan.{Scan}
-use Rattle.rolling.specs.Schedule.{next, anyTaken, twoTaken, lineGives, endGives}
+use Rattle.rolling.specs.Schedule.{next, anyTaken, lineGives, endGives}
 use Rattle.rolling.specs.Calls.{beginAnswer, scanOf, lineWidthRight, goesOn, heldLines, outLines, heldIn, lineAnswer, workedRow, givenByLine, scanAfter, LineCall, endAnswer, givenByEnd, scanEnded, EndCall}
 use Rattle.rolling.specs.Memory.{Lent}
 use Rattle.rolling.specs.Rows.{LineRight, rowOf}
@@ -64,16 +64,6 @@ answered-passed (refused r) i = absurd i
 not-refused : {r : Reason} → refused r ≡ passed → ⊥
 not-refused e = subst T (ap (λ (o : Answer Unit). answered o false true) e) tt
 
--- more than one line is a line
-two-any : (k : Taken) → T (twoTaken k) → T (anyTaken k)
-two-any Zero h = absurd h
-two-any One h = absurd h
-two-any Two h = tt
-two-any Three h = tt
-two-any Four h = tt
-two-any OddMany h = tt
-two-any EvenMany h = tt
-
 -- ---- begin
 
 module _ (t : WidthTable) where
@@ -107,19 +97,19 @@ module _ (t : WidthTable) where
 
 module _ (k : Taken) (w : ℕ) where
   -- after a line, and before the first
-  pub width-some : anyTaken k ≡ true → lineWidthRight k w ≡ sideRight 1 w
+  pub width-some : anyTaken k ≡ true → lineWidthRight k w ≡ sideRight w
   unfolding lineWidthRight
-  width-some e = ap (λ (t : Bool). cond t (sideRight 1 w) (eqb w 0)) e
+  width-some e = ap (λ (t : Bool). cond t (sideRight w) (eqb w 0)) e
 
   pub width-none : anyTaken k ≡ false → lineWidthRight k w ≡ eqb w 0
   unfolding lineWidthRight
-  width-none e = ap (λ (t : Bool). cond t (sideRight 1 w) (eqb w 0)) e
+  width-none e = ap (λ (t : Bool). cond t (sideRight w) (eqb w 0)) e
 
-  width-taken : T (lineWidthRight k w) → T (anyTaken k) → T (sideRight 1 w)
+  width-taken : T (lineWidthRight k w) → T (anyTaken k) → T (sideRight w)
   unfolding lineWidthRight
   width-taken h i = go (anyTaken k) h i
     where
-      go : (a : Bool) → T (cond a (sideRight 1 w) (eqb w 0)) → T a → T (sideRight 1 w)
+      go : (a : Bool) → T (cond a (sideRight w) (eqb w 0)) → T a → T (sideRight w)
       go true h i = h
       go false h i = absurd i
 
@@ -127,16 +117,16 @@ module _ (k : Taken) (w : ℕ) where
   unfolding lineWidthRight
   width-unset h i = go (anyTaken k) h i
     where
-      go : (a : Bool) → T (cond a (sideRight 1 w) (eqb w 0)) → T (not a) → w ≡ 0
+      go : (a : Bool) → T (cond a (sideRight w) (eqb w 0)) → T (not a) → w ≡ 0
       go true h i = absurd i
       go false h i = eqb→eq w 0 h
 
-  pub width-is : (T (anyTaken k) → Admitted 1 w) → (T (not (anyTaken k)) → w ≡ 0) → lineWidthRight k w ≡ true
+  pub width-is : (T (anyTaken k) → Admitted w) → (T (not (anyTaken k)) → w ≡ 0) → lineWidthRight k w ≡ true
   unfolding lineWidthRight
   width-is some none = go (anyTaken k) some none
     where
-      go : (a : Bool) → (T a → Admitted 1 w) → (T (not a) → w ≡ 0) → cond a (sideRight 1 w) (eqb w 0) ≡ true
-      go true some none = is-true (sideRight 1 w) (side-right 1 w (some tt))
+      go : (a : Bool) → (T a → Admitted w) → (T (not a) → w ≡ 0) → cond a (sideRight w) (eqb w 0) ≡ true
+      go true some none = is-true (sideRight w) (side-right w (some tt))
       go false some none = eqb-true w 0 (none tt)
 
 -- ---- a scan that goes on
@@ -171,14 +161,11 @@ module _ (s : Scan) where
     pub on-running : s .ended ≡ false
     on-running = is-false (s .ended) (both (answered (beginAnswer (s .table)) true false) (not (s .ended)) (tests .0) .1)
 
-    pub on-side : T (anyTaken (s .taken)) → Admitted 1 (s .width)
-    on-side i = side-is 1 (s .width) (width-taken (s .taken) (s .width) (tests .1) i)
+    pub on-side : T (anyTaken (s .taken)) → Admitted (s .width)
+    on-side i = side-is (s .width) (width-taken (s .taken) (s .width) (tests .1) i)
 
     pub on-unset : T (not (anyTaken (s .taken))) → s .width ≡ 0
     on-unset i = width-unset (s .taken) (s .width) (tests .1) i
-
-    pub on-two : T (twoTaken (s .taken)) → Admitted 1 (s .width)
-    on-two i = on-side (two-any (s .taken) i)
 
 -- ---- the answer of a line, by lengths
 
@@ -199,15 +186,15 @@ module _ (s : Scan) (pixels : List ℕ) (w held out : ℕ) where
     abbrev room : Answer Unit
     room = holds w (length pixels) then holds (heldLines * w) held then holds (outLines * w) out then pixelsRight (s .table .depth) w 1 pixels
 
-    turned : lineAnswerOf s pixels w held out ≡ asks (sideRight 1 w) 8 room
+    turned : lineAnswerOf s pixels w held out ≡ asks (sideRight w) 8 room
     unfolding lineAnswerOf
-    turned = λ i. asks (on i && turn i) 14 (asks (sideRight 1 w) 8 room)
+    turned = λ i. asks (on i && turn i) 14 (asks (sideRight w) 8 room)
 
-    pub line-side : sideRight 1 w ≡ false → lineAnswerOf s pixels w held out ≡ refused (8, [])
-    line-side e = turned ∙ asks-wrong (sideRight 1 w) _ _ e
+    pub line-side : sideRight w ≡ false → lineAnswerOf s pixels w held out ≡ refused (8, [])
+    line-side e = turned ∙ asks-wrong (sideRight w) _ _ e
 
     -- the side is admitted
-    module _ (side : sideRight 1 w ≡ true) where
+    module _ (side : sideRight w ≡ true) where
       sided-line : lineAnswerOf s pixels w held out ≡ room
       sided-line = turned ∙ ap (λ (b : Bool). asks b 8 room) side
 
@@ -233,17 +220,17 @@ module _ (s : Scan) (pixels : List ℕ) (w held out : ℕ) where
 module _ (s : Scan) (held out : ℕ) where
   pub end-ended : goesOn s ≡ false → endAnswerOf s held out ≡ refused (14, [])
   unfolding endAnswerOf
-  end-ended e = asks-wrong (goesOn s && twoTaken (s .taken)) _ _ (left-false (goesOn s) (twoTaken (s .taken)) e)
+  end-ended e = asks-wrong (goesOn s && anyTaken (s .taken)) _ _ (left-false (goesOn s) (anyTaken (s .taken)) e)
 
-  pub end-few : twoTaken (s .taken) ≡ false → endAnswerOf s held out ≡ refused (14, [])
+  pub end-none : anyTaken (s .taken) ≡ false → endAnswerOf s held out ≡ refused (14, [])
   unfolding endAnswerOf
-  end-few e = asks-wrong (goesOn s && twoTaken (s .taken)) _ _ (right-false (goesOn s) (twoTaken (s .taken)) e)
+  end-none e = asks-wrong (goesOn s && anyTaken (s .taken)) _ _ (right-false (goesOn s) (anyTaken (s .taken)) e)
 
   -- it is its turn
-  module _ (on : goesOn s ≡ true) (two : twoTaken (s .taken) ≡ true) where
+  module _ (on : goesOn s ≡ true) (some : anyTaken (s .taken) ≡ true) where
     turned-end : endAnswerOf s held out ≡ holds (heldLines * s .width) held then holds (outLines * s .width) out
     unfolding endAnswerOf
-    turned-end = λ i. asks (on i && two i) 14 (holds (heldLines * s .width) held then holds (outLines * s .width) out)
+    turned-end = λ i. asks (on i && some i) 14 (holds (heldLines * s .width) held then holds (outLines * s .width) out)
 
     pub end-held : held < heldLines * s .width → endAnswerOf s held out ≡ refused (9, [])
     end-held h = turned-end ∙ then-refused (holds (heldLines * s .width) held) _ _ (slice-short _ _ h)
@@ -267,12 +254,12 @@ module _ (s : Scan) (pixels : List ℕ) (w : ℕ) (held out : List ℤ) where
     line-right =
         let turn = not (anyTaken (s .taken)) || eqb w (s .width) in
         let a = asks-done (goesOn s && turn) _ _ e in
-        let b = asks-done (sideRight 1 w) _ _ (a .1) in
+        let b = asks-done (sideRight w) _ _ (a .1) in
         let p = then-done (holds w (length pixels)) _ (b .1) in
         let q = then-done (holds (heldLines * w) (length held)) _ (p .1) in
         let r = then-done (holds (outLines * w) (length out)) _ (q .1) in
         let starts = on-begun s (both (goesOn s) turn (a .0) .0) in
-        let side = side-is 1 w (b .0) in
+        let side = side-is w (b .0) in
         let long = holds-done w (length pixels) (p .0) in (
           record {
             accepted = begun-accepted (s .table) starts;
@@ -316,14 +303,14 @@ module _ (s : Scan) (held out : List ℤ) where
   end-is = refl
 
   module _ (e : endAnswer s held out ≡ passed) where
-    pub end-right : IsLevel (s .table) 1 × Admitted 1 (s .width) × Lent held (s .width) × (outLines * s .width ≤ length out)
+    pub end-right : IsLevel (s .table) 1 × Admitted (s .width) × Lent held (s .width) × (outLines * s .width ≤ length out)
     unfolding endAnswer
     end-right =
-        let a = asks-done (goesOn s && twoTaken (s .taken)) _ _ e in
+        let a = asks-done (goesOn s && anyTaken (s .taken)) _ _ e in
         let p = then-done (holds (heldLines * s .width) (length held)) _ (a .1) in
-        let (on, two) = both (goesOn s) (twoTaken (s .taken)) (a .0) in
+        let (on, some) = both (goesOn s) (anyTaken (s .taken)) (a .0) in
         let starts = on-begun s on in
-        let side = on-two s on two in (
+        let side = on-side s on some in (
           record { accepted = begun-accepted (s .table) starts; least = omega arith; most = omega (arith, begun-one (s .table) starts) },
           side,
           record { narrow = side .1; room = holds-done (heldLines * s .width) (length held) (p .0) },

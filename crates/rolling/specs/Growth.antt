@@ -15,12 +15,12 @@ use Rattle.exact.specs.Fractions.{Frac}
 use Rattle.width_table.specs.Nodes.{Node, P1, U1, P2, U2, G1, G2}
 use Rattle.width_table.specs.Table.{maxConstantBits}
 use Rattle.lifting.specs.Steps.{Safe, FactorSafe}
-use Rattle.stages.specs.Fixed.{nearest, step, scale}
+use Rattle.stages.specs.Fixed.{nearest, cut, step, scale}
 use Rattle.irreversible.specs.Constants.{constantOf}
 use Rattle.irreversible.specs.Sized.{Sized}
-use Rattle.irreversible.specs.StepLaws.{stepTop, stepOf, factorOf, step-applied, scale-applied}
+use Rattle.irreversible.specs.StepLaws.{stepTop, stepOf, factorOf, singleOf, step-applied, scale-applied, single-applied}
 use Rattle.irreversible.specs.KernelLaws.{sP1, sU1, sP2, sU2, sG1, sG2}
-use Rattle.irreversible.specs.SafeLaws.{ConstantBits, Limits, step-safe, scale-safe}
+use Rattle.irreversible.specs.SafeLaws.{ConstantBits, Limits, step-safe, scale-safe, single-safe}
 
 -- v at f fractional bits is at most b in magnitude
 abbrev pub Within : ℕ → ℕ → ℤ → Type 0
@@ -125,6 +125,14 @@ module _ (n : Node) (F fm : ℕ) (const : ConstantBits F) where
       eighth : (p r : ℕ) → 8 * p ≤ 8 * r → p ≤ r
       eighth p r h = omega arith
 
+-- what the cut of a single sample makes of it (document 02, job 6)
+single-grows : (fi f b : ℕ) (x : ℤ) → Within b fi x → Within (b + 1) f (cut fi f x)
+unfolding singleOf
+single-grows fi f b x h =
+    let top : ℕ = max fi f in
+    subst (Within (b + 1) f) (single-applied fi f x)
+    (cut-within b f top (pos (2 ^ (top - fi)) *ℤ x) (omega arith) (subst (λ (t : ℕ). t ≤ b * 2 ^ top) (sym (abs-mul (pos (2 ^ (top - fi))) x)) (raised b fi top (natAbs x) (omega arith) h)))
+
 -- ---- the stages of a pass
 
 -- so many bits more are room enough
@@ -176,3 +184,7 @@ module _ (F : Node → ℕ) (fi : ℕ) (f : Node → ℕ) (ok : Limits F fi f) w
   G2-safe x h =
       scale-safe G2 (F G2) (f P2) (ok .constants G2) (ok .fractions P2) (f G2) (ok .fractions G2) x (sized 158 (f P2) x (omega arith) h)
       (sized 159 (f G2) (scale (constantOf G2) (F G2) (f P2) (f G2) x) (omega arith) (scale-grows G2 (F G2) (f P2) (ok .constants G2) (f G2) 158 158 x h (omega arith)))
+
+  -- a single sample may be cut
+  pub cut-safe : (x : ℤ) → Within 16 fi x → FactorSafe (singleOf fi (f G1)) x
+  cut-safe x h = single-safe fi (f G1) (ok .enters) (ok .fractions G1) x (sized 16 fi x (omega arith) h) (sized 17 (f G1) (cut fi (f G1) x) (omega arith) (single-grows fi (f G1) 16 x h))

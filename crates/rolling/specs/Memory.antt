@@ -101,6 +101,13 @@ module _ {A : Type 0} (t half n w : ℕ) (whole : half + n ≡ w) (new first sec
           let i : half + (j - half) ≡ j = omega arith in
           ap z e ∙ ap (λ (g : ℕ → A). g (t + half + (j - half))) then ∙ patch-in (t + half) n second y (j - half) (omega arith) ∙ same′ (j - half) (omega arith) ∙ ap new i
 
+-- a line that is put and then changed value by value
+pub changed-there : (g : ℤ → ℤ) (t n : ℕ) (l x y z : ℕ → ℤ) → y ≡ patch t n l x → z ≡ patch t n (λ j. g (y (t + j))) y → z ≡ patch t n (λ j. g (l j)) x
+changed-there g t n l x y z is then = patch-is t n (λ j. g (l j)) x z
+    (λ k h. ap (λ (u : ℕ → ℤ). u k) then ∙ patch-below t n _ y k h ∙ ap (λ (u : ℕ → ℤ). u k) is ∙ patch-below t n l x k h)
+    (λ j h. ap (λ (u : ℕ → ℤ). u (t + j)) then ∙ patch-in t n _ y j h ∙ ap g (ap (λ (u : ℕ → ℤ). u (t + j)) is ∙ patch-in t n l x j h))
+    (λ k h. ap (λ (u : ℕ → ℤ). u k) then ∙ patch-above t n _ y k h ∙ ap (λ (u : ℕ → ℤ). u k) is ∙ patch-above t n l x k h)
+
 -- the first part picks the first of two, the second part the second
 pub pick-low : {A : Type 0} (a b : A) (w j : ℕ) → j < lows w → a ≡ pick a b w j
 pick-low a b w j h = sym (ap (λ (t : Bool). cond t a b) (lt-ltb j (lows w) h))

@@ -14,16 +14,16 @@ use Rattle.lifting.specs.declared.Step.{Step}
 use Rattle.lifting.specs.declared.Factor.{Factor}
 use Rattle.lifting.specs.Steps.{Same, SameFactor}
 use Rattle.precision.specs.Promise.{promise}
-use Rattle.irreversible.specs.StepLaws.{step-applied, scale-applied}
-use Rattle.irreversible.specs.KernelLaws.{sP1, sU1, sP2, sU2, sG1, sG2}
+use Rattle.irreversible.specs.StepLaws.{step-applied, scale-applied, single-applied}
+use Rattle.irreversible.specs.KernelLaws.{sP1, sU1, sP2, sU2, sG1, sG2, singleFor}
 use Rattle.irreversible.specs.SafeLaws.{Limits}
 use Rattle.irreversible.specs.StagesLaws.{AsStages}
 use Rattle.irreversible.specs.LevelBits.{IsLevel}
 use Rattle.irreversible.specs.LevelsLaws.{bits-right}
 use Rattle.rolling.specs.declared.Columns.{Columns}
 use Rattle.rolling.specs.Calls.{heldLines}
-use Rattle.rolling.specs.Schedule.{Line, passOf, lineP1, lineU1, lineP2, lineU2, lineG1, lineG2}
-use Rattle.rolling.specs.Growth.{Within, P1-grows, U1-grows, P2-grows, U2-grows, P1-safe, U1-safe, P2-safe, U2-safe, G1-safe, G2-safe}
+use Rattle.rolling.specs.Schedule.{Line, passOf, lineP1, lineU1, lineP2, lineU2, lineG1, lineG2, lineSingle}
+use Rattle.rolling.specs.Growth.{Within, P1-grows, U1-grows, P2-grows, U2-grows, P1-safe, U1-safe, P2-safe, U2-safe, G1-safe, G2-safe, cut-safe}
 use Rattle.rolling.specs.Memory.{lineIn, setLine, moved, onLines, SafeLines, scaledLine, SafeScaling, line-own, line-other}
 
 -- the stages of both kinds of columns are those of a table of one level
@@ -165,6 +165,17 @@ module _ (cs : Columns) (stages : AsColumns cs) (w : ℕ) where
     G2-may h c i =
         same-factor-at (λ p. sG2 F (inputBits t 1 p) (fractionBits t 1 p)) _ _ (stages .low .high) (stages .high .high) (ltb c (lows w)) .safe (x c) (G2-safe F _ _ (limits (passOf w c)) (x c) (h c i))
 
+-- the cut of a single line (document 02, job 6), in the forms that are run in either kind of columns
+module _ (t : WidthTable) (w : ℕ) (low high : Factor) (as-low : SameFactor (singleFor t 1 LowColumns) low) (as-high : SameFactor (singleFor t 1 HighColumns) high) (x : Line) where
+  pub single-line : scaledLine low high w x ≡ lineSingle t w x
+  unfolding lineSingle
+  single-line = fun-ext λ c. same-factor-at (singleFor t 1) low high as-low as-high (ltb c (lows w)) .same (x c) ∙ single-applied _ _ (x c)
+
+  pub single-may : IsLevel t 1 → Enters t w x → SafeScaling low high w x
+  single-may level h c i =
+      same-factor-at (singleFor t 1) low high as-low as-high (ltb c (lows w)) .safe (x c)
+      (cut-safe (constantBits t) _ (fractionBits t 1 (passOf w c)) (bits-right t (promise t (level .accepted)) 1 (level .least) (level .most) (passOf w c)) (x c) (h c i))
+
 -- ---- lines in memory
 
 -- P1, U1 and the low line go to their places
@@ -240,7 +251,11 @@ module _ (t : WidthTable) (w : ℕ) where
     pub u1 : FromU1 t w (lineIn w m 3)
     pub p2 : FromP2 t w (lineIn w m 4)
 
-  -- what goes out after two lines: the last low line comes once more
+  -- what goes out after one line: that line, cut
+  abbrev pub oneEnded : (ℕ → ℤ) → (ℕ → ℤ) → ℕ → ℤ
+  oneEnded m out = setLine w 0 (lineSingle t w (lineIn w m 0)) out
+
+  -- after two lines: the last low line comes once more
   abbrev pub twoEnded : (ℕ → ℤ) → (ℕ → ℤ) → ℕ → ℤ
   twoEnded m out = twoGiven 0 (secondDone 3 2 (firstKept w (firstDone 6 (moved w 5 0 m)))) out
 

@@ -19,13 +19,13 @@ use Rattle.pictures.specs.MemoryLaws.{stands-over}
 use Rattle.irreversible.specs.Claims.{Holds}
 use Rattle.rolling.specs.declared.Taken.the-variants.{Zero, One, Two, Three, Four, OddMany, EvenMany}
 use Rattle.rolling.specs.declared.Taken.{Taken}
-use Rattle.rolling.specs.Schedule.{Line, stacked, lineP1, lineU1, lineP2, lineU2, lineG1, lineG2, newP1, newU1, newP2, newU2, heldAfter, lineGives, lastP2, lastU2, oddU1, oddP2, oddU2, endGives}
+use Rattle.rolling.specs.Schedule.{Line, stacked, lineP1, lineU1, lineP2, lineU2, lineG1, lineG2, lineSingle, newP1, newU1, newP2, newU2, heldAfter, lineGives, lastP2, lastU2, oddU1, oddP2, oddU2, endGives}
 use Rattle.rolling.specs.Calls.{heldLines, outLines, heldIn, FiveBits, Sound, SameHeld, KeptFrom, outAfter}
 use Rattle.rolling.specs.Growth.{Within}
 use Rattle.rolling.specs.Memory.{lineIn, setLine, moved, column, put, column-set, line-own, line-other}
 use Rattle.rolling.specs.Rows.{LineRight, rowOf}
 use Rattle.rolling.specs.Small.{line-five}
-use Rattle.rolling.specs.Program.{Enters, HeldFits, FirstFits, LaterFits, firstDone, secondDone, firstKept, laterDone, laterKept, twoGiven, twoEnded, evenEnded, oddDone, oddEnded, setU1, setU2, own-within, other-within}
+use Rattle.rolling.specs.Program.{Enters, HeldFits, FirstFits, LaterFits, firstDone, secondDone, firstKept, laterDone, laterKept, twoGiven, oneEnded, twoEnded, evenEnded, oddDone, oddEnded, setU1, setU2, own-within, other-within}
 use Rattle.rolling.specs.ColumnLaws.{move, keepFirst, doFirst, doSecond, on, atU1, atU2, column-moved, column-U1, column-U2, column-first, column-second, column-kept}
 use Rattle.rolling.specs.Works.{OutWorked, Later, fifth, later, EndWorked}
 
@@ -56,7 +56,7 @@ sound-fits t w held s = record {
 
 -- and so does a line worked along its row
 pub row-enters : (t : WidthTable) (pixels : List ℕ) (w : ℕ) → LineRight t pixels w → Enters t w (rowOf t pixels w)
-row-enters t pixels w r c i = five-within 16 _ _ (omega arith) (line-five t (r .accepted) (r .one) pixels w (r .side) (r .long) (r .below) c i)
+row-enters t pixels w r c i = five-within 16 _ _ (omega arith) (line-five t (r .accepted) pixels w (r .side) (r .below) c i)
 
 -- with a low line in line 5
 module _ (t : WidthTable) (w : ℕ) (row : Line) (m : ℕ → ℤ) where
@@ -257,6 +257,22 @@ module _ (t : WidthTable) (w : ℕ) (row : Line) (held : List ℤ) where
 -- ---- the end
 
 module _ (t : WidthTable) (w : ℕ) (held : List ℤ) (some : 1 ≤ w) (out out′ : List ℤ) (room : outLines * w ≤ length out) (same : length out′ ≡ length out) where
+  -- after one line
+  module _ (m : ℕ → ℤ) (e : at out′ ≡ oneEnded t w m (at out)) where
+    one-end-past : (p : ℕ) → 1 * w ≤ p → at out′ p ≡ at out p
+    one-end-past p h = ap (λ (u : ℕ → ℤ). u p) e ∙ above w 0 _ _ 1 (omega arith) p h
+
+    pub one-end-kept : KeptFrom (1 * w) out out′
+    one-end-kept = kept-from (1 * w) out out′ same one-end-past
+
+  pub one-ended : at out′ ≡ oneEnded t w (at held) (at out) → out′ ≡ outAfter w (endGives t w One (heldIn w held)) out
+  unfolding heldIn endGives
+  one-ended e = given-over w (endGives t w One (heldIn w held)) out out′ some (omega arith) same stands (one-end-past (at held) e)
+    where
+      stands : (r c : ℕ) → r < 1 → c < w → column w c (at out′) r ≡ stacked (endGives t w One (heldIn w held)) r c
+      stands zero c h i = ap (λ (u : ℕ → ℤ). u 0) (ap (column w c) e ∙ column-set w c i 0 (lineSingle t w (lineIn w (at held) 0)) (at out))
+      stands (suc r) c h i = absurd (omega arith)
+
   -- after two lines
   module _ (m : ℕ → ℤ) (e : at out′ ≡ twoGiven t w 0 (secondDone t w 3 2 (firstKept w (firstDone t w 6 m))) (at out)) where
     two-end-past : (p : ℕ) → 2 * w ≤ p → at out′ p ≡ at out p

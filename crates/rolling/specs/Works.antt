@@ -13,7 +13,7 @@ use Rattle.pictures.specs.Pictures.{sideRight, holds, pixelsRight}
 use Rattle.rolling.specs.declared.Taken.{Taken}
 use Rattle.rolling.specs.declared.Taken.the-variants.{Four, EvenMany}
 use Rattle.rolling.specs.declared.Scan.{Scan}
-use Rattle.rolling.specs.Schedule.{Line, anyTaken, twoTaken, evenTaken, heldAfter, lineGives, endGives}
+use Rattle.rolling.specs.Schedule.{Line, anyTaken, evenTaken, heldAfter, lineGives, endGives}
 use Rattle.rolling.specs.Calls.{heldLines, outLines, heldIn, Sound, SameHeld, KeptFrom, outAfter, goesOn}
 use Rattle.rolling.specs.Memory.{lineIn, setLine}
 use Rattle.rolling.specs.Program.{HeldFits, Enters}
@@ -23,13 +23,13 @@ use Rattle.rolling.specs.Program.{HeldFits, Enters}
 unfoldable pub lineAnswerOf : Scan → List ℕ → ℕ → ℕ → ℕ → Answer Unit
 lineAnswerOf s pixels w held out =
     asks (goesOn s && (not (anyTaken (s .taken)) || eqb w (s .width))) 14
-    (asks (sideRight 1 w) 8
+    (asks (sideRight w) 8
     (holds w (length pixels) then holds (heldLines * w) held then holds (outLines * w) out then
     pixelsRight (s .table .depth) w 1 pixels))
 
 unfoldable pub endAnswerOf : Scan → ℕ → ℕ → Answer Unit
 endAnswerOf s held out =
-    asks (goesOn s && twoTaken (s .taken)) 14
+    asks (goesOn s && anyTaken (s .taken)) 14
     (holds (heldLines * s .width) held then holds (outLines * s .width) out)
 
 -- ---- the work

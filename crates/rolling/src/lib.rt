@@ -1,4 +1,4 @@
-// The rolling scan (document 02, job 5): a one-level 9/7 transform line by line. Definitions in specs/.
+// The rolling scan (document 02, jobs 5 and 6): a one-level 9/7 transform line by line. Definitions in specs/.
 ghost use mathlib.Core.Path.{_≡_};
 ghost use Prim.Native.Nat.{ℕ, _+_, _*_, _<_, _≤_};
 ghost use mathlib.Core.Logic.{_⊎_};
@@ -11,13 +11,13 @@ ghost use Rattle.width_table.specs.Table.{maxFractionBits};
 ghost use Rattle.pictures.specs.Looks.{Tells};
 ghost use Rattle.irreversible.specs.LevelBits.{IsLevel};
 ghost use Rattle.rolling.specs.SoundLaws.{ColumnsSound};
-ghost use Rattle.rolling.specs.Program.{AsColumns, FirstFits, SecondFits, GiveFits, firstDone, secondDone, twoGiven, firstKept, LaterFits, laterDone, laterKept, HeldFits, LastFits, setU2, lastGiven, twoEnded, evenEnded, oddEnded, PastSame};
+ghost use Rattle.rolling.specs.Program.{AsColumns, FirstFits, SecondFits, GiveFits, firstDone, secondDone, twoGiven, firstKept, LaterFits, laterDone, laterKept, HeldFits, LastFits, setU2, lastGiven, Enters, oneEnded, twoEnded, evenEnded, oddEnded, PastSame};
 ghost use Rattle.rolling.specs.Calls.{heldLines, outLines, heldIn, FiveBits, Sound, KeptFrom, beginAnswer, scanOf, lineWidthRight, goesOn, LineCall, EndCall};
 ghost use Rattle.rolling.specs.Told.{toldGiven};
 ghost use Rattle.rolling.specs.Memory.{lineIn, setLine, moved, staged, SafeStage, scaledLine, SafeScaling, Lent, Apart};
 ghost use Rattle.rolling.specs.Rows.{LineRight, rowOf};
 ghost use Rattle.rolling.specs.Works.{lineAnswerOf, endAnswerOf, HeldWorked, LineWorked, Later, LowReady, EndWorked};
-ghost use Rattle.rolling.specs.Schedule.{next, anyTaken, twoTaken, lineGives, endGives};
+ghost use Rattle.rolling.specs.Schedule.{next, anyTaken, lineGives, endGives};
 ghost use Rattle.pictures.specs.Pictures.{Admitted};
 use irreversible::Stages;
 use lifting::Factor;
@@ -118,11 +118,26 @@ fn scale_line(
     lifting::scale_run(held, from + half, out, to + half, w / 2, high);
 }
 
+// A line of one pixel, less the middle of its range and cut, becomes line `line`.
+fn single_row(table: WidthTable, pixels: &[u16], held: &mut [i32], line: usize)
+    requires { ⌜ LineRight table (now pixels) 1 × Lent (now held) 1 × (line < heldLines) ⌝ }
+    ensures { λ _. ⌜ at (now (held .exit)) ≡ setLine 1 line (rowOf table (now (pixels .entry)) 1) (at (now (held .entry))) ⌝ }
+{
+    let middle = pictures::middle(table.depth);
+    let single = irreversible::single_of(table, 1, WidthTable::ROWS);
+    held[line] = lifting::centred(pixels[0], middle);
+    lifting::scale_here(held, line, 1, single);
+}
+
 // A line of pixels, worked along its row, becomes line `line`.
 fn row_to(table: WidthTable, pixels: &[u16], w: usize, held: &mut [i32], line: usize)
     requires { ⌜ LineRight table (now pixels) w × Lent (now held) w × (line < heldLines) ⌝ }
     ensures { λ _. ⌜ at (now (held .exit)) ≡ setLine w line (rowOf table (now (pixels .entry)) w) (at (now (held .entry))) ⌝ }
 {
+    if w < 2 {
+        single_row(table, pixels, held, line);
+        return;
+    }
     let middle = pictures::middle(table.depth);
     let stages = irreversible::stages_of(table, 1, WidthTable::ROWS);
     let first = stages.first;
@@ -305,6 +320,16 @@ fn later_low(columns: Columns, held: &mut [i32], out: &mut [i32], w: usize, befo
 
 // ---- the end
 
+// After one line: it goes out as it is, cut.
+fn end_one(table: WidthTable, held: &[i32], out: &mut [i32], w: usize)
+    requires { ⌜ IsLevel table 1 × Lent (now held) w × Enters table w (lineIn w (at (now held)) 0) × (outLines * w ≤ length (now out)) ⌝ }
+    ensures { λ _. ⌜ at (now (out .exit)) ≡ oneEnded table w (at (now (held .entry))) (at (now (out .entry))) ⌝ }
+{
+    let low = irreversible::single_of(table, 1, WidthTable::LOW_COLUMNS);
+    let high = irreversible::single_of(table, 1, WidthTable::HIGH_COLUMNS);
+    scale_line(held, w, 0, out, 0, low, high);
+}
+
 // After two lines: the last low line comes once more, and the last U1 serves as the one past it.
 fn end_two(columns: Columns, held: &mut [i32], out: &mut [i32], w: usize)
     requires { ⌜ Lent (now held) w × AsColumns columns × HeldFits (columns .table) w (at (now held)) × (outLines * w ≤ length (now out)) ⌝ }
@@ -454,7 +479,7 @@ fn work_line(
 
 // The end, by how many lines came: so many lines go out.
 fn work_end(table: WidthTable, taken: Taken, w: usize, held: &mut [i32], out: &mut [i32]) -> usize
-    requires { ⌜ IsLevel table 1 × Admitted 1 w × Lent (now held) w × (outLines * w ≤ length (now out)) ⌝ }
+    requires { ⌜ IsLevel table 1 × Admitted w × Lent (now held) w × (outLines * w ≤ length (now out)) ⌝ }
     ensures count { λ r. ⌜ r ≡ length (endGives table w taken (heldIn w (now (held .entry)))) ⌝ }
     ensures work { λ _. ⌜ EndWorked table w taken (now (held .entry)) (now (out .entry)) (now (held .exit)) (now (out .exit)) ⌝ }
 {
@@ -481,8 +506,11 @@ fn work_end(table: WidthTable, taken: Taken, w: usize, held: &mut [i32], out: &m
             end_odd(columns, held, out, w, 4);
             3
         }
+        Taken::One => {
+            end_one(table, held, out, w);
+            1
+        }
         Taken::Zero => 0,
-        Taken::One => 0,
     }
 }
 
@@ -518,21 +546,6 @@ fn any_taken(taken: Taken) -> bool
     }
 }
 
-// Whether two lines or more were taken.
-fn two_taken(taken: Taken) -> bool
-    ensures { λ r. ⌜ r ≡ twoTaken taken ⌝ }
-{
-    match taken {
-        Taken::Zero => false,
-        Taken::One => false,
-        Taken::Two => true,
-        Taken::Three => true,
-        Taken::Four => true,
-        Taken::OddMany => true,
-        Taken::EvenMany => true,
-    }
-}
-
 // 14 for a table that is not of one level, then 4, then 6 and 7.
 fn begin_answer(table: WidthTable) -> Outcome
     ensures { λ r. ⌜ told r ≡ beginAnswer table ⌝ }
@@ -549,7 +562,7 @@ fn line_width_right(taken: Taken, width: usize) -> bool
     ensures { λ r. ⌜ r ≡ lineWidthRight taken width ⌝ }
 {
     if any_taken(taken) {
-        return pictures::side_admitted(1, width);
+        return pictures::side_admitted(width);
     }
     width == 0
 }
@@ -585,7 +598,7 @@ fn line_answer(scan: Scan, pixels: &[u16], w: usize, held: usize, out: usize) ->
             return Outcome::Refused(Refusal::OutOfTurn);
         }
     }
-    if pictures::side_admitted(1, w) {} else {
+    if pictures::side_admitted(w) {} else {
         return Outcome::Refused(Refusal::SideNotAdmitted);
     }
     if w <= pixels.len() {} else {
@@ -609,7 +622,7 @@ fn end_answer(scan: Scan, held: usize, out: usize) -> Outcome
         return Outcome::Refused(Refusal::OutOfTurn);
     }
     let taken = scan.taken;
-    if two_taken(taken) {} else {
+    if any_taken(taken) {} else {
         return Outcome::Refused(Refusal::OutOfTurn);
     }
     if HELD_LINES * scan.width <= held {} else {

@@ -6,16 +6,18 @@ use native.Mathlib.Omega.{arith}
 use lib.ListN.{length}
 use lib.IntN.{ℤ, pos}
 use Rattle.exact.specs.Exact.{alpha, beta, gamma, delta, zeta, zetaInverse}
-use Rattle.lines.specs.Lines.{lowAfter, highBefore, highAfter, onHighs, onLows, interleaved}
-use Rattle.lines.specs.LineLaws.{even-place, odd-place}
+use Rattle.lines.specs.Lines.{lows, lowAfter, highBefore, highAfter, onHighs, onLows, lowsFirst, interleaved}
+use Rattle.lines.specs.LineLaws.{first-low, first-high, even-place, odd-place}
+use Rattle.lines.specs.OneLaws.{one-single, one-long}
 use Rattle.width_table.specs.Nodes.{Node, P1, U1, P2, U2, G1, G2, Pass}
 use Rattle.width_table.specs.declared.WidthTable.{WidthTable}
 use Rattle.width_table.specs.Table.{constantBits, fractionBits, inputBits}
-use Rattle.stages.specs.Fixed.{step, scale}
-use Rattle.irreversible.specs.Fixed.{atP1, atU1, atP2, atU2, atG1, atG2, valueAt, countAt}
+use Rattle.stages.specs.Fixed.{cut, step, scale}
+use Rattle.irreversible.specs.Fixed.{atP1, atU1, atP2, atU2, atG1, atG2, valueAt, countAt, fixedLong, fixedPass}
+use Rattle.irreversible.specs.Transforms.{fixedLine}
 use Rattle.rolling.specs.declared.Taken.{Taken}
 use Rattle.rolling.specs.declared.Taken.the-variants.{Zero, One, Two, Three, Four, OddMany, EvenMany}
-use Rattle.rolling.specs.Schedule.{Line, Held, next, holdsP2, passOf, before, stacked, lineP1, lineU1, lineP2, lineU2, lineG1, lineG2, newP1, newU1, newP2, newU2, heldAfter, lineGives, lastP2, lastU2, oddU1, oddP2, oddU2, endOdd, endGives}
+use Rattle.rolling.specs.Schedule.{Line, Held, next, holdsP2, passOf, before, stacked, lineP1, lineU1, lineP2, lineU2, lineG1, lineG2, lineSingle, newP1, newU1, newP2, newU2, heldAfter, lineGives, lastP2, lastU2, oddU1, oddP2, oddU2, endOdd, endGives}
 use Rattle.rolling.specs.Calls.{FiveBits, SameHeld}
 use Rattle.rolling.specs.Small.{zero-five}
 use Rattle.rolling_claims.specs.Claims.{ready}
@@ -41,7 +43,7 @@ contains-same w c a b i s d = record {
 -- ---- the stages at one place
 
 module _ (t : WidthTable) (p : Pass) (h : ℕ) (x : ℕ → ℤ) where
-  -- the values of the column's pass
+  -- the values of the column's pass over two lines or more
   abbrev pub valP1 : ℕ → ℤ
   valP1 = atP1 (constantBits t) (inputBits t 1 p) (fractionBits t 1 p) h x
 
@@ -54,15 +56,34 @@ module _ (t : WidthTable) (p : Pass) (h : ℕ) (x : ℕ → ℤ) where
   abbrev pub valU2 : ℕ → ℤ
   valU2 = atU2 (constantBits t) (inputBits t 1 p) (fractionBits t 1 p) h x
 
-  abbrev pub valG1 : ℕ → ℤ
+  abbrev valG1 : ℕ → ℤ
   valG1 = atG1 (constantBits t) (inputBits t 1 p) (fractionBits t 1 p) h x
 
-  abbrev pub valG2 : ℕ → ℤ
+  abbrev valG2 : ℕ → ℤ
   valG2 = atG2 (constantBits t) (inputBits t 1 p) (fractionBits t 1 p) h x
+
+  -- what the column's pass leaves
+  abbrev pub valPass : ℕ → ℤ
+  valPass = fixedLine t 1 p h x
 
   -- line k of low 0, high 0, low 1, ..
   abbrev pub lineValue : ℕ → ℤ
-  lineValue = interleaved valG1 valG2
+  lineValue = interleaved valPass (λ i. valPass (lows h + i))
+
+  pass-long : 2 ≤ h → (k : ℕ) → valPass k ≡ lowsFirst h valG1 valG2 k
+  unfolding fixedLine fixedPass fixedLong
+  pass-long two k = one-long (cut (inputBits t 1 p) (fractionBits t 1 p G1)) (fixedLong (constantBits t) (inputBits t 1 p) (fractionBits t 1 p)) h x k (record { least = two })
+
+  low-turn : (i : ℕ) → 2 ≤ h → 2 * i < h → lineValue (2 * i) ≡ valG1 i
+  low-turn i two room = even-place valPass (λ i. valPass (lows h + i)) i ∙ pass-long two i ∙ first-low h valG1 valG2 i (omega arith)
+
+  high-turn : (i : ℕ) → 2 ≤ h → lineValue (2 * i + 1) ≡ valG2 i
+  high-turn i two = odd-place valPass (λ i. valPass (lows h + i)) i ∙ pass-long two (lows h + i) ∙ first-high h valG1 valG2 i
+
+  -- a single line
+  single-turn : h ≡ 1 → lineValue 0 ≡ cut (inputBits t 1 p) (fractionBits t 1 p G1) (x 0)
+  unfolding fixedLine fixedPass
+  single-turn one = even-place valPass (λ i. valPass (lows h + i)) 0 ∙ one-single (cut (inputBits t 1 p) (fractionBits t 1 p G1)) (fixedLong (constantBits t) (inputBits t 1 p) (fractionBits t 1 p)) h x 0 (omega arith)
 
 -- The same at a column of w: what P1 (V1), U1 (W1), P2 (V2) and U2 (W2) leave.
 module _ (t : WidthTable) (w h c : ℕ) (x : ℕ → ℤ) where
@@ -187,11 +208,11 @@ module _ (t : WidthTable) (w h c : ℕ) (x : ℕ → ℤ) where
   abbrev pub O : ℕ → ℤ
   O = lineValue t (passOf w c) h x
 
-  low-at : (i s r : ℕ) (a : Line) → s + r ≡ 2 * i → a c ≡ W2 i → lineG1 t w a c ≡ O (s + r)
-  low-at i s r a q e = g1-is i a e ∙ sym (ap O q ∙ even-place (valG1 t (passOf w c) h x) (valG2 t (passOf w c) h x) i)
+  low-at : (i s r : ℕ) (a : Line) → 2 ≤ h → 2 * i < h → s + r ≡ 2 * i → a c ≡ W2 i → lineG1 t w a c ≡ O (s + r)
+  low-at i s r a two room q e = g1-is i a e ∙ sym (ap O q ∙ low-turn t (passOf w c) h x i two room)
 
-  high-at : (i s r : ℕ) (a : Line) → s + r ≡ 2 * i + 1 → a c ≡ V2 i → lineG2 t w a c ≡ O (s + r)
-  high-at i s r a q e = g2-is i a e ∙ sym (ap O q ∙ odd-place (valG1 t (passOf w c) h x) (valG2 t (passOf w c) h x) i)
+  high-at : (i s r : ℕ) (a : Line) → 2 ≤ h → s + r ≡ 2 * i + 1 → a c ≡ V2 i → lineG2 t w a c ≡ O (s + r)
+  high-at i s r a two q e = g2-is i a e ∙ sym (ap O q ∙ high-turn t (passOf w c) h x i two)
 
   -- each of these lines is the one that is due after s lines
   abbrev pub Due : ℕ → List Line → Type 0
@@ -200,23 +221,28 @@ module _ (t : WidthTable) (w h c : ℕ) (x : ℕ → ℤ) where
   due-none : (s : ℕ) → Due s []
   due-none s r i = absurd (omega arith)
 
-  due-two : (i s : ℕ) (a b : Line) → s ≡ 2 * i → a c ≡ W2 i → b c ≡ V2 i → Due s (lineG1 t w a ∷ lineG2 t w b ∷ [])
-  due-two i s a b q d e zero j = low-at i s 0 a (omega arith) d
-  due-two i s a b q d e (suc zero) j = high-at i s 1 b (omega arith) e
-  due-two i s a b q d e (suc (suc r)) j = absurd (omega arith)
+  due-one : (a : Line) → h ≡ 1 → a c ≡ x 0 → Due 0 (lineSingle t w a ∷ [])
+  unfolding lineSingle
+  due-one a one e zero j = ap (cut (inputBits t 1 (passOf w c)) (fractionBits t 1 (passOf w c) G1)) e ∙ sym (single-turn t (passOf w c) h x one)
+  due-one a one e (suc r) j = absurd (omega arith)
 
-  due-three : (i s : ℕ) (a b a′ : Line) → s ≡ 2 * i → a c ≡ W2 i → b c ≡ V2 i → a′ c ≡ W2 (suc i) → Due s (lineG1 t w a ∷ lineG2 t w b ∷ lineG1 t w a′ ∷ [])
-  due-three i s a b a′ q d e d′ zero j = low-at i s 0 a (omega arith) d
-  due-three i s a b a′ q d e d′ (suc zero) j = high-at i s 1 b (omega arith) e
-  due-three i s a b a′ q d e d′ (suc (suc zero)) j = low-at (suc i) s 2 a′ (omega arith) d′
-  due-three i s a b a′ q d e d′ (suc (suc (suc r))) j = absurd (omega arith)
+  due-two : (i s : ℕ) (a b : Line) → 2 * i + 2 ≤ h → s ≡ 2 * i → a c ≡ W2 i → b c ≡ V2 i → Due s (lineG1 t w a ∷ lineG2 t w b ∷ [])
+  due-two i s a b room q d e zero j = low-at i s 0 a (omega arith) (omega arith) (omega arith) d
+  due-two i s a b room q d e (suc zero) j = high-at i s 1 b (omega arith) (omega arith) e
+  due-two i s a b room q d e (suc (suc r)) j = absurd (omega arith)
 
-  due-four : (i s : ℕ) (a b a′ b′ : Line) → s ≡ 2 * i → a c ≡ W2 i → b c ≡ V2 i → a′ c ≡ W2 (suc i) → b′ c ≡ V2 (suc i) → Due s (lineG1 t w a ∷ lineG2 t w b ∷ lineG1 t w a′ ∷ lineG2 t w b′ ∷ [])
-  due-four i s a b a′ b′ q d e d′ e′ zero j = low-at i s 0 a (omega arith) d
-  due-four i s a b a′ b′ q d e d′ e′ (suc zero) j = high-at i s 1 b (omega arith) e
-  due-four i s a b a′ b′ q d e d′ e′ (suc (suc zero)) j = low-at (suc i) s 2 a′ (omega arith) d′
-  due-four i s a b a′ b′ q d e d′ e′ (suc (suc (suc zero))) j = high-at (suc i) s 3 b′ (omega arith) e′
-  due-four i s a b a′ b′ q d e d′ e′ (suc (suc (suc (suc r)))) j = absurd (omega arith)
+  due-three : (i s : ℕ) (a b a′ : Line) → 2 * i + 3 ≤ h → s ≡ 2 * i → a c ≡ W2 i → b c ≡ V2 i → a′ c ≡ W2 (suc i) → Due s (lineG1 t w a ∷ lineG2 t w b ∷ lineG1 t w a′ ∷ [])
+  due-three i s a b a′ room q d e d′ zero j = low-at i s 0 a (omega arith) (omega arith) (omega arith) d
+  due-three i s a b a′ room q d e d′ (suc zero) j = high-at i s 1 b (omega arith) (omega arith) e
+  due-three i s a b a′ room q d e d′ (suc (suc zero)) j = low-at (suc i) s 2 a′ (omega arith) (omega arith) (omega arith) d′
+  due-three i s a b a′ room q d e d′ (suc (suc (suc r))) j = absurd (omega arith)
+
+  due-four : (i s : ℕ) (a b a′ b′ : Line) → 2 * i + 4 ≤ h → s ≡ 2 * i → a c ≡ W2 i → b c ≡ V2 i → a′ c ≡ W2 (suc i) → b′ c ≡ V2 (suc i) → Due s (lineG1 t w a ∷ lineG2 t w b ∷ lineG1 t w a′ ∷ lineG2 t w b′ ∷ [])
+  due-four i s a b a′ b′ room q d e d′ e′ zero j = low-at i s 0 a (omega arith) (omega arith) (omega arith) d
+  due-four i s a b a′ b′ room q d e d′ e′ (suc zero) j = high-at i s 1 b (omega arith) (omega arith) e
+  due-four i s a b a′ b′ room q d e d′ e′ (suc (suc zero)) j = low-at (suc i) s 2 a′ (omega arith) (omega arith) (omega arith) d′
+  due-four i s a b a′ b′ room q d e d′ e′ (suc (suc (suc zero))) j = high-at (suc i) s 3 b′ (omega arith) (omega arith) e′
+  due-four i s a b a′ b′ room q d e d′ e′ (suc (suc (suc (suc r)))) j = absurd (omega arith)
 
   module _ (held : Held) (row : Line) where
     pub line-due : (n : ℕ) (k : Taken) → Holding held n k → suc n ≤ h → row c ≡ x n → Due (ready n) (lineGives t w k held row)
@@ -227,12 +253,12 @@ module _ (t : WidthTable) (w h c : ℕ) (x : ℕ → ℤ) where
     line-due n k (three-lines d) room e = due-none _
     line-due n k (four-lines d) room e =
         let r = low-four held row 2 e (omega arith) (omega arith) d in
-        due-two 0 (ready 4) (newU2 t w Four held row) (newP2 t w Four held row) refl (r .u2) (r .p2)
+        due-two 0 (ready 4) (newU2 t w Four held row) (newP2 t w Four held row) (omega arith) refl (r .u2) (r .p2)
     line-due n k (odd-many m n′ q d) room e = due-none _
     line-due n k (even-many m n′ q d) room e =
         let e′ : row c ≡ x (2 * suc (suc (suc m))) = e ∙ ap x (omega arith) in
         let r = low-even held row (suc (suc (suc m))) e′ m (omega arith) (omega arith) d in
-        due-two (suc m) (ready n′) (newU2 t w EvenMany held row) (newP2 t w EvenMany held row) (omega arith) (r .u2) (r .p2)
+        due-two (suc m) (ready n′) (newU2 t w EvenMany held row) (newP2 t w EvenMany held row) (omega arith) (omega arith) (r .u2) (r .p2)
 
   -- ---- the end
 
@@ -267,30 +293,30 @@ module _ (t : WidthTable) (w h c : ℕ) (x : ℕ → ℤ) where
           last = u2-is (suc i) i i (oddU1 t w k held) (oddP2 t w k held) (oddP2 t w k held) a p p (omega arith) (omega arith);
         }
 
-    last-odd : (k : Taken) (i s : ℕ) → OddReady k i → s ≡ 2 * i → Due s (endOdd t w k held)
-    last-odd k i s r z = due-three i s (oddU2 t w k held) (oddP2 t w k held) (lineU2 t w (oddU1 t w k held) (oddP2 t w k held) (oddP2 t w k held)) z (r .u2) (r .p2) (r .last)
+    last-odd : (k : Taken) (i s : ℕ) → h ≡ 2 * i + 3 → OddReady k i → s ≡ 2 * i → Due s (endOdd t w k held)
+    last-odd k i s q r z = due-three i s (oddU2 t w k held) (oddP2 t w k held) (lineU2 t w (oddU1 t w k held) (oddP2 t w k held) (oddP2 t w k held)) (omega arith) z (r .u2) (r .p2) (r .last)
 
-  pub end-due : (held : Held) (n : ℕ) (k : Taken) → Holding held n k → n ≡ h → 2 ≤ h → Due (ready n) (endGives t w k held)
+  pub end-due : (held : Held) (n : ℕ) (k : Taken) → Holding held n k → n ≡ h → Due (ready n) (endGives t w k held)
   unfolding endGives lineGives heldAfter lowAfter highBefore
-  end-due held n k zero-lines q two = absurd (omega arith)
-  end-due held n k (one-line d) q two = absurd (omega arith)
-  end-due held n k (two-lines d) q two =
+  end-due held n k zero-lines q = due-none _
+  end-due held n k (one-line d) q = due-one (held .low) (omega arith) (d .low)
+  end-due held n k (two-lines d) q =
       let r = low-two held (held .low) 0 (d .low) (omega arith) (omega arith) d in
       let held′ = heldAfter t w Two held (held .low) in
       let l = last-even held′ Three 0 0 (omega arith) refl (r .p1) (r .u1) (λ e. e) in
-      due-two 0 (ready 2) (lastU2 t w Three held′) (lastP2 t w Three held′) refl (l .1) (l .0)
-  end-due held n k (three-lines d) q two = last-odd held Three 0 (ready 3) (odd-ready held Three 0 0 (omega arith) refl (d .low) (d .p1) (d .u1) (λ e. e)) refl
-  end-due held n k (four-lines d) q two =
+      due-two 0 (ready 2) (lastU2 t w Three held′) (lastP2 t w Three held′) (omega arith) refl (l .1) (l .0)
+  end-due held n k (three-lines d) q = last-odd held Three 0 (ready 3) (omega arith) (odd-ready held Three 0 0 (omega arith) refl (d .low) (d .p1) (d .u1) (λ e. e)) refl
+  end-due held n k (four-lines d) q =
       let r = low-four held (held .low) 1 (d .low) (omega arith) (omega arith) d in
       let held′ = heldAfter t w Four held (held .low) in
       let l = last-even held′ OddMany 1 0 (omega arith) refl (r .p1) (r .u1) (λ e. r .p2) in
-      due-four 0 (ready 4) (newU2 t w Four held (held .low)) (newP2 t w Four held (held .low)) (lastU2 t w OddMany held′) (lastP2 t w OddMany held′) refl (r .u2) (r .p2) (l .1) (l .0)
-  end-due held n k (odd-many m n′ z d) q two = last-odd held OddMany (suc m) (ready n′) (odd-ready held OddMany (suc m) m (omega arith) (omega arith) (d .low) (d .p1) (d .u1) (λ e. d .p2)) (omega arith)
-  end-due held n k (even-many m n′ z d) q two =
+      due-four 0 (ready 4) (newU2 t w Four held (held .low)) (newP2 t w Four held (held .low)) (lastU2 t w OddMany held′) (lastP2 t w OddMany held′) (omega arith) refl (r .u2) (r .p2) (l .1) (l .0)
+  end-due held n k (odd-many m n′ z d) q = last-odd held OddMany (suc m) (ready n′) (omega arith) (odd-ready held OddMany (suc m) m (omega arith) (omega arith) (d .low) (d .p1) (d .u1) (λ e. d .p2)) (omega arith)
+  end-due held n k (even-many m n′ z d) q =
       let r = low-even held (held .low) (suc (suc m)) (d .low) m (omega arith) (omega arith) d in
       let held′ = heldAfter t w EvenMany held (held .low) in
       let l = last-even held′ OddMany (suc (suc m)) (suc m) (omega arith) (omega arith) (r .p1) (r .u1) (λ e. r .p2) in
-      due-four (suc m) (ready n′) (newU2 t w EvenMany held (held .low)) (newP2 t w EvenMany held (held .low)) (lastU2 t w OddMany held′) (lastP2 t w OddMany held′) (omega arith) (r .u2) (r .p2) (l .1) (l .0)
+      due-four (suc m) (ready n′) (newU2 t w EvenMany held (held .low)) (newP2 t w EvenMany held (held .low)) (lastU2 t w OddMany held′) (lastP2 t w OddMany held′) (omega arith) (omega arith) (r .u2) (r .p2) (l .1) (l .0)
 
   -- ---- five integer bits
 

@@ -1,12 +1,12 @@
--- Worked strips of 2 to 6 lines, by computation: what comes out call by call, and the whole transform. The numbers were computed by a
--- separate program from the documents. All widths of the table differ.
+-- Worked strips of 1 to 6 lines, and some one pixel wide, by computation: what comes out call by call, and the whole transform. The
+-- numbers were computed by a separate program from the documents. All widths of the table differ.
 use Prim.Native.Nat.{ℕ, _*_}
 use mathlib.Core.List.{List, [], _∷_, _++_, map}
 use mathlib.Core.Path.{_≡_, refl}
 use lib.ListN.{take}
 use lib.IntN.{ℤ, pos, negsuc}
 use Rattle.lines.specs.Lines.{lowAfter, highBefore, highAfter, lowsFirst, onHighs, onLows, interleaved}
-use Rattle.lines.specs.Planes.{tabulate, rowByRow, rows, columns, within, rowsFirst, levels, side}
+use Rattle.lines.specs.Planes.{tabulate, rowByRow, fromOne, rows, columns, within, rowsFirst, levels, side}
 use Rattle.width_table.specs.Nodes.{Rows}
 use Rattle.width_table.specs.declared.WidthTable.{WidthTable}
 use Rattle.pictures.specs.Pictures.{sample}
@@ -34,48 +34,59 @@ worked = record {
 abbrev pub pixels : List ℕ
 pixels = 0 ∷ 7 ∷ 2 ∷ 3 ∷ 6 ∷ 5 ∷ 7 ∷ 7 ∷ 0 ∷ 1 ∷ 4 ∷ 6 ∷ 5 ∷ 0 ∷ 3 ∷ 2 ∷ 2 ∷ 7 ∷ []
 
--- line n, worked along its row
-abbrev pub row : ℕ → Line
-row n = fixedLine worked 1 Rows 3 (sample pixels 3 3 n)
+-- line n of w pixels, worked along its row
+abbrev pub row : ℕ → ℕ → Line
+row w n = fixedLine worked 1 Rows w (sample pixels 3 w n)
 
 unfoldable pub nothing : Held
 nothing = record { low = blank; high = blank; p1 = blank; u1 = blank; p2 = blank }
 
 -- what each line gives, and then the end
-unfoldable pub run : Taken → Held → List Line → List (List (List ℤ))
-run k held [] = map (tabulate 3) (endGives worked 3 k held) ∷ []
-run k held (x ∷ xs) = map (tabulate 3) (lineGives worked 3 k held x) ∷ run (next k) (heldAfter worked 3 k held x) xs
+unfoldable pub run : ℕ → Taken → Held → List Line → List (List (List ℤ))
+run w k held [] = map (tabulate w) (endGives worked w k held) ∷ []
+run w k held (x ∷ xs) = map (tabulate w) (lineGives worked w k held x) ∷ run w (next k) (heldAfter worked w k held x) xs
 
--- the lines of 2 to 6
+-- 1 to 6 lines
 abbrev pub strips : List (List Line)
 strips =
-    (row 0 ∷ row 1 ∷ [])
-    ∷ (row 0 ∷ row 1 ∷ row 2 ∷ [])
-    ∷ (row 0 ∷ row 1 ∷ row 2 ∷ row 3 ∷ [])
-    ∷ (row 0 ∷ row 1 ∷ row 2 ∷ row 3 ∷ row 4 ∷ [])
-    ∷ (row 0 ∷ row 1 ∷ row 2 ∷ row 3 ∷ row 4 ∷ row 5 ∷ [])
+    (row 3 0 ∷ [])
+    ∷ (row 3 0 ∷ row 3 1 ∷ [])
+    ∷ (row 3 0 ∷ row 3 1 ∷ row 3 2 ∷ [])
+    ∷ (row 3 0 ∷ row 3 1 ∷ row 3 2 ∷ row 3 3 ∷ [])
+    ∷ (row 3 0 ∷ row 3 1 ∷ row 3 2 ∷ row 3 3 ∷ row 3 4 ∷ [])
+    ∷ (row 3 0 ∷ row 3 1 ∷ row 3 2 ∷ row 3 3 ∷ row 3 4 ∷ row 3 5 ∷ [])
     ∷ []
+
+-- one line and three, one pixel wide
+abbrev pub margins : List (List Line)
+margins = (row 1 0 ∷ []) ∷ (row 1 0 ∷ row 1 1 ∷ row 1 2 ∷ []) ∷ []
 
 -- the lines of each strip, by call
 pub by-call :
-    map (run Zero nothing) strips
-    ≡ ([] ∷ [] ∷ ((negsuc 40 ∷ pos 167 ∷ pos 509 ∷ []) ∷ (pos 31 ∷ pos 31 ∷ negsuc 32 ∷ []) ∷ []) ∷ [])
+    map (run 3 Zero nothing) strips ++ map (run 1 Zero nothing) margins
+    ≡ ([] ∷ ((negsuc 73 ∷ pos 73 ∷ pos 542 ∷ []) ∷ []) ∷ [])
+    ∷ ([] ∷ [] ∷ ((negsuc 40 ∷ pos 167 ∷ pos 509 ∷ []) ∷ (pos 31 ∷ pos 31 ∷ negsuc 32 ∷ []) ∷ []) ∷ [])
     ∷ ([] ∷ [] ∷ [] ∷ ((negsuc 139 ∷ pos 215 ∷ pos 559 ∷ []) ∷ (negsuc 46 ∷ pos 70 ∷ negsuc 22 ∷ []) ∷ (pos 371 ∷ negsuc 35 ∷ pos 299 ∷ []) ∷ []) ∷ [])
     ∷ ([] ∷ [] ∷ [] ∷ [] ∷ ((negsuc 94 ∷ pos 198 ∷ pos 549 ∷ []) ∷ (negsuc 27 ∷ pos 63 ∷ negsuc 23 ∷ []) ∷ (pos 221 ∷ negsuc 3 ∷ pos 282 ∷ []) ∷ (negsuc 242 ∷ pos 121 ∷ negsuc 21 ∷ []) ∷ []) ∷ [])
     ∷ ([] ∷ [] ∷ [] ∷ [] ∷ ((negsuc 131 ∷ pos 190 ∷ pos 498 ∷ []) ∷ (negsuc 43 ∷ pos 59 ∷ negsuc 28 ∷ []) ∷ []) ∷ ((pos 296 ∷ pos 0 ∷ pos 351 ∷ []) ∷ (negsuc 123 ∷ pos 137 ∷ pos 12 ∷ []) ∷ (negsuc 336 ∷ negsuc 66 ∷ negsuc 314 ∷ []) ∷ []) ∷ [])
     ∷ ([] ∷ [] ∷ [] ∷ [] ∷ ((negsuc 131 ∷ pos 190 ∷ pos 498 ∷ []) ∷ (negsuc 43 ∷ pos 59 ∷ negsuc 28 ∷ []) ∷ []) ∷ [] ∷ ((pos 279 ∷ negsuc 2 ∷ pos 332 ∷ []) ∷ (negsuc 137 ∷ pos 135 ∷ pos 8 ∷ []) ∷ (negsuc 278 ∷ negsuc 79 ∷ negsuc 347 ∷ []) ∷ (negsuc 22 ∷ pos 136 ∷ pos 20 ∷ []) ∷ []) ∷ [])
+    ∷ ([] ∷ ((negsuc 255 ∷ []) ∷ []) ∷ [])
+    ∷ ([] ∷ [] ∷ [] ∷ ((negsuc 74 ∷ []) ∷ (pos 135 ∷ []) ∷ (pos 72 ∷ []) ∷ []) ∷ [])
     ∷ []
-unfolding run nothing heldAfter lineGives endGives S.newP1 S.newU1 S.newP2 S.newU2 S.lastP2 S.lastU2 S.oddU1 S.oddP2 S.oddU2 S.lineP1 S.lineU1 S.lineP2 S.lineU2 S.lineG1 S.lineG2 tabulate fixedLine X.fixedPass X.atP1 X.atU1 X.atP2 X.atU2 X.atG1 X.atG2 F.step F.scale F.cut F.nearest lowsFirst onHighs onLows lowAfter highBefore highAfter sample
+unfolding run nothing heldAfter lineGives endGives S.newP1 S.newU1 S.newP2 S.newU2 S.lastP2 S.lastU2 S.oddU1 S.oddP2 S.oddU2 S.lineP1 S.lineU1 S.lineP2 S.lineU2 S.lineG1 S.lineG2 S.lineSingle tabulate fixedLine X.fixedPass X.fixedLong fromOne X.atP1 X.atU1 X.atP2 X.atU2 X.atG1 X.atG2 F.step F.scale F.cut F.nearest lowsFirst onHighs onLows lowAfter highBefore highAfter sample
 by-call = refl
 
 -- the whole transform of each strip, the lines in turn
 pub whole :
-    map (λ h. firstLines worked (take (3 * h) pixels) 3 h h) (2 ∷ 3 ∷ 4 ∷ 5 ∷ 6 ∷ [])
-    ≡ (negsuc 40 ∷ pos 167 ∷ pos 509 ∷ pos 31 ∷ pos 31 ∷ negsuc 32 ∷ [])
+    map (λ h. firstLines worked (take (3 * h) pixels) 3 h h) (1 ∷ 2 ∷ 3 ∷ 4 ∷ 5 ∷ 6 ∷ []) ++ map (λ h. firstLines worked (take h pixels) 1 h h) (1 ∷ 3 ∷ [])
+    ≡ (negsuc 73 ∷ pos 73 ∷ pos 542 ∷ [])
+    ∷ (negsuc 40 ∷ pos 167 ∷ pos 509 ∷ pos 31 ∷ pos 31 ∷ negsuc 32 ∷ [])
     ∷ (negsuc 139 ∷ pos 215 ∷ pos 559 ∷ negsuc 46 ∷ pos 70 ∷ negsuc 22 ∷ pos 371 ∷ negsuc 35 ∷ pos 299 ∷ [])
     ∷ (negsuc 94 ∷ pos 198 ∷ pos 549 ∷ negsuc 27 ∷ pos 63 ∷ negsuc 23 ∷ pos 221 ∷ negsuc 3 ∷ pos 282 ∷ negsuc 242 ∷ pos 121 ∷ negsuc 21 ∷ [])
     ∷ (negsuc 131 ∷ pos 190 ∷ pos 498 ∷ negsuc 43 ∷ pos 59 ∷ negsuc 28 ∷ pos 296 ∷ pos 0 ∷ pos 351 ∷ negsuc 123 ∷ pos 137 ∷ pos 12 ∷ negsuc 336 ∷ negsuc 66 ∷ negsuc 314 ∷ [])
     ∷ (negsuc 131 ∷ pos 190 ∷ pos 498 ∷ negsuc 43 ∷ pos 59 ∷ negsuc 28 ∷ pos 279 ∷ negsuc 2 ∷ pos 332 ∷ negsuc 137 ∷ pos 135 ∷ pos 8 ∷ negsuc 278 ∷ negsuc 79 ∷ negsuc 347 ∷ negsuc 22 ∷ pos 136 ∷ pos 20 ∷ [])
+    ∷ (negsuc 255 ∷ [])
+    ∷ (negsuc 74 ∷ pos 135 ∷ pos 72 ∷ [])
     ∷ []
-unfolding inTurn interleaved fixedPlane fixedAfter levels rowsFirst within columns rows side rowByRow tabulate fixedLine X.fixedPass X.atP1 X.atU1 X.atP2 X.atU2 X.atG1 X.atG2 F.step F.scale F.cut F.nearest lowsFirst onHighs onLows lowAfter highBefore highAfter sample
+unfolding inTurn interleaved fixedPlane fixedAfter levels rowsFirst within columns rows side rowByRow tabulate fixedLine X.fixedPass X.fixedLong fromOne X.atP1 X.atU1 X.atP2 X.atU2 X.atG1 X.atG2 F.step F.scale F.cut F.nearest lowsFirst onHighs onLows lowAfter highBefore highAfter sample
 whole = refl

@@ -24,10 +24,10 @@ use Rattle.irreversible.specs.Transforms.{fixedPlane}
 use Rattle.rolling.specs.declared.Taken.{Taken}
 use Rattle.rolling.specs.declared.Taken.the-variants.{Zero, One, Two, Three, Four, OddMany, EvenMany}
 use Rattle.rolling.specs.declared.Scan.{Scan}
-use Rattle.rolling.specs.Schedule.{Line, Held, next, anyTaken, twoTaken, evenTaken, stacked, heldAfter, lineGives, endGives}
+use Rattle.rolling.specs.Schedule.{Line, Held, next, anyTaken, evenTaken, stacked, heldAfter, lineGives, endGives}
 use Rattle.rolling.specs.Calls.{SameHeld, Sound, beginAnswer, scanOf, goesOn, heldLines, outLines, heldIn, outAfter, lineAnswer, workedRow, givenByLine, scanAfter, LineCall, endAnswer, givenByEnd, scanEnded, EndCall}
 use Rattle.rolling.specs.AnswerLaws.{of-unless, as-test, begun-one, begun-accepted, width-is, goes, on-running}
-use Rattle.rolling.specs.Small.{strip-one, row-five, column-five}
+use Rattle.rolling.specs.Small.{row-five, column-five}
 use Rattle.rolling_claims.specs.Claims.{Calls, begun, line, line-refused, end, end-refused, ready, inTurn, firstLines}
 use Rattle.rolling_claims.specs.Column.{Holding, zero-lines, holding-same, holding-next, line-due, end-due, SoundAt, holding-sound}
 use Rattle.rolling_claims.specs.Turns.{rows-join, rowsOf, row-is, turn-is}
@@ -63,15 +63,6 @@ count-some fourth-line i = tt
 count-some (odd-count m n e) i = tt
 count-some (even-count m n e) i = tt
 
-pub count-two : {n : ℕ} {k : Taken} → Count n k → T (twoTaken k) → 2 ≤ n
-count-two no-line i = absurd i
-count-two first-line i = absurd i
-count-two second-line i = omega arith
-count-two third-line i = omega arith
-count-two fourth-line i = omega arith
-count-two (odd-count m n e) i = omega arith
-count-two (even-count m n e) i = omega arith
-
 pub some-count : {n : ℕ} {k : Taken} → Count n k → T (anyTaken k) → 1 ≤ n
 some-count no-line i = absurd i
 some-count first-line i = omega arith
@@ -80,15 +71,6 @@ some-count third-line i = omega arith
 some-count fourth-line i = omega arith
 some-count (odd-count m n e) i = omega arith
 some-count (even-count m n e) i = omega arith
-
-pub two-count : {n : ℕ} {k : Taken} → Count n k → 2 ≤ n → T (twoTaken k)
-two-count no-line i = absurd (omega arith)
-two-count first-line i = absurd (omega arith)
-two-count second-line i = tt
-two-count third-line i = tt
-two-count fourth-line i = tt
-two-count (odd-count m n e) i = tt
-two-count (even-count m n e) i = tt
 
 pub none-count : {n : ℕ} {k : Taken} → Count n k → T (not (anyTaken k)) → n ≡ 0
 none-count no-line i = refl
@@ -120,10 +102,10 @@ module _ (t : WidthTable) (w : ℕ) (held : Held) where
   line-count row n k (odd-count m n′ e) = (omega arith, omega arith)
   line-count row n k (even-count m n′ e) = (omega arith, omega arith)
 
-  pub end-count : (n : ℕ) (k : Taken) → Count n k → 2 ≤ n → (ready n + length (endGives t w k held) ≡ n) × (length (endGives t w k held) ≤ 4)
+  pub end-count : (n : ℕ) (k : Taken) → Count n k → 1 ≤ n → (ready n + length (endGives t w k held) ≡ n) × (length (endGives t w k held) ≤ 4)
   unfolding endGives lineGives
   end-count n k no-line i = absurd (omega arith)
-  end-count n k first-line i = absurd (omega arith)
+  end-count n k first-line i = (refl, omega arith)
   end-count n k second-line i = (refl, omega arith)
   end-count n k third-line i = (refl, omega arith)
   end-count n k fourth-line i = (refl, omega arith)
@@ -148,7 +130,7 @@ unless false b f = tt
 pub record LineRight (s : Scan) (pixels : List ℕ) (w : ℕ) (held out : List ℤ) : Type 0 where
   pub goes : T (goesOn s)
   pub width : T (anyTaken (s .taken)) → w ≡ s .width
-  pub side : Admitted 1 w
+  pub side : Admitted w
   pub long : w ≤ length pixels
   pub held-room : heldLines * w ≤ length held
   pub out-room : outLines * w ≤ length out
@@ -162,7 +144,7 @@ module _ (s : Scan) (pixels : List ℕ) (w : ℕ) (held out : List ℤ) where
   unfolding lineAnswer
   line-right e =
       let a = asks-done (goesOn s && in-turn) _ _ e in
-      let b = asks-done (sideRight 1 w) _ _ (a .1) in
+      let b = asks-done (sideRight w) _ _ (a .1) in
       let p = then-done (holds w (length pixels)) _ (b .1) in
       let q = then-done (holds (heldLines * w) (length held)) _ (p .1) in
       let r = then-done (holds (outLines * w) (length out)) _ (q .1) in
@@ -171,7 +153,7 @@ module _ (s : Scan) (pixels : List ℕ) (w : ℕ) (held out : List ℤ) where
       record {
         goes = turn .0;
         width = λ i. eqb→eq w (s .width) (of-unless (anyTaken (s .taken)) (eqb w (s .width)) (turn .1) i);
-        side = side-is 1 w (b .0);
+        side = side-is w (b .0);
         long = long;
         held-room = holds-done (heldLines * w) (length held) (q .0);
         out-room = holds-done (outLines * w) (length out) (r .0);
@@ -182,7 +164,7 @@ module _ (s : Scan) (pixels : List ℕ) (w : ℕ) (held out : List ℤ) where
   unfolding lineAnswer
   right-line right =
       asks-right (goesOn s && in-turn) _ _ (and-intro (goesOn s) in-turn (right .goes) (unless (anyTaken (s .taken)) (eqb w (s .width)) (λ i. subst (λ (k : ℕ). T (eqb w k)) (right .width i) (eqb-refl w))))
-      ∙ asks-right (sideRight 1 w) _ _ (side-right 1 w (right .side))
+      ∙ asks-right (sideRight w) _ _ (side-right w (right .side))
       ∙ then-right (holds w (length pixels)) _ (holds-right _ _ (right .long))
       ∙ then-right (holds (heldLines * w) (length held)) _ (holds-right _ _ (right .held-room))
       ∙ then-right (holds (outLines * w) (length out)) _ (holds-right _ _ (right .out-room))
@@ -190,7 +172,7 @@ module _ (s : Scan) (pixels : List ℕ) (w : ℕ) (held out : List ℤ) where
 
 pub record EndRight (s : Scan) (held out : List ℤ) : Type 0 where
   pub goes : T (goesOn s)
-  pub two : T (twoTaken (s .taken))
+  pub some : T (anyTaken (s .taken))
   pub held-room : heldLines * s .width ≤ length held
   pub out-room : outLines * s .width ≤ length out
 
@@ -198,12 +180,12 @@ module _ (s : Scan) (held out : List ℤ) where
   pub end-right : endAnswer s held out ≡ passed → EndRight s held out
   unfolding endAnswer
   end-right e =
-      let a = asks-done (goesOn s && twoTaken (s .taken)) _ _ e in
+      let a = asks-done (goesOn s && anyTaken (s .taken)) _ _ e in
       let p = then-done (holds (heldLines * s .width) (length held)) _ (a .1) in
-      let turn = both (goesOn s) (twoTaken (s .taken)) (a .0) in
+      let turn = both (goesOn s) (anyTaken (s .taken)) (a .0) in
       record {
         goes = turn .0;
-        two = turn .1;
+        some = turn .1;
         held-room = holds-done (heldLines * s .width) (length held) (p .0);
         out-room = holds-done (outLines * s .width) (length out) (p .1);
       }
@@ -211,7 +193,7 @@ module _ (s : Scan) (held out : List ℤ) where
   pub right-end : EndRight s held out → endAnswer s held out ≡ passed
   unfolding endAnswer
   right-end right =
-      asks-right (goesOn s && twoTaken (s .taken)) _ _ (and-intro (goesOn s) (twoTaken (s .taken)) (right .goes) (right .two))
+      asks-right (goesOn s && anyTaken (s .taken)) _ _ (and-intro (goesOn s) (anyTaken (s .taken)) (right .goes) (right .some))
       ∙ then-right (holds (heldLines * s .width) (length held)) _ (holds-right _ _ (right .held-room))
       ∙ holds-right _ _ (right .out-room)
 
@@ -225,12 +207,12 @@ pub record Run (t : WidthTable) (k : Taken) (held : List ℤ) (w n : ℕ) (all :
 pub record Facts (s : Scan) (held : List ℤ) (n : ℕ) (strip : List ℕ) (given : List ℤ) : Type 0 where
   pub begun : beginAnswer (s .table) ≡ passed
   pub count : Count n (s .taken)
-  pub side : 1 ≤ n → Admitted 1 (s .width)
+  pub side : 1 ≤ n → Admitted (s .width)
   pub unset : n ≡ 0 → s .width ≡ 0
   pub size : length strip ≡ n * s .width
   pub below : (k : ℕ) → k < n * s .width → getD strip k 0 < 2 ^ s .table .depth
-  pub before-end : s .ended ≡ false → (w : ℕ) → (1 ≤ n → w ≡ s .width) → (more : List ℕ) (h : ℕ) → 2 ≤ h → n ≤ h → Run (s .table) (s .taken) held w n (strip ++ more) h given
-  pub after-end : s .ended ≡ true → (2 ≤ n) × (given ≡ firstLines (s .table) strip (s .width) n n)
+  pub before-end : s .ended ≡ false → (w : ℕ) → (1 ≤ n → w ≡ s .width) → (more : List ℕ) (h : ℕ) → n ≤ h → Run (s .table) (s .taken) held w n (strip ++ more) h given
+  pub after-end : s .ended ≡ true → (1 ≤ n) × (given ≡ firstLines (s .table) strip (s .width) n n)
 
 -- a scan goes on before its end
 pub goes-on : (s : Scan) (held : List ℤ) (n : ℕ) (strip : List ℕ) (given : List ℤ) → Facts s held n strip given → s .ended ≡ false → T (goesOn s)
@@ -267,8 +249,8 @@ size-more strip pixels n w size long = length-append strip (take w pixels) ∙ m
 
 module _ (s : Scan) (held : List ℤ) (n : ℕ) (strip : List ℕ) (given : List ℤ) (f : Facts s held n strip given) where
   -- the lines accepted, and any number of lines of zeros after them
-  pub strip-now : (h : ℕ) → 1 ≤ n → 2 ≤ h → Strip (s .table) strip (s .width) h
-  strip-now h some tall = strip-one (s .table) (begun-one (s .table) (f .begun)) strip (s .width) h (omega (arith, f .side some .0)) tall (λ k i. go k (decLt k (n * s .width)))
+  pub strip-now : (h : ℕ) → 1 ≤ n → 1 ≤ h → Strip (s .table) strip (s .width) h
+  strip-now h some tall = record { width = f .side some .0; height = tall; depth = λ k i. go k (decLt k (n * s .width)) }
     where
       go : (k : ℕ) → Dec (k < n * s .width) → getD strip k 0 < 2 ^ s .table .depth
       go k (yes j) = f .below k j
@@ -281,8 +263,8 @@ module _ (s : Scan) (held : List ℤ) (n : ℕ) (strip : List ℕ) (given : List
         let w = s .width in
         let accepted = begun-accepted t (f .begun) in
         let right = strip-now (suc n) some (omega arith) in
-        holding-sound t w (suc n) c (λ r. rowsOf t strip w r c) (λ k i. row-five t accepted strip w (suc n) right k c i j) (column-five t accepted strip w (suc n) right c j) (heldIn w held) n (s .taken)
-        (subst (λ (all : List ℕ). Holding t w (suc n) c (λ r. rowsOf t all w r c) (heldIn w held) n (s .taken)) (append-nil strip) (f .before-end running w (λ i. refl) [] (suc n) (omega arith) (omega arith) .holding c j))
+        holding-sound t w (suc n) c (λ r. rowsOf t strip w r c) (λ k i. row-five t accepted strip w (suc n) right k c i j) (column-five t accepted strip w (suc n) right (record { least = omega arith }) c j) (heldIn w held) n (s .taken)
+        (subst (λ (all : List ℕ). Holding t w (suc n) c (λ r. rowsOf t all w r c) (heldIn w held) n (s .taken)) (append-nil strip) (f .before-end running w (λ i. refl) [] (suc n) (omega arith) .holding c j))
         some (omega arith)
 
     pub sound-now : Sound (s .table) (s .width) (heldIn (s .width) held)
@@ -305,21 +287,18 @@ module _ (s : Scan) (held : List ℤ) (n : ℕ) (strip : List ℕ) (given : List
     size-now : length strip ≡ n * w
     size-now = f .size ∙ same-size n (s .width) w fits
 
-    two-wide : 2 ≤ w
-    two-wide = omega (arith, right .side .0)
-
     gives : List Line
     gives = givenByLine s pixels w held out
 
-    run-next : (more : List ℕ) (h : ℕ) → 2 ≤ h → suc n ≤ h → Run (s .table) (next (s .taken)) held′ w (suc n) (strip ++ (take w pixels ++ more)) h (given ++ rowByRow w (length gives) (stacked gives))
+    run-next : (more : List ℕ) (h : ℕ) → suc n ≤ h → Run (s .table) (next (s .taken)) held′ w (suc n) (strip ++ (take w pixels ++ more)) h (given ++ rowByRow w (length gives) (stacked gives))
     unfolding workedRow givenByLine gives
-    run-next more h two room =
+    run-next more h room =
         let t = s .table in
         let all = strip ++ (take w pixels ++ more) in
         let row = workedRow s pixels w held out in
-        let r = f .before-end running w fits (take w pixels ++ more) h two (omega arith) in
+        let r = f .before-end running w fits (take w pixels ++ more) h (omega arith) in
         let P = inTurn h (fixedPlane t all w h) in
-        let row-now : (c : ℕ) → c < w → row c ≡ rowsOf t all w n c = row-is t strip pixels more w n size-now (right .long) two-wide in
+        let row-now : (c : ℕ) → c < w → row c ≡ rowsOf t all w n c = row-is t strip pixels more w n size-now (right .long) in
         let count = line-count t w (heldIn w held) row n (s .taken) (f .count) in
         let few = ready-few (suc n) in
         record {
@@ -327,7 +306,7 @@ module _ (s : Scan) (held : List ℤ) (n : ℕ) (strip : List ℕ) (given : List
               (holding-next t w h c (λ r. rowsOf t all w r c) (heldIn w held) row n (s .taken) (r .holding c i) room (row-now c i));
           given-is =
               ap (λ (l : List ℤ). l ++ rowByRow w (length gives) (stacked gives)) (r .given-is)
-              ∙ rows-join w (ready n) (length gives) (omega (arith, two-wide)) P (stacked gives)
+              ∙ rows-join w (ready n) (length gives) (right .side .0) P (stacked gives)
               (λ q c i j. line-due t w h c (λ r. rowsOf t all w r c) (heldIn w held) row n (s .taken) (r .holding c j) room (row-now c j) q i ∙ sym (turn-is t (begun-one t (f .begun)) all w h (ready n + q) c (omega arith) j))
               ∙ ap (λ (m : ℕ). rowByRow w m P) (count .0);
         }
@@ -341,9 +320,9 @@ module _ (s : Scan) (held : List ℤ) (n : ℕ) (strip : List ℕ) (given : List
       unset = λ i. absurd (omega arith);
       size = size-more strip pixels n w size-now (right .long);
       below = below-more strip pixels n w (2 ^ s .table .depth) size-now (right .long) (λ k i. f .below k (subst (λ (m : ℕ). k < m) (sym (same-size n (s .width) w fits)) i)) (right .below);
-      before-end = λ r v fits′ more h two room.
+      before-end = λ r v fits′ more h room.
           subst (λ (v : ℕ). Run (s .table) (next (s .taken)) held′ v (suc n) (strip ++ take w pixels ++ more) h (given ++ rowByRow w (length gives) (stacked gives))) (sym (fits′ (omega arith)))
-          (subst (λ (all : List ℕ). Run (s .table) (next (s .taken)) held′ w (suc n) all h (given ++ rowByRow w (length gives) (stacked gives))) (sym (append-assoc strip (take w pixels) more)) (run-next more h two room));
+          (subst (λ (all : List ℕ). Run (s .table) (next (s .taken)) held′ w (suc n) all h (given ++ rowByRow w (length gives) (stacked gives))) (sym (append-assoc strip (take w pixels) more)) (run-next more h room));
       after-end = λ r. true-false running r;
     }
 
@@ -353,8 +332,8 @@ module _ (s : Scan) (held : List ℤ) (n : ℕ) (strip : List ℕ) (given : List
     ends : EndRight s held out
     ends = end-right s held out e
 
-    pub two-lines-in : 2 ≤ n
-    two-lines-in = count-two (f .count) (ends .two)
+    pub line-in : 1 ≤ n
+    line-in = some-count (f .count) (ends .some)
 
     rest : List Line
     rest = givenByEnd s held out
@@ -365,11 +344,11 @@ module _ (s : Scan) (held : List ℤ) (n : ℕ) (strip : List ℕ) (given : List
         let t = s .table in
         let w = s .width in
         let P = inTurn n (fixedPlane t strip w n) in
-        let r = subst (λ (all : List ℕ). Run t (s .taken) held w n all n given) (append-nil strip) (f .before-end (on-running s (ends .goes)) w (λ i. refl) [] n two-lines-in (omega arith)) in
-        let count = end-count t w (heldIn w held) n (s .taken) (f .count) two-lines-in in
+        let r = subst (λ (all : List ℕ). Run t (s .taken) held w n all n given) (append-nil strip) (f .before-end (on-running s (ends .goes)) w (λ i. refl) [] n (omega arith)) in
+        let count = end-count t w (heldIn w held) n (s .taken) (f .count) line-in in
         ap (λ (l : List ℤ). l ++ rowByRow w (length rest) (stacked rest)) (r .given-is)
-        ∙ rows-join w (ready n) (length rest) (omega (arith, f .side (omega (arith, two-lines-in)) .0)) P (stacked rest)
-        (λ q c i j. end-due t w n c (λ r. rowsOf t strip w r c) (heldIn w held) n (s .taken) (r .holding c j) refl two-lines-in q i ∙ sym (turn-is t (begun-one t (f .begun)) strip w n (ready n + q) c (omega arith) j))
+        ∙ rows-join w (ready n) (length rest) (f .side line-in .0) P (stacked rest)
+        (λ q c i j. end-due t w n c (λ r. rowsOf t strip w r c) (heldIn w held) n (s .taken) (r .holding c j) refl q i ∙ sym (turn-is t (begun-one t (f .begun)) strip w n (ready n + q) c (omega arith) j))
         ∙ ap (λ (m : ℕ). rowByRow w m P) (count .0)
 
     end-facts : Facts (scanEnded s held out) held′ n strip (given ++ rowByRow (s .width) (length rest) (stacked rest))
@@ -382,7 +361,7 @@ module _ (s : Scan) (held : List ℤ) (n : ℕ) (strip : List ℕ) (given : List
       size = f .size;
       below = f .below;
       before-end = λ r. true-false r refl;
-      after-end = λ r. (two-lines-in, whole-given);
+      after-end = λ r. (line-in, whole-given);
     }
 
 -- ---- calls
@@ -402,7 +381,7 @@ begun-facts t held e = record {
   unset = λ i. refl;
   size = refl;
   below = λ k i. absurd (omega arith);
-  before-end = λ r w same more h two room. record { holding = λ c i. zero-lines; given-is = none w (inTurn h (fixedPlane t ([] ++ more) w h)) };
+  before-end = λ r w same more h room. record { holding = λ c i. zero-lines; given-is = none w (inTurn h (fixedPlane t ([] ++ more) w h)) };
   after-end = λ r. true-false (answered-done {o = beginAnswer t} false true e) r;
 }
   where
@@ -421,7 +400,7 @@ module _ (s : Scan) (held : List ℤ) (n : ℕ) (strip : List ℕ) (given : List
       let (passes, counted) = gives-done (lineAnswer s pixels w held out) (length lines) (sym (call .answer-is)) in
       let right = line-right s pixels w held out passes in
       let works = call .works passes (λ even. let some = even-some (f .count) even in subst (λ (v : ℕ). Sound (s .table) v (heldIn v held)) (sym (right .width (count-some (f .count) some))) (sound-now s held n strip given f (on-running s (right .goes)) some)) in
-      subst (λ (l : List ℤ). Facts s′ held′ (suc n) (strip ++ take w pixels) (given ++ l)) (sym (front w m lines out out′ (omega (arith, right .side .0)) (sym counted) (works .1)))
+      subst (λ (l : List ℤ). Facts s′ held′ (suc n) (strip ++ take w pixels) (given ++ l)) (sym (front w m lines out out′ (right .side .0) (sym counted) (works .1)))
       (subst (λ (s : Scan). Facts s held′ (suc n) (strip ++ take w pixels) (given ++ rowByRow w (length lines) (stacked lines))) (sym (call .scan-is ∙ answered-done (scanAfter s pixels w held out) s passes))
       (line-facts s held n strip given f pixels w out held′ passes (works .0)))
 
@@ -430,9 +409,9 @@ module _ (s : Scan) (held : List ℤ) (n : ℕ) (strip : List ℕ) (given : List
   after-end-call m out s′ held′ out′ call =
       let lines = givenByEnd s held out in
       let (passes, counted) = gives-done (endAnswer s held out) (length lines) (sym (call .answer-is)) in
-      let some : 1 ≤ n = omega (arith, two-lines-in s held n strip given f out held′ passes) in
+      let some = line-in s held n strip given f out held′ passes in
       let sound = sound-now s held n strip given f (on-running s (end-right s held out passes .goes)) some in
-      subst (λ (l : List ℤ). Facts s′ held′ n strip (given ++ l)) (sym (front (s .width) m lines out out′ (omega (arith, f .side some .0)) (sym counted) (call .works passes sound)))
+      subst (λ (l : List ℤ). Facts s′ held′ n strip (given ++ l)) (sym (front (s .width) m lines out out′ (f .side some .0) (sym counted) (call .works passes sound)))
       (subst (λ (s′ : Scan). Facts s′ held′ n strip (given ++ rowByRow (s .width) (length lines) (stacked lines))) (sym (call .scan-is ∙ answered-done (scanEnded s held out) s passes))
       (end-facts s held n strip given f out held′ passes))
 

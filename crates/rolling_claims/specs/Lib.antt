@@ -1,10 +1,10 @@
--- The claims over the calls of a rolling scan (document 02, job 5).
+-- The claims over the calls of a rolling scan (document 02, jobs 5 and 6).
 --   Claims     from the start, with scan and held memory handed on as left
 --   Column     one column: what is held after n lines, and what comes out, are values of the column's pass
 --   Turns      the transform of a strip, its lines in turn
 --   History    facts: what holds after any calls, by induction over them
 --   Theorems   the claims, proved: ready-lines, before-end, after-end, counts, one-width, fourteen, refused-keeps, sound-left, in-widths, near-exact
---   Examples   worked strips of 2 to 6 lines, by computation
+--   Examples   worked strips of 1 to 6 lines, and some one pixel wide, by computation
 --   Possible   the promises can be kept, and every strip can be scanned
 pub mod Claims
 pub mod Column

@@ -1,5 +1,5 @@
 -- What is promised of the calls can be kept: whatever is lent, there is an outcome that meets the promise (`line-possible`,
--- `end-possible`). So the claims over calls speak of something: every strip of at least two lines can be scanned to its end (`scanned`).
+-- `end-possible`). So the claims over calls speak of something: every strip of at least one line can be scanned to its end (`scanned`).
 -- And each scan that goes on was left by some calls (`left`), so that any other is answered 14 (`foreign-refused`).
 use Prim.Native.Nat.{ℕ, zero, suc, _+_, _*_, _-_, _^_, _<_, _≤_}
 use mathlib.Core.Bool.{Bool, true, false, not}
@@ -25,9 +25,9 @@ use Rattle.rolling.specs.declared.Taken.the-variants.{Zero, One, Two, Three, Fo
 use Rattle.rolling.specs.declared.Scan.{Scan}
 use Rattle.rolling.specs.Schedule.{Line, Held, next, anyTaken, stacked, heldAfter, lineGives, endGives}
 use Rattle.rolling.specs.Calls.{beginAnswer, scanOf, goesOn, heldLines, outLines, heldIn, outAfter, SameHeld, KeptFrom, lineAnswer, workedRow, givenByLine, scanAfter, LineCall, endAnswer, givenByEnd, scanEnded, EndCall}
-use Rattle.rolling.specs.AnswerLaws.{on-begun, on-running, on-side, on-unset, on-two, line-ended, end-ended, line-is, end-is}
+use Rattle.rolling.specs.AnswerLaws.{on-begun, on-running, on-side, on-unset, line-ended, end-ended, line-is, end-is}
 use Rattle.rolling_claims.specs.Claims.{Calls, begun, line, end, Left, ForeignRefused}
-use Rattle.rolling_claims.specs.History.{facts, table-kept, some-count, none-count, two-count, goes-on, line-right, right-line, end-right, right-end}
+use Rattle.rolling_claims.specs.History.{facts, table-kept, count-some, some-count, none-count, goes-on, line-right, right-line, end-right, right-end}
 
 -- ---- lent memory
 
@@ -119,11 +119,11 @@ module _ (s : Scan) (pixels : List ℕ) (w : ℕ) (held out : List ℤ) where
         refused-kept = λ r e. (ap lineHeld e, ap lineOut e);
         past-kept = λ e.
             let right = line-right s pixels w held out e in
-            let some : 1 ≤ w = omega (arith, right .side .0) in
+            let some = right .side .0 in
             subst (λ (o : Answer Unit). KeptFrom (heldLines * w) held (lineHeld o) × KeptFrom (length lines * w) out (lineOut o)) (sym e)
             (held-kept w want held some (right .held-room), out-kept w lines out some (line-few (s .table) w (s .taken) (heldIn w held) (workedRow s pixels w held out)) (right .out-room));
         works = λ e sound.
-            let some : 1 ≤ w = omega (arith, line-right s pixels w held out e .side .0) in
+            let some = line-right s pixels w held out e .side .0 in
             subst (λ (o : Answer Unit). SameHeld w (heldIn w (lineHeld o)) want × (lineOut o ≡ outAfter w lines out)) (sym e) (same-held w want held some, refl);
       }
 
@@ -144,7 +144,7 @@ module _ (s : Scan) (held out : List ℤ) where
         refused-kept = λ r e. (refl, ap endOut e);
         past-kept = λ e.
             let right = end-right s held out e in
-            let some : 1 ≤ w = omega (arith, on-two s (right .goes) (right .two) .0) in
+            let some = on-side s (right .goes) (right .some) .0 in
             (record { length-kept = refl; past-kept = refl }, subst (λ (o : Answer Unit). KeptFrom (length lines * w) out (endOut o)) (sym e) (out-kept w lines out some (end-few (s .table) w (s .taken) (heldIn w held)) (right .out-room)));
         works = λ e sound. subst (λ (o : Answer Unit). endOut o ≡ outAfter w lines out) (sym e) refl;
       }
@@ -180,7 +180,7 @@ abbrev pub stripOf : ℕ → List ℕ → List (List ℕ) → List ℕ
 stripOf w strip [] = strip
 stripOf w strip (pixels ∷ lines) = stripOf w (strip ++ take w pixels) lines
 
-module _ (t : WidthTable) (w : ℕ) (side : Admitted 1 w) (out : List ℤ) (room : outLines * w ≤ length out) where
+module _ (t : WidthTable) (w : ℕ) (side : Admitted w) (out : List ℤ) (room : outLines * w ≤ length out) where
   line-on : {n : ℕ} {k : Taken} {strip : List ℕ} → Going t w n k strip → (pixels : List ℕ) → LineFor t w pixels → Going t w (suc n) (next k) (strip ++ take w pixels)
   unfolding scanAfter lineHeld
   line-on g pixels l =
@@ -209,16 +209,16 @@ module _ (t : WidthTable) (w : ℕ) (side : Admitted 1 w) (out : List ℤ) (room
         room = omega (arith, g .room, call .past-kept e .0 .length-kept);
       }
 
-  end-on : {n : ℕ} {k : Taken} {strip : List ℕ} → Going t w n k strip → 2 ≤ n → Scanned t n strip
+  end-on : {n : ℕ} {k : Taken} {strip : List ℕ} → Going t w n k strip → 1 ≤ n → Scanned t n strip
   unfolding scanEnded
-  end-on g two =
+  end-on g some =
       let s = g .scan in
       let held = g .held in
       let f = facts t (g .calls) in
-      let fits : w ≡ s .width = g .width (omega arith) in
+      let fits : w ≡ s .width = g .width some in
       let e : endAnswer s held out ≡ passed = right-end s held out (record {
         goes = goes-on s held _ _ _ f (g .running);
-        two = two-count (f .count) two;
+        some = count-some (f .count) some;
         held-room = subst (λ (v : ℕ). heldLines * v ≤ length held) fits (g .room);
         out-room = subst (λ (v : ℕ). outLines * v ≤ length out) fits room;
       }) in
@@ -226,12 +226,12 @@ module _ (t : WidthTable) (w : ℕ) (side : Admitted 1 w) (out : List ℤ) (room
       let call = subst (λ (o : Answer Unit). EndCall s held out (o then done m) (answered o (scanEnded s held out) s) held (endOut s held out o)) e (end-possible s held out) in
       record { scan = scanEnded s held out; held = held; given = _; calls = end (g .calls) call; ended = refl }
 
-  lines-on : (lines : List (List ℕ)) → ((k : ℕ) → k < length lines → LineFor t w (getD lines k [])) → {n : ℕ} {k : Taken} {strip : List ℕ} → Going t w n k strip → 2 ≤ n + length lines → Scanned t (n + length lines) (stripOf w strip lines)
-  lines-on [] each {n} {k} {strip} g two = subst (λ (m : ℕ). Scanned t m strip) (none n) (end-on g (omega arith))
+  lines-on : (lines : List (List ℕ)) → ((k : ℕ) → k < length lines → LineFor t w (getD lines k [])) → {n : ℕ} {k : Taken} {strip : List ℕ} → Going t w n k strip → 1 ≤ n + length lines → Scanned t (n + length lines) (stripOf w strip lines)
+  lines-on [] each {n} {k} {strip} g some = subst (λ (m : ℕ). Scanned t m strip) (none n) (end-on g (omega arith))
     where
       none : (n : ℕ) → n ≡ n + 0
       none n = omega arith
-  lines-on (pixels ∷ lines) each {n} {k} {strip} g two =
+  lines-on (pixels ∷ lines) each {n} {k} {strip} g some =
       subst (λ (m : ℕ). Scanned t m (stripOf w (strip ++ take w pixels) lines)) (more n (length lines))
       (lines-on lines (λ k i. each (suc k) (omega arith)) (line-on g pixels (each 0 (omega arith))) (omega arith))
     where
@@ -253,16 +253,30 @@ module _ (t : WidthTable) (e : beginAnswer t ≡ passed) where
     room = room;
   }
 
-  -- Every strip of at least two lines of admitted width can be scanned, in whatever memory is lent.
-  pub scanned : (w : ℕ) → Admitted 1 w → (held out : List ℤ) → heldLines * w ≤ length held → outLines * w ≤ length out
-      → (lines : List (List ℕ)) → 2 ≤ length lines → ((k : ℕ) → k < length lines → LineFor t w (getD lines k []))
+  -- Every strip of at least one line of admitted width can be scanned, in whatever memory is lent.
+  pub scanned : (w : ℕ) → Admitted w → (held out : List ℤ) → heldLines * w ≤ length held → outLines * w ≤ length out
+      → (lines : List (List ℕ)) → 1 ≤ length lines → ((k : ℕ) → k < length lines → LineFor t w (getD lines k []))
       → Scanned t (0 + length lines) (stripOf w [] lines)
-  scanned w side held out held-room out-room lines two each = lines-on t w side out out-room lines each (going-first w held held-room) (omega arith)
+  scanned w side held out held-room out-room lines some each = lines-on t w side out out-room lines each (going-first w held held-room) (omega arith)
 
 -- and there are tables with which a scan begins
 pub usual-begins : beginAnswer (usual 1) ≡ passed
 unfolding beginAnswer
 usual-begins = usual-accepted 1 (omega arith) (omega arith)
+
+-- the smallest strip, and one of two lines
+pub one-scanned : Scanned (usual 1) 1 (10 ∷ [])
+one-scanned =
+    scanned (usual 1) usual-begins 1 (omega arith, omega arith) (replicate 7 (pos 0)) (replicate 4 (pos 0)) (omega arith) (omega arith)
+    ((10 ∷ []) ∷ []) (omega arith) each
+  where
+    one-below : (k : ℕ) → k < 1 → getD (10 ∷ []) k 0 < 256
+    one-below zero h = omega arith
+    one-below (suc k) h = absurd (omega arith)
+
+    each : (k : ℕ) → k < 1 → LineFor (usual 1) 1 (getD ((10 ∷ []) ∷ []) k [])
+    each zero i = record { long = omega arith; below = one-below }
+    each (suc k) i = absurd (omega arith)
 
 pub two-scanned : Scanned (usual 1) 2 (10 ∷ 200 ∷ 7 ∷ 255 ∷ [])
 two-scanned =
@@ -287,7 +301,7 @@ record Reached (t : WidthTable) (w : ℕ) (k : Taken) : Type 0 where
   strip : List ℕ
   going : Going t w lines k strip
 
-module _ (t : WidthTable) (e : beginAnswer t ≡ passed) (w : ℕ) (side : Admitted 1 w) where
+module _ (t : WidthTable) (e : beginAnswer t ≡ passed) (w : ℕ) (side : Admitted w) where
   black : LineFor t w (replicate w 0)
   black = record { long = omega (arith, length-replicate {A = ℕ} w 0); below = λ k i. subst (λ (a : ℕ). a < 2 ^ t .depth) (sym (getD-replicate w k 0 0 i)) (pow-pos (t .depth)) }
 

@@ -1,11 +1,10 @@
 -- The claims over calls, proved.
-use Prim.Native.Nat.{ℕ, suc, _+_, _*_, _^_, _<_, _≤_}
+use Prim.Native.Nat.{ℕ, zero, suc, _+_, _*_, _^_, _<_, _≤_}
 use mathlib.Core.Bool.{Bool, true, false, not, _&&_, _||_}
 use mathlib.Core.List.{List, [], _++_}
 use mathlib.Core.Logic.{_↔_, _⊎_, inl, inr, ⊎-elim}
 use mathlib.Core.Path.{_≡_, refl, sym, _∙_, ap, subst}
 use native.Mathlib.Omega.{arith}
-use native.Mathlib.Decide.{decLt}
 use lib.Dec.{T, ltb, leb, eqb, ltb→lt, lt→ltb, eqb→eq, eqb-refl}
 use lib.ListN.{length, take}
 use lib.IntN.{ℤ}
@@ -22,11 +21,11 @@ use Rattle.irreversible.specs.Transforms.{fixedAfter, fixedPlane}
 use Rattle.irreversible.specs.Claims.{LevelInWidth, Near, bitsPlane}
 use Rattle.irreversible.specs.Demand3.{two-steps-strip, widths-strip}
 use Rattle.rolling.specs.declared.Scan.{Scan}
-use Rattle.rolling.specs.Schedule.{anyTaken, twoTaken}
+use Rattle.rolling.specs.Schedule.{anyTaken}
 use Rattle.rolling.specs.Calls.{Sound, goesOn, heldLines, outLines, heldIn, lineAnswer, workedRow, givenByLine, scanAfter, endAnswer, givenByEnd, scanEnded}
 use Rattle.rolling_claims.specs.Claims.{readyP1, readyU1, readyP2, readyU2, lineReady, ready, ReadyLines, firstLines, BeforeEnd, AfterEnd, Counts, OneWidth, Fourteen, RefusedKeeps, SoundLeft, InWidths, NearExact}
 use Rattle.rolling.specs.AnswerLaws.{begun-one, begun-accepted, on-running}
-use Rattle.rolling_claims.specs.History.{Facts, facts, table-kept, count-some, some-count, count-two, two-count, line-count, end-count, goes-on, line-right, two-lines-in, strip-now, sound-now}
+use Rattle.rolling_claims.specs.History.{Facts, facts, table-kept, count-some, some-count, line-count, end-count, goes-on, line-right, line-in, strip-now, sound-now}
 
 -- ---- ready lines
 
@@ -71,13 +70,13 @@ ready-lines n k =
 -- ---- what came out
 
 pub before-end : BeforeEnd
-before-end t s held n strip given calls e more h two room =
+before-end t s held n strip given calls e more h room =
     subst (λ (t : WidthTable). given ≡ firstLines t (strip ++ more) (s .width) h (ready n)) (table-kept t calls)
-    (facts t calls .before-end e (s .width) (λ i. refl) more h two room .given-is)
+    (facts t calls .before-end e (s .width) (λ i. refl) more h room .given-is)
 
 pub after-end : AfterEnd
 after-end t s held h strip given calls e =
-    subst (λ (t : WidthTable). (2 ≤ h) × (given ≡ firstLines t strip (s .width) h h)) (table-kept t calls) (facts t calls .after-end e)
+    subst (λ (t : WidthTable). (1 ≤ h) × (given ≡ firstLines t strip (s .width) h h)) (table-kept t calls) (facts t calls .after-end e)
 
 pub counts : Counts
 unfolding givenByLine givenByEnd
@@ -87,7 +86,7 @@ counts t s held n strip given calls = (
       subst (λ (m : ℕ). (ready n + m ≡ ready (suc n)) × (m ≤ 4)) counted (line-count (s .table) w (heldIn w held) (workedRow s pixels w held out) n (s .taken) (facts t calls .count))),
   (λ m out s′ held′ out′ call.
       let (passes, counted) = gives-done (endAnswer s held out) (length (givenByEnd s held out)) (sym (call .answer-is)) in
-      subst (λ (m : ℕ). (ready n + m ≡ n) × (m ≤ 4)) counted (end-count (s .table) (s .width) (heldIn (s .width) held) n (s .taken) (facts t calls .count) (two-lines-in s held n strip given (facts t calls) out held′ passes))),
+      subst (λ (m : ℕ). (ready n + m ≡ n) × (m ≤ 4)) counted (end-count (s .table) (s .width) (heldIn (s .width) held) n (s .taken) (facts t calls .count) (line-in s held n strip given (facts t calls) out held′ passes))),
 )
 
 -- ---- one width, and 14
@@ -136,14 +135,11 @@ line-test false true true n W a b d e = ((λ q. absurd (subst T q tt)), ⊎-elim
 line-test false true false n W a b d e = ((λ q. inr (b tt, e)), (λ q. refl))
 line-test false false same n W a b d e = ((λ q. absurd (subst T q tt)), ⊎-elim (λ i. absurd i) (λ i. absurd (a (i .0))))
 
-end-test : (ended some : Bool) (n : ℕ) → (2 ≤ n → T some) → (T some → 2 ≤ n) → ((not ended && some) ≡ false) ↔ (T ended ⊎ (n < 2))
+end-test : (ended some : Bool) (n : ℕ) → (1 ≤ n → T some) → (T some → 1 ≤ n) → ((not ended && some) ≡ false) ↔ (T ended ⊎ (n ≡ 0))
 end-test true some n a b = ((λ q. inl tt), (λ q. refl))
 end-test false true n a b = ((λ q. absurd (subst T q tt)), ⊎-elim (λ i. absurd i) (λ i. let z = b tt in absurd (omega arith)))
-end-test false false n a b = ((λ q. inr (few (decLt n 2))), (λ q. refl))
-  where
-    few : Dec (n < 2) → n < 2
-    few (yes i) = i
-    few (no i) = absurd (a (omega arith))
+end-test false false zero a b = ((λ q. inr refl), (λ q. refl))
+end-test false false (suc n) a b = absurd (a (omega arith))
 
 -- a scan goes on until its end
 goes-is : (s : Scan) (held : List ℤ) (n : ℕ) (strip : List ℕ) (given : List ℤ) → Facts s held n strip given → goesOn s ≡ not (s .ended)
@@ -168,17 +164,17 @@ fourteen t s held n strip given calls = (on-line, on-end)
         let test = subst (λ (goes : Bool). ((goes && same) ≡ false) ↔ (T (s .ended) ⊎ ((1 ≤ n) × ¬ (w ≡ s .width)))) (sym (goes-is s held n strip given f))
         (line-test (s .ended) (anyTaken (s .taken)) (eqb w (s .width)) n (w ≡ s .width) (count-some (f .count)) (some-count (f .count)) (eqb→eq w (s .width)) (λ e. subst (λ (k : ℕ). T (eqb w k)) e (eqb-refl w))) in (
           (λ e. test .0 (asks-first (goesOn s && same) _
-              (asks-other (sideRight 1 w) 8 _ (λ e. omega arith)
+              (asks-other (sideRight w) 8 _ (λ e. omega arith)
               (then-other (holds w (length pixels)) _ (holds-other _ _) (then-other (holds (heldLines * w) (length other)) _ (holds-other _ _) (then-other (holds (outLines * w) (length out)) _ (holds-other _ _) (pixels-other (s .table .depth) w 1 pixels))))) e)),
           (λ q. asks-wrong (goesOn s && same) _ _ (test .1 q)),
         )
 
-    on-end : (other out : List ℤ) → (endAnswer s other out ≡ refused (14, [])) ↔ (T (s .ended) ⊎ (n < 2))
+    on-end : (other out : List ℤ) → (endAnswer s other out ≡ refused (14, [])) ↔ (T (s .ended) ⊎ (n ≡ 0))
     on-end other out =
-        let test = subst (λ (goes : Bool). ((goes && twoTaken (s .taken)) ≡ false) ↔ (T (s .ended) ⊎ (n < 2))) (sym (goes-is s held n strip given f))
-        (end-test (s .ended) (twoTaken (s .taken)) n (two-count (f .count)) (count-two (f .count))) in (
-          (λ e. test .0 (asks-first (goesOn s && twoTaken (s .taken)) _ (then-other (holds (heldLines * s .width) (length other)) _ (holds-other _ _) (holds-other _ _)) e)),
-          (λ q. asks-wrong (goesOn s && twoTaken (s .taken)) _ _ (test .1 q)),
+        let test = subst (λ (goes : Bool). ((goes && anyTaken (s .taken)) ≡ false) ↔ (T (s .ended) ⊎ (n ≡ 0))) (sym (goes-is s held n strip given f))
+        (end-test (s .ended) (anyTaken (s .taken)) n (count-some (f .count)) (some-count (f .count))) in (
+          (λ e. test .0 (asks-first (goesOn s && anyTaken (s .taken)) _ (then-other (holds (heldLines * s .width) (length other)) _ (holds-other _ _) (holds-other _ _)) e)),
+          (λ q. asks-wrong (goesOn s && anyTaken (s .taken)) _ _ (test .1 q)),
         )
 
 pub refused-keeps : RefusedKeeps
@@ -199,13 +195,13 @@ sound-left t s held n strip given calls running some =
 
 pub in-widths : InWidths
 unfolding fixedAfter levels side
-in-widths t s held n strip given calls two =
+in-widths t s held n strip given calls some =
     let f = facts t calls in
     subst (λ (t : WidthTable). LevelInWidth t 1 (s .width) n (sample strip (t .depth) (s .width))) (table-kept t calls)
-    (widths-strip (s .table) strip (s .width) n (begun-accepted (s .table) (f .begun)) (strip-now s held n strip given f n (omega arith) two) 0 (omega (arith, begun-one (s .table) (f .begun))))
+    (widths-strip (s .table) strip (s .width) n (begun-accepted (s .table) (f .begun)) (strip-now s held n strip given f n some some) 0 (omega (arith, begun-one (s .table) (f .begun))))
 
 pub near-exact : NearExact
-near-exact t s held n strip given calls two r c i j =
+near-exact t s held n strip given calls some r c i j =
     let f = facts t calls in
     subst (λ (t : WidthTable). Near (fixedPlane t strip (s .width) n r c) (bitsPlane t (s .width) n r c) (exactPlane strip (t .depth) (t .levels) (s .width) n r c)) (table-kept t calls)
-    (two-steps-strip (s .table) strip (s .width) n (begun-accepted (s .table) (f .begun)) (strip-now s held n strip given f n (omega arith) two) r c i j)
+    (two-steps-strip (s .table) strip (s .width) n (begun-accepted (s .table) (f .begun)) (strip-now s held n strip given f n some some) r c i j)

@@ -7,20 +7,19 @@ use native.Mathlib.Nat.{mul-add, mul-comm, mul-add-div-right, mul-add-mod-self-r
 use lib.ListN.{length, getD, take, List·getD-append}
 use lib.Seq.{getD-append-add, getD-take, length-take-le}
 use lib.IntN.{ℤ, pos, _-ℤ_}
-use Rattle.lines.specs.Lines.{lows, lowsFirst, interleaved}
-use Rattle.lines.specs.LineLaws.{first-low, first-high, even-place, odd-place, by-parity}
+use Rattle.lines.specs.Lines.{lows, interleaved}
+use Rattle.lines.specs.LineLaws.{even-place, odd-place, by-parity}
 use Rattle.lines.specs.Planes.{Plane, tabulate, rowByRow, levels, side}
 use Rattle.lines.specs.PlaneLaws.{rows-first-in}
 use Rattle.lines.specs.RowLaws.{tabulate-same, rows-same}
 use Rattle.width_table.specs.Nodes.{Rows, columnPass}
 use Rattle.width_table.specs.declared.WidthTable.{WidthTable}
 use Rattle.pictures.specs.Pictures.{sample}
-use Rattle.irreversible.specs.Fixed.{fixedPass}
 use Rattle.irreversible.specs.Transforms.{fixedLine, fixedAfter, fixedPlane}
 use Rattle.irreversible.specs.LevelLaws.{line-same}
 use Rattle.rolling.specs.Schedule.{passOf}
 use Rattle.rolling_claims.specs.Claims.{inTurn}
-use Rattle.rolling_claims.specs.Column.{valG1, valG2, lineValue}
+use Rattle.rolling_claims.specs.Column.{valPass, lineValue}
 
 -- ---- lists
 
@@ -73,15 +72,15 @@ module _ (t : WidthTable) (before pixels more : List ℕ) (w n : ℕ) (size : le
       ∙ List·getD-append (take w pixels) more 0 k (subst (λ (j : ℕ). k < j) (sym (length-take-le w pixels long)) i)
       ∙ getD-take w pixels k 0 i))
 
-  pub row-is : 2 ≤ w → (c : ℕ) → c < w → fixedLine t 1 Rows w (sample pixels (t .depth) w 0) c ≡ rowsOf t (before ++ (take w pixels ++ more)) w n c
-  row-is two = line-same t 1 Rows w (record { least = two }) (sample pixels (t .depth) w 0) (sample (before ++ (take w pixels ++ more)) (t .depth) w n) sample-is
+  pub row-is : (c : ℕ) → c < w → fixedLine t 1 Rows w (sample pixels (t .depth) w 0) c ≡ rowsOf t (before ++ (take w pixels ++ more)) w n c
+  row-is = line-same t 1 Rows w (sample pixels (t .depth) w 0) (sample (before ++ (take w pixels ++ more)) (t .depth) w n) sample-is
 
 -- ---- the transform
 
 module _ (t : WidthTable) (one : t .levels ≡ 1) (strip : List ℕ) (w h : ℕ) where
   -- a value of the plane is one of its column's pass
-  plane-is : (r c : ℕ) → r < h → c < w → fixedPlane t strip w h r c ≡ lowsFirst h (valG1 t (passOf w c) h (λ k. rowsOf t strip w k c)) (valG2 t (passOf w c) h (λ k. rowsOf t strip w k c)) r
-  unfolding fixedPlane fixedAfter levels side fixedLine fixedPass
+  plane-is : (r c : ℕ) → r < h → c < w → fixedPlane t strip w h r c ≡ valPass t (passOf w c) h (λ k. rowsOf t strip w k c) r
+  unfolding fixedPlane fixedAfter levels side
   plane-is r c i j =
       ap (λ (L : ℕ). fixedAfter t L strip w h r c) one
       ∙ rows-first-in (fixedLine t 1 Rows) (λ low. fixedLine t 1 (columnPass low)) w h (sample strip (t .depth) w) r c i j
@@ -91,10 +90,8 @@ module _ (t : WidthTable) (one : t .levels ≡ 1) (strip : List ℕ) (w h : ℕ)
   unfolding inTurn
   turn-is k c i j =
       let p = fixedPlane t strip w h in
-      let x : ℕ → ℤ = λ k. rowsOf t strip w k c in
-      let g1 = valG1 t (passOf w c) h x in
-      let g2 = valG2 t (passOf w c) h x in
-      by-parity (λ k. interleaved p (λ i. p (lows h + i)) k c ≡ interleaved g1 g2 k) h
-      (λ m r. ap (λ (l : ℕ → ℤ). l c) (even-place p (λ i. p (lows h + i)) m) ∙ plane-is m c (omega arith) j ∙ first-low h g1 g2 m r ∙ sym (even-place g1 g2 m))
-      (λ m r. ap (λ (l : ℕ → ℤ). l c) (odd-place p (λ i. p (lows h + i)) m) ∙ plane-is (lows h + m) c (omega arith) j ∙ first-high h g1 g2 m ∙ sym (odd-place g1 g2 m))
+      let y = valPass t (passOf w c) h (λ k. rowsOf t strip w k c) in
+      by-parity (λ k. interleaved p (λ i. p (lows h + i)) k c ≡ interleaved y (λ i. y (lows h + i)) k) h
+      (λ m r. ap (λ (l : ℕ → ℤ). l c) (even-place p (λ i. p (lows h + i)) m) ∙ plane-is m c (omega arith) j ∙ sym (even-place y (λ i. y (lows h + i)) m))
+      (λ m r. ap (λ (l : ℕ → ℤ). l c) (odd-place p (λ i. p (lows h + i)) m) ∙ plane-is (lows h + m) c (omega arith) j ∙ sym (odd-place y (λ i. y (lows h + i)) m))
       k i

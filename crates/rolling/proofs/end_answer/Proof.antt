@@ -5,44 +5,44 @@ use mathlib.Core.Path.{_≡_, sym, _∙_}
 use native.Mathlib.Omega.{arith}
 use borrow.Author.Needs.{needs}
 use Rattle.rolling.specs.Calls.{goesOn}
-use Rattle.rolling.specs.Schedule.{twoTaken}
-use Rattle.rolling.specs.AnswerLaws.{as-test, on-two, end-ended, end-few, end-held, end-out, end-done}
+use Rattle.rolling.specs.Schedule.{anyTaken}
+use Rattle.rolling.specs.AnswerLaws.{as-test, on-side, end-ended, end-none, end-held, end-out, end-done}
 use Rattle.rolling.proofs.end_answer.Statement.{statement}
 use Rattle.rolling.proofs.end_answer.Tie as tie
 
--- the scan goes on, and two lines were taken
+-- the scan goes on, and a line was taken
 on : (c : tie.Then1) → goesOn (c .before .before .args .scan) ≡ true
 on c = sym (c .before .goes-on .ensures) ∙ c .if1 .taken
 
-two : (c : tie.Then2) → twoTaken (c .before .before .before .before .args .scan .taken) ≡ true
-two c = sym (c .before .two-taken .ensures) ∙ c .if2 .taken
+some : (c : tie.Then2) → anyTaken (c .before .before .before .before .args .scan .taken) ≡ true
+some c = sym (c .before .any-taken .ensures) ∙ c .if2 .taken
 
 mul-if3 : tie.Need-mul-if3
 mul-if3 c =
     let t = c .before in
     let o = t .before .before in
-    omega (arith, on-two (o .before .before .args .scan) (as-test (on o)) (as-test (two t)) .1)
+    omega (arith, on-side (o .before .before .args .scan) (as-test (on o)) (as-test (some t)) .1)
 
 returns-3 : tie.Need-returns-3
 returns-3 c =
     let t = c .before .before in
     let o = t .before .before in
     let a = o .before .before .args in
-    sym (end-held (a .scan) (a .held) (a .out) (on o) (two t) (omega arith))
+    sym (end-held (a .scan) (a .held) (a .out) (on o) (some t) (omega arith))
 
 returns-4 : tie.Need-returns-4
 returns-4 c =
     let t = c .before .before .before .before in
     let o = t .before .before in
     let a = o .before .before .args in
-    sym (end-out (a .scan) (a .held) (a .out) (on o) (two t) (omega arith) (omega arith))
+    sym (end-out (a .scan) (a .held) (a .out) (on o) (some t) (omega arith) (omega arith))
 
 returns-5 : tie.Need-returns-5
 returns-5 c =
     let t = c .before .before .before .before in
     let o = t .before .before in
     let a = o .before .before .args in
-    sym (end-done (a .scan) (a .held) (a .out) (on o) (two t) (omega arith) (omega arith))
+    sym (end-done (a .scan) (a .held) (a .out) (on o) (some t) (omega arith) (omega arith))
 
 pub end-answer-spec : {M : Type 1} → statement M
 end-answer-spec =
@@ -51,7 +51,7 @@ end-answer-spec =
     (λ c κs. search needs)
     (λ c. sym (end-ended _ _ _ (sym (c .before .goes-on .ensures) ∙ c .if1 .left)))
     (λ c κs. search needs)
-    (λ c. sym (end-few _ _ _ (sym (c .before .two-taken .ensures) ∙ c .if2 .left)))
+    (λ c. sym (end-none _ _ _ (sym (c .before .any-taken .ensures) ∙ c .if2 .left)))
     mul-if3
     returns-3
     (λ c. search needs)

@@ -30,7 +30,7 @@ turn c =
     (c .if2 .came)
 
 -- the width is admitted
-side : (c : tie.Then4) → sideRight 1 (c .before .before .before .before .before .before .before .args .w) ≡ true
+side : (c : tie.Then4) → sideRight (c .before .before .before .before .before .before .before .args .w) ≡ true
 side c = sym (c .before .side-admitted .ensures) ∙ c .if4 .taken
 
 returns-2 : tie.Need-returns-2
@@ -57,7 +57,7 @@ returns-4 c =
 mul-if6 : tie.Need-mul-if6
 mul-if6 c =
     let d = c .before in
-    omega (arith, side-is 1 (d .before .before .before .before .before .before .before .args .w) (as-test (side d)) .1)
+    omega (arith, side-is (d .before .before .before .before .before .before .before .args .w) (as-test (side d)) .1)
 
 returns-5 : tie.Need-returns-5
 returns-5 c =
@@ -81,7 +81,7 @@ pixels-right-requires c κs =
     let o = d .before .before .before .before in
     let a = o .before .before .before .args in
     let ok = begun-accepted (a .scan .table) (on-begun (a .scan) (as-test (on o))) in
-    (form-depth (a .scan .table) (promise (a .scan .table) ok .form) .1, side-is 1 (a .w) (as-test (side d)) .1, omega arith, omega arith)
+    (form-depth (a .scan .table) (promise (a .scan .table) ok .form) .1, side-is (a .w) (as-test (side d)) .1, omega arith, omega arith)
 
 returns-7 : tie.Need-returns-7
 returns-7 c =

@@ -11,13 +11,13 @@ use lib.ListN.{length}
 use Rattle.width_table.specs.declared.WidthTable.{WidthTable}
 use Rattle.lifting.specs.Patch.{at}
 use Rattle.rolling.specs.declared.Taken.{Taken}
-use Rattle.rolling.specs.declared.Taken.the-variants.{Zero, One, Two, Three, Four, OddMany, EvenMany}
+use Rattle.rolling.specs.declared.Taken.the-variants.{Zero, Two, Three, Four, OddMany, EvenMany}
 use Rattle.rolling.specs.Schedule.{Line, lineGives, endGives}
 use Rattle.rolling.specs.Calls.{heldLines, heldIn, Sound, KeptFrom, outAfter}
-use Rattle.rolling.specs.Program.{HeldFits, PastSame, twoEnded, evenEnded, oddEnded}
+use Rattle.rolling.specs.Program.{HeldFits, PastSame, oneEnded, twoEnded, evenEnded, oddEnded}
 use Rattle.rolling.specs.Memory.{moved}
 use Rattle.rolling.specs.Works.{EndWorked}
-use Rattle.rolling.specs.WorkLaws.{kept-from, kept-then, sound-fits, two-end-kept, two-ended, even-end-kept, four-ended, many-ended, odd-end-kept, three-ended, odd-ended, quiet-end}
+use Rattle.rolling.specs.WorkLaws.{kept-from, kept-then, sound-fits, one-end-kept, one-ended, two-end-kept, two-ended, even-end-kept, four-ended, many-ended, odd-end-kept, three-ended, odd-ended, quiet-end}
 use Rattle.rolling.proofs.work_end.Statement.{statement}
 use Rattle.rolling.proofs.work_end.Tie as tie
 
@@ -41,8 +41,11 @@ module _ (c : tie.After-columns-of) where
   table-is : c .columns-of .result .table ≡ start .args .table
   table-is = c .columns-of .ensures .1
 
+  own-fits : HeldFits (start .args .table) (start .args .w) (at sounded)
+  own-fits = sound-fits (start .args .table) (start .args .w) sounded (c .before .before .make-sound .ensures .0)
+
   fits : HeldFits (c .columns-of .result .table) (start .args .w) (at sounded)
-  fits = subst (λ (t : WidthTable). HeldFits t (start .args .w) (at sounded)) (sym table-is) (sound-fits (start .args .table) (start .args .w) sounded (c .before .before .make-sound .ensures .0))
+  fits = subst (λ (t : WidthTable). HeldFits t (start .args .w) (at sounded)) (sym table-is) own-fits
 
   -- nothing past seven lines changes
   past-all : (held′ : List ℤ) → length held′ ≡ length sounded → PastSame (start .args .w) (at sounded) (at held′) → KeptFrom (heldLines * start .args .w) (start .args .held .now) held′
@@ -130,16 +133,26 @@ returns-5 c =
 returns-6 : tie.Need-returns-6
 unfolding endGives
 returns-6 c =
-    let q = c .before .before in
+    let f = c .before in
+    let e = f .before .before .before in
+    let q = e .before .before in
     let a = start q .args in
-    subst (Said (start q) 0 _ _) (sym (c .enum-told6 .given .1)) (refl, quiet-end (a .table) (a .w) Zero (a .held .now) _ (a .out .now) (some (start q)) (q .before .before .make-sound .ensures .1 .1) refl)
+    let out = at (a .out .now) in
+    subst (Said (start q) 1 _ _) (sym (e .enum-told6 .given .1)) (
+      refl,
+      record {
+        held-past = q .before .before .make-sound .ensures .1 .1;
+        out-past = one-end-kept (a .table) (a .w) (a .held .now) (some (start q)) (a .out .now) _ (start q .pre .3) (search needs) (at (sounded q)) (f .end-one .ensures);
+        works = λ sound. one-ended (a .table) (a .w) (a .held .now) (some (start q)) (a .out .now) _ (start q .pre .3) (search needs) (f .end-one .ensures ∙ ap (λ (l : List ℤ). oneEnded (a .table) (a .w) (at l) out) (as-held q sound));
+      },
+    )
 
 returns-7 : tie.Need-returns-7
 unfolding endGives
 returns-7 c =
     let q = c .before .before in
     let a = start q .args in
-    subst (Said (start q) 0 _ _) (sym (c .enum-told7 .given .1)) (refl, quiet-end (a .table) (a .w) One (a .held .now) _ (a .out .now) (some (start q)) (q .before .before .make-sound .ensures .1 .1) refl)
+    subst (Said (start q) 0 _ _) (sym (c .enum-told7 .given .1)) (refl, quiet-end (a .table) (a .w) Zero (a .held .now) _ (a .out .now) (some (start q)) (q .before .before .make-sound .ensures .1 .1) refl)
 
 pub work-end-spec : {M : Type 1} → statement M
 work-end-spec =
@@ -158,6 +171,7 @@ work-end-spec =
     (λ c. search needs)
     (λ c κs. let q = c .before .before .before .before in (search needs, q .columns-of .ensures .0, fits q, start q .pre .3, inr refl))
     (λ c. search needs)
+    (λ c κs. let q = c .before .before .before .before in (start q .pre .0, search needs, own-fits q .low, start q .pre .3))
     (λ c. search needs)
     (λ c. search needs)
     (λ c. search needs)
@@ -174,6 +188,7 @@ work-end-spec =
     (λ c. search needs)
     (λ c. search needs)
     returns-5
+    (λ c. search needs)
     (λ c. search needs)
     returns-6
     (λ c. search needs)

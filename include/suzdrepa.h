@@ -40,7 +40,7 @@
  *    5      bytes follow the fourth field
  *    6      a node does not fit
  *    7      a kept node's error is not below two steps
- *    8      a side is not admitted
+ *    8      a side is 0 or above 4,096
  *    9      a lent slice is too short
  *   10      a pixel is 2^B or more
  *   11      the 5/3 plane is the transform of no picture of that depth and size
@@ -63,15 +63,21 @@
  *     2   suz_table_change, suz_table_change_constant
  *     1   suz_table_form, suz_table_value, suz_table_write
  *
- * PICTURES. Depth B is 1 to 12 bits, levels L 1 to 5. A side is at most 4,096
- * and greater than 2 to the power (L - 1). Pixels are 16-bit, row by row,
- * without gaps between rows, each below 2 to the power B.
+ * PICTURES. Depth B is 1 to 12 bits, levels L 1 to 5. A side is 1 to 4,096,
+ * whatever the levels. Pixels are 16-bit, row by row, without gaps between rows,
+ * each below 2 to the power B.
  *
  * PLANES are 32-bit signed, row by row, as large as the picture. Each level
  * puts the low values of every row and column first: the part that level 1
  * leaves as low-low is the upper left (width + 1) / 2 by (height + 1) / 2, and
  * level 2 works that part in place, and so on. Row-high, column-low stands
  * upper right; row-low, column-high lower left.
+ *
+ * A row or a column of a single sample, as a strip one sample wide has them and
+ * as a small picture has them at its last levels, gives that sample as its only
+ * low value and no high one; the 9/7 transform cuts it to the fractional bits of
+ * G1. Earlier libraries refused 8 a side that was not greater than 2 to the
+ * power (L - 1).
  *
  * EXACT COPIES are 5/3 planes. New ones have the order of JPEG 2000 Part 1:
  * each level works the columns, then the rows. Copies made earlier were worked
@@ -138,8 +144,8 @@
  * make it harder.
  *
  * ROLLING SCAN: the 9/7 transform of one level, of a strip that comes line by
- * line. The strip may have any number of lines from 2, past 4,096 too; a line
- * has 2 to 4,096 pixels. suz_scan_begin takes the table, suz_scan_line each
+ * line. The strip may have any number of lines from 1, past 4,096 too; a line
+ * has 1 to 4,096 pixels. suz_scan_begin takes the table, suz_scan_line each
  * line of pixels, and suz_scan_end says that there are no more. Lines of
  * coefficients, as wide as the strip, are given as soon as they are ready. With
  * lines of pixels counted from 0:
@@ -147,6 +153,7 @@
  *   call                                      gives
  *   line 2n + 4                               low n, high n
  *   every other line                          none
+ *   the end after 1 line                      low 0
  *   the end after 2 lines                     low 0, high 0
  *   the end after 2m + 1 lines (m from 1)     low m - 1, high m - 1, low m
  *   the end after 2m lines (m from 2)         low m - 2, high m - 2,
@@ -237,7 +244,7 @@ static inline const char *suz_refusal_text(uint32_t answer)
     case 5: return "bytes follow the fourth field";
     case 6: return "a node does not fit";
     case 7: return "a kept node's error is not below two steps";
-    case 8: return "a side is not admitted";
+    case 8: return "a side is 0 or above 4,096";
     case 9: return "a lent slice is too short";
     case 10: return "a pixel is 2^B or more";
     case 11: return "the 5/3 plane is the transform of no picture of that depth and size";
@@ -389,7 +396,7 @@ uint32_t suz_scan_begin(const uint8_t *table, size_t table_len,
  * 0: the line is taken; *given is 0 or 2, and so many lines stand in out.
  * Refused 9 where the state is too short, then 14 where no scan began, where it
  * has ended, or where the width is not that of the first line, 8 where the
- * width is outside 2 to 4,096, 9 where pixels, held or out are too short, and
+ * width is outside 1 to 4,096, 9 where pixels, held or out are too short, and
  * 10.
  */
 uint32_t suz_scan_line(uint8_t *state, size_t state_len,
@@ -400,10 +407,9 @@ uint32_t suz_scan_line(uint8_t *state, size_t state_len,
 /*
  * The end of a rolling scan. Reads and writes state and held, writes out and
  * *given.
- * 0: the scan has ended; *given is 2, 3 or 4, and so many lines stand in out.
+ * 0: the scan has ended; *given is 1 to 4, and so many lines stand in out.
  * Refused 9 where the state is too short, then 14 where no scan began, where it
- * has ended, or where fewer than 2 lines were taken, and 9 where held or out
- * are too short.
+ * has ended, or where no line was taken, and 9 where held or out are too short.
  */
 uint32_t suz_scan_end(uint8_t *state, size_t state_len,
                       int32_t *held, size_t held_len,

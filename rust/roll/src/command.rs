@@ -41,8 +41,9 @@ roll - works scanned pictures of punched rolls
                                         how many greys two pictures differ at
                                         most, and a picture of where
   roll copy [--levels N] IN.pgm OUT     exact copy as 5/3 coefficients, columns
-                                        first; without --levels as many as the
-                                        sides admit
+                                        first; without --levels as many as have
+                                        two samples or more to work along each
+                                        side that is not one sample
   roll restore IN OUT.pgm               the picture of an exact copy, also of an
                                         earlier one (rows first)
   roll picture PLANE OUT.png            coefficients drawn where they stand
@@ -50,7 +51,7 @@ roll - works scanned pictures of punched rolls
   roll --help
 
 TABLE is a width table as bytes: 20 + 36 * levels. Depth is 1 to 12 bits,
-levels 1 to 5; a side is at most 4096 and greater than 2^(levels - 1).
+levels 1 to 5; a side is 1 to 4096, whatever the levels.
 
 TEXT has the same numbers, in lines of any order; # starts a comment:
 
@@ -559,7 +560,7 @@ fn scan(table_path: &OsStr, from: &OsStr, to: &OsStr, out: &mut dyn Write) -> Re
     let mut rows = Rows::new(strip).map_err(not_understood(name))?;
     let (width, height) = (rows.width(), rows.height());
     // A row that no scan takes is not read, however long it is said to be.
-    if !(2..=MAX_SIDE).contains(&width) {
+    if !(1..=MAX_SIDE).contains(&width) {
         return Err(refused(name)(Refusal::SideNotAdmitted));
     }
     let head = container::head(&Kind::Fixed(table), depth, 1, width, height);
@@ -586,7 +587,7 @@ fn scan(table_path: &OsStr, from: &OsStr, to: &OsStr, out: &mut dyn Write) -> Re
     let lines = counted(scan.lines(), "line");
     let given = scan.end().map_err(out_of_turn(
         name,
-        &format!("the strip has {lines}, a scan takes 2 or more"),
+        &format!("the strip has {lines}, a scan takes 1 or more"),
     ))?;
     for line in given {
         put(line)?;
@@ -693,10 +694,14 @@ fn difference(one: &OsStr, other: &OsStr, to: &OsStr, out: &mut dyn Write) -> Re
     )
 }
 
-/// The maximum of levels for which both sides are greater than 2^(levels - 1);
-/// 1 where none is.
-fn max_levels(width: usize, height: usize) -> u8 {
-    let side = width.min(height);
+/// The levels of a copy where none are named: as many as have two samples or
+/// more to work along both sides, and 1 where none has. A side of one sample is
+/// let through by every level and does not count.
+fn usual_levels(width: usize, height: usize) -> u8 {
+    let side = match (width, height) {
+        (1, side) | (side, 1) => side,
+        _ => width.min(height),
+    };
     (2..=WidthTable::MAX_LEVELS)
         .rev()
         .find(|levels| side > 1 << (levels - 1))
@@ -707,7 +712,7 @@ fn copy(levels: Option<u8>, from: &OsStr, to: &OsStr, out: &mut dyn Write) -> Re
     apart(&[from], to)?;
     let picture = Picture::read(&read(from)?).map_err(not_understood(from))?;
     let (width, height) = (picture.width, picture.height);
-    let levels = levels.unwrap_or_else(|| max_levels(width, height));
+    let levels = levels.unwrap_or_else(|| usual_levels(width, height));
     let progress = Progress::new();
     progress.tell(&format!("copying {width} x {height}"));
     let values = suzdrepa::forward53_to_vec(picture.depth, levels, &picture.pixels, width, height)
@@ -842,7 +847,7 @@ fn picture(from: &OsStr, to: &OsStr, out: &mut dyn Write) -> Result<(), Failure>
     let drawn = (1..=WidthTable::MAX_LEVELS).contains(&plane.levels)
         && [plane.width, plane.height]
             .iter()
-            .all(|&side| side > 1 << (plane.levels - 1) && side <= MAX_SIDE);
+            .all(|side| (1..=MAX_SIDE).contains(side));
     if !drawn {
         return Err(Failure::File(format!(
             "{}: a plane of {} and {} x {} coefficients is not drawn",
@@ -879,15 +884,21 @@ mod tests {
     use super::*;
 
     #[test]
-    fn max_levels_of_a_picture() {
-        assert_eq!(max_levels(640, 512), 5);
-        assert_eq!(max_levels(17, 4096), 5);
-        assert_eq!(max_levels(16, 4096), 4);
-        assert_eq!(max_levels(9, 9), 4);
-        assert_eq!(max_levels(8, 9), 3);
-        assert_eq!(max_levels(3, 9), 2);
-        assert_eq!(max_levels(2, 9), 1);
-        assert_eq!(max_levels(0, 0), 1);
+    fn usual_levels_of_a_picture() {
+        assert_eq!(usual_levels(640, 512), 5);
+        assert_eq!(usual_levels(17, 4096), 5);
+        assert_eq!(usual_levels(16, 4096), 4);
+        assert_eq!(usual_levels(9, 9), 4);
+        assert_eq!(usual_levels(8, 9), 3);
+        assert_eq!(usual_levels(3, 9), 2);
+        assert_eq!(usual_levels(2, 9), 1);
+        assert_eq!(usual_levels(0, 0), 1);
+        // One sample wide: by the other side.
+        assert_eq!(usual_levels(1, 4096), 5);
+        assert_eq!(usual_levels(16, 1), 4);
+        assert_eq!(usual_levels(1, 2), 1);
+        assert_eq!(usual_levels(1, 1), 1);
+        assert_eq!(usual_levels(1, 0), 1);
     }
 
     #[test]

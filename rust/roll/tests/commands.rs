@@ -492,6 +492,11 @@ fn copies_come_back() {
         (19, 17, 255, "5"),
         (40, 31, 4095, "5"),
         (9, 30, 1023, "4"),
+        (1, 1, 255, "1"),
+        (1, 2, 1, "1"),
+        (5, 1, 255, "3"),
+        (1, 601, 1023, "5"),
+        (4096, 1, 15, "5"),
     ] {
         let whole = pgm(width, height, largest);
         let picture = folder.file("p.pgm", &whole);
@@ -509,12 +514,15 @@ fn copies_come_back() {
         let due = format!("{back}: {shape}, from a copy (columns first)\n");
         assert_eq!(told, due);
         assert_eq!(folder.bytes("back.pgm"), whole);
-        succeeds(&["copy", &picture, &copy, "--levels", "1"]);
-        succeeds(&["restore", &copy, &back]);
-        assert_eq!(folder.bytes("back.pgm"), whole);
-        let drawn = folder.path("copy.png");
-        succeeds(&["picture", &copy, &drawn]);
-        assert!(folder.bytes("copy.png").starts_with(b"\x89PNG"));
+        // Any number of levels goes with any sides.
+        for levels in ["1", "5"] {
+            succeeds(&["copy", &picture, &copy, "--levels", levels]);
+            succeeds(&["restore", &copy, &back]);
+            assert_eq!(folder.bytes("back.pgm"), whole);
+            let drawn = folder.path("copy.png");
+            succeeds(&["picture", &copy, &drawn]);
+            assert!(folder.bytes("copy.png").starts_with(b"\x89PNG"));
+        }
     }
 }
 
@@ -583,7 +591,7 @@ fn wrong_marks() {
     let folder = Folder::new("wrong_marks");
     let (marked, unmarked) = ("suzdrepa-53 columns-first\n", "suzdrepa-53\n");
     let (mut removed, mut added) = ([0; 2], [0; 2]);
-    for (width, height) in (2..9).flat_map(|width| (2..9).map(move |height| (width, height))) {
+    for (width, height) in (1..9).flat_map(|width| (1..9).map(move |height| (width, height))) {
         for largest in [1, 7, 255] {
             let picture = roll::pgm::Picture::read(&pgm(width, height, largest)).unwrap();
             let (depth, pixels) = (picture.depth, picture.pixels);
@@ -646,22 +654,64 @@ fn count(
 #[test]
 fn refused_pictures() {
     let folder = Folder::new("refused_pictures");
-    let thin = folder.file("thin.pgm", &pgm(1, 5, 255));
-    fails(
-        &["copy", &thin, "x"],
-        1,
-        "refused 8: a side is not admitted",
-    );
-    let picture = folder.file("p.pgm", &pgm(9, 9, 4095));
-    fails(&["copy", "--levels", "5", &picture, "x"], 1, "refused 8");
     let table = folder.path("t.table");
     succeeds(&["suggest", "8", "2", &table]);
-    fails(
-        &["forward97", &table, &picture, "x"],
-        1,
-        "refused 10: a pixel is 2^B or more",
-    );
-    fails(&["forward97", &table, &thin, "x"], 1, "refused 8");
+    let refused = "refused 8: a side is 0 or above 4,096";
+    for (width, height) in [(0, 0), (0, 5), (1, 0), (1, 4097), (4097, 1)] {
+        let picture = folder.file("p.pgm", &pgm(width, height, 255));
+        fails(&["copy", &picture, "x"], 1, refused);
+        fails(&["copy", "--levels", "5", &picture, "x"], 1, refused);
+        fails(&["forward97", &table, &picture, "x"], 1, refused);
+    }
+    for (width, height) in [(9, 9), (1, 9), (1, 1)] {
+        // Pixels of 257, for which the table's eight bits are too few.
+        let mut light = format!("P5\n{width} {height}\n4095\n").into_bytes();
+        light.extend(vec![1; 2 * width * height]);
+        let picture = folder.file("p.pgm", &light);
+        fails(
+            &["forward97", &table, &picture, "x"],
+            1,
+            "refused 10: a pixel is 2^B or more",
+        );
+    }
+}
+
+/// A strip one sample wide is worked by every command that takes a picture.
+#[test]
+fn a_strip_one_sample_wide() {
+    let folder = Folder::new("one_sample");
+    for (width, height, depth, levels) in [
+        (1, 30, "8", "3"),
+        (17, 1, "8", "3"),
+        (1, 1, "5", "5"),
+        (2, 2, "5", "5"),
+    ] {
+        let largest = if depth == "8" { 255 } else { 31 };
+        let whole = pgm(width, height, largest);
+        let picture = folder.file("p.pgm", &whole);
+        let (table, plane) = (folder.path("t.table"), folder.path("plane"));
+        succeeds(&["suggest", "--view", depth, levels, &table]);
+        let told = succeeds(&["forward97", &table, &picture, &plane]);
+        let shape = format!("{width} x {height}, {}\n", counted(levels, "level"));
+        assert!(told.ends_with(&shape), "{told}");
+        succeeds(&["picture", &plane, &folder.path("plane.png")]);
+        let stored = roll::container::Plane::read(&folder.bytes("plane")).unwrap();
+        let pixels = roll::pgm::Picture::read(&whole).unwrap().pixels;
+        let bytes = folder.bytes("t.table");
+        let due = suzdrepa::forward97_to_vec(&bytes, &pixels, width, height);
+        assert_eq!(Ok(stored.values), due);
+        let viewed = folder.path("viewed.pgm");
+        succeeds(&["view", &plane, &viewed]);
+        let told = succeeds(&["difference", &picture, &viewed, &folder.path("changed")]);
+        assert!(
+            told.contains(&format!(" of {} pixels", width * height)),
+            "{told}"
+        );
+        let copy = folder.path("copy");
+        succeeds(&["copy", &picture, &copy]);
+        succeeds(&["restore", &copy, &viewed]);
+        assert_eq!(folder.bytes("viewed.pgm"), whole);
+    }
 }
 
 #[test]
@@ -721,6 +771,11 @@ fn a_scan_writes_what_forward97_writes() {
         (7, 601, 1023, "10"),
         (2, 4096, 15, "4"),
         (4096, 5, 15, "4"),
+        (1, 1, 255, "8"),
+        (1, 2, 255, "8"),
+        (9, 1, 4095, "12"),
+        (1, 601, 255, "8"),
+        (4096, 1, 15, "4"),
     ] {
         let (table, plane, out) = (
             folder.path("t.table"),
@@ -760,27 +815,27 @@ fn a_scan_of_a_high_strip() {
         folder.path("out"),
     );
     succeeds(&["suggest", "--view", "8", "1", &table]);
-    for height in [4097, 5002] {
-        let whole = pgm(3, height, 255);
+    for (width, height) in [(3, 4097), (3, 5002), (1, 4098)] {
+        let whole = pgm(width, height, 255);
         let picture = folder.file("p.pgm", &whole);
         let told = succeeds(&["scan", &table, &picture, &plane]);
         assert!(
-            told.ends_with(&format!("3 x {height}, 1 level\n")),
+            told.ends_with(&format!("{width} x {height}, 1 level\n")),
             "{told}"
         );
         let stored = roll::container::Plane::read(&folder.bytes("plane")).unwrap();
-        assert_eq!((stored.width, stored.height), (3, height));
+        assert_eq!((stored.width, stored.height), (width, height));
         let pixels = roll::pgm::Picture::read(&whole).unwrap().pixels;
-        let mut due = vec![0; 3 * height];
+        let mut due = vec![0; width * height];
         let bytes = folder.bytes("t.table");
-        let scanned = suzdrepa::Scan::over(&bytes, pixels.chunks(3), |line| {
+        let scanned = suzdrepa::Scan::over(&bytes, pixels.chunks(width), |line| {
             let row = line.row(height as u64) as usize;
-            due[3 * row..][..3].copy_from_slice(line.values);
+            due[width * row..][..width].copy_from_slice(line.values);
         });
         assert_eq!((scanned, stored.values), (Ok(height as u64), due));
         fails(&["forward97", &table, &picture, &out], 1, "refused 8");
         fails(&["view", &plane, &out], 1, "refused 8");
-        let drawn = format!("1 level and 3 x {height} coefficients is not drawn");
+        let drawn = format!("1 level and {width} x {height} coefficients is not drawn");
         fails(&["picture", &plane, &out], 2, &drawn);
     }
     assert!(!std::path::Path::new(&out).exists());
@@ -840,12 +895,14 @@ fn scans_that_fail() {
             "directory",
         );
         with(&light, 1, "refused 10: a pixel is 2^B or more (row 4)");
-        with(&pgm(1, 7, 255), 1, "refused 8: a side is not admitted");
-        with(&pgm(4097, 2, 255), 1, "refused 8: a side is not admitted");
+        let sides = "refused 8: a side is 0 or above 4,096";
+        for (width, height) in [(0, 0), (0, 7), (4097, 1), (4097, 2)] {
+            with(&pgm(width, height, 255), 1, sides);
+        }
         with(b"P5 4294967295 2 255\n", 1, "refused 8");
-        for (height, lines) in [(0, "0 lines"), (1, "1 line")] {
-            let few = format!("{out_of_turn}the strip has {lines}, a scan takes 2 or more");
-            with(&pgm(5, height, 255), 1, &few);
+        let none = format!("{out_of_turn}the strip has 0 lines, a scan takes 1 or more");
+        for width in [1, 5, 4096] {
+            with(&pgm(width, 0, 255), 1, &none);
         }
         for length in head..whole.len() {
             let row = (length - head) / 5;
@@ -963,6 +1020,10 @@ fn viewing() {
         (21, 14, 255, "8", "3"),
         (9, 30, 4095, "12", "1"),
         (40, 31, 31, "5", "5"),
+        (1, 40, 255, "8", "3"),
+        (33, 1, 31, "5", "5"),
+        (3, 5, 127, "7", "4"),
+        (1, 1, 4095, "12", "1"),
     ] {
         let (table, plane) = (folder.path("t.table"), folder.path("plane"));
         let suggested = succeeds(&["suggest", "--view", depth, levels, &table]);
@@ -1079,11 +1140,12 @@ fn refused_viewing() {
     succeeds(&["copy", &picture, &plane]);
     fails(&["view", &plane, &out], 2, "plane: an exact copy; 9/7");
     // Sides are the engine's to refuse.
-    let mut head = b"suzdrepa-97\n8 3 2 1\n".to_vec();
-    head.extend(folder.bytes("t.table"));
-    head.extend([0; 8]);
-    let thin = folder.file("thin", &head);
-    fails(&["view", &thin, &out], 1, "thin: refused 8");
+    for sides in ["0 0", "0 2", "1 0"] {
+        let mut head = format!("suzdrepa-97\n8 3 {sides}\n").into_bytes();
+        head.extend(folder.bytes("t.table"));
+        let none = folder.file("none", &head);
+        fails(&["view", &none, &out], 1, "none: refused 8");
+    }
     assert!(!std::path::Path::new(&out).exists());
 }
 
@@ -1144,9 +1206,15 @@ fn damaged_copies() {
         let odd = folder.file("odd", &head("8 0"));
         fails(&["restore", &odd, &out], 1, "refused 4");
         fails(&["picture", &odd, &out], 2, "0 levels");
-        let odd = folder.file("odd", &head("8 1"));
-        fails(&["restore", &odd, &out], 1, "refused 8");
-        fails(&["picture", &odd, &out], 2, "2 x 1");
+        // So are sides.
+        for (width, height) in [(0, 0), (0, 1), (1, 0), (1, 4097), (4097, 1)] {
+            let mut none = format!("{first}\n8 1 {width} {height}\n").into_bytes();
+            none.extend(vec![0; 4 * width * height]);
+            let none = folder.file("none", &none);
+            fails(&["restore", &none, &out], 1, "refused 8");
+            let drawn = format!("1 level and {width} x {height} coefficients is not drawn");
+            fails(&["picture", &none, &out], 2, &drawn);
+        }
     }
     assert!(!std::path::Path::new(&out).exists());
 }

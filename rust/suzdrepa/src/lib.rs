@@ -24,10 +24,11 @@
 //! # Pictures and planes
 //!
 //! Pixels are `u16`, row by row, each below 2^depth with a depth of 1 to 12
-//! bits. Levels are 1 to 5. A side is at most 4,096 and greater than
-//! 2^(levels - 1). The plane of coefficients is `i32`, row by row, as large as
-//! the picture: after each level the low part stands first in every row and
-//! column, so the coarsest picture is in the upper left corner.
+//! bits. Levels are 1 to 5. A side is 1 to 4,096, whatever the levels. The plane
+//! of coefficients is `i32`, row by row, as large as the picture: after each
+//! level the low part stands first in every row and column, so the coarsest
+//! picture is in the upper left corner. A row or a column of a single sample, as
+//! a strip one sample wide has them, gives that sample as its only low value.
 //!
 //! # Lent memory
 //!
@@ -432,10 +433,39 @@ mod tests {
         assert_eq!(refusal.number(), 8);
         let refusal = inverse53_rows_first_to_vec(8, 1, &[], usize::MAX, 2).unwrap_err();
         assert_eq!(refusal.number(), 8);
+        for levels in 1..=5 {
+            for (width, height) in [(0, 0), (0, 1), (1, 0), (1, 4097), (4097, 1)] {
+                let refusal = forward53_to_vec(8, levels, &[], width, height).unwrap_err();
+                assert_eq!(refusal, Refusal::SideNotAdmitted);
+            }
+        }
         let (kept, others) = (Width::new(4, 10), Width::new(12, 20));
         let table = WidthTable::kept_and_others(8, 1, 24, kept, others).unwrap();
         let refusal = view97_to_vec(table.as_bytes(), &[], usize::MAX, 2).unwrap_err();
         assert_eq!(refusal.number(), 8);
+    }
+
+    /// One pixel, and strips one sample wide and high, through every transform.
+    #[test]
+    fn single_samples_are_let_through() {
+        let (kept, others) = (Width::new(6, 10), Width::new(12, 20));
+        for levels in 1..=3 {
+            let table = WidthTable::kept_and_others(3, levels, 24, kept, others).unwrap();
+            let table = table.as_bytes();
+            let plane = forward97_to_vec(table, &[6], 1, 1).unwrap();
+            // 2 / 2^3, with ten fractional bits.
+            assert_eq!(plane, [256]);
+            assert_eq!(view97_to_vec(table, &plane, 1, 1), Ok(vec![6]));
+            assert_eq!(forward53_to_vec(3, levels, &[6], 1, 1), Ok(vec![2]));
+            for (width, height) in [(1, 2), (2, 1)] {
+                let copy = forward53_to_vec(3, levels, &[5, 7], width, height);
+                assert_eq!(copy, Ok(vec![2, 2]));
+                for back in [inverse53_to_vec, inverse53_rows_first_to_vec] {
+                    let pixels = back(3, levels, &[2, 2], width, height);
+                    assert_eq!(pixels, Ok(vec![5, 7]));
+                }
+            }
+        }
     }
 
     #[test]

@@ -297,6 +297,10 @@ mod tests {
         assert_eq!(numbers(2, (5, 3), 2, 1).numbers(), [2, 3, 6]);
         assert_eq!(numbers(2, (5, 3), 3, 1).numbers(), [1, 3, 5]);
         assert_eq!(numbers(1, (5, 3), 0, 2).numbers(), [1, 2, 6]);
+        // One sample wide: nothing is high across.
+        assert_eq!(numbers(5, (1, 1), 0, 0).numbers(), [5, 2, 5]);
+        assert_eq!(numbers(3, (1, 3), 0, 1).numbers(), [2, 2, 6]);
+        assert_eq!(numbers(3, (3, 1), 2, 0).numbers(), [1, 3, 5]);
         assert_eq!(Place::of_coefficient(0, (5, 3), 0, 0), None);
         assert_eq!(Place::of_coefficient(1, (5, 3), 0, 3), None);
     }
@@ -305,9 +309,9 @@ mod tests {
     #[test]
     fn every_coefficient_is_of_a_kept_node() {
         for levels in 1..=5 {
-            for y in 0..33 {
-                for x in 0..18 {
-                    let place = Place::of_coefficient(levels, (18, 33), x, y).unwrap();
+            for (width, height) in [(18, 33), (1, 33), (18, 1), (2, 3), (1, 1)] {
+                for (x, y) in (0..width).flat_map(|x| (0..height).map(move |y| (x, y))) {
+                    let place = Place::of_coefficient(levels, (width, height), x, y).unwrap();
                     assert!(place.is_kept(levels));
                 }
             }

@@ -74,7 +74,7 @@ refusals! {
     5 TrailingBytes "bytes follow the fourth field";
     6 DoesNotFit(Place) "a node does not fit";
     7 ErrorTooLarge(Place) "a kept node's error is not below two steps";
-    8 SideNotAdmitted "a side is not admitted";
+    8 SideNotAdmitted "a side is 0 or above 4,096";
     9 SliceTooShort "a lent slice is too short";
     10 PixelTooLarge "a pixel is 2^B or more";
     11 NoPicture "the 5/3 plane is the transform of no picture of that depth and size";
@@ -168,7 +168,10 @@ mod tests {
             refusal(0x0602_0507).to_string(),
             "refused 7: a kept node's error is not below two steps (level 5, low-columns, G2)"
         );
-        assert_eq!(refusal(8).to_string(), "refused 8: a side is not admitted");
+        assert_eq!(
+            refusal(8).to_string(),
+            "refused 8: a side is 0 or above 4,096"
+        );
     }
 
     #[test]

@@ -6,11 +6,11 @@ use suzdrepa_sys as sys;
 
 /// The 9/7 transform of one level, of a strip that comes line by line.
 ///
-/// The strip may have any number of lines from 2, more than
-/// [`MAX_SIDE`](crate::MAX_SIDE) too; a line has 2 to `MAX_SIDE` pixels, all of
+/// The strip may have any number of lines from 1, more than
+/// [`MAX_SIDE`](crate::MAX_SIDE) too; a line has 1 to `MAX_SIDE` pixels, all of
 /// them as many. Lines of coefficients are given as soon as they are ready: with
 /// lines counted from 0, line 2n + 4 gives low n and high n, every other line
-/// gives none, and the end gives the two to four that are left. They are the
+/// gives none, and the end gives the one to four that are left. They are the
 /// rows of the plane of the whole strip, as [`forward97`](crate::forward97)
 /// gives it ([`GivenLine::row`] tells which).
 ///
@@ -96,7 +96,7 @@ impl Scan {
     /// Takes the next line, all of `pixels`; gives the lines that are ready.
     ///
     /// Refused 14 after the end and where the line is not as wide as the first
-    /// one, 8 where a first line is not 2 to [`MAX_SIDE`](crate::MAX_SIDE)
+    /// one, 8 where a first line is not 1 to [`MAX_SIDE`](crate::MAX_SIDE)
     /// pixels wide, 10 (a pixel too large).
     pub fn line(&mut self, pixels: &[u16]) -> Result<Given<'_>, Refusal> {
         // A first line that is refused leaves no memory behind.
@@ -128,7 +128,7 @@ impl Scan {
 
     /// Ends the scan: there are no more lines. Gives those that are left.
     ///
-    /// Refused 14 where fewer than two lines were taken, and after the end.
+    /// Refused 14 where no line was taken, and after the end.
     pub fn end(&mut self) -> Result<Given<'_>, Refusal> {
         let memory = &mut self.memory;
         let mut given = 0;
@@ -285,7 +285,7 @@ mod tests {
     /// Where each line stands, and what it has, as the plane of the strip.
     #[test]
     fn lines_make_up_the_plane() {
-        for (width, height) in (2..7).flat_map(|w| (2..12).map(move |h| (w, h))) {
+        for (width, height) in (1..7).flat_map(|w| (1..12).map(move |h| (w, h))) {
             let strip = strip(width, height);
             let mut plane = vec![i32::MIN; width * height];
             let mut order = Vec::new();
@@ -305,14 +305,37 @@ mod tests {
 
     #[test]
     fn how_many_lines_each_call_gives() {
-        let mut scan = Scan::begin(table(1).as_bytes()).unwrap();
-        let mut counts = Vec::new();
-        for line in strip(3, 8) {
-            counts.push(scan.line(&line).unwrap().len());
+        for (width, due) in [
+            (3, &[0, 0, 0, 0, 2, 0, 2, 0, 4][..]),
+            (1, &[0, 0, 0, 0, 2, 3]),
+            (1, &[0, 0, 2]),
+            (1, &[0, 1]),
+        ] {
+            let mut scan = Scan::begin(table(1).as_bytes()).unwrap();
+            let mut counts = Vec::new();
+            let height = due.len() - 1;
+            for line in strip(width, height) {
+                counts.push(scan.line(&line).unwrap().len());
+            }
+            counts.push(scan.end().unwrap().len());
+            assert_eq!(counts, due);
+            assert_eq!((scan.width(), scan.lines()), (Some(width), height as u64));
         }
-        counts.push(scan.end().unwrap().len());
-        assert_eq!(counts, [0, 0, 0, 0, 2, 0, 2, 0, 4]);
-        assert_eq!((scan.width(), scan.lines()), (Some(3), 8));
+    }
+
+    /// The end gives its low line and no other.
+    #[test]
+    fn a_strip_of_one_line() {
+        let mut scan = Scan::begin(table(1).as_bytes()).unwrap();
+        assert_eq!(scan.line(&[5]).unwrap().len(), 0);
+        let given: Vec<_> = scan.end().unwrap().collect();
+        // 5 of 4 bits is -3/16, cut to -1/4 by two fractional bits.
+        let due = GivenLine {
+            kind: LineKind::Low,
+            number: 0,
+            values: &[-1],
+        };
+        assert_eq!((given, due.row(1)), (vec![due], 0));
     }
 
     #[test]
@@ -348,7 +371,7 @@ mod tests {
                 // The width is settled by the first line that is taken.
                 let due = match pixels.len() {
                     3 => 10,
-                    0 | 1 | 4097 if at == 0 => 8,
+                    0 | 4097 if at == 0 => 8,
                     _ if at == 0 => continue,
                     _ => 14,
                 };
@@ -356,7 +379,7 @@ mod tests {
                 assert_eq!(scan.line(pixels).unwrap_err().number(), due);
                 assert_eq!(look(&scan), before);
             }
-            if at < 2 {
+            if at == 0 {
                 let before = look(&scan);
                 assert_eq!(scan.end().unwrap_err(), Refusal::OutOfTurn);
                 assert_eq!(look(&scan), before);

@@ -8,7 +8,8 @@ pub const LEVELS: u8 = 5;
 /// Levels of what is viewed: more cannot be at this depth.
 pub const VIEW_LEVELS: u8 = 3;
 
-/// The least side that so many levels admit.
+/// The least side with which no pass of so many levels has a single sample: the
+/// plain program has no case for one.
 pub const MIN_SIDE: usize = (1 << (LEVELS - 1)) + 1;
 
 /// All nodes (12, 20), kept ones (12, 2), constants with 24 bits.

@@ -279,7 +279,7 @@ mod tests {
 
     fn shape(chance: &mut Chance) -> Shape {
         let (depth, levels) = (chance.within(1, 12) as u8, chance.within(1, 5) as u8);
-        Shape::small(chance, depth, levels, 90)
+        Shape::small_full(chance, depth, levels, 90)
     }
 
     #[test]
@@ -401,7 +401,7 @@ mod tests {
                         .unwrap_or(table);
                 }
             }
-            // Admitted for any number of levels.
+            // No pass of a single sample, whatever the number of levels.
             let (width, height) = (shape.width + 16, shape.height + 16);
             let count = width * height;
             let pixels = chance.picture(table.depth(), count);
@@ -428,7 +428,7 @@ mod tests {
         for round in 0..400 {
             let levels = 1 + (round % 5) as u8;
             let depth = chance.within(1, tables::deepest_viewed(levels).into()) as u8;
-            let shape = Shape::small(&mut chance, depth, levels, 90);
+            let shape = Shape::small_full(&mut chance, depth, levels, 90);
             let table = match round % 3 {
                 0 => tables::narrow(depth, levels),
                 1 => tables::tight_viewable(&mut chance, depth, levels),

@@ -1,7 +1,7 @@
 //! A plain Rust program of the same transforms: what one would write for
-//! speed without proofs. It takes its arguments to be right, but answers as
-//! the engine does for the pixels and planes in them, and zeroes the work area
-//! as the engine does.
+//! speed without proofs. It takes its arguments to be right and its sides so
+//! large that no pass has a single sample, but answers as the engine does for
+//! the pixels and planes in them, and zeroes the work area as the engine does.
 //!
 //! Rows and columns are worked alike. A *tile* is a number of lines of `n`
 //! values each, the lines of the lows first, then those of the highs: a row is

@@ -32,9 +32,13 @@ enum Target {
 }
 
 impl Filter {
-    /// One pass, up to and including `last`; lows at even places.
+    /// One pass, up to and including `last`; lows at even places. A single
+    /// sample is let through.
     fn pass(&self, line: &mut [f64], last: usize) {
         let n = line.len();
+        if n == 1 {
+            return;
+        }
         for (stage, constant) in self.stages.iter().enumerate().take(last + 1) {
             for i in (1 - stage % 2..n).step_by(2) {
                 let before = if i == 0 { 1 } else { i - 1 };
@@ -47,6 +51,9 @@ impl Filter {
     /// One pass undone; lows stand first, samples come back in their order.
     fn undone(&self, line: &[f64]) -> Vec<f64> {
         let n = line.len();
+        if n == 1 {
+            return line.to_vec();
+        }
         let sample = |i: usize| match i % 2 {
             0 => line[i / 2],
             _ => line[low_count(n) + i / 2],
@@ -179,10 +186,31 @@ pub struct Shape {
     pub height: usize,
 }
 
+/// The least side with which no pass of so many levels has a single sample;
+/// before job 6 of document 02 it was the least that was admitted.
+pub fn least_full_side(levels: u8) -> usize {
+    (1 << (levels - 1)) + 1
+}
+
 impl Shape {
-    /// A shape with small sides, odd or even, often the smallest admitted.
+    /// A shape with small sides, odd or even: now and then one sample wide or
+    /// high, or with a single sample in a pass of some level.
     pub fn small(chance: &mut Chance, depth: u8, levels: u8, spread: usize) -> Shape {
-        let least = (1 << (levels - 1)) + 1;
+        let mut shape = Shape::small_full(chance, depth, levels, spread);
+        for side in [&mut shape.width, &mut shape.height] {
+            match chance.below(6) {
+                0 => *side = 1,
+                1 => *side = chance.within(1, least_full_side(levels)),
+                _ => {}
+            }
+        }
+        shape
+    }
+
+    /// A shape with small sides, odd or even, no pass of which has a single
+    /// sample, so that every node has values; often the smallest such.
+    pub fn small_full(chance: &mut Chance, depth: u8, levels: u8, spread: usize) -> Shape {
+        let least = least_full_side(levels);
         let mut side = || {
             if chance.one_in(4) {
                 least
@@ -198,6 +226,34 @@ impl Shape {
         }
     }
 
+    /// Shapes that are admitted since job 6 of document 02: every one with
+    /// small sides and a single sample in some pass, one pixel among them, and
+    /// longer lines one sample wide and one high, odd and even.
+    pub fn newly_admitted(depth: u8, levels: u8) -> Vec<Shape> {
+        let small = 1..=least_full_side(levels) + 1;
+        let longer = small.end() + 1..=small.end() + 7;
+        let pairs = small
+            .clone()
+            .flat_map(|width| small.clone().map(move |height| (width, height)));
+        let lines = longer.chain([33, 64, 65, 129]);
+        pairs
+            .chain(lines.flat_map(|n| [(1, n), (n, 1)]))
+            .map(|(width, height)| Shape {
+                depth,
+                levels,
+                width,
+                height,
+            })
+            .filter(Shape::has_single_samples)
+            .collect()
+    }
+
+    /// Whether some pass has a single sample.
+    pub fn has_single_samples(&self) -> bool {
+        let least = least_full_side(self.levels);
+        self.width < least || self.height < least
+    }
+
     pub fn count(&self) -> usize {
         self.width * self.height
     }
@@ -211,7 +267,8 @@ impl Shape {
         }
     }
 
-    /// Columns and rows of the values of a node.
+    /// Columns and rows of the values of a node. Of a single sample only G1,
+    /// node 5, has one.
     pub fn values_of(&self, place: Place) -> (usize, usize) {
         let (w, h) = (
             side_at(self.width, place.level),
@@ -219,6 +276,7 @@ impl Shape {
         );
         let part = |n: usize, node: u8| match node {
             1 | 3 | 6 => n / 2,
+            2 | 4 if n == 1 => 0,
             _ => low_count(n),
         };
         match place.pass {
@@ -229,9 +287,13 @@ impl Shape {
     }
 }
 
-/// A picture against a node at a place drawn by chance.
+/// A picture against a node at a place drawn by chance. Where the node has no
+/// values, since its passes have single samples, it is any picture.
 pub fn against(filter: &Filter, chance: &mut Chance, shape: Shape, place: Place) -> Vec<u16> {
     let (columns, rows) = shape.values_of(place);
+    if columns == 0 || rows == 0 {
+        return chance.picture(shape.depth, shape.count());
+    }
     let (x, y) = (chance.below(columns), chance.below(rows));
     let largest = chance.one_in(2);
     let mut picture = filter.picture(shape, place, x, y, largest);
@@ -253,7 +315,45 @@ pub fn against(filter: &Filter, chance: &mut Chance, shape: Shape, place: Place)
 #[cfg(test)]
 mod tests {
     use super::*;
+    use reference::places::{earlier_side_admitted, side_admitted};
     use reference::{fixed97, fixed_inverse97, Width};
+
+    #[test]
+    fn newly_admitted_shapes_were_refused() {
+        for (levels, due) in [(1, 27), (2, 34), (3, 54), (4, 118), (5, 342)] {
+            let shapes = Shape::newly_admitted(8, levels);
+            assert_eq!(shapes.len(), due);
+            for shape in shapes {
+                let sides = [shape.width, shape.height];
+                assert!(sides.into_iter().all(side_admitted));
+                assert!(!sides
+                    .iter()
+                    .all(|&side| earlier_side_admitted(side, levels)));
+            }
+        }
+    }
+
+    #[test]
+    fn nodes_of_single_samples_have_values_in_g1_alone() {
+        let place = |level, pass, node| Place { level, pass, node };
+        let shape = |width, height| Shape {
+            depth: 8,
+            levels: 2,
+            width,
+            height,
+        };
+        for node in 1..=6 {
+            let due = if node == 5 { (1, 1) } else { (0, 1) };
+            assert_eq!(shape(1, 1).values_of(place(1, 1, node)), due);
+            let due = if node == 5 { (1, 1) } else { (1, 0) };
+            assert_eq!(shape(1, 1).values_of(place(2, 2, node)), due);
+            assert_eq!(shape(1, 1).values_of(place(2, 3, node)).0, 0);
+        }
+        assert_eq!(shape(3, 1).values_of(place(1, 1, 2)), (2, 1));
+        assert_eq!(shape(3, 1).values_of(place(1, 3, 5)), (1, 1));
+        assert_eq!(shape(2, 2).values_of(place(1, 2, 4)), (1, 1));
+        assert_eq!(shape(2, 2).values_of(place(2, 2, 4)), (1, 0));
+    }
 
     /// The chosen value of the hostile plane is the largest among many.
     #[test]

@@ -163,6 +163,42 @@ pub fn tight(chance: &mut Chance, depth: u8, levels: u8) -> WidthTable {
     pushed.tightened(chance)
 }
 
+/// A generous table with numbers drawn freely, as far as it is accepted.
+pub fn uneven(chance: &mut Chance, depth: u8, levels: u8) -> WidthTable {
+    let mut table = generous(depth, levels);
+    let places = table.places();
+    for _ in 0..30 * usize::from(levels) {
+        let mut next = table.clone();
+        if chance.one_in(4) {
+            next.constant_bits[chance.below(6)] = chance.within(8, 24) as u8;
+        } else {
+            let place = *chance.of(&places);
+            next.width_mut(place).fraction_bits = chance.within(0, 20) as u8;
+        }
+        if accepted(&next) {
+            table = next;
+        }
+    }
+    table
+}
+
+/// A generous table with G1 nodes of few fractional bits, down to the fewest
+/// that are accepted: what a pass of a single sample lets through is cut.
+pub fn coarse_lows(chance: &mut Chance, depth: u8, levels: u8) -> WidthTable {
+    let mut pushed = Pushed {
+        table: generous(depth, levels),
+        demand: accepted,
+    };
+    let mut places = pushed.table.places();
+    places.retain(|place| place.node == 5);
+    chance.shuffle(&mut places);
+    for place in places {
+        let steps = chance.below(21);
+        pushed.lower_fraction(place, steps);
+    }
+    pushed.table
+}
+
 /// The largest depth at which some table of so many levels can be viewed.
 pub fn deepest_viewed(levels: u8) -> u8 {
     [12, 11, 9, 7, 5][usize::from(levels) - 1]

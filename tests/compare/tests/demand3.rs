@@ -45,20 +45,28 @@ fn generous_tables_of_every_depth() {
     assert!(largest > 0.0 && largest < 2.0);
 }
 
-/// Every node of a tight table is driven to both of its ends.
+/// Every node of a tight table is driven to both of its ends, in a picture in
+/// which it has values, and in one sample wide and one high, where it has any.
 #[test]
 fn every_node_driven_to_its_ends() {
     let mut chance = Chance::new(64);
     for levels in 1..=4u8 {
         let depth = chance.within(1, 12) as u8;
         let table = tight(&mut chance, depth, levels);
-        let shape = Shape::small(&mut chance, depth, levels, 8);
+        let full = Shape::small_full(&mut chance, depth, levels, 8);
+        let (column, row) = (Shape { width: 1, ..full }, Shape { height: 1, ..full });
         for place in table.places() {
-            let (columns, rows) = shape.values_of(place);
-            for largest in [true, false] {
-                let (x, y) = (columns / 2, rows / 2);
-                let picture = NINE_SEVEN.picture(shape, place, x, y, largest);
-                assert!(hold(&table, shape, &picture).steps < 2.0);
+            for shape in [full, column, row] {
+                let (columns, rows) = shape.values_of(place);
+                if columns * rows == 0 {
+                    assert!(shape.has_single_samples());
+                    continue;
+                }
+                for largest in [true, false] {
+                    let (x, y) = (columns / 2, rows / 2);
+                    let picture = NINE_SEVEN.picture(shape, place, x, y, largest);
+                    assert!(hold(&table, shape, &picture).steps < 2.0);
+                }
             }
         }
     }

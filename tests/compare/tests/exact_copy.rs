@@ -35,14 +35,21 @@ fn its_own_order_of_refusals() {
         (bytes(13, 1, 2, 2, &[0; 4]), 4),
         (bytes(8, 6, 2, 2, &[0; 4]), 4),
         (bytes(8, 0, 2, 2, &[0; 4]), 4),
-        (bytes(8, 1, 1, 2, &[]), 8),
-        (bytes(8, 5, 16, 17, &[]), 8),
+        (bytes(8, 1, 0, 2, &[]), 8),
+        (bytes(8, 5, 1, 0, &[]), 8),
+        (bytes(8, 5, 0, 0, &[]), 8),
         (bytes(8, 1, 4097, 2, &[]), 8),
+        (bytes(8, 5, 1, 4097, &[0; 4097]), 8),
         (bytes(8, 1, 65535, 65535, &[]), 8),
         (bytes(8, 1, 64, 65, &[]), 9),
         (bytes(8, 1, 4096, 4096, &[]), 9),
         (bytes(8, 1, 4096, 2, &[300; 8192]), 9),
+        (bytes(8, 5, 3, 4096, &[300; 12288]), 9),
         (bytes(8, 1, 64, 64, &[]), 1),
+        (bytes(8, 5, 1, 4096, &[300; 4095]), 1),
+        (bytes(8, 5, 1, 1, &[]), 1),
+        (bytes(8, 5, 1, 1, &[256, 0]), 5),
+        (bytes(8, 5, 1, 1, &[256]), 10),
         (bytes(8, 1, 2, 2, &[256, 256, 256]), 1),
         (bytes(8, 1, 2, 2, &[256, 0, 0, 0, 0]), 5),
         (bytes(8, 1, 2, 2, &[0, 0, 0, 256]), 10),
@@ -53,7 +60,15 @@ fn its_own_order_of_refusals() {
 
 #[test]
 fn bodies_one_byte_short_and_long() {
-    for (width, height) in [(2, 2), (3, 2), (64, 64), (2048, 2)] {
+    for (width, height) in [
+        (2, 2),
+        (3, 2),
+        (64, 64),
+        (2048, 2),
+        (1, 1),
+        (1, 4096),
+        (4096, 1),
+    ] {
         let whole = bytes(
             4,
             1,
@@ -85,9 +100,12 @@ fn pictures_of_all_shapes() {
     let mut chance = Chance::new(71);
     for _ in 0..rounds(400) {
         let (depth, levels) = (chance.within(1, 12) as u8, chance.within(1, 5) as u8);
-        let least = (1 << (levels - 1)) + 1;
-        let width = chance.within(least, 60);
-        let height = chance.within(least, 4096 / width);
+        let width = chance.within(1, 60);
+        let height = match chance.one_in(4) {
+            true => 1,
+            false => chance.within(1, 4096 / width),
+        };
+        let (width, height) = *chance.of(&[(width, height), (height, width)]);
         let mut pixels = chance.picture(depth, width * height);
         if chance.one_in(3) {
             let top = (1 << depth) - 1;

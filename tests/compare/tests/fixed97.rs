@@ -85,11 +85,10 @@ fn uneven_tables() {
 #[test]
 fn every_one_bit_picture_up_to_four_by_four() {
     let mut chance = Chance::new(53);
-    for levels in 1..=2u8 {
+    for levels in 1..=3u8 {
         let table = tight(&mut chance, 1, levels);
-        let least = (1 << (levels - 1)) + 1;
-        for height in least..=4 {
-            for width in least..=4 {
+        for height in 1..=4 {
+            for width in 1..=4 {
                 let shape = Shape {
                     depth: 1,
                     levels,
@@ -115,8 +114,14 @@ fn long_narrow_and_large_pictures() {
         (1, 4096, 2),
         (1, 2, 4096),
         (1, 4095, 3),
+        (1, 4096, 1),
+        (1, 1, 4095),
         (5, 4096, 17),
         (5, 17, 4095),
+        (5, 4095, 1),
+        (5, 1, 4096),
+        (5, 16, 4096),
+        (5, 4096, 3),
         (5, 513, 257),
         (3, 300, 401),
     ] {

@@ -2,18 +2,13 @@
 //! JPEG 2000 Part 1.
 
 use compare::chance::Chance;
-use compare::hostile::Shape;
+use compare::hostile::{least_full_side, Shape};
 use compare::rounds;
 use suzdrepa::Refusal;
 
 /// Depth and levels of every kind.
 fn kinds() -> impl Iterator<Item = (u8, u8)> {
     (1..=5).flat_map(|levels| (1..=12).map(move |depth| (depth, levels)))
-}
-
-/// The smallest side that is admitted.
-fn least_side(levels: u8) -> usize {
-    (1 << (levels - 1)) + 1
 }
 
 fn lightest(shape: Shape) -> u16 {
@@ -120,10 +115,10 @@ const PATTERNS: [Pattern; 15] = [
     ("holes on a grid", |x, y| x % 2 == 1 || y % 2 == 1),
 ];
 
-/// Every admitted size with sides up to `largest`.
-fn admitted(levels: u8, largest: usize) -> impl Iterator<Item = (usize, usize)> {
-    let sides = move || least_side(levels)..=largest;
-    sides().flat_map(move |width| sides().map(move |height| (width, height)))
+/// Every size with sides up to `largest`. Where a pass has a single sample,
+/// Part 1 lets it through (1D_SD and 1D_SR at an even index).
+fn sizes(largest: usize) -> impl Iterator<Item = (usize, usize)> {
+    (1..=largest).flat_map(move |width| (1..=largest).map(move |height| (width, height)))
 }
 
 #[test]
@@ -139,15 +134,15 @@ fn the_worked_example() {
     assert_same(shape, &[5, 7, 4, 4], "the worked example");
 }
 
-/// Every admitted size with sides up to 40, on every number of levels. The
-/// depths take turns; in a long run each size meets each of them.
+/// Every size with sides up to 40, on every number of levels. The depths take
+/// turns; in a long run each size meets each of them.
 #[test]
 fn every_small_size() {
     let mut chance = Chance::new(1);
     let mut depths = (1..=12).cycle();
     for _ in 0..rounds(1) {
         for levels in 1..=5 {
-            for (width, height) in admitted(levels, 40) {
+            for (width, height) in sizes(40) {
                 let shape = Shape {
                     depth: depths.next().expect("they go on"),
                     levels,
@@ -161,12 +156,13 @@ fn every_small_size() {
     }
 }
 
-/// Every depth and number of levels with the smallest sides, even and odd.
+/// Every depth and number of levels with the smallest sides, even and odd, up
+/// to some with which no pass has a single sample.
 #[test]
 fn every_depth_on_the_smallest_sizes() {
     let mut chance = Chance::new(2);
     for (depth, levels) in kinds() {
-        for (width, height) in admitted(levels, least_side(levels) + 4) {
+        for (width, height) in sizes(least_full_side(levels) + 4) {
             let shape = Shape {
                 depth,
                 levels,
@@ -183,8 +179,17 @@ fn every_depth_on_the_smallest_sizes() {
 #[test]
 fn extreme_pictures() {
     for (depth, levels) in kinds() {
-        let least = least_side(levels);
-        for (width, height) in [(least, least), (least + 1, least), (24, 33), (37, 40)] {
+        let full = least_full_side(levels);
+        for (width, height) in [
+            (full, full),
+            (full + 1, full),
+            (24, 33),
+            (37, 40),
+            (1, 1),
+            (2, 2),
+            (1, 33),
+            (24, 1),
+        ] {
             let shape = Shape {
                 depth,
                 levels,
@@ -222,7 +227,15 @@ fn single_holes() {
 #[test]
 fn large_sizes() {
     let mut chance = Chance::new(4);
-    for (width, height) in [(4096, 17), (17, 4096), (1000, 777), (513, 1025)] {
+    for (width, height) in [
+        (4096, 17),
+        (17, 4096),
+        (1000, 777),
+        (513, 1025),
+        (4096, 1),
+        (1, 4095),
+        (2, 4096),
+    ] {
         for (levels, depth) in (1..=5).zip([12, 8, 1, 5, 11]) {
             let shape = Shape {
                 depth,

@@ -344,7 +344,14 @@ fn null_pointers_of_length_0() {
         assert_eq!(suz_table_change_constant(null(), 0, 1, 9, null_mut(), 0), 1);
         assert_eq!(suz_table_change_constant(at, len, 1, 9, null_mut(), 0), 9);
         assert_eq!(suz_table_write(8, 1, &constants, &widths, null_mut(), 0), 4);
-        for (w, h, due) in [(0, 0, 8), (4, 4, 9), (usize::MAX, usize::MAX, 8)] {
+        for (w, h, due) in [
+            (0, 0, 8),
+            (0, 1, 8),
+            (1, 4097, 8),
+            (usize::MAX, usize::MAX, 8),
+            (1, 1, 9),
+            (4, 4, 9),
+        ] {
             let (i, o) = (null_mut::<i32>(), null_mut::<u16>());
             assert_eq!(suz_forward97(at, len, null(), 0, w, h, i, 0, i, 0), due);
             assert_eq!(suz_forward53(8, 1, null(), 0, w, h, i, 0, i, 0), due);
@@ -371,13 +378,18 @@ fn null_pointers_of_length_0() {
         assert_eq!(suz_scan_end(state_at, length, i, 0, i, 0, &mut given), 14);
         assert_eq!(suz_scan_begin(at, len, state_at, length), 0);
         assert_eq!(line(state_at, length, 4, &mut given), 9);
+        assert_eq!(line(state_at, length, 1, &mut given), 9);
         assert_eq!(line(state_at, length, 0, &mut given), 8);
         assert_eq!(line(state_at, length, usize::MAX, &mut given), 8);
-        // After two lines of four pixels: an end gets as far as its memory.
-        state[length - 4..].copy_from_slice(&[0, 4, 2, 0]);
-        let state_at = state.as_mut_ptr();
-        assert_eq!(line(state_at, length, 0, &mut given), 14);
-        assert_eq!(suz_scan_end(state_at, length, i, 0, i, 0, &mut given), 9);
+        assert_eq!(suz_scan_end(state_at, length, i, 0, i, 0, &mut given), 14);
+        // After a line of one pixel, and after two lines of four: an end gets
+        // as far as its memory.
+        for taken in [[0, 1, 1, 0], [0, 4, 2, 0]] {
+            state[length - 4..].copy_from_slice(&taken);
+            let state_at = state.as_mut_ptr();
+            assert_eq!(line(state_at, length, 0, &mut given), 14);
+            assert_eq!(suz_scan_end(state_at, length, i, 0, i, 0, &mut given), 9);
+        }
     }
     assert_eq!((start, length, range, error), (5, 6, 7, 8));
     assert_eq!((distance, given), (9, 10));

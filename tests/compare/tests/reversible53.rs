@@ -139,8 +139,7 @@ fn shape(depth: u8, levels: u8, width: usize, height: usize) -> Shape {
 fn every_one_bit_picture_up_to_four_by_four() {
     let mut chance = Chance::new(31);
     for levels in 1..=2u8 {
-        let least = (1 << (levels - 1)) + 1;
-        let sides = (least..=4).flat_map(|height| (least..=4).map(move |width| (width, height)));
+        let sides = (1..=4).flat_map(|height| (1..=4).map(move |width| (width, height)));
         for ((width, height), order) in in_both_orders(sides) {
             let shape = shape(1, levels, width, height);
             let mut planes = std::collections::HashSet::new();
@@ -449,8 +448,14 @@ fn long_narrow_and_large_pictures() {
         (1, 4096, 2),
         (1, 2, 4096),
         (1, 4095, 3),
+        (1, 4096, 1),
+        (1, 1, 4095),
         (5, 4096, 17),
         (5, 17, 4095),
+        (5, 4095, 1),
+        (5, 1, 4096),
+        (5, 16, 4096),
+        (5, 4096, 3),
         (5, 513, 257),
         (3, 600, 401),
     ] {
@@ -465,12 +470,13 @@ fn long_narrow_and_large_pictures() {
 }
 
 /// The engine works columns in strips of 64: sides about one strip and about
-/// two, and an extreme value anywhere in such a plane.
+/// two, and those of one sample and a few, with an extreme value anywhere in
+/// such a plane.
 #[test]
 fn sides_about_a_strip() {
     let mut chance = Chance::new(45);
     let edges = edges();
-    let sides = [17, 18, 62, 63, 64, 65, 66, 127, 128, 129, 130];
+    let sides = [1, 2, 3, 17, 18, 62, 63, 64, 65, 66, 127, 128, 129, 130];
     for (width, height) in sides.into_iter().flat_map(|w| sides.map(|h| (w, h))) {
         let (depth, levels) = (chance.within(1, 12) as u8, chance.within(1, 5) as u8);
         for order in Order::BOTH {

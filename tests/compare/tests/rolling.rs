@@ -4,8 +4,7 @@ use compare::chance::Chance;
 use compare::hostile::{against, Shape, NINE_SEVEN};
 use compare::rounds;
 use compare::scan::{begin, foreign, Next, Scan};
-use compare::tables::{any, damaged, generous, narrow, tight};
-use reference::precision::verdict;
+use compare::tables::{any, damaged, generous, narrow, tight, uneven};
 use reference::rolling::{self, HELD_LINES, OUT_LINES, STATE};
 use reference::{exact97, fixed97, Place, WidthTable};
 use std::collections::BTreeMap;
@@ -30,27 +29,9 @@ fn table(chance: &mut Chance, depth: u8) -> WidthTable {
     match chance.below(5) {
         0 => generous(depth, 1),
         1 => narrow(depth, 1),
-        2 => uneven(chance, depth),
+        2 => uneven(chance, depth, 1),
         _ => tight(chance, depth, 1),
     }
-}
-
-/// A generous table with numbers drawn freely, as far as it is accepted.
-fn uneven(chance: &mut Chance, depth: u8) -> WidthTable {
-    let mut table = generous(depth, 1);
-    for _ in 0..30 {
-        let mut next = table.clone();
-        if chance.one_in(4) {
-            next.constant_bits[chance.below(6)] = chance.within(8, 24) as u8;
-        } else {
-            let place = *chance.of(&table.places());
-            next.width_mut(place).fraction_bits = chance.within(0, 20) as u8;
-        }
-        if verdict(&next).is_ok() {
-            table = next;
-        }
-    }
-    table
 }
 
 /// A strip of a table's depth: chance, or a picture that drives a value of the
@@ -132,7 +113,7 @@ fn refuse(
                 width: other,
             };
             let due = match other {
-                0 | 1 | 4097.. if taken == 0 => 8,
+                0 | 4097.. if taken == 0 => 8,
                 // A first line may be of any other width that is admitted.
                 _ if taken == 0 => return,
                 _ => 14,
@@ -177,7 +158,7 @@ fn refuse(
             assert_eq!(scan.refused(next, &held, &out), 10);
             counts.refused("10");
         }
-        7 if taken < 2 => {
+        7 if taken == 0 => {
             assert_eq!(scan.refused(Next::End, &held, &out), 14);
             counts.refused("14, end too early");
         }
@@ -186,7 +167,7 @@ fn refuse(
             assert_eq!(scan.refused(Next::End, &held, &out), 9);
             counts.refused("9, held at the end");
         }
-        _ if taken < 2 => {
+        _ if taken == 0 => {
             assert_eq!(scan.refused(Next::End, &[], &[]), 14);
             counts.refused("14, end too early");
         }
@@ -283,9 +264,10 @@ fn many_strips_with_refused_calls_between() {
         let depth = chance.within(1, 12) as u8;
         let table = table(&mut chance, depth);
         for _ in 0..8 {
-            let mut side = |most| match chance.one_in(3) {
-                true => chance.within(2, 7),
-                false => chance.within(2, most),
+            let mut side = |most| match chance.below(6) {
+                0 => 1,
+                1 | 2 => chance.within(1, 7),
+                _ => chance.within(1, most),
             };
             let (width, height) = (side(40), side(40));
             let lines = strip(&mut chance, depth, width, height);
@@ -297,14 +279,14 @@ fn many_strips_with_refused_calls_between() {
     assert!(counts.refused.values().all(|&n| n > 100), "{counts:?}");
 }
 
-/// Every strip of one bit, two or three pixels wide, under a tight table.
+/// Every strip of one bit, up to three pixels wide, under a tight table.
 #[test]
 fn every_small_strip_of_one_bit() {
     let mut chance = Chance::new(112);
     let mut counts = Counts::default();
     let table = tight(&mut chance, 1, 1);
-    for (width, highest) in [(2, 6), (3, 4)] {
-        for height in 2..=highest {
+    for (width, highest) in [(1, 10), (2, 6), (3, 4)] {
+        for height in 1..=highest {
             for bits in 0..1u32 << (width * height) {
                 let pixel = |i: usize| (bits >> i & 1) as u16;
                 let line = |y: usize| (0..width).map(|x| pixel(y * width + x)).collect();
@@ -314,7 +296,8 @@ fn every_small_strip_of_one_bit() {
         }
     }
     println!("{counts:?}");
-    assert_eq!(counts.strips, 16 + 64 + 256 + 1024 + 4096 + 64 + 512 + 4096);
+    // 2^1 to 2^10, 4^1 to 4^6, 8^1 to 8^4.
+    assert_eq!(counts.strips, 2046 + 5460 + 4680);
 }
 
 #[test]
@@ -322,6 +305,11 @@ fn wide_and_high_strips() {
     let mut chance = Chance::new(113);
     let mut counts = Counts::default();
     for (width, height) in [
+        (4096, 1),
+        (4095, 1),
+        (1, 1),
+        (1, 4096),
+        (1, 4097),
         (4096, 2),
         (4096, 3),
         (4096, 4),
@@ -342,7 +330,7 @@ fn wide_and_high_strips() {
         }
     }
     println!("{counts:?}");
-    assert_eq!(counts.strips, 24);
+    assert_eq!(counts.strips, 34);
 }
 
 /// A roll of so many lines, of an even and of an odd number.
@@ -375,8 +363,8 @@ fn plane(lines: &[i32], width: usize) -> Vec<i32> {
 fn near_the_exact_transform() {
     let mut chance = Chance::new(122);
     let mut largest = 0f64;
-    for height in (2..20).chain([4097, 4500]) {
-        let (depth, width) = (chance.within(1, 12) as u8, chance.within(2, 5));
+    for height in (1..20).chain([1, 1, 4097, 4500]) {
+        let (depth, width) = (chance.within(1, 12) as u8, chance.within(1, 5));
         let table = tight(&mut chance, depth, 1);
         let lines = strip(&mut chance, depth, width, height);
         let mut scan = begun(&mut chance, &table);
@@ -408,7 +396,7 @@ fn scans_in_turn() {
             .map(|_| {
                 let depth = chance.within(1, 12) as u8;
                 let table = table(&mut chance, depth);
-                let (width, height) = (chance.within(2, 12), chance.within(2, 20));
+                let (width, height) = (chance.within(1, 12), chance.within(1, 20));
                 let lines = strip(&mut chance, depth, width, height);
                 let mut scan = begun(&mut chance, &table);
                 scan.held = chance.plane(HELD_LINES * width);
@@ -505,8 +493,8 @@ fn after(chance: &mut Chance, table: &WidthTable, width: usize, taken: usize) ->
 fn ask(chance: &mut Chance, state: &[u8], depth: u8) -> [u8; 2] {
     let stands = usize::from(u16::from_be_bytes([state[56], state[57]]));
     let width = match stands {
-        2..=4096 => stands,
-        _ => chance.within(2, 6),
+        1..=4096 => stands,
+        _ => chance.within(1, 6),
     };
     let lent = if chance.one_in(8) { width - 1 } else { width };
     let (held, out) = (
@@ -529,7 +517,18 @@ fn ask(chance: &mut Chance, state: &[u8], depth: u8) -> [u8; 2] {
 fn states_with_one_byte_changed() {
     let mut chance = Chance::new(117);
     let mut seen = [[0usize; 2]; 15];
-    for (taken, width) in [(0, 2), (1, 3), (2, 4), (3, 2), (4, 5), (5, 3), (6, 2)] {
+    let scans = [
+        (0, 2),
+        (1, 1),
+        (1, 3),
+        (2, 4),
+        (3, 2),
+        (4, 1),
+        (4, 5),
+        (5, 3),
+        (6, 2),
+    ];
+    for (taken, width) in scans {
         let depth = chance.within(2, 12) as u8;
         let table = table(&mut chance, depth);
         let state = after(&mut chance, &table, width, taken).state;
@@ -544,7 +543,8 @@ fn states_with_one_byte_changed() {
         }
     }
     println!("lines and ends by number: {seen:?}");
-    assert_eq!(seen.iter().flatten().sum::<usize>(), 7 * STATE * 255 * 2);
+    let calls = scans.len() * STATE * 255 * 2;
+    assert_eq!(seen.iter().flatten().sum::<usize>(), calls);
     for (number, calls) in [(0, 2), (9, 2), (10, 1), (14, 2)] {
         assert!(seen[number][..calls].iter().all(|&n| n > 20), "{seen:?}");
     }
@@ -588,7 +588,7 @@ fn every_refusal_in_its_order() {
     for _ in 0..rounds(40_000) {
         let depth = chance.within(1, 12) as u8;
         let mut state = generous(depth, 1).bytes().unwrap();
-        let stands = chance.within(2, 5);
+        let stands = chance.within(1, 5);
         state.extend(match chance.below(4) {
             0 => [0, 0, 0, 0],
             1 => [0, stands as u8, chance.within(1, 6) as u8, 1],
@@ -645,10 +645,10 @@ fn held_lines_that_no_scan_left() {
         let depth = chance.within(1, 12) as u8;
         let table = match round % 4 {
             0 => tight(&mut chance, depth, 1),
-            1 => uneven(&mut chance, depth),
+            1 => uneven(&mut chance, depth, 1),
             _ => generous(depth, 1),
         };
-        let (width, taken) = (chance.within(2, 9), chance.below(8));
+        let (width, taken) = (chance.within(1, 9), chance.below(8));
         let state = after(&mut chance, &table, width, taken).state;
         let past = chance.below(3);
         let mut held = chance.plane(HELD_LINES * width + past);
@@ -668,13 +668,14 @@ fn held_lines_that_no_scan_left() {
         assert_eq!(answer, Ok(()));
         *given.entry(("line", count)).or_insert(0) += 1;
         let (answer, count) = foreign(Next::End, &state, &held, &out);
-        assert_eq!(answer.is_ok(), taken >= 2);
+        assert_eq!(answer.is_ok(), taken >= 1);
         *given.entry(("end", count)).or_insert(0) += 1;
     }
     println!("calls by lines given: {given:?}");
     let kinds: Vec<_> = given.keys().copied().collect();
     let due = [
         ("end", 0),
+        ("end", 1),
         ("end", 2),
         ("end", 3),
         ("end", 4),
@@ -694,7 +695,7 @@ fn the_owning_scan_gives_the_same_lines() {
         let depth = chance.within(1, 12) as u8;
         let table = table(&mut chance, depth);
         let bytes = table.bytes().unwrap();
-        let (width, height) = (chance.within(2, 20), chance.within(2, 20));
+        let (width, height) = (chance.within(1, 20), chance.within(1, 20));
         let lines = strip(&mut chance, depth, width, height);
         let due = rolling::strip(&table, &lines);
         let mut scan = suzdrepa::Scan::begin(&bytes).unwrap();

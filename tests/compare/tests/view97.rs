@@ -2,7 +2,7 @@
 
 use compare::both::{self, Lent};
 use compare::chance::Chance;
-use compare::hostile::{Shape, NINE_SEVEN};
+use compare::hostile::{least_full_side, Shape, NINE_SEVEN};
 use compare::rounds;
 use compare::tables::{
     any, damaged, deepest_viewed, generous, loose_viewable, narrow, tight, tight_viewable,
@@ -149,7 +149,12 @@ fn long_narrow_and_large_planes() {
         (12, 1, 4096, 2),
         (12, 1, 2, 4096),
         (12, 1, 4095, 3),
+        (12, 1, 1, 4096),
+        (12, 1, 4095, 1),
         (11, 2, 3, 4096),
+        (9, 3, 1, 4095),
+        (5, 5, 4096, 1),
+        (5, 5, 16, 4096),
         (9, 3, 4096, 5),
         (5, 5, 4096, 17),
         (5, 5, 17, 4095),
@@ -205,21 +210,31 @@ fn both_sides_large() {
 }
 
 /// One step outside each end of each kept node, at the first, the last and
-/// some place of its part; the ends themselves are held.
+/// some place of its part; the ends themselves are held. Where passes have
+/// single samples some nodes have no part.
 #[test]
 fn one_step_outside_every_width() {
     let mut chance = Chance::new(95);
     for levels in 1..=5 {
-        for _ in 0..4 {
+        for round in 0..6 {
             let depth = chance.within(1, deepest_viewed(levels).into()) as u8;
             let table = viewable_table(&mut chance, depth, levels);
-            let shape = Shape::small(&mut chance, depth, levels, 6);
+            let full = Shape::small_full(&mut chance, depth, levels, 6);
+            let shape = match round {
+                0 => Shape { width: 1, ..full },
+                1 => Shape { height: 1, ..full },
+                _ => full,
+            };
             let (width, height) = (shape.width, shape.height);
             let node_of = |i: usize| kept_node(width, height, levels, i % width, i / width);
             for place in table.kept_places() {
                 let part: Vec<usize> = (0..shape.count())
                     .filter(|&i| node_of(i) == place)
                     .collect();
+                if part.is_empty() {
+                    assert!(shape.has_single_samples());
+                    continue;
+                }
                 let (least, most) = table.width(place).ends();
                 let (least, most) = (least as i64, most as i64);
                 for at in [part[0], *part.last().unwrap(), *chance.of(&part)] {
@@ -379,19 +394,20 @@ fn questions_of_many_tables() {
     assert_eq!(seen[8..13], [0; 5]);
 }
 
-/// Sides at every edge of what is admitted.
+/// Sides at every edge of what is admitted, now and before job 6.
 #[test]
 fn sides_at_every_edge() {
     let mut chance = Chance::new(98);
     for levels in 1..=5u8 {
         let table = narrow(deepest_viewed(levels), levels);
-        let least = (1usize << (levels - 1)) + 1;
+        let full = least_full_side(levels);
         let sides = [
             0,
             1,
-            least - 1,
-            least,
-            least + 1,
+            2,
+            full - 1,
+            full,
+            full + 1,
             4095,
             4096,
             4097,
@@ -399,9 +415,9 @@ fn sides_at_every_edge() {
         ];
         for width in sides {
             for height in sides {
-                let admitted = [width, height].iter().all(|s| (least..=4096).contains(s));
+                let admitted = [width, height].iter().all(|s| (1..=4096).contains(s));
                 // A plane of 4,096 by 4,096 is not needed for this.
-                if admitted && width.min(height) > least + 1 {
+                if admitted && width.min(height) > full + 1 {
                     continue;
                 }
                 let shape = Shape {

@@ -84,8 +84,29 @@ fn from_the_exact_inverse() {
         .all(|&of_bound| of_bound > 0.005 && of_bound <= 1.0));
 }
 
-/// Scanned, stored, viewed: the value before rounding is as near to the
-/// scanned pixel's as is told, the pixel half a grey more.
+/// Scans, stores and views a picture: the value before rounding is as near to
+/// the scanned pixel's as is told, the pixel half a grey more. Gives the largest
+/// distance over what is told.
+fn hold_scanned(table: &WidthTable, shape: Shape, picture: &[u16]) -> f64 {
+    let (depth, width, height) = (table.depth, shape.width, shape.height);
+    let bytes = table.bytes().unwrap();
+    let distance = suzdrepa::view_distance(&bytes).unwrap();
+    let stored = suzdrepa::forward97_to_vec(&bytes, picture, width, height).unwrap();
+    let (values, _) = hold(table, shape, &stored);
+    let mut largest = 0;
+    for (&scanned, &value) in picture.iter().zip(&values) {
+        // Both in 2^-32.
+        let due = (i128::from(scanned) - (1 << (depth - 1))) << (32 - depth);
+        let off = (value << (32 - NODE_BITS)).abs_diff(due);
+        assert!(off <= u128::from(distance), "{off} {distance}");
+        largest = largest.max(off);
+        let shown = pixel(value, depth).abs_diff(scanned);
+        let grey = 1u128 << (32 - depth);
+        assert!(u128::from(shown) * grey <= u128::from(distance) + grey / 2);
+    }
+    largest as f64 / distance as f64
+}
+
 #[test]
 fn from_what_was_scanned() {
     let mut chance = Chance::new(112);
@@ -94,8 +115,6 @@ fn from_what_was_scanned() {
         let levels = 1 + (round % 5) as u8;
         let depth = some_depth(&mut chance, levels);
         let table = viewable_table(&mut chance, depth, levels);
-        let bytes = table.bytes().unwrap();
-        let distance = suzdrepa::view_distance(&bytes).unwrap();
         for hostile in [false, true] {
             let shape = Shape::small(&mut chance, depth, levels, 10);
             let picture = match hostile {
@@ -105,24 +124,44 @@ fn from_what_was_scanned() {
                     against(&NINE_SEVEN, &mut chance, shape, place)
                 }
             };
-            let (width, height) = (shape.width, shape.height);
-            let stored = suzdrepa::forward97_to_vec(&bytes, &picture, width, height).unwrap();
-            let (values, _) = hold(&table, shape, &stored);
-            for (&scanned, &value) in picture.iter().zip(&values) {
-                // Both in 2^-32.
-                let due = (i128::from(scanned) - (1 << (depth - 1))) << (32 - depth);
-                let off = (value << (32 - NODE_BITS)).abs_diff(due);
-                assert!(off <= u128::from(distance), "{off} {distance}");
-                let most = &mut largest[usize::from(levels) - 1];
-                *most = most.max(off as f64 / distance as f64);
-                let shown = pixel(value, depth).abs_diff(scanned);
-                let grey = 1u128 << (32 - depth);
-                assert!(u128::from(shown) * grey <= u128::from(distance) + grey / 2);
-            }
+            let most = &mut largest[usize::from(levels) - 1];
+            *most = most.max(hold_scanned(&table, shape, &picture));
         }
     }
     println!("largest distance from the scan over what is told, by levels: {largest:.3?}");
     assert!(largest
         .iter()
         .all(|&of_told| of_told > 0.01 && of_told <= 1.0));
+}
+
+/// Both distances of strips one sample wide or high and of every other shape
+/// with a single sample in some pass (document 02, job 6).
+#[test]
+fn of_strips_one_sample_wide() {
+    let mut chance = Chance::new(113);
+    let (mut planes, mut largest) = (0, [[0f64; 5]; 2]);
+    for levels in 1..=5 {
+        for _ in 0..rounds(2) {
+            let depth = some_depth(&mut chance, levels);
+            let table = viewable_table(&mut chance, depth, levels);
+            for shape in Shape::newly_admitted(depth, levels) {
+                let (width, height) = (shape.width, shape.height);
+                let (x, y) = (chance.below(width), chance.below(height));
+                let hostile = NINE_SEVEN.plane(&table, shape, x, y, chance.one_in(2));
+                let stored = [chance.stored(&table, width, height), hostile];
+                let picture = chance.picture(depth, shape.count());
+                let from_inverse = stored.map(|stored| hold(&table, shape, &stored).1);
+                let from_scan = [hold_scanned(&table, shape, &picture)];
+                for (largest, offs) in largest.iter_mut().zip([&from_inverse[..], &from_scan]) {
+                    let most = &mut largest[usize::from(levels) - 1];
+                    *most = offs.iter().fold(*most, |most, &off| most.max(off));
+                }
+                planes += 3;
+            }
+        }
+    }
+    println!("{planes} planes, largest distances over the bound, by levels: {largest:.3?}");
+    assert_eq!(planes, 3 * 575 * rounds(2));
+    let mut offs = largest.iter().flatten();
+    assert!(offs.all(|&off| off > 0.001 && off <= 1.0));
 }

@@ -91,7 +91,7 @@ pub fn forward97(
 ) -> Result<(), Refusal> {
     let table = WidthTable::read(table)?;
     verdict(&table)?;
-    let count = sides(width, height, table.levels)?;
+    let count = sides(width, height)?;
     lengths(count, &[pixels.len(), plane.len(), work.len()])?;
     let pixels = &pixels[..count];
     depth_of_pixels(pixels, table.depth)?;
@@ -128,7 +128,7 @@ pub fn view97(
     work: &mut [i64],
 ) -> Result<(), Refusal> {
     let table = viewable_table(table)?;
-    let count = sides(width, height, table.levels)?;
+    let count = sides(width, height)?;
     lengths(count, &[pixels.len(), plane.len(), work.len()])?;
     let plane: Vec<i128> = plane[..count].iter().map(|&v| i128::from(v)).collect();
     widths_of_coefficients(&table, &plane, width, height)?;
@@ -151,7 +151,7 @@ pub fn forward53(
     work: &mut [i32],
 ) -> Result<(), Refusal> {
     depth_and_levels(depth, levels)?;
-    let count = sides(width, height, levels)?;
+    let count = sides(width, height)?;
     lengths(count, &[pixels.len(), plane.len(), work.len()])?;
     let pixels = &pixels[..count];
     depth_of_pixels(pixels, depth)?;
@@ -175,7 +175,7 @@ pub fn inverse53(
     work: &mut [i32],
 ) -> Result<(), Refusal> {
     depth_and_levels(depth, levels)?;
-    let count = sides(width, height, levels)?;
+    let count = sides(width, height)?;
     lengths(count, &[pixels.len(), plane.len(), work.len()])?;
     let order = Order::ColumnsFirst;
     let picture = reversible53::back(order, depth, levels, &plane[..count], width, height);
@@ -193,7 +193,7 @@ pub fn inverse53_rows_first(
     work: &mut [i32],
 ) -> Result<(), Refusal> {
     depth_and_levels(depth, levels)?;
-    let count = sides(width, height, levels)?;
+    let count = sides(width, height)?;
     lengths(count, &[pixels.len(), plane.len(), work.len()])?;
     let order = Order::RowsFirst;
     let picture = reversible53::back(order, depth, levels, &plane[..count], width, height);
@@ -234,8 +234,8 @@ fn depth_and_levels(depth: u8, levels: u8) -> Result<(), Refusal> {
 }
 
 /// Width times height, where both sides are admitted.
-fn sides(width: usize, height: usize, levels: u8) -> Result<usize, Refusal> {
-    if side_admitted(width, levels) && side_admitted(height, levels) {
+fn sides(width: usize, height: usize) -> Result<usize, Refusal> {
+    if side_admitted(width) && side_admitted(height) {
         Ok(width * height)
     } else {
         Err(Refusal::plain(8))
@@ -304,14 +304,25 @@ mod tests {
         assert_eq!(run(13, 1, &pixels, 2, 2, 4, 4), 4);
         assert_eq!(run(1, 0, &pixels, 2, 2, 4, 4), 4);
         assert_eq!(run(1, 6, &pixels, 2, 2, 4, 4), 4);
-        assert_eq!(run(1, 1, &pixels, 1, 2, 0, 0), 8);
         assert_eq!(run(1, 1, &pixels, usize::MAX, usize::MAX, 0, 0), 8);
-        assert_eq!(run(1, 2, &pixels, 2, 2, 4, 4), 8);
+        for levels in 1..=5 {
+            for (w, h) in WITHOUT_A_PICTURE {
+                assert_eq!(run(1, levels, &pixels, w, h, 0, 0), 8);
+            }
+            assert_eq!(run(1, levels, &[], 1, 1, 1, 1), 9);
+            assert_eq!(run(1, levels, &[2], 1, 2, 2, 2), 9);
+            assert_eq!(run(1, levels, &[2], 1, 1, 0, 1), 9);
+            assert_eq!(run(1, levels, &[2], 1, 1, 1, 1), 10);
+        }
         assert_eq!(run(1, 1, &[2, 2, 2], 2, 2, 4, 4), 9);
         assert_eq!(run(1, 1, &[2, 2, 2, 2], 2, 2, 3, 4), 9);
         assert_eq!(run(1, 1, &[2, 2, 2, 2], 2, 2, 4, 3), 9);
         assert_eq!(run(1, 1, &[0, 1, 1, 2], 2, 2, 4, 4), 10);
     }
+
+    /// Sides that are refused 8, whatever the levels.
+    const WITHOUT_A_PICTURE: [(usize, usize); 6] =
+        [(0, 0), (0, 1), (1, 0), (0, 4097), (1, 4097), (4097, 2)];
 
     /// A way back: depth, levels, plane, sides, pixels, work area.
     type WayBack = fn(u8, u8, &[i32], usize, usize, &mut [u16], &mut [i32]) -> Result<(), Refusal>;
@@ -336,12 +347,45 @@ mod tests {
             assert_eq!(run(13, 1, &outside, 2, 2, 4, 4), 4);
             assert_eq!(run(1, 0, &outside, 2, 2, 4, 4), 4);
             assert_eq!(run(1, 6, &outside, 2, 2, 4, 4), 4);
-            assert_eq!(run(1, 1, &outside, 1, 2, 0, 0), 8);
             assert_eq!(run(1, 1, &outside, usize::MAX, usize::MAX, 0, 0), 8);
-            assert_eq!(run(1, 2, &outside, 2, 2, 4, 4), 8);
+            for levels in 1..=5 {
+                for (w, h) in WITHOUT_A_PICTURE {
+                    assert_eq!(run(1, levels, &outside, w, h, 0, 0), 8);
+                }
+                assert_eq!(run(1, levels, &outside[..1], 2, 1, 2, 2), 9);
+                assert_eq!(run(1, levels, &outside, 1, 1, 1, 0), 9);
+            }
             assert_eq!(run(1, 1, &outside[..3], 2, 2, 4, 4), 9);
             assert_eq!(run(1, 1, &outside, 2, 2, 3, 4), 9);
             assert_eq!(run(1, 1, &outside, 2, 2, 4, 3), 9);
+        }
+    }
+
+    /// Sides that were refused before job 6 are worked and come back; where one
+    /// is a single sample, the two orders are one.
+    #[test]
+    fn strips_one_sample_wide() {
+        for (w, h) in [(1, 1), (1, 5), (5, 1), (2, 2), (3, 5)] {
+            let count = w * h;
+            let pixels: Vec<u16> = (0..count).map(|i| (i * i * 5 % 8) as u16).collect();
+            for levels in 1..=5 {
+                let (mut plane, mut work) = (vec![50; count + 1], vec![60; count + 2]);
+                forward53(3, levels, &pixels, w, h, &mut plane, &mut work).unwrap();
+                assert_eq!((plane[count], &work[count..]), (50, &[60; 2][..]));
+                assert!(work[..count].iter().all(|&v| v == 0));
+                let ways = if w.min(h) == 1 { 2 } else { 1 };
+                for (back, _) in &WAYS_BACK[..ways] {
+                    let mut plane = plane.clone();
+                    let (mut picture, mut work) = (vec![70; count + 1], vec![60; count]);
+                    back(3, levels, &plane, w, h, &mut picture, &mut work).unwrap();
+                    assert_eq!((&picture[..count], picture[count]), (&pixels[..], 70));
+                    // So much more in LL leaves three bits.
+                    plane[0] += 100;
+                    let refused = back(3, levels, &plane, w, h, &mut picture, &mut work);
+                    assert_eq!(number(refused), 11);
+                    assert_eq!(&picture[..count], pixels);
+                }
+            }
         }
     }
 
@@ -387,8 +431,14 @@ mod tests {
         assert_eq!(run(&table[..55], &[2; 3], 1, 1, 0), 1);
         let mut tight = table.clone();
         tight[20] = 2;
-        assert_eq!(run(&tight, &[2; 3], 1, 1, 0), 6);
-        assert_eq!(run(&table, &[2; 3], 1, 1, 0), 8);
+        assert_eq!(run(&tight, &[2; 3], 0, 1, 0), 6);
+        for levels in 1..=5 {
+            for (w, h) in WITHOUT_A_PICTURE {
+                assert_eq!(run(&generous(1, levels), &[2; 3], w, h, 0), 8);
+            }
+            assert_eq!(run(&generous(1, levels), &[2; 3], 1, 1, 0), 9);
+            assert_eq!(run(&generous(1, levels), &[1, 2, 1], 1, 3, 3), 10);
+        }
         assert_eq!(run(&table, &[2; 4], 2, 2, 3), 9);
         assert_eq!(run(&table, &[2; 3], 2, 2, 4), 9);
         assert_eq!(run(&table, &[1, 1, 1, 2], 2, 2, 4), 10);
@@ -397,6 +447,10 @@ mod tests {
         assert_eq!((plane[4], work), (7, [0, 0, 0, 0, 7]));
         // A white picture of depth 1 is 0 everywhere.
         assert_eq!(plane[..4], [0; 4]);
+        // A dark one is -1/2, and one sample of it stays so: two bits.
+        let (mut plane, mut work) = ([7; 2], [7; 2]);
+        forward97(&table, &[0, 9], 1, 1, &mut plane, &mut work).unwrap();
+        assert_eq!((plane, work), ([-2, 7], [0, 7]));
     }
 
     /// One level, one bit: kept nodes (3, 2), so that -16 .. 15 are held.
@@ -419,9 +473,13 @@ mod tests {
         assert_eq!(run(&table[..55], &outside[..3], 1, 1, 0, 0), 1);
         let mut tight = generous(12, 5);
         tight[20] = 2;
-        assert_eq!(run(&tight, &outside[..3], 1, 1, 0, 0), 6);
-        assert_eq!(run(&generous(12, 5), &outside[..3], 1, 1, 0, 0), 13);
-        assert_eq!(run(&table, &outside[..3], 1, 2, 0, 0), 8);
+        assert_eq!(run(&tight, &outside[..3], 0, 1, 0, 0), 6);
+        assert_eq!(run(&generous(12, 5), &outside[..3], 0, 1, 0, 0), 13);
+        for (w, h) in WITHOUT_A_PICTURE {
+            assert_eq!(run(&table, &outside[..3], w, h, 0, 0), 8);
+        }
+        assert_eq!(run(&table, &outside[..3], 1, 2, 1, 2), 9);
+        assert_eq!(run(&table, &outside[..3], 1, 2, 2, 2), 12);
         assert_eq!(run(&table, &outside[..3], usize::MAX, usize::MAX, 0, 0), 8);
         assert_eq!(run(&table, &outside[..3], 2, 2, 4, 4), 9);
         assert_eq!(run(&table, &outside, 2, 2, 3, 4), 9);
@@ -442,26 +500,30 @@ mod tests {
         }
     }
 
-    /// A picture stored and viewed is near the scanned one.
+    /// A picture stored and viewed is near the scanned one, one sample wide or
+    /// wider.
     #[test]
     fn a_stored_picture_is_viewed() {
         let table = WidthTable::kept_and_others(8, 2, 24, Width::new(6, 10), Width::new(12, 20))
             .bytes()
             .unwrap();
         assert_eq!(table_view(&table), Ok(()));
-        let scanned: Vec<u16> = (0..35).map(|i| i * i * 7 % 256).collect();
-        let (mut plane, mut work) = ([0; 35], [0; 35]);
-        forward97(&table, &scanned, 7, 5, &mut plane, &mut work).unwrap();
-        let (mut viewed, mut work) = ([0; 35], [1; 35]);
-        view97(&table, &plane, 7, 5, &mut viewed, &mut work).unwrap();
-        assert_eq!(work, [0; 35]);
         let mut distance = 0;
         view_distance(&table, &mut distance).unwrap();
         // The rounding takes another half grey.
         let greys = distance as f64 / f64::from(1 << 24) + 0.5;
         assert!(greys < 20.0);
-        for (a, b) in scanned.iter().zip(viewed) {
-            assert!(f64::from(a.abs_diff(b)) <= greys);
+        for (width, height) in [(7, 5), (1, 35), (35, 1), (2, 17), (1, 1)] {
+            let count = width * height;
+            let scanned: Vec<u16> = (0..count).map(|i| (i * i * 7 % 256) as u16).collect();
+            let (mut plane, mut work) = (vec![0; count], vec![0; count]);
+            forward97(&table, &scanned, width, height, &mut plane, &mut work).unwrap();
+            let (mut viewed, mut work) = (vec![0; count], vec![1; count]);
+            view97(&table, &plane, width, height, &mut viewed, &mut work).unwrap();
+            assert!(work.iter().all(|&v| v == 0));
+            for (a, &b) in scanned.iter().zip(&viewed) {
+                assert!(f64::from(a.abs_diff(b)) <= greys);
+            }
         }
     }
 

@@ -51,8 +51,12 @@ pub(crate) fn scale(values: &mut [Big], by: i64) {
 }
 
 /// One pass over a line. The numerators given have some common denominator D;
-/// those that come back have D times [`pass_factor`].
+/// those that come back have D times [`pass_factor`]. A single sample is the
+/// only low value (document 02, job 6).
 fn pass(line: &[Big]) -> Vec<Big> {
+    if let [sample] = line {
+        return vec![sample.times(&pass_factor())];
+    }
     let n = line.len();
     let mut lows: Vec<Big> = line.iter().step_by(2).cloned().collect();
     let mut highs: Vec<Big> = line.iter().skip(1).step_by(2).cloned().collect();
@@ -182,6 +186,9 @@ mod tests {
     /// The same pass straight from the text, in fractions.
     fn pass_in_fractions(line: &[Fraction]) -> Vec<Fraction> {
         let n = line.len();
+        if n == 1 {
+            return line.to_vec();
+        }
         let mut v = line.to_vec();
         let mirror = |i: isize| -> usize {
             let last = n as isize - 1;
@@ -212,27 +219,44 @@ mod tests {
 
     #[test]
     fn common_denominator_agrees_with_fractions() {
-        for n in 2..=9usize {
+        for n in 1..=9usize {
             let line: Vec<i64> = (0..n as i64).map(|i| i * i * 7 % 31 - 15).collect();
             let bigs: Vec<Big> = line.iter().map(|&v| Big::small(v)).collect();
             let fractions: Vec<Fraction> = line.iter().map(|&v| Fraction::whole(v)).collect();
             let worked = pass(&bigs);
+            assert_eq!(worked.len(), n);
             for (ours, due) in worked.iter().zip(pass_in_fractions(&fractions)) {
                 assert_eq!(Fraction::new(ours.clone(), pass_factor()), due);
             }
         }
     }
 
+    /// Where a side is a single sample, too, and where one becomes so.
     #[test]
     fn two_levels_agree_with_fractions() {
-        let (w, h, depth) = (5usize, 3usize, 4u8);
-        let pixels: Vec<u16> = (0..15).map(|i| (i * 11 % 16) as u16).collect();
+        for (w, h) in [
+            (5, 3),
+            (2, 3),
+            (3, 2),
+            (1, 4),
+            (4, 1),
+            (2, 2),
+            (1, 2),
+            (1, 1),
+        ] {
+            two_levels_of(w, h);
+        }
+    }
+
+    fn two_levels_of(w: usize, h: usize) {
+        let depth = 4;
+        let pixels: Vec<u16> = (0..w * h).map(|i| (i * 11 % 16) as u16).collect();
         let exact = transform(depth, 2, &pixels, w, h);
         let mut plane: Vec<Fraction> = pixels
             .iter()
             .map(|&p| Fraction::new(Big::small(i64::from(p) - 8), Big::from(16)))
             .collect();
-        for (part_w, part_h) in [(5, 3), (3, 2)] {
+        for (part_w, part_h) in [(w, h), (low_count(w), low_count(h))] {
             for y in 0..part_h {
                 let row = pass_in_fractions(&plane[y * w..y * w + part_w]);
                 plane[y * w..y * w + part_w].clone_from_slice(&row);

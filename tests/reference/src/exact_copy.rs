@@ -31,7 +31,7 @@ fn listing(input: &[u8]) -> Result<String, Refusal> {
     let pair = |bytes: &[u8]| u16::from(bytes[0]) * 256 + u16::from(bytes[1]);
     let width = usize::from(pair(&head[2..4]));
     let height = usize::from(pair(&head[4..6]));
-    if !side_admitted(width, levels) || !side_admitted(height, levels) {
+    if !side_admitted(width) || !side_admitted(height) {
         return refuse(8);
     }
     let count = width * height;
@@ -77,13 +77,28 @@ mod tests {
     }
 
     #[test]
+    fn strips_one_sample_wide() {
+        let input = bytes(3, 5, 1, 1, &[6]);
+        assert_eq!(exact_copy(&input), "53 3 5 1 1\n2\n");
+        let input = bytes(3, 2, 1, 2, &[5, 7]);
+        assert_eq!(exact_copy(&input), "53 3 2 1 2\n2\n2\n");
+        let input = bytes(3, 2, 2, 1, &[5, 7]);
+        assert_eq!(exact_copy(&input), "53 3 2 2 1\n2 2\n");
+    }
+
+    #[test]
     fn its_own_order() {
         assert_eq!(exact_copy(&[]), "refused 1\n");
         assert_eq!(exact_copy(&[0; 5]), "refused 1\n");
         assert_eq!(exact_copy(&[0; 6]), "refused 4\n");
         assert_eq!(exact_copy(&bytes(3, 6, 2, 2, &[])), "refused 4\n");
-        assert_eq!(exact_copy(&bytes(3, 2, 2, 3, &[])), "refused 8\n");
-        assert_eq!(exact_copy(&bytes(3, 1, 2, 4097, &[])), "refused 8\n");
+        for (width, height) in [(0, 3), (3, 0), (0, 0), (2, 4097), (4097, 1)] {
+            for levels in 1..=5 {
+                let text = exact_copy(&bytes(3, levels, width, height, &[]));
+                assert_eq!(text, "refused 8\n");
+            }
+        }
+        assert_eq!(exact_copy(&bytes(3, 2, 1, 4096, &[])), "refused 1\n");
         assert_eq!(exact_copy(&bytes(3, 1, 64, 65, &[])), "refused 9\n");
         assert_eq!(exact_copy(&bytes(3, 1, 64, 64, &[])), "refused 1\n");
         assert_eq!(exact_copy(&bytes(3, 1, 2, 2, &[8, 8, 8])), "refused 1\n");

@@ -33,8 +33,12 @@ fn unstage(own: &mut [Big], others: &[Big], by: Ratio, beside: impl Fn(usize) ->
 }
 
 /// One pass undone. The numerators given, low values first, have some common
-/// denominator D; those that come back have D times [`pass_factor`].
+/// denominator D; those that come back have D times [`pass_factor`]. A single
+/// low value is the sample (document 02, job 6).
 fn unpass(line: &[Big]) -> Vec<Big> {
+    if let [low] = line {
+        return vec![low.times(&pass_factor())];
+    }
     let n = line.len();
     let (lows, highs) = line.split_at(low_count(n));
     let (mut lows, mut highs) = (lows.to_vec(), highs.to_vec());
@@ -165,6 +169,9 @@ mod tests {
     /// The same pass straight from the text, in fractions.
     fn unpass_in_fractions(line: &[Fraction]) -> Vec<Fraction> {
         let n = line.len();
+        if n == 1 {
+            return line.to_vec();
+        }
         let (low, high) = (ONE_OVER_ZETA.fraction(), ZETA.fraction());
         let sample = |i: usize| match i % 2 {
             0 => line[i / 2].times(&low),
@@ -193,7 +200,7 @@ mod tests {
 
     #[test]
     fn common_denominator_agrees_with_fractions() {
-        for n in 2..=9usize {
+        for n in 1..=9usize {
             let line: Vec<i64> = (0..n as i64).map(|i| i * i * 7 % 31 - 15).collect();
             let bigs: Vec<Big> = line.iter().map(|&v| Big::small(v)).collect();
             let fractions: Vec<Fraction> = line.iter().map(|&v| Fraction::whole(v)).collect();
@@ -206,12 +213,22 @@ mod tests {
     }
 
     /// Exactly the picture comes back from its exact plane, at every number of
-    /// levels, with sides odd and even, least and larger.
+    /// levels, with sides odd and even, with single samples in some pass or in
+    /// none.
     #[test]
     fn the_exact_plane_goes_back() {
         for levels in 1..=5u8 {
-            let least = (1usize << (levels - 1)) + 1;
-            for (width, height) in [(least, least), (least + 3, least + 1), (least + 2, least)] {
+            let full = (1usize << (levels - 1)) + 1;
+            for (width, height) in [
+                (full, full),
+                (full + 3, full + 1),
+                (full + 2, full),
+                (full - 1, full + 2),
+                (1, 1),
+                (1, full),
+                (full + 1, 1),
+                (2, 3),
+            ] {
                 let depth = 1 + levels;
                 let pixels: Vec<u16> = (0..width * height)
                     .map(|i| ((i * i * 7 + i / 3) % (1 << depth)) as u16)

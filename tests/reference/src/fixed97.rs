@@ -76,14 +76,26 @@ pub(crate) fn scale(values: &[i128], bits: u8, constant: Fixed, f: u8) -> Vec<i1
     values.iter().map(one).collect()
 }
 
-/// One pass over a line of at least two values: what each node holds, P1 to
-/// G2. G1 are the low values and G2 the high ones.
+/// One pass over a line of at least one value: what each node holds, P1 to G2.
+/// G1 are the low values and G2 the high ones. A single sample is the only low
+/// value, cut to G1's bits, and no other node holds anything (document 02, job
+/// 6).
 pub fn pass(
     line: &[i128],
     bits: u8,
     constant_bits: &[u8; 6],
     widths: &[Width; 6],
 ) -> [Vec<i128>; 6] {
+    if let &[value] = line {
+        let nothing = Fixed { value: 0, bits: 0 };
+        let low = cut(
+            Fixed { value, bits },
+            nothing,
+            nothing,
+            widths[4].fraction_bits,
+        );
+        return [vec![], vec![], vec![], vec![], vec![low], vec![]];
+    }
     let n = line.len();
     let lows: Vec<i128> = line.iter().step_by(2).copied().collect();
     let highs: Vec<i128> = line.iter().skip(1).step_by(2).copied().collect();
@@ -217,6 +229,66 @@ mod tests {
             }
             assert!(nodes[2].iter().all(|v| v.abs() < 16));
         }
+    }
+
+    /// Constants and the bits of other nodes than G1 count for nothing.
+    #[test]
+    fn a_single_sample_is_cut_to_the_bits_of_g1() {
+        let single = |value: i128, bits: u8, f: u8| {
+            let [lower, upper] = [1, 24].map(|constant_bits| {
+                let mut widths = [Width::new(12, 20 - bits); 6];
+                widths[4] = Width::new(12, f);
+                pass(&[value], bits, &[constant_bits; 6], &widths)
+            });
+            assert_eq!(lower, upper);
+            let [p1, u1, p2, u2, g1, g2] = lower;
+            let others = [p1, u1, p2, u2, g2];
+            assert!(others.iter().all(Vec::is_empty));
+            g1
+        };
+        for value in -40..40 {
+            assert_eq!(single(value, 3, 3), [value]);
+            assert_eq!(single(value, 3, 8), [32 * value]);
+            assert_eq!(single(value, 3, 0), [value.div_euclid(8)]);
+            assert_eq!(single(value, 12, 20), [256 * value]);
+        }
+        // -1/2 at f 0 is -1.
+        assert_eq!(single(-1, 1, 0), [-1]);
+    }
+
+    /// One sample wide: at each level the row is cut to row G1's bits, then
+    /// the column of row-low is worked as any other.
+    #[test]
+    fn strips_one_sample_wide() {
+        let mut table = WidthTable::uniform(4, 2, 24, Width::new(12, 20));
+        let bits = [(1, 1, 3), (1, 2, 9), (2, 1, 1), (2, 2, 2)];
+        for (level, pass, bits) in bits {
+            let place = Place {
+                level,
+                pass,
+                node: 5,
+            };
+            table.width_mut(place).fraction_bits = bits;
+        }
+        // One pixel, -3/16: cut to 3 bits, the same with 9 bits, cut to 1 bit,
+        // the same with 2 bits.
+        assert_eq!(transform(&table, &[5], 1, 1).plane, [-2]);
+        // 1 and 2 pixels: the other side has one pass of two samples, and then
+        // a single one; it is the same along the row and down the column but
+        // for the bits in between.
+        let pixels = [5, 14];
+        let constants = &table.constant_bits;
+        let column = pass(&[-2, 3], 3, constants, &table.widths[0][1]);
+        let low = column[4][0] >> 8; // from 9 bits to 1
+        assert_eq!(
+            transform(&table, &pixels, 1, 2).plane,
+            [low << 1, column[5][0]]
+        );
+        let row = pass(&[-3, 6], 4, constants, &table.widths[0][0]);
+        let low = (row[4][0] << 6) >> 8; // from 3 bits to 9 to 1
+        let due = [low << 1, row[5][0]];
+        assert_eq!(transform(&table, &pixels, 2, 1).plane, due);
+        assert_eq!(transform(&table, &pixels, 2, 1).left, None);
     }
 
     #[test]

@@ -35,9 +35,15 @@ fn minus(exact: Ratio) -> Fixed {
 
 /// One pass: what each node holds, in the order low over zeta, high times
 /// zeta, U2, P2, U1, P1 undone. The last two are the even and the odd samples.
+/// A single low value is the only even sample, uncut, and no other node holds
+/// anything (document 02, job 6).
 pub fn pass(low: Half, high: Half) -> [Vec<i128>; 6] {
     let (lows, highs) = (low.values.len(), high.values.len());
     assert!(lows == highs || lows == highs + 1);
+    if let (&[value], []) = (low.values, high.values) {
+        let even = value << (NODE_BITS - low.bits);
+        return [vec![], vec![], vec![], vec![], vec![even], vec![]];
+    }
     // The low value past the last is the last; the high value before the
     // first is the first, the one past the last is the last.
     let lows_beside = |k: usize| (k, (k + 1).min(lows - 1));
@@ -184,6 +190,44 @@ mod tests {
                 let back = if i % 2 == 0 { even[i / 2] } else { odd[i / 2] };
                 assert!((back - (sample << 8)).abs() < 64, "{n} {i}");
             }
+        }
+    }
+
+    #[test]
+    fn a_single_low_value_comes_back_uncut() {
+        let widths = |f| [Width::new(12, f); 6];
+        for (bits, f) in [(1, 0), (8, 8), (12, 5), (3, 20)] {
+            for sample in -9..9 {
+                let nodes = fixed97::pass(&[sample], bits, &[24; 6], &widths(f));
+                let [g1, g2, u2, p2, even, odd] = pass(half(&nodes[4], f), half(&nodes[5], f));
+                assert!([g1, g2, u2, p2, odd].iter().all(Vec::is_empty));
+                assert_eq!(even, [nodes[4][0] << (20 - f)]);
+                // What was cut is all that is lost.
+                let off = (sample << (20 - bits)) - even[0];
+                assert!(0 <= off && off < 1 << (20 - f));
+            }
+        }
+    }
+
+    /// One sample wide and one high, level 2 before level 1.
+    #[test]
+    fn strips_one_sample_wide() {
+        let mut table = WidthTable::uniform(8, 2, 24, Width::new(12, 20));
+        for (level, pass, node, bits) in [(2, 2, 5, 3), (1, 2, 6, 4), (1, 3, 5, 6)] {
+            table.width_mut(Place { level, pass, node }).fraction_bits = bits;
+        }
+        assert_eq!(undo(&table, &[-5], 1, 1).values, [-5 << 17]);
+        // Two samples: the low one passes level 2 with 20 bits.
+        for (width, height, bits) in [(1, 2, 4), (2, 1, 20)] {
+            let high = if width == 1 { 7 } else { 7 << 14 };
+            let [.., even, odd] = pass(half(&[-5 << 17], 20), half(&[high], bits));
+            let undone = undo(&table, &[-5, 7], width, height);
+            assert_eq!(undone.values, [even[0], odd[0]]);
+            assert_eq!(undone.largest.len(), 6);
+            // Level 2 has no columns of row-high and no node but the even one.
+            let even = 5 << 17;
+            let alone = [0, 0, 0, 0, even, 0];
+            assert_eq!(undone.largest[..3], [alone, [0; 6], alone]);
         }
     }
 

@@ -5,7 +5,8 @@
 //! [`crate::fixed97`] and [`crate::fixed_inverse97`] find them by that rule.
 //! Here nothing is mirrored: where a place has one neighbour, an equation of
 //! its own takes that one (document 02, job 2). Our lines start with a low
-//! value, so equation 3 of 004 has no place here.
+//! value, so equation 3 of 004 has no place here. Nor has a single sample, which
+//! has no neighbour: lines are of two values and more.
 
 use crate::constants::{Ratio, ALPHA, BETA, DELTA, GAMMA, ONE_OVER_ZETA, ZETA};
 use crate::fixed97::{cut, scale, Fixed};

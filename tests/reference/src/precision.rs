@@ -30,8 +30,34 @@ pub(crate) fn step(fraction_bits: u8) -> u128 {
     ONE >> fraction_bits
 }
 
+/// The rule by which a pass gets its bounds: of what enters, with its bits.
+type PassRule = fn(Bound, u8, &[u8; 6], &[Width; 6]) -> [Bound; 6];
+
 /// Bounds of the six nodes of one pass.
 pub fn pass_bounds(
+    input: Bound,
+    input_bits: u8,
+    constant_bits: &[u8; 6],
+    widths: &[Width; 6],
+) -> [Bound; 6] {
+    let mut bounds = earlier_pass_bounds(input, input_bits, constant_bits, widths);
+    let g1 = &mut bounds[4];
+    g1.error = (g1.error).max(single_error(input, input_bits, widths[4].fraction_bits));
+    bounds
+}
+
+/// The error that a pass of a single sample leaves in G1 (document 02, job 6):
+/// the input's error, plus 2^-f where f is below the input's bits.
+pub fn single_error(input: Bound, input_bits: u8, f: u8) -> u128 {
+    match f < input_bits {
+        true => input.error + step(f),
+        false => input.error,
+    }
+}
+
+/// Bounds of the six nodes of one pass by the rule before job 6, when no pass
+/// had a single sample.
+pub fn earlier_pass_bounds(
     input: Bound,
     input_bits: u8,
     constant_bits: &[u8; 6],
@@ -84,6 +110,15 @@ pub fn below_two_steps(bound: Bound, width: Width) -> bool {
 
 /// Bounds of every node of a sound table, in table order, refused or not.
 pub fn bounds(table: &WidthTable) -> Vec<(Place, Bound)> {
+    bounds_by(table, pass_bounds)
+}
+
+/// The same by the rule before job 6.
+pub fn earlier_bounds(table: &WidthTable) -> Vec<(Place, Bound)> {
+    bounds_by(table, earlier_pass_bounds)
+}
+
+fn bounds_by(table: &WidthTable, rule: PassRule) -> Vec<(Place, Bound)> {
     let mut all = Vec::new();
     let mut input = Bound {
         range: ONE / 2,
@@ -93,7 +128,7 @@ pub fn bounds(table: &WidthTable) -> Vec<(Place, Bound)> {
     for level in 1..=table.levels {
         let widths = &table.widths[level as usize - 1];
         let mut take = |pass: u8, input: Bound, input_bits: u8| {
-            let nodes = pass_bounds(
+            let nodes = rule(
                 input,
                 input_bits,
                 &table.constant_bits,
@@ -127,8 +162,17 @@ fn verdict_of(table: &WidthTable, place: Place, bound: Bound) -> Result<(), Refu
 
 /// Accepted, or 4, or the first 6 or 7 in table order; at one node 6 first.
 pub fn verdict(table: &WidthTable) -> Result<(), Refusal> {
+    verdict_by(table, pass_bounds)
+}
+
+/// The verdict before job 6, which no table's may differ from.
+pub fn earlier_verdict(table: &WidthTable) -> Result<(), Refusal> {
+    verdict_by(table, earlier_pass_bounds)
+}
+
+fn verdict_by(table: &WidthTable, rule: PassRule) -> Result<(), Refusal> {
     table.sound()?;
-    for (place, bound) in bounds(table) {
+    for (place, bound) in bounds_by(table, rule) {
         verdict_of(table, place, bound)?;
     }
     Ok(())
@@ -251,6 +295,89 @@ mod tests {
         assert!(!fits(bound(most, 1), width));
         assert!(below_two_steps(bound(0, 2 * step(4) - 1), width));
         assert!(!below_two_steps(bound(0, 2 * step(4)), width));
+    }
+
+    #[test]
+    fn the_error_of_a_single_sample() {
+        let input = Bound { range: 9, error: 5 };
+        assert_eq!(single_error(input, 8, 8), 5);
+        assert_eq!(single_error(input, 8, 20), 5);
+        assert_eq!(single_error(input, 8, 7), 5 + (1 << 25));
+        assert_eq!(single_error(input, 1, 0), 5 + (1 << 32));
+    }
+
+    /// Every pass with a few bits at each place, the edges of "below" among
+    /// them: the larger error of G1 is the old one.
+    #[test]
+    fn the_larger_error_of_a_pass_is_the_old_one() {
+        let bits = [0, 1, 2, 8, 19, 20];
+        let inputs = [(1, 0), (1 << 31, 0), (1 << 31, 1), (1 << 40, 1 << 33)];
+        let mut passes = 0;
+        for number in 0..bits.len().pow(6) {
+            let drawn = |at: u32| bits[number / bits.len().pow(at) % bits.len()];
+            let [input_bits, p1, u1, p2, u2, g1] = [0, 1, 2, 3, 4, 5].map(drawn);
+            let widths = [p1, u1, p2, u2, g1, 0].map(|f| Width::new(12, f));
+            for constants in [1, 2, 24].map(|bits| [bits; 6]) {
+                for (range, error) in inputs {
+                    let input = Bound { range, error };
+                    let old = earlier_pass_bounds(input, input_bits, &constants, &widths);
+                    let new = pass_bounds(input, input_bits, &constants, &widths);
+                    assert_eq!(old, new);
+                    assert!(single_error(input, input_bits, g1) < old[4].error);
+                    passes += 1;
+                }
+            }
+        }
+        assert_eq!(passes, 6usize.pow(6) * 12);
+    }
+
+    /// Numbers from a fixed seed.
+    struct Drawn(u64);
+
+    impl Drawn {
+        fn within(&mut self, least: u8, most: u8) -> u8 {
+            let next = self.0.wrapping_mul(6_364_136_223_846_793_005);
+            self.0 = next.wrapping_add(1_442_695_040_888_963_407);
+            least + (self.0 >> 40) as u8 % (most - least + 1)
+        }
+
+        /// Any table, or a generous one with some numbers drawn freely, which
+        /// is refused late or not at all.
+        fn table(&mut self) -> WidthTable {
+            let (depth, levels) = (self.within(1, 12), self.within(1, 5));
+            let mut table = generous(depth, levels);
+            let share = [1, 3, 12][usize::from(self.within(0, 2))];
+            for bits in &mut table.constant_bits {
+                if self.within(1, share) == 1 {
+                    *bits = self.within(1, 24);
+                }
+            }
+            for place in table.places() {
+                if self.within(1, share) == 1 {
+                    let integer_bits = match share {
+                        1 => self.within(1, 12),
+                        _ => 12,
+                    };
+                    *table.width_mut(place) = Width::new(integer_bits, self.within(0, 20));
+                }
+            }
+            table
+        }
+    }
+
+    /// No verdict changes by the larger error, and no bound does.
+    #[test]
+    fn verdicts_before_and_after_job_6_are_the_same() {
+        let mut drawn = Drawn(6);
+        let mut seen = [0; 8];
+        for _ in 0..20_000 {
+            let table = drawn.table();
+            let now = verdict(&table);
+            assert_eq!(now, earlier_verdict(&table), "{table:?}");
+            assert_eq!(bounds(&table), earlier_bounds(&table), "{table:?}");
+            seen[now.map_or_else(|refusal| usize::from(refusal.number), |()| 0)] += 1;
+        }
+        assert!([0, 6, 7].iter().all(|&n| seen[n] > 500), "{seen:?}");
     }
 
     #[test]

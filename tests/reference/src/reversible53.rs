@@ -21,8 +21,12 @@ impl Order {
     pub const BOTH: [Order; 2] = [Order::ColumnsFirst, Order::RowsFirst];
 }
 
-/// One pass forward: low values, then high values.
+/// One pass forward: low values, then high values. A single sample is the only
+/// low value (document 02, job 6).
 pub fn forward_pass(line: &[i128]) -> Vec<i128> {
+    if let &[sample] = line {
+        return vec![sample];
+    }
     let n = line.len();
     let mut lows: Vec<i128> = line.iter().step_by(2).copied().collect();
     let mut highs: Vec<i128> = line.iter().skip(1).step_by(2).copied().collect();
@@ -37,8 +41,11 @@ pub fn forward_pass(line: &[i128]) -> Vec<i128> {
     lows
 }
 
-/// One pass back.
+/// One pass back. A single low value is the sample.
 pub fn back_pass(line: &[i128]) -> Vec<i128> {
+    if let &[low] = line {
+        return vec![low];
+    }
     let (lows, highs) = line.split_at(low_count(line.len()));
     let (mut lows, mut highs) = (lows.to_vec(), highs.to_vec());
     for (k, low) in lows.iter_mut().enumerate() {
@@ -203,7 +210,7 @@ mod tests {
     #[test]
     fn back_undoes_forward_on_any_integers() {
         let mut drawn = Drawn(1);
-        for n in 2..40 {
+        for n in 1..40 {
             for _ in 0..50 {
                 let line = drawn.numbers(n);
                 assert_eq!(back_pass(&forward_pass(&line)), line);
@@ -212,15 +219,40 @@ mod tests {
         }
     }
 
-    /// Small pictures of every admitted size, with sides that are not alike.
+    /// Small pictures of every size, those with a side of one sample among
+    /// them.
     fn shapes() -> impl Iterator<Item = (u8, usize, usize)> {
-        (1..=4).flat_map(|levels| {
-            let sides = (1 << (levels - 1)) + 1..=12;
-            let pairs = sides
-                .clone()
-                .flat_map(move |w| sides.clone().map(move |h| (w, h)));
+        (1..=5).flat_map(|levels| {
+            let pairs = (1..=12).flat_map(|w| (1..=12).map(move |h| (w, h)));
             pairs.map(move |(width, height)| (levels, width, height))
         })
+    }
+
+    /// A side of one sample is left as it is: what is worked is the other side,
+    /// as a line, and in both orders alike.
+    #[test]
+    fn strips_one_sample_wide() {
+        for order in Order::BOTH {
+            assert_eq!(forward(order, 3, 5, &[7], 1, 1), [3]);
+            assert_eq!(back(order, 3, 5, &[3], 1, 1), Some(vec![7]));
+            assert_eq!(back(order, 3, 5, &[4], 1, 1), None);
+            for (width, height) in [(4, 1), (1, 4)] {
+                // 0 0 0 1 gives 0 0 | 0 1, and 0 0 gives 0 | 0.
+                let plane = forward(order, 1, 2, &[1, 1, 1, 1], width, height);
+                assert_eq!(plane, [0; 4]);
+                let plane = forward(order, 3, 2, &[4, 4, 4, 5], width, height);
+                assert_eq!(plane, [0, 0, 0, 1]);
+                // 1 3 gives 2 | 2, and then 2 is let through.
+                let (width, height) = (width.min(2), height.min(2));
+                for levels in 1..=5 {
+                    let plane = forward(order, 3, levels, &[5, 7], width, height);
+                    assert_eq!(plane, [2, 2]);
+                    let picture = back(order, 3, levels, &[2, 2], width, height);
+                    assert_eq!(picture, Some(vec![5, 7]));
+                    assert_eq!(back(order, 3, levels, &[4, 2], width, height), None);
+                }
+            }
+        }
     }
 
     #[test]

@@ -49,8 +49,10 @@ impl Strip {
     }
 }
 
-/// Works a strip of pixel lines, at least two of them and any number: each
-/// line along its row, then every column.
+/// Works a strip of pixel lines, at least one of them and any number: each
+/// line along its row, then every column. A single line leaves one sample to
+/// each column, which is cut to the bits of the column pass's G1 (document 02,
+/// job 6).
 pub fn strip(table: &WidthTable, lines: &[Vec<u16>]) -> Strip {
     let rows: Vec<_> = lines.iter().map(|line| along_row(table, line)).collect();
     down_columns(table, &rows)
@@ -134,10 +136,12 @@ impl Taken {
         }
     }
 
-    /// How many lines an end gives; none where there can be no end.
+    /// How many lines an end gives; none where there can be no end. Job 6: one
+    /// line is enough, and the end gives its low line.
     fn given_by_an_end(self) -> Option<usize> {
         match self {
-            Taken::Exactly(0 | 1) => None,
+            Taken::Exactly(0) => None,
+            Taken::Exactly(1) => Some(1),
             Taken::Exactly(2) => Some(2),
             Taken::Exactly(3) | Taken::Odd => Some(3),
             Taken::Exactly(_) | Taken::Even => Some(4),
@@ -177,7 +181,7 @@ impl State {
         let taken = Taken::from_byte(rest[2])?;
         let right_width = match taken {
             Taken::Exactly(0) => width == 0,
-            _ => side_admitted(width, LEVELS),
+            _ => side_admitted(width),
         };
         let ended = match rest[3] {
             0 => false,
@@ -224,7 +228,7 @@ pub fn line_answer(
     if !first && width != state.width {
         return Err(Refusal::plain(14));
     }
-    if !side_admitted(width, LEVELS) {
+    if !side_admitted(width) {
         return Err(Refusal::plain(8));
     }
     lengths(width, &[pixels.len()])?;
@@ -359,6 +363,7 @@ fn hand_over(
 #[cfg(test)]
 mod tests {
     use super::*;
+    use crate::refusal::Place;
     use crate::table::Width;
 
     fn table(depth: u8) -> WidthTable {
@@ -426,7 +431,8 @@ mod tests {
     #[test]
     fn which_call_gives_how_many_lines() {
         for (height, due) in [
-            (2, &[0, 0, 2][..]),
+            (1, &[0, 1][..]),
+            (2, &[0, 0, 2]),
             (3, &[0, 0, 0, 3]),
             (4, &[0, 0, 0, 0, 4]),
             (5, &[0, 0, 0, 0, 2, 3]),
@@ -435,10 +441,39 @@ mod tests {
             (8, &[0, 0, 0, 0, 2, 0, 2, 0, 4]),
             (9, &[0, 0, 0, 0, 2, 0, 2, 0, 2, 3]),
         ] {
-            let calls = scanned(&table(8), &pictures(8, 3, height));
-            let counts: Vec<usize> = calls.iter().map(Vec::len).collect();
-            assert_eq!(counts, due);
+            for width in 1..=3 {
+                let calls = scanned(&table(8), &pictures(8, width, height));
+                let counts: Vec<usize> = calls.iter().map(Vec::len).collect();
+                assert_eq!(counts, due);
+            }
         }
+    }
+
+    /// Each column of a single line is one sample, cut to G1's bits of its own
+    /// pass; lines of one pixel are cut to the row's before.
+    #[test]
+    fn one_line_and_one_column_by_hand() {
+        let mut table = table(4);
+        for (pass, bits) in [(1, 3), (2, 2), (3, 1)] {
+            let place = Place {
+                level: 1,
+                pass,
+                node: 5,
+            };
+            table.width_mut(place).fraction_bits = bits;
+        }
+        verdict(&table).unwrap();
+        // -3/16 is cut to -2/8, and that is -1/4.
+        assert_eq!(scanned(&table, &[vec![5]]).concat(), [[-1]]);
+        // Two samples: row-low has 3 bits and then 2, row-high 20 and then 1.
+        let row = along_row(&table, &[5, 14]);
+        let due = [row[0] >> 1, row[1] >> 19].map(|v| v as i32);
+        assert_eq!(scanned(&table, &[vec![5, 14]]).concat(), [due]);
+        // Two lines of one pixel: -2/8 and 3/8 down the column of row-low.
+        let [.., low, high] = fixed97::pass(&[-2, 3], 3, &[24; 6], &table.widths[0][1]);
+        let due = [low, high].map(|v| vec![v[0] as i32]);
+        let given = scanned(&table, &[vec![5], vec![14]]);
+        assert_eq!(given, [vec![], vec![], due.to_vec()]);
     }
 
     /// Lines given are those of the whole strip, and that is what the
@@ -446,7 +481,7 @@ mod tests {
     #[test]
     fn the_strip_comes_out() {
         for table in [table(1), table(12), uneven(8)] {
-            for (width, height) in (2..8).flat_map(|w| (2..14).map(move |h| (w, h))) {
+            for (width, height) in (1..8).flat_map(|w| (1..14).map(move |h| (w, h))) {
                 let lines = pictures(table.depth, width, height);
                 let given: Vec<Vec<i32>> = scanned(&table, &lines).concat();
                 let strip = strip(&table, &lines);
@@ -466,8 +501,8 @@ mod tests {
     /// Past the largest side of a picture, and past what 16 bits count.
     #[test]
     fn long_strips_come_out() {
-        for height in [4096, 4097, 66_000, 66_001] {
-            let (table, lines) = (uneven(8), pictures(8, 2, height));
+        for (width, height) in [(2, 4096), (1, 4097), (2, 66_000), (1, 66_001)] {
+            let (table, lines) = (uneven(8), pictures(8, width, height));
             let given: Vec<Vec<i32>> = scanned(&table, &lines).concat();
             let due = strip(&table, &lines).in_order();
             assert_eq!((given.len(), due.len()), (height, height));
@@ -518,14 +553,14 @@ mod tests {
         let is_one = |end: [u8; 4]| State::read(&[&bytes[..], &end].concat()).is_some();
         for taken in 1..=6 {
             for ended in 0..=1 {
-                assert!(is_one([0, 2, taken, ended]) && is_one([16, 0, taken, ended]));
-                for width in [[0, 0], [0, 1], [16, 1], [255, 255]] {
+                assert!(is_one([0, 1, taken, ended]) && is_one([16, 0, taken, ended]));
+                for width in [[0, 0], [16, 1], [255, 255]] {
                     assert!(!is_one([width[0], width[1], taken, ended]));
                 }
             }
         }
         assert!(is_one([0, 0, 0, 0]) && is_one([0, 0, 0, 1]));
-        assert!(!is_one([0, 2, 0, 0]) && !is_one([0, 2, 7, 0]) && !is_one([0, 2, 2, 2]));
+        assert!(!is_one([0, 1, 0, 0]) && !is_one([0, 1, 7, 0]) && !is_one([0, 1, 2, 2]));
         let mut refused = bytes.clone();
         refused[20] = 2;
         assert_eq!(State::read(&[&refused[..], &[0; 4]].concat()), None);
@@ -586,10 +621,15 @@ mod tests {
             assert_eq!(end(&none[..59], 0, 0), 9);
             assert_eq!(end(none, 0, 0), 14);
         }
-        for width in [0, 1, 4097, usize::MAX] {
+        for width in [0, 4097, usize::MAX] {
             assert_eq!(line(&fresh, &[2], width, 0, 0), 8);
             assert_eq!(line(&one, &[2], width, 0, 0), 14);
         }
+        assert_eq!(line(&one, &[2], 1, 0, 0), 14);
+        assert_eq!(line(&fresh, &[2], 1, 6, 4), 9);
+        assert_eq!(line(&fresh, &[2], 1, 7, 3), 9);
+        assert_eq!(line(&fresh, &[2], 1, 7, 4), 10);
+        assert_eq!(line(&fresh, &[1], 1, 7, 4), 0);
         for state in [&fresh, &one, &two] {
             assert_eq!(line(state, &[2, 0], 3, 21, 12), 9);
             assert_eq!(line(state, &[2, 0, 0], 3, 20, 12), 9);
@@ -600,8 +640,9 @@ mod tests {
         }
         assert_eq!(line(&one, &[1; 9], 4, 99, 99), 14);
         assert_eq!(end(&fresh, 0, 0), 14);
-        assert_eq!(end(&one, 0, 0), 14);
-        assert_eq!((end(&two, 20, 12), end(&two, 21, 11)), (9, 9));
-        assert_eq!((end(&two, 21, 12), end(&two[..59], 21, 12)), (0, 9));
+        for state in [&one, &two] {
+            assert_eq!((end(state, 20, 12), end(state, 21, 11)), (9, 9));
+            assert_eq!((end(state, 21, 12), end(&state[..59], 21, 12)), (0, 9));
+        }
     }
 }

@@ -11,8 +11,30 @@ use crate::table::{Width, WidthTable};
 const MOST: u128 = ONE << 15;
 
 /// Bounds of the six nodes of one inverse pass, in the order low over zeta,
-/// high times zeta, U2, P2, U1, P1 undone.
+/// high times zeta, U2, P2, U1, P1 undone. The even output's (U1 undone) are at
+/// least those of the low input, which a pass of a single sample lets through;
+/// undoing P1 multiplies the even output, and so takes the larger ones
+/// (document 02, job 6).
 pub fn pass_bounds(low: Bound, high: Bound) -> [Bound; 6] {
+    pass_bounds_by(low, high, |even| larger(even, low))
+}
+
+/// The same by the rule before job 6, when no pass had a single sample.
+pub fn earlier_pass_bounds(low: Bound, high: Bound) -> [Bound; 6] {
+    pass_bounds_by(low, high, |even| even)
+}
+
+/// The larger of two, range and error each by itself.
+fn larger(one: Bound, other: Bound) -> Bound {
+    Bound {
+        range: one.range.max(other.range),
+        error: one.error.max(other.error),
+    }
+}
+
+/// The bounds where the even output's are what `even_output` makes of those
+/// that come from the stages.
+fn pass_bounds_by(low: Bound, high: Bound, even_output: impl Fn(Bound) -> Bound) -> [Bound; 6] {
     let gains = inverse_gains();
     let mut own = [0u128; 6];
     let mut bounds = [Bound { range: 0, error: 0 }; 6];
@@ -39,22 +61,22 @@ pub fn pass_bounds(low: Bound, high: Bound) -> [Bound; 6] {
         for (stage, &own_error) in own[..=node].iter().enumerate() {
             error += times_gain(own_error, gains.stage[stage][node]);
         }
-        bounds[node] = Bound {
+        let bound = Bound {
             range: from_inputs(low.range, high.range),
             error,
+        };
+        bounds[node] = match node {
+            4 => even_output(bound),
+            _ => bound,
         };
     }
     bounds
 }
 
-/// The larger of the even output (U1 undone) and the odd one (P1 undone),
-/// range and error each by itself.
+/// The larger of the even output (U1 undone) and the odd one (P1 undone).
 fn larger_output(nodes: [Bound; 6]) -> Bound {
     let [.., even, odd] = nodes;
-    Bound {
-        range: even.range.max(odd.range),
-        error: even.error.max(odd.error),
-    }
+    larger(even, odd)
 }
 
 /// Bounds of every node of every inverse pass, and of the values before they
@@ -67,9 +89,12 @@ pub struct Bounds {
     pub pixel: Bound,
 }
 
+/// The rule by which a pass gets its bounds: of its low and its high input.
+type PassRule = fn(Bound, Bound) -> [Bound; 6];
+
 /// The bounds under a sound table, where a stored coefficient starts at the
 /// range 2^(IB-1) of its kept node and at an error that its width tells.
-fn bounds_from(table: &WidthTable, error: impl Fn(Width) -> u128) -> Bounds {
+fn bounds_from(table: &WidthTable, error: impl Fn(Width) -> u128, rule: PassRule) -> Bounds {
     let stored = |level: u8, pass: u8, node: u8| {
         let width = table.width(Place { level, pass, node });
         Bound {
@@ -80,9 +105,9 @@ fn bounds_from(table: &WidthTable, error: impl Fn(Width) -> u128) -> Bounds {
     let mut passes = Vec::new();
     let mut low_low = stored(table.levels, 2, 5);
     for level in (1..=table.levels).rev() {
-        let left = pass_bounds(low_low, stored(level, 2, 6));
-        let right = pass_bounds(stored(level, 3, 5), stored(level, 3, 6));
-        let rows = pass_bounds(larger_output(left), larger_output(right));
+        let left = rule(low_low, stored(level, 2, 6));
+        let right = rule(stored(level, 3, 5), stored(level, 3, 6));
+        let rows = rule(larger_output(left), larger_output(right));
         passes.extend([left, right, rows]);
         low_low = larger_output(rows);
     }
@@ -94,13 +119,26 @@ fn bounds_from(table: &WidthTable, error: impl Fn(Width) -> u128) -> Bounds {
 
 /// The bounds of viewing: what is stored is taken as it stands.
 pub fn bounds(table: &WidthTable) -> Bounds {
-    bounds_from(table, |_| 0)
+    bounds_from(table, |_| 0, pass_bounds)
+}
+
+/// The bounds of viewing before job 6.
+pub fn earlier_bounds(table: &WidthTable) -> Bounds {
+    bounds_from(table, |_| 0, earlier_pass_bounds)
 }
 
 /// Refused 13 where some node's range plus error is above 2^15, or where the
 /// error of a value before rounding is not below half a grey, 2^-(B+1).
 pub fn viewable(table: &WidthTable) -> Result<(), Refusal> {
-    let bounds = bounds(table);
+    viewable_by(table, bounds(table))
+}
+
+/// What viewing said of a table before job 6; 13 may newly come since.
+pub fn earlier_viewable(table: &WidthTable) -> Result<(), Refusal> {
+    viewable_by(table, earlier_bounds(table))
+}
+
+fn viewable_by(table: &WidthTable, bounds: Bounds) -> Result<(), Refusal> {
     let nodes = bounds.passes.iter().flatten();
     let small = nodes.into_iter().all(|b| b.range + b.error <= MOST);
     if small && bounds.pixel.error < step(table.depth + 1) {
@@ -115,7 +153,7 @@ pub fn viewable(table: &WidthTable) -> Result<(), Refusal> {
 /// two of its own steps.
 pub fn distance(table: &WidthTable) -> u128 {
     let two_steps = |width: Width| 2 * step(width.fraction_bits);
-    bounds_from(table, two_steps).pixel.error
+    bounds_from(table, two_steps, pass_bounds).pixel.error
 }
 
 #[cfg(test)]
@@ -185,6 +223,28 @@ mod tests {
         assert_eq!(own, 295 + 4096);
         let due = 3 + 6 + up(257 + 4096, 65_536) + up(129 + 4096, 58_132) + own;
         assert_eq!(nodes[2].error, due);
+    }
+
+    /// Where the low input is far larger than the high one, a single sample is
+    /// more than the stages let through; range and error each by itself.
+    #[test]
+    fn the_even_output_is_at_least_the_low_input() {
+        let bound = |range, error| Bound { range, error };
+        let up = |bound: u128, gain: u128| (bound * gain).div_ceil(1 << 16);
+        for (low_error, high_range) in [(0, ONE), (1 << 24, ONE), (1 << 24, 9 * ONE), (7, ONE)] {
+            let (low, high) = (bound(8 * ONE, low_error), bound(high_range, 0));
+            let (old, new) = (earlier_pass_bounds(low, high), pass_bounds(low, high));
+            assert_eq!(old[..4], new[..4]);
+            let range = up(low.range, 57_008) + up(high.range, 52_593);
+            assert_eq!((old[4].range, range < 8 * ONE), (range, high_range == ONE));
+            assert_eq!(old[4].error < low_error, low_error == 1 << 24);
+            assert_eq!(new[4].range, range.max(8 * ONE));
+            assert_eq!(new[4].error, old[4].error.max(low_error));
+            // Undoing P1 multiplies the even output: its own error is moved.
+            let own = |even: Bound| (even.range + even.error).div_ceil(1 << 24);
+            assert_eq!(new[5].range, old[5].range);
+            assert_eq!(new[5].error - old[5].error, own(new[4]) - own(old[4]));
+        }
     }
 
     #[test]
@@ -305,11 +365,96 @@ mod tests {
         assert!(!fits(&large) && bounds(&large).pixel.error < step(2));
     }
 
+    /// A table with these integer bits at its kept nodes.
+    fn kept_integer_bits(depth: u8, levels: u8, bits: &[u8]) -> WidthTable {
+        let (kept, others) = (Width::new(12, 2), Width::new(12, 20));
+        let mut table = WidthTable::kept_and_others(depth, levels, 24, kept, others);
+        let places = table.kept_places();
+        assert_eq!(places.len(), bits.len());
+        for (place, &bits) in places.into_iter().zip(bits) {
+            table.width_mut(place).integer_bits = bits;
+        }
+        table
+    }
+
+    /// Accepted tables that could be viewed before job 6 and are refused 13 by
+    /// the larger bounds: by the pixel bound, and by a node above 2^15.
+    #[test]
+    fn thirteen_newly_comes() {
+        let large = |bounds: &Bounds| {
+            let mut nodes = bounds.passes.iter().flatten();
+            nodes.any(|b| b.range + b.error > MOST)
+        };
+        let far = |table: &WidthTable, bounds: &Bounds| bounds.pixel.error >= step(table.depth + 1);
+        // LL with seven integer bits more than the others.
+        let by_pixel = kept_integer_bits(10, 1, &[10, 3, 3, 3]);
+        let bits = [12, 12, 12, 8, 6, 7, 12, 8, 6, 12, 8, 12, 11, 10, 12, 10];
+        let by_node = kept_integer_bits(1, 5, &bits);
+        for (table, due) in [(by_pixel, (false, true)), (by_node, (true, false))] {
+            assert_eq!(verdict(&table), Ok(()));
+            assert_eq!(earlier_viewable(&table), Ok(()));
+            assert_eq!(viewable(&table), Err(Refusal::plain(13)));
+            let bounds = bounds(&table);
+            assert_eq!((large(&bounds), far(&table, &bounds)), due);
+        }
+    }
+
+    /// 13 comes where it came before, and nowhere does a bound get smaller.
+    #[test]
+    fn no_bound_is_smaller_than_before() {
+        let mut differ = 0;
+        for number in 0..5usize.pow(4) {
+            let bits = |at: u32| [1, 3, 6, 9, 12][number / 5usize.pow(at) % 5];
+            let integer_bits = [0, 1, 2, 3].map(bits);
+            let table = kept_integer_bits(8, 1, &integer_bits);
+            let (old, new) = (earlier_bounds(&table), bounds(&table));
+            let smaller =
+                |(old, new): (&Bound, &Bound)| new.range < old.range || new.error < old.error;
+            let [all_old, all_new] = [&old, &new].map(|b| b.passes.iter().flatten());
+            assert!(!all_old.zip(all_new).any(smaller));
+            assert!(!smaller((&old.pixel, &new.pixel)));
+            assert!(earlier_viewable(&table).is_ok() || viewable(&table).is_err());
+            differ += usize::from(old != new);
+        }
+        assert!(differ > 100, "{differ}");
+    }
+
+    /// One sample at the end of LL's width, where LL is far wider than the
+    /// rest: the node that holds it keeps to the larger bound, and not to the
+    /// one before job 6.
+    #[test]
+    fn a_single_sample_needs_the_larger_bound() {
+        let table = kept_integer_bits(1, 1, &[12, 3, 3, 3]);
+        assert_eq!((verdict(&table), viewable(&table)), (Ok(()), Ok(())));
+        let (least, _) = table.width(place(1, 2, 5)).ends();
+        let largest = undo(&table, &[least], 1, 1).largest;
+        let (old, new) = (earlier_bounds(&table), bounds(&table));
+        for pass in [0, 2] {
+            assert_eq!(largest[pass], [0, 0, 0, 0, 1 << 31, 0]);
+            let value = largest[pass][4] << (32 - NODE_BITS);
+            let most =
+                |bounds: &Bounds| bounds.passes[pass][4].range + bounds.passes[pass][4].error;
+            assert!(most(&old) < value && value <= most(&new));
+        }
+    }
+
     /// Planes of the least and the largest integers: each value in 20 bits is
-    /// within the bound of the exact inverse, each node within its own.
+    /// within the bound of the exact inverse, each node within its own, also
+    /// where a pass has a single sample.
     #[test]
     fn the_bounds_hold() {
-        for (levels, width, height) in [(1, 2, 2), (1, 7, 4), (2, 5, 6), (3, 9, 5)] {
+        for (levels, width, height) in [
+            (1, 2, 2),
+            (1, 7, 4),
+            (2, 5, 6),
+            (3, 9, 5),
+            (1, 1, 5),
+            (2, 6, 1),
+            (3, 3, 4),
+            (4, 1, 9),
+            (4, 2, 2),
+            (3, 1, 1),
+        ] {
             let table = narrow(6, levels, 5);
             let bounds = bounds(&table);
             let bound = u64::try_from(bounds.pixel.error).unwrap();
@@ -325,7 +470,8 @@ mod tests {
                 let plane: Vec<i128> = (0..width * height).map(end).collect();
                 let undone = undo(&table, &plane, width, height);
                 let off = inverse(&table, &plane, width, height).off(&undone.values, bound);
-                assert!(off.within && off.of_bound > 0.0);
+                // A picture of one pixel is let through as it is.
+                assert!(off.within && (off.of_bound > 0.0) == (width * height > 1));
                 for (nodes, bounds) in undone.largest.iter().zip(&bounds.passes) {
                     for (&largest, bound) in nodes.iter().zip(bounds) {
                         assert!(largest << (32 - NODE_BITS) <= bound.range + bound.error);

@@ -85,9 +85,9 @@ fn main() -> ExitCode {
     let mut widths = Vec::new();
     for argument in std::env::args().skip(1) {
         match argument.parse() {
-            Ok(width) if (2..=MAX_SIDE).contains(&width) => widths.push(width),
+            Ok(width) if (1..=MAX_SIDE).contains(&width) => widths.push(width),
             _ => {
-                eprintln!("usage: scan [WIDTH...]   widths from 2 to {MAX_SIDE}");
+                eprintln!("usage: scan [WIDTH...]   widths from 1 to {MAX_SIDE}");
                 return ExitCode::from(2);
             }
         }

@@ -18,8 +18,8 @@ fn measure(arguments: &[String]) -> Result<bool, (u8, String)> {
     let (table_path, picture_path, side) = match arguments {
         [table, picture] => (table, picture, 64),
         [table, picture, side] => match side.parse() {
-            Ok(side) if (2..=MAX_SIDE).contains(&side) => (table, picture, side),
-            _ => return Err((2, format!("SIDE is 2 to {MAX_SIDE}, not `{side}`"))),
+            Ok(side) if (1..=MAX_SIDE).contains(&side) => (table, picture, side),
+            _ => return Err((2, format!("SIDE is 1 to {MAX_SIDE}, not `{side}`"))),
         },
         _ => return Err((2, "usage: distance TABLE IN.pgm [SIDE]".into())),
     };

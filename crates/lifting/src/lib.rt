@@ -1224,15 +1224,46 @@ pub fn pixel_rows(
     }
 }
 
-// The first w values of each of h rows, row r starting at r * stride, worked in place through the tile.
+// The first w values of each of h rows, row r starting at r * stride, a pair undone in place through the tile.
+fn undo_rows(plane: &mut [i32], tile: &mut [i32], stride: usize, w: usize, h: usize, pair: Pair)
+    requires { ⌜ Part (now plane) stride 0 w h × Liftable w × (w ≤ length (now tile)) ⌝ }
+    requires { ⌜ ((r : ℕ) → r < h → SafeKernel (Kernel.Undo pair) w (rowOf stride 0 (at (now plane)) r)) ⌝ }
+    ensures { λ _. ⌜ at (now (plane .exit)) ≡ rowsWorked (Kernel.Undo pair) stride w h (at (now (plane .entry))) ⌝ }
+{
+    for r in 0..h {
+        strip_undo(plane, tile, 1, r * stride, 1, w, pair);
+    }
+}
+
+// The same by a kernel that is worked forward.
+fn forward_rows(
+    plane: &mut [i32],
+    tile: &mut [i32],
+    stride: usize,
+    w: usize,
+    h: usize,
+    kernel: Kernel,
+)
+    requires { ⌜ Part (now plane) stride 0 w h × Liftable w × (w ≤ length (now tile)) × Forward kernel ⌝ }
+    requires { ⌜ ((r : ℕ) → r < h → SafeKernel kernel w (rowOf stride 0 (at (now plane)) r)) ⌝ }
+    ensures { λ _. ⌜ at (now (plane .exit)) ≡ rowsWorked kernel stride w h (at (now (plane .entry))) ⌝ }
+{
+    for r in 0..h {
+        strip_forward(plane, tile, 1, r * stride, 1, w, kernel);
+    }
+}
+
+// The first w values of each of h rows, row r starting at r * stride, worked in place through the tile. Which way is told once.
 pub fn rows(plane: &mut [i32], tile: &mut [i32], stride: usize, w: usize, h: usize, kernel: Kernel)
     requires { ⌜ Part (now plane) stride 0 w h × Liftable w × (w ≤ length (now tile)) ⌝ }
     requires { ⌜ ((r : ℕ) → r < h → SafeKernel kernel w (rowOf stride 0 (at (now plane)) r)) ⌝ }
     ensures plane { λ _. ⌜ at (now (plane .exit)) ≡ rowsWorked kernel stride w h (at (now (plane .entry))) ⌝ }
     ensures tile { λ _. ⌜ Free (now (tile .entry)) (now (tile .exit)) ⌝ }
 {
-    for r in 0..h {
-        strip(plane, tile, 1, r * stride, 1, w, kernel);
+    match kernel {
+        Kernel::Undo(pair) => undo_rows(plane, tile, stride, w, h, pair),
+        Kernel::One(_) => forward_rows(plane, tile, stride, w, h, kernel),
+        Kernel::Two { .. } => forward_rows(plane, tile, stride, w, h, kernel),
     }
 }
 

@@ -1,76 +1,61 @@
--- `lifting::rows` meets its contract. The loop's invariant: the first r rows are done.
+-- `lifting::rows` meets its contract: in each arm the kernel is the one that the arm works by.
 -- Assumes nothing.
-use mathlib.Core.Path.{_≡_, refl, sym, subst}
-use Prim.Native.Nat.{ℕ, _*_, _-_, _≤_}
+use mathlib.Core.Path.{_≡_, sym, ap, subst, _∙_}
+use Prim.Native.Nat.{ℕ, _<_, _≤_}
 use native.Mathlib.Omega.{arith}
+use borrow.Author.Needs.{needs}
 use lib.ListN.{length}
+use lib.IntN.{ℤ}
+use Rattle.lifting.specs.declared.Kernel.{Kernel}
 use Rattle.lifting.specs.Patch.{at}
-use Rattle.lifting.specs.PatchLines.{lines-none, lines-to}
-use Rattle.lifting.specs.Kernels.{worked, SafeKernel, columnOf, rowsWorked}
-use Rattle.lifting.specs.Strips.{row-as-was, row-done}
+use Rattle.lifting.specs.Passes.{Liftable}
+use Rattle.lifting.specs.Kernels.{Forward, SafeKernel, Part, rowOf, rowsWorked}
 use Rattle.lifting.proofs.rows.Statement.{statement}
 use Rattle.lifting.proofs.rows.Tie as tie
 
-abbrev Inv-loop : tie.InvT-loop
-Inv-loop plane₀ tile₀ stride w h kernel r₀ plane tile r =
-    (r ≤ h) × (length plane ≡ length plane₀) × (length tile ≡ length tile₀) × (at plane ≡ rowsWorked kernel stride w r (at plane₀))
+module _ (a : tie.Start) where
+  -- every row is safe for k
+  abbrev Safe : Kernel → Type 0
+  Safe k = (r : ℕ) → r < a .args .h → SafeKernel k (a .args .w) (rowOf (a .args .stride) 0 (at (a .args .plane .now)) r)
 
-abbrev μ-loop : tie.MeasureT-loop
-μ-loop plane₀ tile₀ stride w h kernel r₀ plane tile r = h - r
+  -- the rows worked by k
+  abbrev done : Kernel → ℕ → ℤ
+  done k = rowsWorked k (a .args .stride) (a .args .w) (a .args .h) (at (a .args .plane .now))
 
-loop-holds : tie.Need-loop-holds Inv-loop μ-loop
-loop-holds c = (omega arith, refl, refl, lines-none _ _ _ _)
+gives : (a : tie.Start) (k : Kernel) (y : ℕ → ℤ) → a .args .kernel ≡ k → y ≡ done a k → y ≡ done a (a .args .kernel)
+gives a k y e is = is ∙ ap (done a) (sym e)
 
-mul-strip : tie.Need-mul-strip Inv-loop μ-loop
-mul-strip c =
-    let t = c .before .before .before in
-    omega (arith, t .before .pre .0 .0 .fits (t .loop .r) (c .before .before .loop-test .taken))
+undo-rows-requires : tie.Need-undo-rows-requires
+undo-rows-requires c κs = let a = c .before .before .before .before .before in (a .pre .0, subst (Safe a) (c .before .before .before .kernel .given .1) (a .pre .1))
 
-strip-requires : tie.Need-strip-requires Inv-loop μ-loop
-strip-requires c κs =
-    let t = c .before .before .before in
-    let a = t .before in
-    let part = a .pre .0 .0 in
-    let h = c .before .before .loop-test .taken in
-    let there = part .fits (t .loop .r) h in
-    let b = t .loop .r * a .args .stride in
-    let kernel = a .args .kernel in
-    let y = at (t .loop .plane) in (
-      record {
-        lines = record { some = omega arith; few = omega (arith, part .narrow, part .wide); narrow = omega arith; fits = λ i p. omega arith };
-        some = omega arith;
-        two = a .pre .0 .1;
-        room = omega arith;
-      },
-      λ j g. subst (λ (u : ℕ). SafeKernel kernel (a .args .w) (columnOf 1 b y u)) (omega arith)
-          (subst (SafeKernel kernel (a .args .w)) (sym (row-as-was (a .args .stride) (a .args .w) (t .loop .r) b (omega (arith, part .narrow)) _ _ _ (t .loop .inv .3) (omega arith))) (a .pre .1 (t .loop .r) h)),
-    )
+forward-asks : (a : tie.Start) → Forward (a .args .kernel) → (Part (a .args .plane .now) (a .args .stride) 0 (a .args .w) (a .args .h) × Liftable (a .args .w) × (a .args .w ≤ length (a .args .tile .now)) × Forward (a .args .kernel)) × Safe a (a .args .kernel)
+forward-asks a h = ((a .pre .0 .0, a .pre .0 .1, a .pre .0 .2, h), a .pre .1)
 
-loop-again : tie.Need-loop-again Inv-loop μ-loop
-loop-again c =
-    let t = c .before .before .before .before .before .before in
-    let a = t .before in (
-      omega arith,
-      omega arith,
-      omega arith,
-      row-done (worked (a .args .kernel)) (a .args .stride) (a .args .w) (t .loop .r) (t .loop .r * a .args .stride) (omega (arith, a .pre .0 .0 .narrow)) (at (a .args .plane .now)) _ _ (t .loop .inv .3) (omega arith) (c .before .before .strip .ensures),
-    )
+forward-rows-requires : tie.Need-forward-rows-requires
+forward-rows-requires c κs = forward-asks (c .before .before .before .before) (subst Forward (sym (c .before .before .enum-told .given .1)) tt)
 
-returns : tie.Need-returns Inv-loop μ-loop
-returns c = (lines-to _ _ _ _ _ _ _ (c .before .loop .inv .3) (omega arith), c .before .loop .inv .2)
+forward-rows-requires-2 : tie.Need-forward-rows-requires-2
+forward-rows-requires-2 c κs = forward-asks (c .before .before .before .before) (subst Forward (sym (c .before .before .enum-told2 .given .1)) tt)
+
+returns : tie.Need-returns
+returns c = let f = c .before .before in (gives (f .before .before .before .before .before .before) _ _ (f .before .before .before .before .kernel .given .1) (f .undo-rows .ensures), omega arith)
 
 pub rows-spec : {M : Type 1} → statement M
 rows-spec =
     tie.close
     (tie.spec
-    Inv-loop
-    μ-loop
-    loop-holds
-    mul-strip
-    strip-requires
-    (λ c. omega arith)
-    (λ c. omega arith)
-    loop-again
-    (λ c. omega arith)
-    (λ c. omega arith)
-    returns)
+    (λ c. search needs)
+    undo-rows-requires
+    (λ c. search needs)
+    forward-rows-requires
+    (λ c. search needs)
+    forward-rows-requires-2
+    (λ c. search needs)
+    (λ c. search needs)
+    returns
+    (λ c. search needs)
+    (λ c. search needs)
+    (λ c. (c .before .before .forward-rows .ensures, omega arith))
+    (λ c. search needs)
+    (λ c. search needs)
+    (λ c. (c .before .before .forward-rows2 .ensures, omega arith)))

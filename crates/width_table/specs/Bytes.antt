@@ -1,5 +1,6 @@
--- Width tables as bytes (document 01: books as bytes): reading, refusals 1 to 5, and writing, refusals 4 and 9.
+-- Width tables as bytes (document 01: books as bytes; document 02, job 7: tag 5): reading, refusals 1 to 5, and writing, refusals 4 and 9.
 use Prim.Native.Nat.{ℕ, _+_, _*_, _-_}
+use mathlib.Core.Bool.{Bool, true, false}
 use mathlib.Core.List.{List, [], _∷_, _++_}
 use lib.Dec.{leb, eqb}
 use lib.ListN.{length, getD, take, drop, replicate}
@@ -8,7 +9,7 @@ use Rattle.refusals.specs.Answers.{Answer, done, passed, asks, _then_, answered
 use Rattle.width_table.specs.declared.WidthTable.{WidthTable}
 use Rattle.width_table.specs.Nodes.{nodesPerPass}
 use Rattle.width_table.specs.Table.{maxLevels, formRight}
-use Rattle.width_table.specs.Fields.{depthTag, levelsTag, constantsTag, nodesTag, headBytes, Field, nodeBytes, fixedFields, fields, startOf, tableSize, valueStart, valueLength, bytesOf}
+use Rattle.width_table.specs.Fields.{depthTag, levelsTag, constantsTag, nodesTag, productsTag, headBytes, Field, nodeBytes, productBytes, fixedFields, fields, startOf, tableSize, valueStart, valueLength, bytesOf}
 
 -- ---- reading
 
@@ -42,13 +43,22 @@ depthIn bytes = getD bytes (startOf fixedFields depthTag) 0
 abbrev pub levelsIn : List ℕ → ℕ
 levelsIn bytes = getD bytes (startOf fixedFields levelsTag) 0
 
+-- the byte right after the fourth field is 5: tag 5 is there (any other byte there is refused 5)
+abbrev pub hasFifth : List ℕ → Bool
+hasFifth bytes = eqb (getD bytes (tableSize false (levelsIn bytes)) 0) productsTag
+
 -- The fields of a table of as many levels as the second field has, which is right by the time that L counts.
 unfoldable pub form : List ℕ → Answer Unit
-form bytes = formBy (fields (levelsIn bytes)) bytes
+form bytes = formBy (fields (hasFifth bytes) (levelsIn bytes)) bytes
 
 -- the value of a tag in bytes of a right form
 abbrev pub valueIn : List ℕ → ℕ → List ℕ
 valueIn bytes tag = take (valueLength (levelsIn bytes) tag) (drop (valueStart (levelsIn bytes) tag) bytes)
+
+-- the products' numbers, with zeros at unused levels; zeros alone without tag 5
+abbrev pub productsIn : Bool → List ℕ → List ℕ
+productsIn true bytes = valueIn bytes productsTag ++ replicate (productBytes maxLevels - productBytes (levelsIn bytes)) 0
+productsIn false bytes = replicate (productBytes maxLevels) 0
 
 -- the table that bytes of a right form hold, with zeros at unused levels
 unfoldable pub tableIn : List ℕ → WidthTable
@@ -57,11 +67,20 @@ tableIn bytes = record {
   levels = levelsIn bytes;
   constants = valueIn bytes constantsTag;
   nodes = valueIn bytes nodesTag ++ replicate (nodeBytes maxLevels - nodeBytes (levelsIn bytes)) 0;
+  five = hasFifth bytes;
+  products = productsIn (hasFifth bytes) bytes;
 }
 
 -- what comes back where there is no table
 abbrev pub emptyTable : WidthTable
-emptyTable = record { depth = 0; levels = 0; constants = replicate nodesPerPass 0; nodes = replicate (nodeBytes maxLevels) 0 }
+emptyTable = record {
+  depth = 0;
+  levels = 0;
+  constants = replicate nodesPerPass 0;
+  nodes = replicate (nodeBytes maxLevels) 0;
+  five = false;
+  products = replicate (productBytes maxLevels) 0;
+}
 
 -- The table that the call of reading gives; its answer is `form`.
 unfoldable pub tableRead : List ℕ → WidthTable
@@ -71,15 +90,15 @@ tableRead bytes = answered (form bytes) (tableIn bytes) emptyTable
 
 -- a table's bytes: its fields in order
 unfoldable pub tableBytes : WidthTable → List ℕ
-tableBytes t = bytesOf (fields (t .levels)) t
+tableBytes t = bytesOf (fields (t .five) (t .levels)) t
 
 -- 4, then 9
 unfoldable pub writable : WidthTable → List ℕ → Answer Unit
-writable t lent = asks (formRight t) 4 (asks (leb (tableSize (t .levels)) (length lent)) 9 passed)
+writable t lent = asks (formRight t) 4 (asks (leb (tableSize (t .five) (t .levels)) (length lent)) 9 passed)
 
 -- The call that writes a table into lent bytes: the answer, with the number of bytes, and the lent bytes afterwards.
 unfoldable pub writing : WidthTable → List ℕ → Answer ℕ
-writing t lent = writable t lent then done (tableSize (t .levels))
+writing t lent = writable t lent then done (tableSize (t .five) (t .levels))
 
 unfoldable pub bytesAfter : WidthTable → List ℕ → List ℕ
 bytesAfter t lent = answered (writable t lent) (over (tableBytes t) lent) lent

@@ -1,20 +1,22 @@
--- Worked cases: what document 01 says of tables, on tables of one width.
-use Prim.Native.Nat.{ℕ, zero, suc, _*_, _-_}
+-- Worked cases: what document 01 says of tables, and document 02, job 7, of product widths, on tables of one width.
+use Prim.Native.Nat.{ℕ, zero, suc, _+_, _*_, _-_}
 use mathlib.Core.Path.{_≡_, refl}
-use mathlib.Core.Bool.{true, false}
+use mathlib.Core.Bool.{Bool, true, false}
 use mathlib.Core.List.{List, [], _∷_, _++_, map}
-use lib.ListN.{replicate, take, set}
+use native.Mathlib.Omega.{arith}
+use lib.ListN.{length, replicate, take, drop, set}
 use Rattle.numbers.specs.Tests.{every}
 use Rattle.refusals.specs.Answers.{done, refused, code}
 use Rattle.width_table.specs.declared.WidthTable.{WidthTable}
 use Rattle.width_table.specs.Nodes.{nodesPerPass, nodesPerLevel, Rows, LowColumns, P2}
 use Rattle.width_table.specs.Table.{maxLevels, formRight, integerBits, fractionBits, inputBits}
-use Rattle.width_table.specs.Fields.{nodeBytes, widthsRight}
+use Rattle.width_table.specs.Fields.{nodeBytes, productBytes, widthsRight, tableSize}
 use Rattle.width_table.specs.Bytes.{tableBytes, headed, field, formBy, form, tableIn, tableRead, emptyTable, writable, writing, bytesAfter}
-use Rattle.width_table.specs.Changes.{changeable, tableAfterWidth, constantChangeable, tableAfterConstant}
+use Rattle.width_table.specs.Changes.{changeable, tableAfterWidth, constantChangeable, tableAfterConstant, productChangeable, tableAfterProduct}
 use Rattle.width_table.specs.Names.{nameable, naming, valueOf}
 use Rattle.width_table.specs.EarlierOrder.{earlierHeaded, earlierField, earlierFormBy, earlierForm, wrongTagCut, wrongLengthCut, comesTo, happens}
-use Rattle.width_table.specs.Readers.{constantBitsAt, integerBitsAt, fractionBitsAt, inputBitsAt}
+use Rattle.width_table.specs.Readers.{constantBitsAt, integerBitsAt, fractionBitsAt, productWidthAt, cutAt, inputBitsAt}
+use Rattle.width_table.specs.WithoutProducts.{formWithout}
 
 -- ---- tables
 
@@ -22,19 +24,54 @@ abbrev pairs : ℕ → ℕ → ℕ → List ℕ
 pairs zero IB f = []
 pairs (suc n) IB f = IB ∷ f ∷ pairs n IB f
 
--- every constant F, every node (IB, f)
+-- every constant F, every node (IB, f), and no tag 5
 abbrev pub uniform : ℕ → ℕ → ℕ → ℕ → ℕ → WidthTable
-uniform B L F IB f = record { depth = B; levels = L; constants = replicate nodesPerPass F; nodes = pairs (nodesPerLevel * L) IB f ++ replicate (nodeBytes maxLevels - nodeBytes L) 0 }
+uniform B L F IB f = record {
+  depth = B;
+  levels = L;
+  constants = replicate nodesPerPass F;
+  nodes = pairs (nodesPerLevel * L) IB f ++ replicate (nodeBytes maxLevels - nodeBytes L) 0;
+  five = false;
+  products = replicate (productBytes maxLevels) 0;
+}
 
--- a table with one of the nodes' numbers put in
+-- a table with these widths of products; one with tag 5, where every product of its levels is fp wide
+abbrev pub withProducts : WidthTable → Bool → List ℕ → WidthTable
+withProducts t five l = record { depth = t .depth; levels = t .levels; constants = t .constants; nodes = t .nodes; five = five; products = l }
+
+abbrev pub cutting : WidthTable → ℕ → WidthTable
+cutting t fp = withProducts t true (replicate (productBytes (t .levels)) fp ++ replicate (productBytes maxLevels - productBytes (t .levels)) 0)
+
+-- a table with one of the nodes' numbers put in, and one of the products'
 abbrev with : WidthTable → ℕ → ℕ → WidthTable
-with t k n = record { depth = t .depth; levels = t .levels; constants = t .constants; nodes = set (t .nodes) k n }
+with t k n = record { depth = t .depth; levels = t .levels; constants = t .constants; nodes = set (t .nodes) k n; five = t .five; products = t .products }
+
+abbrev withNumber : WidthTable → ℕ → ℕ → WidthTable
+withNumber t k n = withProducts t (t .five) (set (t .products) k n)
 
 abbrev usual : WidthTable
 usual = uniform 8 1 24 12 20
 
 abbrev good : List ℕ
 good = tableBytes usual
+
+-- the same table with tag 5: 15 bytes more
+abbrev cut : WidthTable
+cut = cutting usual 30
+
+abbrev five : List ℕ
+five = tableBytes cut
+
+-- 20 + 36 L bytes without tag 5, 23 + 48 L with it
+pub sizes : (L : ℕ) → (tableSize false L ≡ 20 + 36 * L) × (tableSize true L ≡ 23 + 48 * L)
+sizes L = (omega arith, omega arith)
+
+pub lengths :
+    let tables = uniform 8 1 24 12 20 ∷ uniform 8 2 24 12 20 ∷ uniform 8 3 24 12 20 ∷ uniform 8 4 24 12 20 ∷ uniform 8 5 24 12 20 ∷ [] in
+    (map (λ t. length (tableBytes t)) tables ≡ 56 ∷ 92 ∷ 128 ∷ 164 ∷ 200 ∷ [])
+    × (map (λ t. length (tableBytes (cutting t 30))) tables ≡ 71 ∷ 119 ∷ 167 ∷ 215 ∷ 263 ∷ [])
+unfolding tableBytes
+lengths = (refl, refl)
 
 -- ---- reading: answers as numbers, 0 where the call is done
 
@@ -46,6 +83,22 @@ pub readings :
     ≡ 0 ∷ 1 ∷ 1 ∷ 2 ∷ 3 ∷ 4 ∷ 4 ∷ 3 ∷ 4 ∷ 4 ∷ 4 ∷ 4 ∷ 1 ∷ 5 ∷ 2 ∷ []
 unfolding form formBy field headed every widthsRight tableBytes
 readings = refl
+
+-- Tag 5: a right table; products of 0 and 44 bits; then another byte right after the fourth field (5), the tag alone and its head cut
+-- (1), another length (3), also with the value cut short, the value cut short (1), a number above 44 (4), bytes after the value (5),
+-- a number above 44 and bytes after it (4), and tag 5 in the place of tag 4 (2).
+pub fifths :
+    map (λ b. code (form b)) (
+    five ∷ set five 59 0 ∷ set five 70 44 ∷ (good ++ 6 ∷ 0 ∷ []) ∷ (good ++ 5 ∷ []) ∷ (good ++ 5 ∷ 0 ∷ []) ∷ (good ++ 5 ∷ 0 ∷ 12 ∷ []) ∷ set five 58 13 ∷ take 60 (set five 58 13) ∷ take 70 five
+    ∷ set five 59 45 ∷ set five 70 45 ∷ (five ++ 0 ∷ []) ∷ (five ++ 5 ∷ []) ∷ (set five 70 45 ++ 0 ∷ []) ∷ (take 17 good ++ drop 56 five) ∷ [])
+    ≡ 0 ∷ 0 ∷ 0 ∷ 5 ∷ 1 ∷ 1 ∷ 1 ∷ 3 ∷ 3 ∷ 1 ∷ 4 ∷ 4 ∷ 5 ∷ 5 ∷ 4 ∷ 2 ∷ []
+unfolding form formBy field headed every widthsRight tableBytes
+fifths = refl
+
+-- before job 7, what follows the fourth field was 5
+pub fifths-before : map (λ b. code (formWithout b)) (good ∷ five ∷ (good ++ 5 ∷ []) ∷ take 70 five ∷ set good 20 0 ∷ []) ≡ 0 ∷ 5 ∷ 5 ∷ 5 ∷ 4 ∷ []
+unfolding formWithout formBy field headed every widthsRight tableBytes
+fifths-before = refl
 
 -- Heads with values that are cut short or whole: a tag of 9 is 2 and, after tag 1, a length other than 1 is 3, however many bytes
 -- follow; a right head alone is 1; a depth of 0 is 4 though all else is missing; two bytes of a head are 1, whatever they are.
@@ -72,14 +125,21 @@ pub changed-heads :
 unfolding happens comesTo field headed every
 changed-heads = (refl, refl)
 
+-- tag 5 with a wrong length and a value cut short: 1 in the earlier order
+pub fifth-heads :
+    let bytes = take 60 (set five 58 13) in
+    (code (earlierForm bytes) ≡ 1) × (happens wrongLengthCut bytes ≡ true) × (happens wrongTagCut bytes ≡ false)
+unfolding earlierForm earlierFormBy earlierField earlierHeaded happens comesTo field headed every widthsRight tableBytes
+fifth-heads = (refl, refl, refl)
+
 -- 5 comes after a right fourth field alone; fractional bits 0 are right
 pub ends : map (λ b. code (form b)) ((set good 20 0 ++ (0 ∷ [])) ∷ (take 55 good ++ []) ∷ set good 21 0 ∷ []) ≡ 4 ∷ 1 ∷ 0 ∷ []
 unfolding form formBy field headed every widthsRight tableBytes
 ends = refl
 
-pub read-back : (tableRead good ≡ usual) × (tableRead (take 55 good) ≡ emptyTable)
+pub read-back : (tableRead good ≡ usual) × (tableRead (take 55 good) ≡ emptyTable) × (tableRead five ≡ cut) × (tableRead (take 70 five) ≡ emptyTable)
 unfolding tableRead tableIn form formBy field headed every widthsRight tableBytes
-read-back = (refl, refl)
+read-back = (refl, refl, refl, refl)
 
 -- book order: the columns of row-low come second, P2 third; level 2 takes what G1 of those columns leaves
 pub order :
@@ -97,20 +157,31 @@ pub forms :
 unfolding formRight every
 forms = refl
 
+-- Tag 5: products of 0 and 44 bits; 45, a number other than 0 at an unused level, and one without tag 5
+pub product-forms :
+    map formRight (cut ∷ cutting (uniform 12 5 1 1 0) 44 ∷ withNumber cut 0 0 ∷ withNumber cut 11 45 ∷ withNumber cut 12 1 ∷ withNumber cut 59 1 ∷ withNumber usual 0 1 ∷ withNumber usual 59 1 ∷ [])
+    ≡ true ∷ true ∷ true ∷ false ∷ false ∷ false ∷ false ∷ false ∷ []
+unfolding formRight every
+product-forms = refl
+
 -- ---- naming a tag
 
 pub names :
-    map (naming good) (1 ∷ 2 ∷ 3 ∷ 4 ∷ []) ≡ done (3, 1) ∷ done (7, 1) ∷ done (11, 6) ∷ done (20, 36) ∷ []
+    (map (naming good) (1 ∷ 2 ∷ 3 ∷ 4 ∷ []) ≡ done (3, 1) ∷ done (7, 1) ∷ done (11, 6) ∷ done (20, 36) ∷ [])
+    × (map (naming five) (4 ∷ 5 ∷ []) ≡ done (20, 36) ∷ done (59, 12) ∷ [])
 unfolding naming nameable form formBy field headed every widthsRight tableBytes
-names = refl
+names = (refl, refl)
 
--- the name is judged before the bytes
+-- the name is judged before the bytes, and tag 5 where there is none after them
 pub no-names :
-    code (naming good 0) ∷ code (naming [] 0) ∷ code (naming good 5) ∷ code (naming [] 4) ∷ code (naming (good ++ (0 ∷ [])) 1) ∷ [] ≡ 2 ∷ 2 ∷ 2 ∷ 1 ∷ 5 ∷ []
+    (map (λ tag. code (naming good tag)) (0 ∷ 5 ∷ 6 ∷ []) ≡ 2 ∷ 2 ∷ 2 ∷ [])
+    × (map (λ tag. code (naming [] tag)) (0 ∷ 4 ∷ 5 ∷ 6 ∷ []) ≡ 2 ∷ 1 ∷ 1 ∷ 2 ∷ [])
+    × (map (λ tag. code (naming (good ++ 0 ∷ []) tag)) (1 ∷ 5 ∷ 6 ∷ []) ≡ 5 ∷ 5 ∷ 2 ∷ [])
+    × (map (λ tag. code (naming five tag)) (0 ∷ 6 ∷ []) ≡ 2 ∷ 2 ∷ [])
 unfolding naming nameable form formBy field headed every widthsRight tableBytes
-no-names = refl
+no-names = (refl, refl, refl, refl)
 
-pub values : valueOf good 1 ∷ valueOf good 3 ∷ valueOf [] 3 ∷ [] ≡ (8 ∷ []) ∷ (24 ∷ 24 ∷ 24 ∷ 24 ∷ 24 ∷ 24 ∷ []) ∷ [] ∷ []
+pub values : valueOf good 1 ∷ valueOf good 3 ∷ valueOf [] 3 ∷ valueOf five 5 ∷ valueOf good 5 ∷ [] ≡ (8 ∷ []) ∷ (24 ∷ 24 ∷ 24 ∷ 24 ∷ 24 ∷ 24 ∷ []) ∷ [] ∷ replicate 12 30 ∷ [] ∷ []
 unfolding valueOf nameable form formBy field headed every widthsRight tableBytes
 values = refl
 
@@ -139,6 +210,15 @@ pub not-mended :
 unfolding tableAfterWidth changeable constantChangeable formRight every
 not-mended = (refl, refl, refl)
 
+-- widths of products: two that are right; without tag 5; a level above L; no such pass or product (G1 has none); 45 bits
+pub product-changes :
+    let change : WidthTable → ℕ → ℕ → ℕ → ℕ → ℕ = λ t l p k fp. code (productChangeable t l p k fp) in
+    (change cut 1 1 1 0 ∷ change cut 1 3 4 44 ∷ change usual 1 1 1 0 ∷ change cut 2 1 1 0 ∷ change cut 1 4 1 7 ∷ change cut 1 1 5 7 ∷ change cut 1 1 0 7 ∷ change cut 1 1 1 45 ∷ [] ≡ 0 ∷ 0 ∷ 4 ∷ 4 ∷ 4 ∷ 4 ∷ 4 ∷ 4 ∷ [])
+    × (tableBytes (tableAfterProduct cut 1 2 3 7) ≡ set five 65 7)
+    × (tableAfterProduct usual 1 2 3 7 ≡ usual)
+unfolding tableAfterProduct productChangeable formRight every tableBytes
+product-changes = (refl, refl, refl)
+
 abbrev changeF : ℕ → ℕ → ℕ
 changeF k F = code (constantChangeable usual k F)
 
@@ -159,6 +239,14 @@ pub writes :
 unfolding writing bytesAfter writable formRight every tableBytes
 writes = (refl, refl, refl)
 
+-- the same with tag 5; a table without it that has a product is refused 4
+pub product-writes :
+    (writing cut (replicate 72 7) ∷ writing cut (replicate 70 7) ∷ writing (withNumber usual 0 1) (replicate 72 7) ∷ [] ≡ done 71 ∷ refused (9, []) ∷ refused (4, []) ∷ [])
+    × (bytesAfter cut (replicate 72 7) ≡ five ++ 7 ∷ [])
+    × (five ≡ good ++ 5 ∷ 0 ∷ 12 ∷ replicate 12 30)
+unfolding writing bytesAfter writable formRight every tableBytes
+product-writes = (refl, refl, refl)
+
 -- ---- widths by number: 0 where there is no such node
 
 pub by-number :
@@ -166,3 +254,10 @@ pub by-number :
     ≡ 24 ∷ 24 ∷ 0 ∷ 0 ∷ 12 ∷ 20 ∷ 0 ∷ 0 ∷ 0 ∷ 0 ∷ 8 ∷ 20 ∷ 20 ∷ 0 ∷ 0 ∷ 0 ∷ 0 ∷ []
 unfolding constantBitsAt integerBitsAt fractionBitsAt inputBitsAt
 by-number = refl
+
+-- of products: 0 where there is none, and what each is cut to, the limit without tag 5
+pub products-by-number :
+    (productWidthAt cut 1 3 4 ∷ productWidthAt cut 2 1 1 ∷ productWidthAt cut 1 1 5 ∷ productWidthAt cut 1 0 1 ∷ productWidthAt usual 1 1 1 ∷ [] ≡ 30 ∷ 0 ∷ 0 ∷ 0 ∷ 0 ∷ [])
+    × (cutAt cut 1 1 1 ∷ cutAt usual 1 1 1 ∷ [] ≡ 30 ∷ 44 ∷ [])
+unfolding productWidthAt cutAt
+products-by-number = (refl, refl)

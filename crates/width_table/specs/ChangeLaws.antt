@@ -8,18 +8,18 @@ use borrow.Author.Tests.{le-leb}
 use lib.Dec.{T, eqb}
 use lib.ListN.{getD, set, length-set}
 use lib.Seq.{getD-set-same, getD-set-other, set-set, set-comm}
-use Rattle.numbers.specs.Tests.{between, every, three, four, and-intro, is-true, by-leb, between-≤, to-between}
+use Rattle.numbers.specs.Tests.{between, every, both, three, four, and-intro, is-true, by-leb, between-≤, to-between}
 use Rattle.numbers.specs.Lists.{every-set}
 use Rattle.refusals.specs.Answers.{passed}
 use Rattle.refusals.specs.AnswerLaws.{asks-done}
 use Rattle.width_table.specs.declared.WidthTable.{WidthTable}
-use Rattle.width_table.specs.Numbered.{IsNode, IsPass}
-use Rattle.width_table.specs.Nodes.{nodesPerPass, passesPerLevel, nodesPerLevel, everyNode, bookOrder}
-use Rattle.width_table.specs.Table.{maxLevels, widthBytes, passBytes, depthRight, levelsRight, constantRight, widthRight, constantBits, nodePlace, nodeRight, formRight}
-use Rattle.width_table.specs.Changes.{hasNode, changeable, withWidth, constantChangeable, withConstant}
-use Rattle.width_table.specs.Readers.{orZero, constantBitsAt, integerBitsAt, fractionBitsAt}
-use Rattle.width_table.specs.FormLists.{Sized, allNodes, holds, holds-at, holds-all, pairRight, placeRight, book-places, constants-list}
-use Rattle.width_table.specs.FormLaws.{node-in, few-levels}
+use Rattle.width_table.specs.Numbered.{IsNode, IsPass, IsProduct}
+use Rattle.width_table.specs.Nodes.{nodesPerPass, passesPerLevel, nodesPerLevel, productsPerPass, productsPerLevel, everyNode, bookOrder, productOrder}
+use Rattle.width_table.specs.Table.{maxLevels, widthBytes, passBytes, depthRight, levelsRight, constantRight, widthRight, productRight, constantBits, nodePlace, productPlace, nodeRight, productHeld, formRight}
+use Rattle.width_table.specs.Changes.{hasNode, changeable, withWidth, constantChangeable, withConstant, hasProduct, productChangeable, withProduct}
+use Rattle.width_table.specs.Readers.{orZero, constantBitsAt, integerBitsAt, fractionBitsAt, productWidthAt}
+use Rattle.width_table.specs.FormLists.{Sized, allNodes, allProducts, holds, holds-at, holds-all, pairRight, placeRight, numberRight, numberAt, book-places, product-places, constants-list}
+use Rattle.width_table.specs.FormLaws.{node-in, product-in, few-levels}
 
 -- ---- parts
 
@@ -72,26 +72,48 @@ nodes-apart L M l p n l′ p′ n′ k h i differs a b c d =
 used-right : (L k IB f : ℕ) → k / nodesPerLevel + 1 ≤ L → widthRight IB f ≡ true → pairRight L k IB f ≡ true
 used-right L k IB f h e = ap (λ (x : Bool). elim x [ true ↦ widthRight IB f | false ↦ eqb IB 0 && eqb f 0 ]) (le-leb (k / nodesPerLevel + 1) L h) ∙ e
 
--- the form by its four rules
+-- and so is a right width of a product, with tag 5
+product-right : (five : Bool) (L k fp : ℕ) → five ≡ true → k / productsPerLevel + 1 ≤ L → productRight fp ≡ true → numberRight five L k fp ≡ true
+product-right five L k fp b h e = ap₂ (λ (x y : Bool). elim (x && y) [ true ↦ productRight fp | false ↦ eqb fp 0 ]) b (le-leb (k / productsPerLevel + 1) L h) ∙ e
+
+-- the form by its five rules
 record Rules (t : WidthTable) : Type 0 where
   depth : T (depthRight (t .depth))
   levels : T (levelsRight (t .levels))
   constants : T (every (λ n. constantRight (constantBits t n)) everyNode)
   nodes : T (holds (placeRight (t .levels) (t .nodes)) 0 allNodes)
+  products : T (holds (numberAt (t .five) (t .levels) (t .products)) 0 allProducts)
 
-rules : (t : WidthTable) → formRight t ≡ true → Rules t
-unfolding formRight
-rules t e =
-    let (a, b, c, d) = four (depthRight (t .depth)) (levelsRight (t .levels)) (every (λ n. constantRight (constantBits t n)) everyNode) (every (nodeRight t) (bookOrder maxLevels)) (holding e) in
-    record { depth = a; levels = b; constants = c; nodes = subst T (book-places t) d }
+module _ (t : WidthTable) where
+  abbrev D : Bool
+  D = depthRight (t .depth)
 
-formed : (t : WidthTable) → Rules t → formRight t ≡ true
-unfolding formRight
-formed t r =
-    let d = depthRight (t .depth) in
-    let l = levelsRight (t .levels) in
-    let c = every (λ n. constantRight (constantBits t n)) everyNode in
-    is-true (formRight t) (and-intro (d && l && c) (every (nodeRight t) (bookOrder maxLevels)) (and-intro (d && l) c (and-intro d l (r .depth) (r .levels)) (r .constants)) (subst T (sym (book-places t)) (r .nodes)))
+  abbrev L : Bool
+  L = levelsRight (t .levels)
+
+  abbrev C : Bool
+  C = every (λ n. constantRight (constantBits t n)) everyNode
+
+  abbrev N : Bool
+  N = every (nodeRight t) (bookOrder maxLevels)
+
+  abbrev P : Bool
+  P = every (productHeld t) (productOrder maxLevels)
+
+  rules : formRight t ≡ true → Rules t
+  unfolding formRight
+  rules e =
+      let (x, p) = both (D && L && C && N) P (holding e) in
+      let (a, b, c, d) = four D L C N x in
+      record { depth = a; levels = b; constants = c; nodes = subst T (book-places t) d; products = subst T (product-places t) p }
+
+  formed : Rules t → formRight t ≡ true
+  unfolding formRight
+  formed r =
+      is-true (formRight t)
+      (and-intro (D && L && C && N) P
+      (and-intro (D && L && C) N (and-intro (D && L) C (and-intro D L (r .depth) (r .levels)) (r .constants)) (subst T (sym (book-places t)) (r .nodes)))
+      (subst T (sym (product-places t)) (r .products)))
 
 -- ---- a node's width
 
@@ -100,6 +122,8 @@ pub record WidthIs (t u : WidthTable) (level pass node IB f : ℕ) : Type 0 wher
   pub depth : u .depth ≡ t .depth
   pub levels : u .levels ≡ t .levels
   pub constants : u .constants ≡ t .constants
+  pub five : u .five ≡ t .five
+  pub products : u .products ≡ t .products
   pub integer : integerBitsAt u level pass node ≡ IB
   pub fraction : fractionBitsAt u level pass node ≡ f
   pub otherInteger : (l p n : ℕ) → (l ≡ level → p ≡ pass → n ≡ node → ⊥) → integerBitsAt u l p n ≡ integerBitsAt t l p n
@@ -154,6 +178,8 @@ module _ (t : WidthTable) (s : Sized t) (level pass node IB f : ℕ) (ok : chang
     depth = refl;
     levels = refl;
     constants = refl;
+    five = refl;
+    products = refl;
     integer = ap (λ (x : Bool). orZero x (getD (changed .nodes) place 0)) has-it ∙ new-integer;
     fraction = ap (λ (x : Bool). orZero x (getD (changed .nodes) (place + 1) 0)) has-it ∙ new-fraction;
     otherInteger = λ l p n differs. or-zero (hasNode maxLevels l p n) _ _ (λ h. apart l p n h differs (nodePlace l p n) (omega arith) (omega arith));
@@ -174,6 +200,7 @@ module _ (t : WidthTable) (s : Sized t) (level pass node IB f : ℕ) (ok : chang
         depth = r .depth;
         levels = r .levels;
         constants = r .constants;
+        products = r .products;
         nodes = holds-all (placeRight L (changed .nodes)) 0 allNodes (λ k a b.
             same-or (T (placeRight L (changed .nodes) k)) k q
             (λ h. subst (λ (x : ℕ). T (placeRight L (changed .nodes) x)) (sym h) (holding here))
@@ -187,7 +214,7 @@ module _ (t : WidthTable) (s : Sized t) (level pass node IB f : ℕ) (ok : chang
       ∙ set-set (set (t .nodes) place IB) (place + 1) f f)
     where
       made : List ℕ → WidthTable
-      made l = record { depth = t .depth; levels = t .levels; constants = t .constants; nodes = l }
+      made l = record { depth = t .depth; levels = t .levels; constants = t .constants; nodes = l; five = t .five; products = t .products }
 
 -- ---- a constant's bits
 
@@ -196,6 +223,8 @@ pub record ConstantIs (t u : WidthTable) (node F : ℕ) : Type 0 where
   pub depth : u .depth ≡ t .depth
   pub levels : u .levels ≡ t .levels
   pub nodes : u .nodes ≡ t .nodes
+  pub five : u .five ≡ t .five
+  pub products : u .products ≡ t .products
   pub bits : constantBitsAt u node ≡ F
   pub otherBits : (n : ℕ) → (n ≡ node → ⊥) → constantBitsAt u n ≡ constantBitsAt t n
 
@@ -216,6 +245,8 @@ module _ (t : WidthTable) (s : Sized t) (node F : ℕ) (ok : constantChangeable 
     depth = refl;
     levels = refl;
     nodes = refl;
+    five = refl;
+    products = refl;
     bits = ap (λ (x : Bool). orZero x (getD (with .constants) (node - 1) 0)) (allowed .1) ∙ getD-set-same (t .constants) (node - 1) F 0 (omega (arith, s .constants, stage .0, stage .1));
     otherBits = λ n differs. or-zero (between 1 nodesPerPass n) _ _ (λ h. getD-set-other (t .constants) (node - 1) (n - 1) F 0 (λ e. differs (omega (arith, between-≤ 1 nodesPerPass n h .0, stage .0))));
   }
@@ -230,10 +261,118 @@ module _ (t : WidthTable) (s : Sized t) (node F : ℕ) (ok : constantChangeable 
         levels = r .levels;
         constants = subst T (sym (constants-list (set c (node - 1) F) (length-set c (node - 1) F ∙ s .constants))) (every-set constantRight c (node - 1) F old (holding (allowed .2)));
         nodes = r .nodes;
+        products = r .products;
       })
 
   pub constant-twice : withConstant with node F ≡ with
   constant-twice = ap made (set-set (t .constants) (node - 1) F F)
     where
       made : List ℕ → WidthTable
-      made l = record { depth = t .depth; levels = t .levels; constants = l; nodes = t .nodes }
+      made l = record { depth = t .depth; levels = t .levels; constants = l; nodes = t .nodes; five = t .five; products = t .products }
+
+-- ---- a product's width (document 02, job 7)
+
+-- u is t but for the width of one product
+pub record ProductIs (t u : WidthTable) (level pass product fp : ℕ) : Type 0 where
+  pub depth : u .depth ≡ t .depth
+  pub levels : u .levels ≡ t .levels
+  pub constants : u .constants ≡ t .constants
+  pub nodes : u .nodes ≡ t .nodes
+  pub five : u .five ≡ t .five
+  pub width : productWidthAt u level pass product ≡ fp
+  pub otherWidth : (l p k : ℕ) → (l ≡ level → p ≡ pass → k ≡ product → ⊥) → productWidthAt u l p k ≡ productWidthAt t l p k
+
+-- the number of a product stands at no other product's place
+one-product : (a b c x y z : ℕ) → b < passesPerLevel → c < productsPerPass → y < passesPerLevel → z < productsPerPass
+    → (a * passesPerLevel + b) * productsPerPass + c ≡ (x * passesPerLevel + y) * productsPerPass + z
+    → (a ≡ x) × (b ≡ y) × (c ≡ z)
+one-product a b c x y z h i j m o =
+    let d : a ≡ x = omega arith in
+    let e : b ≡ y = omega arith in
+    (d, e, omega arith)
+
+abbrev ProductLimits : ℕ → ℕ → ℕ → ℕ → Type 0
+ProductLimits L l p k = ((1 ≤ l) × (l ≤ L)) × IsPass p × IsProduct k
+
+products-apart : (L M l p k l′ p′ k′ : ℕ) → ProductLimits L l p k → ProductLimits M l′ p′ k′ → (l ≡ l′ → p ≡ p′ → k ≡ k′ → ⊥) → productPlace l p k ≡ productPlace l′ p′ k′ → ⊥
+products-apart L M l p k l′ p′ k′ h i differs e =
+    let w = one-product (l - 1) (p - 1) (k - 1) (l′ - 1) (p′ - 1) (k′ - 1) (less-one p passesPerLevel (h .1)) (less-one k productsPerPass (h .2)) (less-one p′ passesPerLevel (i .1)) (less-one k′ productsPerPass (i .2)) e in
+    differs (more-one l l′ (h .0 .0) (i .0 .0) (w .0)) (more-one p p′ (h .1 .0) (i .1 .0) (w .1)) (more-one k k′ (h .2 .0) (i .2 .0) (w .2))
+
+module _ (t : WidthTable) (s : Sized t) (level pass product fp : ℕ) (ok : productChangeable t level pass product fp ≡ passed) where
+  abbrev withIt : WidthTable
+  withIt = withProduct t level pass product fp
+
+  abbrev itsPlace : ℕ
+  itsPlace = productPlace level pass product
+
+  agreed : (formRight t && t .five ≡ true) × (hasProduct (t .levels) level pass product ≡ true) × (productRight fp ≡ true)
+  unfolding productChangeable
+  agreed = all-true (formRight t && t .five) (hasProduct (t .levels) level pass product) (productRight fp) (asks-done (formRight t && t .five && hasProduct (t .levels) level pass product && productRight fp) _ _ ok .0)
+
+  right : formRight t ≡ true
+  right = is-true (formRight t) (both (formRight t) (t .five) (holding (agreed .0)) .0)
+
+  five : t .five ≡ true
+  five = is-true (t .five) (both (formRight t) (t .five) (holding (agreed .0)) .1)
+
+  fewer : t .levels ≤ maxLevels
+  fewer = few-levels t right
+
+  within : ProductLimits (t .levels) level pass product
+  within = product-in (t .levels) level pass product (agreed .1)
+
+  -- a product of its levels is one of all levels
+  has-product : hasProduct maxLevels level pass product ≡ true
+  has-product =
+      is-true (hasProduct maxLevels level pass product)
+      (and-intro (between 1 maxLevels level && between 1 passesPerLevel pass) (between 1 productsPerPass product)
+      (and-intro (between 1 maxLevels level) (between 1 passesPerLevel pass) (to-between 1 maxLevels level (within .0 .0) (omega (arith, fewer, within .0 .1))) (to-between 1 passesPerLevel pass (within .1 .0) (within .1 .1)))
+      (to-between 1 productsPerPass product (within .2 .0) (within .2 .1)))
+
+  -- what stands at a place: the new width, and every other number as it was
+  new-width : getD (withIt .products) itsPlace 0 ≡ fp
+  new-width = getD-set-same (t .products) itsPlace fp 0 (omega (arith, s .products, fewer, within .0 .0, within .0 .1, within .1 .0, within .1 .1, within .2 .0, within .2 .1))
+
+  other-width : (k : ℕ) → (k ≡ itsPlace → ⊥) → getD (withIt .products) k 0 ≡ getD (t .products) k 0
+  other-width k h = getD-set-other (t .products) itsPlace k fp 0 h
+
+  pub product-is : ProductIs t withIt level pass product fp
+  unfolding productWidthAt
+  product-is = record {
+    depth = refl;
+    levels = refl;
+    constants = refl;
+    nodes = refl;
+    five = refl;
+    width = ap (λ (x : Bool). orZero x (getD (withIt .products) itsPlace 0)) has-product ∙ new-width;
+    otherWidth = λ l p k differs. or-zero (hasProduct maxLevels l p k) _ _ (λ h. other-width (productPlace l p k) (products-apart maxLevels (t .levels) l p k level pass product (product-in maxLevels l p k (is-true (hasProduct maxLevels l p k) h)) within differs));
+  }
+
+  abbrev rightAt : ℕ → Bool
+  rightAt = numberAt (t .five) (t .levels) (withIt .products)
+
+  new-right : rightAt itsPlace ≡ true
+  new-right =
+      let up : itsPlace / productsPerLevel + 1 ≤ t .levels = omega (arith, within .0 .0, within .0 .1, within .1 .0, within .1 .1, within .2 .0, within .2 .1) in
+      ap (numberRight (t .five) (t .levels) itsPlace) new-width ∙ product-right (t .five) (t .levels) itsPlace fp five up (agreed .2)
+
+  pub product-form : formRight withIt ≡ true
+  product-form =
+      let r = rules t right in
+      formed withIt (record {
+        depth = r .depth;
+        levels = r .levels;
+        constants = r .constants;
+        nodes = r .nodes;
+        products = holds-all rightAt 0 allProducts (λ k a b.
+            same-or (T (rightAt k)) k itsPlace
+            (λ h. subst (λ (x : ℕ). T (rightAt x)) (sym h) (holding new-right))
+            (λ h. subst T (sym (ap (numberRight (t .five) (t .levels) k) (other-width k h))) (holds-at (numberAt (t .five) (t .levels) (t .products)) 0 allProducts (r .products) k a b)));
+      })
+
+  pub product-twice : withProduct withIt level pass product fp ≡ withIt
+  product-twice = ap made (set-set (t .products) itsPlace fp fp)
+    where
+      made : List ℕ → WidthTable
+      made l = record { depth = t .depth; levels = t .levels; constants = t .constants; nodes = t .nodes; five = t .five; products = l }

@@ -1,5 +1,5 @@
 -- Document 02, job 3, changed the order of 1, 2 and 3 within a field. The earlier order is kept here alone, for this: the answers
--- that differ are those that document 02 names, in whichever field, and no other.
+-- that differ are those that document 02 names, in whichever field, tag 5 too, and no other.
 use Prim.Native.Nat.{ℕ, _+_, _*_, _-_, _≤_}
 use mathlib.Core.Bool.{Bool, true, false, _&&_, _||_, not}
 use mathlib.Core.List.{List, [], _∷_}
@@ -11,8 +11,8 @@ use Rattle.refusals.specs.Answers.{Answer, done, refused, passed, asks, _then_,
 use Rattle.refusals.specs.AnswerLaws.{asks-right, asks-wrong, then-right, then-refused, answered-refused}
 use Rattle.width_table.specs.declared.WidthTable.{WidthTable}
 use Rattle.width_table.specs.Fields.{tagRight, headBytes, Field, fields}
-use Rattle.width_table.specs.Bytes.{announced, headed, field, formBy, levelsIn, form, valueIn, tableIn, emptyTable, tableRead}
-use Rattle.width_table.specs.Names.{nameable, valueOf}
+use Rattle.width_table.specs.Bytes.{announced, headed, field, formBy, levelsIn, hasFifth, form, valueIn, tableIn, emptyTable, tableRead}
+use Rattle.width_table.specs.Names.{hasTag, nameable, valueOf}
 
 -- ---- the earlier order
 
@@ -34,17 +34,17 @@ unfoldable pub earlierFormBy : List Field → List ℕ → Answer Unit
 earlierFormBy [] bytes = asks (eqb (length bytes) 0) 5 passed
 earlierFormBy (f ∷ fs) bytes = earlierField f bytes then earlierFormBy fs (drop (headBytes + f .size) bytes)
 
--- the fields of a table of as many levels as the second field has, as in `form`
+-- the fields of a table of as many levels as the second field has, with tag 5 where it is there, as in `form`
 unfoldable pub earlierForm : List ℕ → Answer Unit
-earlierForm bytes = earlierFormBy (fields (levelsIn bytes)) bytes
+earlierForm bytes = earlierFormBy (fields (hasFifth bytes) (levelsIn bytes)) bytes
 
 -- the table that reading gave, as in `tableRead`
 unfoldable pub earlierTableRead : List ℕ → WidthTable
 earlierTableRead bytes = answered (earlierForm bytes) (tableIn bytes) emptyTable
 
--- naming a tag: the name (2), then the form, as in `nameable`
+-- naming a tag: the name (2), then the form, then whether tag 5 is there (2), as in `nameable`
 unfoldable pub earlierNameable : List ℕ → ℕ → Answer Unit
-earlierNameable bytes tag = asks (tagRight tag) 2 (earlierForm bytes)
+earlierNameable bytes tag = asks (tagRight tag) 2 (earlierForm bytes then asks (hasTag bytes tag) 2 passed)
 
 -- ---- the two cases of document 02, job 3
 
@@ -67,7 +67,7 @@ comesTo test (f ∷ fs) bytes = test f bytes || answered (field f bytes) (comesT
 
 -- the same of a whole table's bytes: in whichever field
 unfoldable pub happens : (Field → List ℕ → Bool) → List ℕ → Bool
-happens test bytes = comesTo test (fields (levelsIn bytes)) bytes
+happens test bytes = comesTo test (fields (hasFifth bytes) (levelsIn bytes)) bytes
 
 -- ---- one field
 
@@ -204,9 +204,9 @@ module _ (bytes : List ℕ) where
   pub form-changes : Changes bytes (earlierForm bytes) (form bytes)
   unfolding happens form earlierForm
   form-changes = record {
-    two = comes wrongTagCut 2 field-two (fields (levelsIn bytes)) bytes;
-    three = comes wrongLengthCut 3 field-three (fields (levelsIn bytes)) bytes;
-    no-other = form-stays (fields (levelsIn bytes)) bytes;
+    two = comes wrongTagCut 2 field-two (fields (hasFifth bytes) (levelsIn bytes)) bytes;
+    three = comes wrongLengthCut 3 field-three (fields (hasFifth bytes) (levelsIn bytes)) bytes;
+    no-other = form-stays (fields (hasFifth bytes) (levelsIn bytes)) bytes;
   }
 
   -- one of the three holds of any bytes, so what follows from each of them does
@@ -249,35 +249,6 @@ module _ (bytes : List ℕ) where
   unfolding tableRead earlierTableRead
   same-table = same-after (tableIn bytes) emptyTable
 
-  -- ---- naming a tag: a wrong name is 2 in either order; after a right one the answer changes alike, and the value is the same
-  module _ (tag : ℕ) where
-    pub wrong-name : tagRight tag ≡ false → (nameable bytes tag ≡ refused (2, [])) × (earlierNameable bytes tag ≡ refused (2, []))
-    unfolding nameable earlierNameable
-    wrong-name e = (asks-wrong (tagRight tag) _ (form bytes) e, asks-wrong (tagRight tag) _ (earlierForm bytes) e)
-
-    pub name-changes : T (tagRight tag) → Changes bytes (earlierNameable bytes tag) (nameable bytes tag)
-    unfolding nameable earlierNameable
-    name-changes h =
-        let present = asks-right (tagRight tag) (2, []) (form bytes) h in
-        let earlier = asks-right (tagRight tag) (2, []) (earlierForm bytes) h in
-        record {
-          two = λ k. let (a, b) = form-changes .two k in (earlier ∙ a, present ∙ b);
-          three = λ k. let (a, b) = form-changes .three k in (earlier ∙ a, present ∙ b);
-          no-other = λ g k. present ∙ form-changes .no-other g k ∙ sym earlier;
-        }
-
-    pub same-named : {B : Type 0} (x y : B) → answered (nameable bytes tag) x y ≡ answered (earlierNameable bytes tag) x y
-    unfolding nameable earlierNameable
-    same-named {B} x y = go (tagRight tag)
-      where
-        go : (t : Bool) → answered (asks t 2 (form bytes)) x y ≡ answered (asks t 2 (earlierForm bytes)) x y
-        go true = same-after x y
-        go false = refl
-
-    pub same-value : valueOf bytes tag ≡ answered (earlierNameable bytes tag) (valueIn bytes tag) []
-    unfolding valueOf
-    same-value = same-named (valueIn bytes tag) []
-
   -- ---- a call that reads its table from bytes first: its answer changes alike, and what it is lent holds the same afterwards
   module _ {A : Type 0} (rules : Answer A) where
     pub call-changes : Changes bytes (earlierForm bytes then rules) (form bytes then rules)
@@ -291,3 +262,36 @@ module _ (bytes : List ℕ) where
     same-lent x y =
         by-change (λ e n f. answered-refused x y (then-refused (form bytes) rules _ f) ∙ sym (answered-refused x y (then-refused (earlierForm bytes) rules _ e)))
         (λ e. ap (λ (o : Answer Unit). answered (o then rules) x y) e)
+
+  -- ---- naming a tag: a wrong name is 2 in either order; after a right one the answer changes alike, and the value is the same
+  module _ (tag : ℕ) where
+    -- whether there is such a tag, judged after the form
+    abbrev there : Answer Unit
+    there = asks (hasTag bytes tag) 2 passed
+
+    pub wrong-name : tagRight tag ≡ false → (nameable bytes tag ≡ refused (2, [])) × (earlierNameable bytes tag ≡ refused (2, []))
+    unfolding nameable earlierNameable
+    wrong-name e = (asks-wrong (tagRight tag) _ (form bytes then there) e, asks-wrong (tagRight tag) _ (earlierForm bytes then there) e)
+
+    pub name-changes : T (tagRight tag) → Changes bytes (earlierNameable bytes tag) (nameable bytes tag)
+    unfolding nameable earlierNameable
+    name-changes h =
+        let present = asks-right (tagRight tag) (2, []) (form bytes then there) h in
+        let earlier = asks-right (tagRight tag) (2, []) (earlierForm bytes then there) h in
+        record {
+          two = λ k. let (a, b) = call-changes there .two k in (earlier ∙ a, present ∙ b);
+          three = λ k. let (a, b) = call-changes there .three k in (earlier ∙ a, present ∙ b);
+          no-other = λ g k. present ∙ call-changes there .no-other g k ∙ sym earlier;
+        }
+
+    pub same-named : {B : Type 0} (x y : B) → answered (nameable bytes tag) x y ≡ answered (earlierNameable bytes tag) x y
+    unfolding nameable earlierNameable
+    same-named {B} x y = go (tagRight tag)
+      where
+        go : (t : Bool) → answered (asks t 2 (form bytes then there)) x y ≡ answered (asks t 2 (earlierForm bytes then there)) x y
+        go true = same-lent there x y
+        go false = refl
+
+    pub same-value : valueOf bytes tag ≡ answered (earlierNameable bytes tag) (valueIn bytes tag) []
+    unfolding valueOf
+    same-value = same-named (valueIn bytes tag) []

@@ -1,4 +1,5 @@
--- The fields of a width table's bytes (document 01: books as bytes): one list, from which lengths, places and bytes follow.
+-- The fields of a width table's bytes (document 01: books as bytes; document 02, job 7: tag 5): one list, from which lengths, places and
+-- bytes follow.
 use Prim.Native.Nat.{ℕ, _+_, _*_, _/_, _%_, _≤_}
 use mathlib.Core.Bool.{Bool, true, false, _&&_}
 use mathlib.Core.List.{List, [], _∷_, _++_}
@@ -6,8 +7,8 @@ use lib.Dec.{eqb}
 use lib.ListN.{take, drop}
 use Rattle.numbers.specs.Tests.{between, every}
 use Rattle.width_table.specs.declared.WidthTable.{WidthTable}
-use Rattle.width_table.specs.Nodes.{nodesPerPass}
-use Rattle.width_table.specs.Table.{levelBytes, depthRight, levelsRight, constantRight, widthRight}
+use Rattle.width_table.specs.Nodes.{nodesPerPass, productsPerLevel}
+use Rattle.width_table.specs.Table.{levelBytes, depthRight, levelsRight, constantRight, widthRight, productRight}
 
 -- A field: its tag, how long its value is, what is right for the value (4), and the value that a table has for it.
 pub record Field : Type 0 where
@@ -29,11 +30,14 @@ constantsTag = 3
 abbrev pub nodesTag : ℕ
 nodesTag = 4
 
+abbrev pub productsTag : ℕ
+productsTag = 5
+
 abbrev pub tagRight : ℕ → Bool
-tagRight tag = between depthTag nodesTag tag
+tagRight tag = between depthTag productsTag tag
 
 abbrev pub IsTag : ℕ → Type 0
-IsTag tag = (depthTag ≤ tag) × (tag ≤ nodesTag)
+IsTag tag = (depthTag ≤ tag) × (tag ≤ productsTag)
 
 -- bytes of a field before its value: a one-byte tag, a two-byte length
 abbrev pub headBytes : ℕ
@@ -42,6 +46,10 @@ headBytes = 3
 -- bytes of the nodes of L levels
 abbrev pub nodeBytes : ℕ → ℕ
 nodeBytes L = levelBytes * L
+
+-- bytes of the products of L levels, one each
+abbrev pub productBytes : ℕ → ℕ
+productBytes L = productsPerLevel * L
 
 -- of each node IB, then f
 unfoldable pub widthsRight : List ℕ → Bool
@@ -57,9 +65,21 @@ fixedFields =
     ∷ record { tag = constantsTag; size = nodesPerPass; right = every constantRight; held = λ t. t .constants }
     ∷ []
 
--- every tag in order, once each, of a table of L levels; the last has the widths of the nodes in book order
-abbrev pub fields : ℕ → List Field
-fields L = fixedFields ++ (record { tag = nodesTag; size = nodeBytes L; right = widthsRight; held = λ t. take (nodeBytes L) (t .nodes) } ∷ [])
+-- the widths of the nodes of L levels in book order, and those of their products
+abbrev pub nodesField : ℕ → Field
+nodesField L = record { tag = nodesTag; size = nodeBytes L; right = widthsRight; held = λ t. take (nodeBytes L) (t .nodes) }
+
+abbrev pub productsField : ℕ → Field
+productsField L = record { tag = productsTag; size = productBytes L; right = every productRight; held = λ t. take (productBytes L) (t .products) }
+
+-- what a table may end with: tag 5, or nothing
+abbrev pub lastFields : Bool → ℕ → List Field
+lastFields true L = productsField L ∷ []
+lastFields false L = []
+
+-- every tag in order, once each, of a table of L levels with tag 5 or without it
+abbrev pub fields : Bool → ℕ → List Field
+fields five L = fixedFields ++ (nodesField L ∷ lastFields five L)
 
 -- ---- what follows from the list
 
@@ -78,19 +98,19 @@ abbrev pub startOf : List Field → ℕ → ℕ
 startOf [] tag = 0
 startOf (f ∷ fs) tag = elim (eqb (f .tag) tag) [ true ↦ headBytes | false ↦ headBytes + f .size + startOf fs tag ]
 
--- the same in a table of L levels
-abbrev pub tableSize : ℕ → ℕ
-tableSize L = sizeOf (fields L)
+-- the same in a table of L levels; a tag's value, where it is there, lies the same with tag 5 and without it
+abbrev pub tableSize : Bool → ℕ → ℕ
+tableSize five L = sizeOf (fields five L)
 
 abbrev pub valueStart : ℕ → ℕ → ℕ
-valueStart L tag = startOf (fields L) tag
+valueStart L tag = startOf (fields true L) tag
 
 abbrev pub valueLength : ℕ → ℕ → ℕ
-valueLength L tag = fieldOf (fields L) tag .size
+valueLength L tag = fieldOf (fields true L) tag .size
 
 -- the fields after that of a tag
-abbrev pub fieldsAfter : ℕ → ℕ → List Field
-fieldsAfter L tag = drop tag (fields L)
+abbrev pub fieldsAfter : Bool → ℕ → ℕ → List Field
+fieldsAfter five L tag = drop tag (fields five L)
 
 -- a field as bytes: tag, length with the high byte first, value
 abbrev pub fieldBytes : Field → List ℕ → List ℕ

@@ -3,18 +3,19 @@ use Prim.Native.Nat.{ℕ, zero, suc, _≤_}
 use mathlib.Core.Bool.{Bool, true, false, _&&_}
 use mathlib.Core.List.{List, [], _∷_}
 use mathlib.Core.Path.{_≡_, refl, sym, _∙_, ap, ap₂, subst}
+use native.Mathlib.Omega.{arith}
 use lib.Dec.{T, eqb, leb·zero, leb·suc-zero, eqb·zero-suc}
 use lib.ListN.{take, drop}
 use Rattle.width_table.specs.declared.WidthTable.{WidthTable}
 use Rattle.refusals.specs.Answers.{Answer, refused, passed, asks, answered}
 use Rattle.numbers.specs.Tests.{both, three, left-false, right-false, between-≤, between, every}
-use Rattle.width_table.specs.Nodes.{nodesPerPass, passesPerLevel}
-use Rattle.width_table.specs.Numbered.{IsNode, IsPass}
-use Rattle.width_table.specs.Table.{maxLevels, depthRight, levelsRight, constantRight, formRight, widthRight}
-use Rattle.width_table.specs.Fields.{widthsRight, nodeBytes}
-use Rattle.width_table.specs.Changes.{hasNode, changeable, withWidth, tableAfterWidth, constantChangeable, withConstant, tableAfterConstant}
+use Rattle.width_table.specs.Nodes.{nodesPerPass, passesPerLevel, productsPerPass}
+use Rattle.width_table.specs.Numbered.{IsNode, IsPass, IsProduct}
+use Rattle.width_table.specs.Table.{maxLevels, depthRight, levelsRight, constantRight, widthRight, productRight, formRight}
+use Rattle.width_table.specs.Fields.{widthsRight, nodeBytes, productBytes}
+use Rattle.width_table.specs.Changes.{hasNode, changeable, withWidth, tableAfterWidth, constantChangeable, withConstant, tableAfterConstant, hasProduct, productChangeable, withProduct, tableAfterProduct}
 use Rattle.width_table.specs.Limits.{form-levels}
-use Rattle.width_table.specs.FormLists.{formLists}
+use Rattle.width_table.specs.FormLists.{usedProducts, formLists}
 
 zero-test : (n : ℕ) → between 0 0 n ≡ eqb 0 n
 zero-test zero = refl
@@ -24,6 +25,14 @@ pub zeros-test : (l : List ℕ) → every (between 0 0) l ≡ every (eqb 0) l
 unfolding every
 zeros-test [] = refl
 zeros-test (a ∷ l) = ap₂ _&&_ (zero-test a) (zeros-test l)
+
+-- no more products are used than there are
+pub used-few : (t : WidthTable) → t .levels ≤ maxLevels → usedProducts t ≤ productBytes maxLevels
+used-few t h = go (t .five)
+  where
+    go : (five : Bool) → elim five [ true ↦ productBytes (t .levels) | false ↦ 0 ] ≤ productBytes maxLevels
+    go true = omega arith
+    go false = omega arith
 
 -- any rule of the form by lists that fails decides it, and the last one where the others hold
 module _ (t : WidthTable) where
@@ -42,25 +51,44 @@ module _ (t : WidthTable) where
   abbrev Z : Bool
   Z = every (eqb 0) (drop (nodeBytes (t .levels)) (t .nodes))
 
-  pub limits-wrong : B && L ≡ false → formLists t ≡ false
+  abbrev P : Bool
+  P = every productRight (take (usedProducts t) (t .products))
+
+  abbrev U : Bool
+  U = every (eqb 0) (drop (usedProducts t) (t .products))
+
+  before-products : B && L && C && W && Z ≡ false → formLists t ≡ false
   unfolding formLists
-  limits-wrong e = left-false (B && L && C && W) Z (left-false (B && L && C) W (left-false (B && L) C e))
+  before-products e = left-false (B && L && C && W && Z && P) U (left-false (B && L && C && W && Z) P e)
+
+  pub limits-wrong : B && L ≡ false → formLists t ≡ false
+  limits-wrong e = before-products (left-false (B && L && C && W) Z (left-false (B && L && C) W (left-false (B && L) C e)))
 
   -- within its limits
   pub levels-few : B && L ≡ true → t .levels ≤ maxLevels
   levels-few e = between-≤ 1 maxLevels (t .levels) (both B L (subst T (sym e) tt) .1) .1
 
   pub constants-wrong : C ≡ false → formLists t ≡ false
-  unfolding formLists
-  constants-wrong e = left-false (B && L && C && W) Z (left-false (B && L && C) W (right-false (B && L) C e))
+  constants-wrong e = before-products (left-false (B && L && C && W) Z (left-false (B && L && C) W (right-false (B && L) C e)))
 
   pub widths-wrong : W ≡ false → formLists t ≡ false
-  unfolding formLists
-  widths-wrong e = left-false (B && L && C && W) Z (right-false (B && L && C) W e)
+  widths-wrong e = before-products (left-false (B && L && C && W) Z (right-false (B && L && C) W e))
 
-  pub unused-decide : B && L ≡ true → C ≡ true → W ≡ true → formLists t ≡ Z
+  pub unused-wrong : Z ≡ false → formLists t ≡ false
+  unused-wrong e = before-products (right-false (B && L && C && W) Z e)
+
+  pub products-wrong : P ≡ false → formLists t ≡ false
   unfolding formLists
-  unused-decide e f g = ap (λ (x : Bool). x && C && W && Z) e ∙ ap (λ (x : Bool). x && W && Z) f ∙ ap (λ (x : Bool). x && Z) g
+  products-wrong e = left-false (B && L && C && W && Z && P) U (right-false (B && L && C && W && Z) P e)
+
+  pub unused-products-decide : B && L ≡ true → C ≡ true → W ≡ true → Z ≡ true → P ≡ true → formLists t ≡ U
+  unfolding formLists
+  unused-products-decide e f g h i =
+      ap (λ (x : Bool). x && C && W && Z && P && U) e
+      ∙ ap (λ (x : Bool). x && W && Z && P && U) f
+      ∙ ap (λ (x : Bool). x && Z && P && U) g
+      ∙ ap (λ (x : Bool). x && P && U) h
+      ∙ ap (λ (x : Bool). x && U) i
 
 -- ---- a change
 
@@ -69,6 +97,12 @@ module _ (L level pass node : ℕ) where
   node-in e =
       let (l, p, n) = three (between 1 L level) (between 1 passesPerLevel pass) (between 1 nodesPerPass node) (subst T (sym e) tt) in
       (between-≤ 1 L level l, between-≤ 1 passesPerLevel pass p, between-≤ 1 nodesPerPass node n)
+
+module _ (L level pass product : ℕ) where
+  pub product-in : hasProduct L level pass product ≡ true → ((1 ≤ level) × (level ≤ L)) × IsPass pass × IsProduct product
+  product-in e =
+      let (l, p, k) = three (between 1 L level) (between 1 passesPerLevel pass) (between 1 productsPerPass product) (subst T (sym e) tt) in
+      (between-≤ 1 L level l, between-≤ 1 passesPerLevel pass p, between-≤ 1 productsPerPass product k)
 
 -- three rules
 first-fails : (a b c : Bool) → a ≡ false → a && b && c ≡ false
@@ -132,6 +166,36 @@ module _ (t : WidthTable) (node F : ℕ) where
 
   pub constant-changes : formRight t ≡ true → between 1 nodesPerPass node ≡ true → constantRight F ≡ true → ConstantChange passed with
   constant-changes a b e = constant-decided true (all-hold (formRight t) (between 1 nodesPerPass node) (constantRight F) a b e)
+
+-- a product's width (document 02, job 7): without tag 5 the change is refused too
+module _ (t : WidthTable) (level pass product fp : ℕ) where
+  abbrev has : Bool
+  has = hasProduct (t .levels) level pass product
+
+  abbrev withIt : WidthTable
+  withIt = withProduct t level pass product fp
+
+  abbrev pub ProductChange : Answer Unit → WidthTable → Type 0
+  ProductChange answer gives = (answer ≡ productChangeable t level pass product fp) × (gives ≡ tableAfterProduct t level pass product fp)
+
+  product-decided : (x : Bool) → formRight t && t .five && has && productRight fp ≡ x → ProductChange (asks x 4 passed) (answered (asks x 4 passed) withIt t)
+  unfolding tableAfterProduct productChangeable
+  product-decided x e = (ap (λ (y : Bool). asks y 4 passed) (sym e), ap (λ (y : Bool). answered (asks y 4 passed) withIt t) (sym e))
+
+  pub product-not-formed : formRight t ≡ false → ProductChange (refused (4, [])) t
+  product-not-formed e = product-decided false (first-fails (formRight t && t .five) has (productRight fp) (left-false (formRight t) (t .five) e))
+
+  pub no-products : t .five ≡ false → ProductChange (refused (4, [])) t
+  no-products e = product-decided false (first-fails (formRight t && t .five) has (productRight fp) (right-false (formRight t) (t .five) e))
+
+  pub no-product : has ≡ false → ProductChange (refused (4, [])) t
+  no-product e = product-decided false (second-fails (formRight t && t .five) has (productRight fp) e)
+
+  pub no-product-width : productRight fp ≡ false → ProductChange (refused (4, [])) t
+  no-product-width e = product-decided false (third-fails (formRight t && t .five) has (productRight fp) e)
+
+  pub product-changes : formRight t ≡ true → t .five ≡ true → has ≡ true → productRight fp ≡ true → ProductChange passed withIt
+  product-changes a b e f = product-decided true (all-hold (formRight t && t .five) has (productRight fp) (ap (λ (x : Bool). x && t .five) a ∙ b) e f)
 
 -- a right form has no more levels than a table may have
 pub few-levels : (t : WidthTable) → formRight t ≡ true → t .levels ≤ maxLevels

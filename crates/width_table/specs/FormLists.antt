@@ -1,4 +1,5 @@
--- The form of a table in memory by its lists: the nodes' numbers, two by two, are those of the nodes in book order.
+-- The form of a table in memory by its lists: the nodes' numbers, two by two, are those of the nodes in book order, and the products'
+-- numbers (document 02, job 7), one by one, those of the products.
 use Prim.Native.Nat.{ℕ, zero, suc, _+_, _*_, _-_, _/_, _<_, _≤_}
 use mathlib.Core.Bool.{Bool, true, false, _&&_}
 use mathlib.Core.List.{List, [], _∷_}
@@ -8,16 +9,21 @@ use borrow.Author.Tests.{le-leb, lt-leb}
 use lib.Dec.{T, leb, eqb, eqb·zero-suc, eqb·suc-zero}
 use lib.ListN.{length, getD, take, drop, drop-of-length-le}
 use Rattle.numbers.specs.Tests.{every, both, and-intro, between-≤, by-leb}
-use Rattle.numbers.specs.Lists.{next-two}
+use Rattle.numbers.specs.Lists.{next-one, next-two, rest-whole}
 use Rattle.width_table.specs.declared.WidthTable.{WidthTable}
-use Rattle.width_table.specs.Nodes.{everyNode, nodesPerPass, nodesPerLevel, nodeNumber, bookOrder}
-use Rattle.width_table.specs.Table.{maxLevels, widthBytes, depthRight, levelsRight, constantRight, widthRight, nodeRight, formRight}
-use Rattle.width_table.specs.Fields.{nodeBytes, widthsRight}
+use Rattle.width_table.specs.Nodes.{everyNode, nodesPerPass, nodesPerLevel, productsPerLevel, nodeNumber, bookOrder, productOrder}
+use Rattle.width_table.specs.Table.{maxLevels, widthBytes, depthRight, levelsRight, constantRight, widthRight, productRight, nodeRight, productHeld, formRight}
+use Rattle.width_table.specs.Fields.{nodeBytes, productBytes, widthsRight}
 
 -- what its type says of every table in memory
 pub record Sized (t : WidthTable) : Type 0 where
   pub constants : length (t .constants) ≡ nodesPerPass
   pub nodes : length (t .nodes) ≡ nodeBytes maxLevels
+  pub products : length (t .products) ≡ productBytes maxLevels
+
+-- how many of the products' numbers are widths: none without tag 5
+abbrev pub usedProducts : WidthTable → ℕ
+usedProducts t = elim (t .five) [ true ↦ productBytes (t .levels) | false ↦ 0 ]
 
 -- the same form by lists
 unfoldable pub formLists : WidthTable → Bool
@@ -27,6 +33,8 @@ formLists t =
     && every constantRight (t .constants)
     && widthsRight (take (nodeBytes (t .levels)) (t .nodes))
     && every (eqb 0) (drop (nodeBytes (t .levels)) (t .nodes))
+    && every productRight (take (usedProducts t) (t .products))
+    && every (eqb 0) (drop (usedProducts t) (t .products))
 
 -- ---- tests of a run of places
 
@@ -111,16 +119,42 @@ zeros-hold l i (suc n) h =
     ∙ ap (λ (m : ℕ). zeroAt l i && every (eqb 0) (drop m l)) s
     ∙ ap (λ (x : Bool). zeroAt l i && x) (zeros-hold l (i + 1) n (omega arith))
 
+-- ---- one number to a place
+
+-- the k-th product's number is right for L levels, with tag 5 or without it
+abbrev pub numberRight : Bool → ℕ → ℕ → ℕ → Bool
+numberRight five L k fp = elim (five && leb (k / productsPerLevel + 1) L) [ true ↦ productRight fp | false ↦ eqb fp 0 ]
+
+abbrev pub numberAt : Bool → ℕ → List ℕ → ℕ → Bool
+numberAt five L l k = numberRight five L k (getD l k 0)
+
+each-holds : (test : ℕ → Bool) (l : List ℕ) (i n : ℕ) → i + n ≤ length l → every test (take n (drop i l)) ≡ holds (λ k. test (getD l k 0)) i n
+unfolding every holds
+each-holds test l i zero h = refl
+each-holds test l i (suc n) h =
+    ap (λ (r : List ℕ). every test (take (suc n) r)) (next-one l 0 i (omega arith))
+    ∙ ap (λ (x : Bool). test (getD l i 0) && x) (each-holds test l (i + 1) n (omega arith))
+
+rest-holds : (test : ℕ → Bool) (l : List ℕ) (i : ℕ) → i ≤ length l → every test (drop i l) ≡ holds (λ k. test (getD l k 0)) i (length l - i)
+rest-holds test l i h = ap (every test) (sym (rest-whole i l)) ∙ each-holds test l i (length l - i) (omega arith)
+
 -- ---- the two forms
 
--- the nodes of a table of most levels
+-- the nodes of a table of most levels, and their products
 abbrev pub allNodes : ℕ
 allNodes = nodesPerLevel * maxLevels
+
+abbrev pub allProducts : ℕ
+allProducts = productsPerLevel * maxLevels
 
 -- book order is the order of places
 pub book-places : (t : WidthTable) → every (nodeRight t) (bookOrder maxLevels) ≡ holds (placeRight (t .levels) (t .nodes)) 0 allNodes
 unfolding every holds
 book-places t = refl
+
+pub product-places : (t : WidthTable) → every (productHeld t) (productOrder maxLevels) ≡ holds (numberAt (t .five) (t .levels) (t .products)) 0 allProducts
+unfolding every holds
+product-places t = refl
 
 module _ (L : ℕ) (l : List ℕ) (few : L ≤ maxLevels) (long : length l ≡ nodeBytes maxLevels) where
   nodes-lists : holds (placeRight L l) 0 allNodes ≡ widthsRight (take (nodeBytes L) l) && every (eqb 0) (drop (nodeBytes L) l)
@@ -141,6 +175,33 @@ module _ (L : ℕ) (l : List ℕ) (few : L ≤ maxLevels) (long : length l ≡ n
       unused : (k : ℕ) → nodesPerLevel * L ≤ k → k < nodesPerLevel * L + (allNodes - nodesPerLevel * L) → placeRight L l k ≡ zeroAt l k
       unused k a b = ap (λ (x : Bool). elim x [ true ↦ widthAt l k | false ↦ zeroAt l k ]) (lt-leb (k / nodesPerLevel + 1) L (omega arith))
 
+-- the first n products are used, and no other
+module _ (five : Bool) (L : ℕ) (l : List ℕ) (long : length l ≡ productBytes maxLevels) (n : ℕ) (few : n ≤ allProducts) where
+  abbrev isUsed : ℕ → Bool
+  isUsed k = five && leb (k / productsPerLevel + 1) L
+
+  products-split : ((k : ℕ) → k < n → isUsed k ≡ true) → ((k : ℕ) → n ≤ k → isUsed k ≡ false) → holds (numberAt five L l) 0 allProducts ≡ every productRight (take n l) && every (eqb 0) (drop n l)
+  products-split used unused =
+      let all : allProducts ≡ n + (allProducts - n) = omega arith in
+      let z : 0 + n ≡ n = omega arith in
+      let m : allProducts - n ≡ length l - n = omega arith in
+      ap (holds (numberAt five L l) 0) all
+      ∙ holds-add (numberAt five L l) 0 n (allProducts - n)
+      ∙ ap₂ (λ (i k : ℕ). holds (numberAt five L l) 0 n && holds (numberAt five L l) i k) z m
+      ∙ ap₂ _&&_ (holds-same (numberAt five L l) (λ k. productRight (getD l k 0)) 0 n (λ k a b. ap (chosen k) (used k (omega arith)))) (holds-same (numberAt five L l) (λ k. eqb 0 (getD l k 0)) n (length l - n) (λ k a b. ap (chosen k) (unused k a) ∙ sym (eqb-zero (getD l k 0))))
+      ∙ sym (ap₂ _&&_ (each-holds productRight l 0 n (omega arith)) (rest-holds (eqb 0) l n (omega arith)))
+    where
+      chosen : ℕ → Bool → Bool
+      chosen k x = elim x [ true ↦ productRight (getD l k 0) | false ↦ eqb (getD l k 0) 0 ]
+
+-- how many, with tag 5 and without it
+abbrev usedIn : Bool → ℕ → ℕ
+usedIn five L = elim five [ true ↦ productBytes L | false ↦ 0 ]
+
+products-lists : (five : Bool) (L : ℕ) (l : List ℕ) → L ≤ maxLevels → length l ≡ productBytes maxLevels → holds (numberAt five L l) 0 allProducts ≡ every productRight (take (usedIn five L) l) && every (eqb 0) (drop (usedIn five L) l)
+products-lists true L l few long = products-split true L l long (productBytes L) (omega arith) (λ k h. le-leb (k / productsPerLevel + 1) L (omega arith)) (λ k h. lt-leb (k / productsPerLevel + 1) L (omega arith))
+products-lists false L l few long = products-split false L l long 0 (omega arith) (λ k h. absurd (omega arith)) (λ k h. refl)
+
 pub constants-list : (c : List ℕ) → length c ≡ nodesPerPass → every (λ n. constantRight (getD c (nodeNumber n - 1) 0)) everyNode ≡ every constantRight c
 unfolding every
 constants-list [] h = absurd (omega arith)
@@ -155,9 +216,11 @@ constants-list (a ∷ b ∷ c ∷ d ∷ e ∷ f ∷ g ∷ l) h = absurd (omega a
 pub form-lists : (t : WidthTable) → Sized t → formRight t ≡ formLists t
 unfolding formRight formLists
 form-lists t s =
-    join (depthRight (t .depth)) (levelsRight (t .levels)) _ _ _ _ _ (constants-list (t .constants) (s .constants)) (λ b. book-places t ∙ nodes-lists (t .levels) (t .nodes) (between-≤ 1 maxLevels (t .levels) b .1) (s .nodes))
+    join (depthRight (t .depth)) (levelsRight (t .levels)) _ _ _ _ _ _ _ _ (constants-list (t .constants) (s .constants))
+    (λ b. book-places t ∙ nodes-lists (t .levels) (t .nodes) (between-≤ 1 maxLevels (t .levels) b .1) (s .nodes))
+    (λ b. product-places t ∙ products-lists (t .five) (t .levels) (t .products) (between-≤ 1 maxLevels (t .levels) b .1) (s .products))
   where
-    join : (a b c c′ d x y : Bool) → c ≡ c′ → (T b → d ≡ x && y) → a && b && c && d ≡ a && b && c′ && x && y
-    join false b c c′ d x y e h = refl
-    join true false c c′ d x y e h = refl
-    join true true c c′ d x y e h = ap₂ _&&_ e (h tt) ∙ sym (and-assoc c′ x y)
+    join : (a b c c′ d x y e u v : Bool) → c ≡ c′ → (T b → d ≡ x && y) → (T b → e ≡ u && v) → a && b && c && d && e ≡ a && b && c′ && x && y && u && v
+    join false b c c′ d x y e u v p h k = refl
+    join true false c c′ d x y e u v p h k = refl
+    join true true c c′ d x y e u v p h k = ap₂ _&&_ (ap₂ _&&_ p (h tt) ∙ sym (and-assoc c′ x y)) (k tt) ∙ sym (and-assoc (c′ && x && y) u v)

@@ -4,12 +4,13 @@
 --   Table      limits, widths, and when the form is right (refusal 4)
 --   Fields     the fields of the bytes, one list: lengths, places and bytes follow from it
 --   Bytes      reading (refusals 1 to 5) and writing (4, 9)
---   Changes    changes of a width or of a constant's bits (4)
---   Names      naming a tag (2, then 1 to 5)
+--   Changes    changes of a width, of a constant's bits or of a product's width (4)
+--   Names      naming a tag (2, then 1 to 5, then 2 for tag 5 where there is none)
 --   Told       what the code's answers of writing and naming say
 --   Readers    widths by the numbers of level, pass and node
 --   Limits     the limits of a table of right form, by node and by number
 --   EarlierOrder  the order of 1, 2 and 3 before document 02, job 3, and exactly which answers the job changed
+--   WithoutProducts  tables without tag 5 are read, named and written as before document 02, job 7
 --   FormLists  the form by lists
 --   BytesLaws  fields and the whole form taken apart, and the values of tags
 --   ReadLaws, FormLaws, NameLaws, WriteLaws   the rules one by one, as the code goes through them
@@ -35,4 +36,5 @@ pub mod WriteLaws
 pub mod RoundTrip
 pub mod ChangeLaws
 pub mod EarlierOrder
+pub mod WithoutProducts
 pub mod Cases

@@ -1,17 +1,18 @@
 -- The limits of a table of right form: of its numbers by level, pass and node, and of what is read of it by number.
 use Prim.Native.Nat.{ℕ, zero, suc, _<_, _≤_}
 use mathlib.Core.Bool.{Bool, true, false, _&&_}
-use mathlib.Core.Path.{_≡_, sym, _∙_, ap, subst}
+use mathlib.Core.List.{List, _++_}
+use mathlib.Core.Path.{_≡_, refl, sym, _∙_, ap, subst}
 use native.Mathlib.Omega.{arith}
 use native.Mathlib.Decide.{decLt}
 use lib.Dec.{T, leb, le→leb, eqb}
-use Rattle.numbers.specs.Tests.{between, every, both, four, between-≤}
+use Rattle.numbers.specs.Tests.{between, every, both, four, and-intro, between-≤}
 use Rattle.numbers.specs.Lists.{In, here, there, in-left, in-right, every-in}
 use Rattle.width_table.specs.declared.WidthTable.{WidthTable}
-use Rattle.width_table.specs.Nodes.{everyNode, Node, P1, U1, P2, U2, G1, G2, Pass, Rows, LowColumns, HighColumns, nodeAt, passNodes, levelNodes, bookOrder}
-use Rattle.width_table.specs.Numbered.{nodeOf, passOf, IsNode, IsPass, node-number, pass-number}
-use Rattle.width_table.specs.Table.{maxDepth, maxLevels, maxConstantBits, maxIntegerBits, maxFractionBits, constantRight, constantBits, integerBits, fractionBits, inputBits, nodeRight, formRight}
-use Rattle.width_table.specs.Readers.{constantBitsAt, integerBitsAt, fractionBitsAt, inputBitsAt, constant-bits, integer-bits, fraction-bits, input-bits}
+use Rattle.width_table.specs.Nodes.{productsPerPass, everyNode, Node, P1, U1, P2, U2, G1, G2, Pass, Rows, LowColumns, HighColumns, TableNode, nodeNumber, nodeAt, passNodes, levelNodes, bookOrder, passProducts, levelProducts, productOrder}
+use Rattle.width_table.specs.Numbered.{nodeOf, passOf, IsNode, IsPass, IsProduct, node-number, pass-number}
+use Rattle.width_table.specs.Table.{maxDepth, maxLevels, maxConstantBits, maxIntegerBits, maxFractionBits, maxProductBits, constantRight, constantBits, integerBits, fractionBits, productWidth, inputBits, nodeRight, productHeld, formRight}
+use Rattle.width_table.specs.Readers.{constantBitsAt, integerBitsAt, fractionBitsAt, productWidthAt, cutAt, inputBitsAt, constant-bits, integer-bits, fraction-bits, product-width, input-bits}
 
 -- ---- nodes in book order
 
@@ -28,16 +29,39 @@ in-level l Rows n = in-left _ (in-nodes l Rows n)
 in-level l LowColumns n = in-right (passNodes l Rows) (in-left _ (in-nodes l LowColumns n))
 in-level l HighColumns n = in-right (passNodes l Rows) (in-right (passNodes l LowColumns) (in-nodes l HighColumns n))
 
+-- those that have a product
+in-products : (l : ℕ) (p : Pass) (n : Node) → nodeNumber n ≤ productsPerPass → In (nodeAt l p n) (passProducts l p)
+in-products l p P1 h = here
+in-products l p U1 h = there here
+in-products l p P2 h = there (there here)
+in-products l p U2 h = there (there (there here))
+in-products l p G1 h = absurd (omega arith)
+in-products l p G2 h = absurd (omega arith)
+
+in-level-products : (l : ℕ) (p : Pass) (n : Node) → nodeNumber n ≤ productsPerPass → In (nodeAt l p n) (levelProducts l)
+in-level-products l Rows n h = in-left _ (in-products l Rows n h)
+in-level-products l LowColumns n h = in-right (passProducts l Rows) (in-left _ (in-products l LowColumns n h))
+in-level-products l HighColumns n h = in-right (passProducts l Rows) (in-right (passProducts l LowColumns) (in-products l HighColumns n h))
+
+-- an order that goes level by level holds what its levels 1 to L hold
+module _ (order level : ℕ → List TableNode) (next : (k : ℕ) → order (suc k) ≡ order k ++ level (suc k)) (x : TableNode) where
+  in-levels : (L l : ℕ) → 1 ≤ l → l ≤ L → In x (level l) → In x (order L)
+  in-levels zero l a b h = absurd (omega arith)
+  in-levels (suc k) l a b h = subst (In x) (sym (next k)) (go (decLt l (suc k)) (λ i. in-levels k l a i h))
+    where
+      go : Dec (l < suc k) → (l ≤ k → In x (order k)) → In x (order k ++ level (suc k))
+      go (yes i) before = in-left _ (before (omega arith))
+      go (no i) before =
+          let e : l ≡ suc k = omega arith in
+          in-right (order k) (subst (λ (j : ℕ). In x (level j)) e h)
+
 -- book order holds each pass and node of levels 1 to L
 pub in-order : (L l : ℕ) → 1 ≤ l → l ≤ L → (p : Pass) (n : Node) → In (nodeAt l p n) (bookOrder L)
-in-order zero l a b p n = absurd (omega arith)
-in-order (suc k) l a b p n = go (decLt l (suc k)) (λ i. in-order k l a i p n)
-  where
-    go : Dec (l < suc k) → (l ≤ k → In (nodeAt l p n) (bookOrder k)) → In (nodeAt l p n) (bookOrder (suc k))
-    go (yes i) before = in-left _ (before (omega arith))
-    go (no i) before =
-        let e : suc k ≡ l = omega arith in
-        in-right (bookOrder k) (subst (λ (j : ℕ). In (nodeAt l p n) (levelNodes j)) (sym e) (in-level l p n))
+in-order L l a b p n = in-levels bookOrder levelNodes (λ k. refl) (nodeAt l p n) L l a b (in-level l p n)
+
+-- and each product
+pub in-product-order : (L l : ℕ) → 1 ≤ l → l ≤ L → (p : Pass) (n : Node) → nodeNumber n ≤ productsPerPass → In (nodeAt l p n) (productOrder L)
+in-product-order L l a b p n h = in-levels productOrder levelProducts (λ k. refl) (nodeAt l p n) L l a b (in-level-products l p n h)
 
 -- ---- the numbers of a table of right form
 
@@ -56,10 +80,23 @@ width-right true IB f u h =
     (a, b, between-≤ 0 maxFractionBits f j .1)
 width-right false IB f u h = absurd u
 
+held-right : (used : Bool) (fp : ℕ) → T used → T (elim used [ true ↦ between 0 maxProductBits fp | false ↦ eqb fp 0 ]) → fp ≤ maxProductBits
+held-right true fp u h = between-≤ 0 maxProductBits fp h .1
+held-right false fp u h = absurd u
+
 module _ (t : WidthTable) (form : T (formRight t)) where
-  parts : T (between 1 maxDepth (t .depth)) × T (between 1 maxLevels (t .levels)) × T (every (λ n. constantRight (constantBits t n)) everyNode) × T (every (nodeRight t) (bookOrder maxLevels))
+  parts :
+      T (between 1 maxDepth (t .depth)) × T (between 1 maxLevels (t .levels)) × T (every (λ n. constantRight (constantBits t n)) everyNode) × T (every (nodeRight t) (bookOrder maxLevels))
+      × T (every (productHeld t) (productOrder maxLevels))
   unfolding formRight
-  parts = four (between 1 maxDepth (t .depth)) (between 1 maxLevels (t .levels)) (every (λ n. constantRight (constantBits t n)) everyNode) (every (nodeRight t) (bookOrder maxLevels)) form
+  parts =
+      let B = between 1 maxDepth (t .depth) in
+      let L = between 1 maxLevels (t .levels) in
+      let C = every (λ n. constantRight (constantBits t n)) everyNode in
+      let N = every (nodeRight t) (bookOrder maxLevels) in
+      let (x, p) = both (B && L && C && N) (every (productHeld t) (productOrder maxLevels)) form in
+      let (b, l, c, n) = four B L C N x in
+      (b, l, c, n, p)
 
   pub form-depth : (1 ≤ t .depth) × (t .depth ≤ maxDepth)
   form-depth = between-≤ 1 maxDepth (t .depth) (parts .0)
@@ -74,6 +111,12 @@ module _ (t : WidthTable) (form : T (formRight t)) where
   form-widths l a b p n =
       width-right (leb l (t .levels)) (integerBits t l p n) (fractionBits t l p n) (le→leb l (t .levels) b)
       (every-in (nodeRight t) (in-order maxLevels l a (omega (arith, form-levels .1)) p n) (parts .3))
+
+  -- the products of a table with tag 5 (document 02, job 7)
+  pub form-products : T (t .five) → (l : ℕ) → 1 ≤ l → l ≤ t .levels → (p : Pass) (n : Node) → nodeNumber n ≤ productsPerPass → productWidth t l p n ≤ maxProductBits
+  form-products five l a b p n h =
+      held-right (t .five && leb l (t .levels)) (productWidth t l p n) (and-intro (t .five) (leb l (t .levels)) five (le→leb l (t .levels) b))
+      (every-in (productHeld t) (in-product-order maxLevels l a (omega (arith, form-levels .1)) p n h) (parts .4))
 
   -- what enters a pass has no more fractional bits than a node may have
   pub form-input : (l : ℕ) → 1 ≤ l → l ≤ t .levels → (p : Pass) → inputBits t l p ≤ maxFractionBits
@@ -105,6 +148,28 @@ module _ (t : WidthTable) (form : T (formRight t)) where
     fraction-read p n h k =
         let e = (λ u. fractionBitsAt t l (sym (pass-number p h) u) (sym (node-number n k) u)) ∙ fraction-bits t l (passOf p) (nodeOf n) least few in
         (e, omega (arith, e, form-widths l least most (passOf p) (nodeOf n) .2))
+
+    width-read : (p k : ℕ) → IsPass p → IsProduct k → (nodeNumber (nodeOf k) ≤ productsPerPass) × (productWidthAt t l p k ≡ productWidth t l (passOf p) (nodeOf k))
+    width-read p k h i =
+        let e = node-number k (omega arith) in
+        let m : nodeNumber (nodeOf k) ≤ productsPerPass = omega (arith, e) in
+        (m, (λ u. productWidthAt t l (sym (pass-number p h) u) (sym e u)) ∙ product-width t l (passOf p) (nodeOf k) least few m)
+
+    pub product-read : T (t .five) → (p k : ℕ) → IsPass p → IsProduct k → (productWidthAt t l p k ≡ productWidth t l (passOf p) (nodeOf k)) × (productWidthAt t l p k ≤ maxProductBits)
+    product-read five p k h i =
+        let (m, e) = width-read p k h i in
+        (e, omega (arith, e, form-products five l least most (passOf p) (nodeOf k) m))
+
+    -- what a product is cut to, with tag 5 and without it
+    pub cut-read : (p k : ℕ) → IsPass p → IsProduct k → (cutAt t l p k ≡ elim (t .five) [ true ↦ productWidth t l (passOf p) (nodeOf k) | false ↦ maxProductBits ]) × (cutAt t l p k ≤ maxProductBits)
+    unfolding cutAt
+    cut-read p k h i =
+        let (m, e) = width-read p k h i in
+        (ap (λ (w : ℕ). elim (t .five) [ true ↦ w | false ↦ maxProductBits ]) e, limit (t .five) (productWidthAt t l p k) (λ five. product-read five p k h i .1))
+      where
+        limit : (five : Bool) (w : ℕ) → (T five → w ≤ maxProductBits) → elim five [ true ↦ w | false ↦ maxProductBits ] ≤ maxProductBits
+        limit true w h = h tt
+        limit false w h = omega arith
 
     pub input-read : (p : ℕ) → IsPass p → (inputBitsAt t l p ≡ inputBits t l (passOf p)) × (inputBitsAt t l p ≤ maxFractionBits)
     input-read p h =

@@ -1,13 +1,19 @@
--- Naming a tag (document 01: books as bytes): the stretch of the caller's own bytes that holds its value.
+-- Naming a tag (document 01: books as bytes; document 02, job 7: tag 5): the stretch of the caller's own bytes that holds its value.
 use Prim.Native.Nat.{ℕ}
+use mathlib.Core.Bool.{Bool, _||_}
 use mathlib.Core.List.{List, []}
-use Rattle.refusals.specs.Answers.{Answer, done, asks, _then_, answered}
-use Rattle.width_table.specs.Fields.{tagRight, valueStart, valueLength}
-use Rattle.width_table.specs.Bytes.{levelsIn, form, valueIn}
+use lib.Dec.{leb}
+use Rattle.refusals.specs.Answers.{Answer, done, passed, asks, _then_, answered}
+use Rattle.width_table.specs.Fields.{nodesTag, tagRight, valueStart, valueLength}
+use Rattle.width_table.specs.Bytes.{levelsIn, hasFifth, form, valueIn}
 
--- The name is judged first (2), then the whole form (1 to 5).
+-- bytes of a right form have a field of this tag: every table has tags 1 to 4
+abbrev pub hasTag : List ℕ → ℕ → Bool
+hasTag bytes tag = leb tag nodesTag || hasFifth bytes
+
+-- The name is judged first (2), then the whole form (1 to 5), then whether tag 5 is there (2).
 unfoldable pub nameable : List ℕ → ℕ → Answer Unit
-nameable bytes tag = asks (tagRight tag) 2 (form bytes)
+nameable bytes tag = asks (tagRight tag) 2 (form bytes then asks (hasTag bytes tag) 2 passed)
 
 -- the call's answer as a place in the caller's bytes: where the value starts, and its length
 unfoldable pub naming : List ℕ → ℕ → Answer (ℕ × ℕ)

@@ -2,7 +2,7 @@
 use Prim.Native.Nat.{ℕ, zero, suc, _≤_}
 use mathlib.Core.Path.{_≡_, refl}
 use native.Mathlib.Omega.{arith}
-use Rattle.width_table.specs.Nodes.{nodesPerPass, passesPerLevel, Node, P1, U1, P2, U2, G1, G2, nodeNumber, Pass, Rows, LowColumns, HighColumns, passNumber}
+use Rattle.width_table.specs.Nodes.{nodesPerPass, passesPerLevel, productsPerPass, Node, P1, U1, P2, U2, G1, G2, nodeNumber, Pass, Rows, LowColumns, HighColumns, passNumber}
 
 -- nodes and passes count from 1
 abbrev pub nodeOf : ℕ → Node
@@ -20,12 +20,15 @@ passOf (suc zero) = Rows
 passOf (suc (suc zero)) = LowColumns
 passOf (suc (suc (suc k))) = HighColumns
 
--- a number of a node, and of a pass
+-- a number of a node, of a pass, and of a product: those of P1, U1, P2 and U2 (document 02, job 7)
 abbrev pub IsNode : ℕ → Type 0
 IsNode k = (1 ≤ k) × (k ≤ nodesPerPass)
 
 abbrev pub IsPass : ℕ → Type 0
 IsPass k = (1 ≤ k) × (k ≤ passesPerLevel)
+
+abbrev pub IsProduct : ℕ → Type 0
+IsProduct k = (1 ≤ k) × (k ≤ productsPerPass)
 
 -- they are numbered so
 pub node-number : (k : ℕ) → IsNode k → nodeNumber (nodeOf k) ≡ k

@@ -1,19 +1,19 @@
 -- The rules of reading one by one, as the code goes through them.
 use Prim.Native.Nat.{ℕ, zero, suc, _+_, _-_, _<_, _≤_}
-use mathlib.Core.Bool.{Bool, true, false, _&&_}
+use mathlib.Core.Bool.{Bool, true, false, _&&_, _||_}
 use mathlib.Core.List.{List, [], _∷_}
-use mathlib.Core.Path.{_≡_, refl, _∙_, ap}
+use mathlib.Core.Path.{_≡_, refl, sym, _∙_, ap}
 use native.Mathlib.Omega.{arith}
 use borrow.Author.Tests.{lt-leb, eq-eqb, ne-eqb}
-use lib.Dec.{leb, eqb, leb→le, le→leb, eqb→eq}
+use lib.Dec.{T, leb, eqb, leb→le, le→leb, eqb→eq}
 use lib.ListN.{length, getD, take, drop, drop-of-length-le}
-use lib.Seq.{drop-cons}
+use lib.Seq.{drop-cons, getD-drop}
 use Rattle.refusals.specs.Answers.{Reason, Answer, refused, passed, asks}
 use Rattle.refusals.specs.AnswerLaws.{asks-done, asks-right, asks-wrong, then-right, then-refused, answered-done, answered-refused}
 use Rattle.numbers.specs.Lists.{next-two}
 use Rattle.width_table.specs.Nodes.{nodesPerPass}
 use Rattle.width_table.specs.Table.{widthRight, widthBytes}
-use Rattle.width_table.specs.Fields.{depthTag, levelsTag, constantsTag, nodesTag, IsTag, headBytes, Field, widthsRight, fields, fieldOf, tableSize, valueStart, valueLength}
+use Rattle.width_table.specs.Fields.{depthTag, levelsTag, constantsTag, nodesTag, productsTag, IsTag, headBytes, Field, widthsRight, productsField, fields, fieldsAfter, sizeOf, fieldOf, tableSize, valueStart, valueLength}
 use Rattle.width_table.specs.Bytes.{announced, headed, field, formBy, form, tableIn, tableRead, emptyTable}
 use Rattle.width_table.specs.BytesLaws.{field-done}
 
@@ -118,42 +118,94 @@ pub more-follows : (bytes : List ℕ) → (length bytes ≡ 0 → ⊥) → formB
 unfolding formBy
 more-follows bytes h = asks-wrong (eqb (length bytes) 0) _ _ (ne-eqb _ _ h)
 
+-- ---- what follows the field of a tag, in a table of L levels
+
+-- the byte right after the fourth field is 5
+abbrev pub fifthAfter : ℕ → ℕ → List ℕ → Bool
+fifthAfter L tag bytes = eqb (getD bytes (sizeOf (fieldsAfter false L tag)) 0) productsTag
+
+-- the form from there on: `form` is that of 0
+unfoldable pub formAfter : ℕ → ℕ → List ℕ → Answer Unit
+formAfter L tag bytes = formBy (fieldsAfter (fifthAfter L tag bytes) L tag) bytes
+
+-- of a tag before the fourth: field by field
+module _ (L tag : ℕ) (bytes : List ℕ) (f : Field) (due : (five : Bool) → fieldsAfter five L tag ≡ f ∷ fieldsAfter five L (tag + 1)) where
+  pub after-refused : (r : Reason) → field f bytes ≡ refused r → formAfter L tag bytes ≡ refused r
+  unfolding formAfter
+  after-refused r e = ap (λ (fs : List Field). formBy fs bytes) (due (fifthAfter L tag bytes)) ∙ next-refused f bytes _ r e
+
+  pub after-read : field f bytes ≡ passed → formAfter L tag bytes ≡ formAfter L (tag + 1) (drop (headBytes + f .size) bytes)
+  unfolding formAfter
+  after-read e =
+      let rest = drop (headBytes + f .size) bytes in
+      let five : fifthAfter L tag bytes ≡ fifthAfter L (tag + 1) rest = ap (λ (fs : List Field). eqb (getD bytes (sizeOf fs) 0) productsTag) (due false) ∙ ap (λ (b : ℕ). eqb b productsTag) (sym (getD-drop (headBytes + f .size) bytes (sizeOf (fieldsAfter false L (tag + 1))) 0)) in
+      ap (λ (fs : List Field). formBy fs bytes) (due (fifthAfter L tag bytes)) ∙ next-read f bytes _ e ∙ ap (λ (b : Bool). formBy (fieldsAfter b L (tag + 1)) rest) five
+
+-- after the fourth: nothing, tag 5, or another byte (document 02, job 7)
+module _ (L : ℕ) (bytes : List ℕ) where
+  pub nothing-after : length bytes ≡ 0 → formAfter L nodesTag bytes ≡ passed
+  unfolding formAfter
+  nothing-after h = go bytes h
+    where
+      go : (l : List ℕ) → length l ≡ 0 → formAfter L nodesTag l ≡ passed
+      go [] k = ends-there [] refl
+      go (a ∷ l) k = absurd (omega arith)
+
+  pub other-after : (length bytes ≡ 0 → ⊥) → (getD bytes 0 0 ≡ productsTag → ⊥) → formAfter L nodesTag bytes ≡ refused (5, [])
+  unfolding formAfter
+  other-after h k = ap (λ (b : Bool). formBy (fieldsAfter b L nodesTag) bytes) (ne-eqb _ _ k) ∙ more-follows bytes h
+
+  pub five-after : getD bytes 0 0 ≡ productsTag → formAfter L nodesTag bytes ≡ formBy (productsField L ∷ []) bytes
+  unfolding formAfter
+  five-after k = ap (λ (b : Bool). formBy (fieldsAfter b L nodesTag) bytes) (eq-eqb _ _ k)
+
 -- ---- fields by tag
 
--- what holds of the four tags holds of each
-by-tag : (P : ℕ → Type 0) → P depthTag → P levelsTag → P constantsTag → P nodesTag → (tag : ℕ) → IsTag tag → P tag
-by-tag P a b c d zero h = absurd (omega arith)
-by-tag P a b c d (suc zero) h = a
-by-tag P a b c d (suc (suc zero)) h = b
-by-tag P a b c d (suc (suc (suc zero))) h = c
-by-tag P a b c d (suc (suc (suc (suc zero)))) h = d
-by-tag P a b c d (suc (suc (suc (suc (suc n))))) h = absurd (omega arith)
+-- what holds of the five tags holds of each
+by-tag : (P : ℕ → Type 0) → P depthTag → P levelsTag → P constantsTag → P nodesTag → P productsTag → (tag : ℕ) → IsTag tag → P tag
+by-tag P a b c d e zero h = absurd (omega arith)
+by-tag P a b c d e (suc zero) h = a
+by-tag P a b c d e (suc (suc zero)) h = b
+by-tag P a b c d e (suc (suc (suc zero))) h = c
+by-tag P a b c d e (suc (suc (suc (suc zero)))) h = d
+by-tag P a b c d e (suc (suc (suc (suc (suc zero))))) h = e
+by-tag P a b c d e (suc (suc (suc (suc (suc (suc n)))))) h = absurd (omega arith)
 
 module _ (L : ℕ) where
-  pub tag-is : (tag : ℕ) → IsTag tag → fieldOf (fields L) tag .tag ≡ tag
-  tag-is = by-tag (λ (tag : ℕ). fieldOf (fields L) tag .tag ≡ tag) refl refl refl refl
+  pub tag-is : (tag : ℕ) → IsTag tag → fieldOf (fields true L) tag .tag ≡ tag
+  tag-is = by-tag (λ (tag : ℕ). fieldOf (fields true L) tag .tag ≡ tag) refl refl refl refl refl
 
   -- the rule of a value is the same for any number of levels
-  pub rule-is : (tag : ℕ) → IsTag tag → fieldOf (fields L) tag .right ≡ fieldOf (fields 0) tag .right
-  rule-is = by-tag (λ (tag : ℕ). fieldOf (fields L) tag .right ≡ fieldOf (fields 0) tag .right) refl refl refl refl
+  pub rule-is : (tag : ℕ) → IsTag tag → fieldOf (fields true L) tag .right ≡ fieldOf (fields true 0) tag .right
+  rule-is = by-tag (λ (tag : ℕ). fieldOf (fields true L) tag .right ≡ fieldOf (fields true 0) tag .right) refl refl refl refl refl
 
   pub short-length : (tag : ℕ) → IsTag tag → tag ≤ levelsTag → valueLength L tag ≡ 1
-  short-length = by-tag (λ (tag : ℕ). tag ≤ levelsTag → valueLength L tag ≡ 1) (λ i. refl) (λ i. refl) (λ i. absurd (omega arith)) (λ i. absurd (omega arith))
+  short-length = by-tag (λ (tag : ℕ). tag ≤ levelsTag → valueLength L tag ≡ 1) (λ i. refl) (λ i. refl) (λ i. absurd (omega arith)) (λ i. absurd (omega arith)) (λ i. absurd (omega arith))
 
   -- a value starts after the one before it and its own head
-  pub start-next : (tag : ℕ) → IsTag tag → tag < nodesTag → valueStart L (tag + 1) ≡ valueStart L tag + valueLength L tag + headBytes
-  start-next = by-tag (λ (tag : ℕ). tag < nodesTag → valueStart L (tag + 1) ≡ valueStart L tag + valueLength L tag + headBytes) (λ i. refl) (λ i. refl) (λ i. refl) (λ i. absurd (omega arith))
+  abbrev Next : ℕ → Type 0
+  Next tag = tag < productsTag → valueStart L (tag + 1) ≡ valueStart L tag + valueLength L tag + headBytes
+
+  pub start-next : (tag : ℕ) → IsTag tag → Next tag
+  start-next = by-tag Next (λ i. refl) (λ i. refl) (λ i. refl) (λ i. omega arith) (λ i. absurd (omega arith))
 
   pub start-after : (tag : ℕ) → IsTag tag → valueStart L tag - headBytes + headBytes ≡ valueStart L tag
-  start-after = by-tag (λ (tag : ℕ). valueStart L tag - headBytes + headBytes ≡ valueStart L tag) refl refl refl refl
+  start-after = by-tag (λ (tag : ℕ). valueStart L tag - headBytes + headBytes ≡ valueStart L tag) refl refl refl refl (omega arith)
 
-  -- and ends where the table ends, or before
-  pub value-ends : (tag : ℕ) → IsTag tag → valueStart L tag + valueLength L tag ≤ tableSize L
-  value-ends = by-tag (λ (tag : ℕ). valueStart L tag + valueLength L tag ≤ tableSize L) (omega arith) (omega arith) (omega arith) (omega arith)
+  -- and ends where the table ends, or before: a table has tags 1 to 4, and it may have tag 5
+  abbrev Ends : Bool → ℕ → Type 0
+  Ends five tag = valueStart L tag + valueLength L tag ≤ tableSize five L
+
+  pub value-ends : (tag : ℕ) → IsTag tag → Ends true tag
+  value-ends = by-tag (Ends true) (omega arith) (omega arith) (omega arith) (omega arith) (omega arith)
+
+  pub value-within : (five : Bool) (tag : ℕ) → IsTag tag → T (leb tag nodesTag || five) → Ends five tag
+  value-within true tag h k = value-ends tag h
+  value-within false tag h k = by-tag (λ (tag : ℕ). T (leb tag nodesTag || false) → Ends false tag) (λ i. omega arith) (λ i. omega arith) (λ i. omega arith) (λ i. omega arith) (λ i. absurd i) tag h k
 
   -- no value is empty
   pub value-some : 1 ≤ L → (tag : ℕ) → IsTag tag → 1 ≤ valueLength L tag
-  value-some some = by-tag (λ (tag : ℕ). 1 ≤ valueLength L tag) (omega arith) (omega arith) (omega arith) (omega arith)
+  value-some some = by-tag (λ (tag : ℕ). 1 ≤ valueLength L tag) (omega arith) (omega arith) (omega arith) (omega arith) (omega arith)
 
 pub six : (l : List ℕ) → nodesPerPass ≤ length l → take nodesPerPass l ≡ getD l 0 0 ∷ getD l 1 0 ∷ getD l 2 0 ∷ getD l 3 0 ∷ getD l 4 0 ∷ getD l 5 0 ∷ []
 six [] h = absurd (omega arith)

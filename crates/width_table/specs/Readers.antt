@@ -7,10 +7,10 @@ use borrow.Author.Tests.{le-leb}
 use lib.ListN.{getD}
 use Rattle.numbers.specs.Tests.{between, is-between}
 use Rattle.width_table.specs.declared.WidthTable.{WidthTable}
-use Rattle.width_table.specs.Nodes.{nodesPerPass, passesPerLevel, Node, P1, U1, P2, U2, G1, G2, Pass, Rows, LowColumns, HighColumns, columnPass, lastNode, passNumber, nodeNumber}
-use Rattle.width_table.specs.Table.{maxLevels, nodePlace, constantBits, integerBits, fractionBits, inputBits}
+use Rattle.width_table.specs.Nodes.{nodesPerPass, passesPerLevel, productsPerPass, Node, P1, U1, P2, U2, G1, G2, Pass, Rows, LowColumns, HighColumns, columnPass, lastNode, passNumber, nodeNumber}
+use Rattle.width_table.specs.Table.{maxLevels, maxProductBits, nodePlace, productPlace, constantBits, integerBits, fractionBits, productWidth, inputBits}
 use Rattle.width_table.specs.Numbered.{passOf, IsPass}
-use Rattle.width_table.specs.Changes.{hasNode}
+use Rattle.width_table.specs.Changes.{hasNode, hasProduct}
 
 -- a number where the test holds, else 0
 abbrev pub orZero : Bool → ℕ → ℕ
@@ -28,6 +28,14 @@ integerBitsAt t level pass node = orZero (hasNode maxLevels level pass node) (ge
 -- f of a node
 unfoldable pub fractionBitsAt : WidthTable → ℕ → ℕ → ℕ → ℕ
 fractionBitsAt t level pass node = orZero (hasNode maxLevels level pass node) (getD (t .nodes) (nodePlace level pass node + 1) 0)
+
+-- fp of a product
+unfoldable pub productWidthAt : WidthTable → ℕ → ℕ → ℕ → ℕ
+productWidthAt t level pass product = orZero (hasProduct maxLevels level pass product) (getD (t .products) (productPlace level pass product) 0)
+
+-- the bits that a product is cut to: without tag 5 the limit, which no product of a right table is above
+unfoldable pub cutAt : WidthTable → ℕ → ℕ → ℕ → ℕ
+cutAt t level pass product = elim (t .five) [ true ↦ productWidthAt t level pass product | false ↦ maxProductBits ]
 
 -- f of what enters a pass
 unfoldable pub inputBitsAt : WidthTable → ℕ → ℕ → ℕ
@@ -68,6 +76,32 @@ integer-bits t l p n a b = ap (λ (x : Bool). orZero x (integerBits t l p n)) (h
 pub fraction-bits : (t : WidthTable) (l : ℕ) (p : Pass) (n : Node) → 1 ≤ l → l ≤ maxLevels → fractionBitsAt t l (passNumber p) (nodeNumber n) ≡ fractionBits t l p n
 unfolding fractionBitsAt
 fraction-bits t l p n a b = ap (λ (x : Bool). orZero x (fractionBits t l p n)) (has-every maxLevels l p n a b)
+
+-- the nodes that have a product
+product-number : (n : Node) → nodeNumber n ≤ productsPerPass → between 1 productsPerPass (nodeNumber n) ≡ true
+product-number P1 h = refl
+product-number U1 h = refl
+product-number P2 h = refl
+product-number U2 h = refl
+product-number G1 h = absurd (omega arith)
+product-number G2 h = absurd (omega arith)
+
+has-product : (L l : ℕ) (p : Pass) (n : Node) → 1 ≤ l → l ≤ L → nodeNumber n ≤ productsPerPass → hasProduct L l (passNumber p) (nodeNumber n) ≡ true
+has-product L l p n a b h = simp (le-leb 1 l a, le-leb l L b, pass-number p, product-number n h)
+
+pub product-width : (t : WidthTable) (l : ℕ) (p : Pass) (n : Node) → 1 ≤ l → l ≤ maxLevels → nodeNumber n ≤ productsPerPass → productWidthAt t l (passNumber p) (nodeNumber n) ≡ productWidth t l p n
+unfolding productWidthAt
+product-width t l p n a b h = ap (λ (x : Bool). orZero x (productWidth t l p n)) (has-product maxLevels l p n a b h)
+
+-- what a product is cut to, with tag 5 and without it
+module _ (t : WidthTable) (l p k : ℕ) where
+  pub cut-width : t .five ≡ true → cutAt t l p k ≡ productWidthAt t l p k
+  unfolding cutAt
+  cut-width e = ap (λ (x : Bool). elim x [ true ↦ productWidthAt t l p k | false ↦ maxProductBits ]) e
+
+  pub cut-none : t .five ≡ false → cutAt t l p k ≡ maxProductBits
+  unfolding cutAt
+  cut-none e = ap (λ (x : Bool). elim x [ true ↦ productWidthAt t l p k | false ↦ maxProductBits ]) e
 
 -- columns are fed by the rows of their level
 columns-fed : (t : WidthTable) (l : ℕ) (low : Bool) → inputBits t l (columnPass low) ≡ fractionBits t l Rows (lastNode low)

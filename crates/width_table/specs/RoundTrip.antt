@@ -1,7 +1,7 @@
 -- Tables through bytes and back: a table that was read is of right form and is written as the bytes it was read from;
 -- a table of right form that was written is read back as itself; lent bytes past the table's length never change.
 use Prim.Native.Nat.{ℕ, _-_, _≤_}
-use mathlib.Core.Bool.{true, _&&_}
+use mathlib.Core.Bool.{Bool, true, false, _&&_}
 use mathlib.Core.List.{List}
 use mathlib.Core.Path.{_≡_, refl, sym, _∙_, ap, subst}
 use native.Mathlib.Omega.{arith}
@@ -14,11 +14,11 @@ use Rattle.refusals.specs.Answers.{Answer, done, refused, passed, answered}
 use Rattle.refusals.specs.AnswerLaws.{asks-done}
 use Rattle.width_table.specs.declared.WidthTable.{WidthTable}
 use Rattle.width_table.specs.Nodes.{nodesPerPass}
-use Rattle.width_table.specs.Table.{maxLevels, depthRight, levelsRight, constantRight, formRight}
-use Rattle.width_table.specs.Fields.{constantsTag, nodesTag, nodeBytes, widthsRight, tableSize, valueStart}
-use Rattle.width_table.specs.Bytes.{levelsIn, form, valueIn, tableIn, tableRead, tableBytes, writable, writing, bytesAfter}
-use Rattle.width_table.specs.FormLists.{Sized, formLists, form-lists}
-use Rattle.width_table.specs.BytesLaws.{form-done, form-long, depth-byte, levels-byte, levels-most, nodes-long, RightForm, right-form, read-written, form-written, bytes-length, written-read}
+use Rattle.width_table.specs.Table.{maxLevels, depthRight, levelsRight, constantRight, productRight, formRight}
+use Rattle.width_table.specs.Fields.{constantsTag, nodesTag, productsTag, nodeBytes, productBytes, widthsRight, tableSize, valueStart}
+use Rattle.width_table.specs.Bytes.{levelsIn, hasFifth, form, valueIn, productsIn, tableIn, tableRead, tableBytes, writable, writing, bytesAfter}
+use Rattle.width_table.specs.FormLists.{Sized, usedProducts, formLists, form-lists}
+use Rattle.width_table.specs.BytesLaws.{form-done, form-long, four-there, depth-byte, levels-byte, levels-most, nodes-long, products-long, products-right, RightForm, right-form, read-written, form-written, bytes-length, written-read}
 use Rattle.width_table.specs.ReadLaws.{table-read}
 use Rattle.width_table.specs.WriteLaws.{table-written}
 
@@ -31,7 +31,10 @@ rules-form t s r =
     let c = every constantRight (t .constants) in
     let d = widthsRight (take (nodeBytes (t .levels)) (t .nodes)) in
     let e = every (eqb 0) (drop (nodeBytes (t .levels)) (t .nodes)) in
-    form-lists t s ∙ is-true (formLists t) (and-intro (a && b && c && d) e (and-intro (a && b && c) d (and-intro (a && b) c (and-intro a b (r .depth) (r .levels)) (r .constants)) (r .widths)) (r .unused))
+    let f = every productRight (take (usedProducts t) (t .products)) in
+    let g = every (eqb 0) (drop (usedProducts t) (t .products)) in
+    let five = and-intro (a && b && c && d) e (and-intro (a && b && c) d (and-intro (a && b) c (and-intro a b (r .depth) (r .levels)) (r .constants)) (r .widths)) (r .unused) in
+    form-lists t s ∙ is-true (formLists t) (and-intro (a && b && c && d && e && f) g (and-intro (a && b && c && d && e) f five (r .products)) (r .unused-products))
 
 -- ---- read, then written
 
@@ -42,14 +45,47 @@ module _ (bytes : List ℕ) (e : form bytes ≡ passed) where
   abbrev unused : List ℕ
   unused = replicate (nodeBytes maxLevels - N) 0
 
+  abbrev M : ℕ
+  M = productBytes (levelsIn bytes)
+
+  abbrev usedIn : Bool → ℕ
+  usedIn five = elim five [ true ↦ M | false ↦ 0 ]
+
+  abbrev rest : List ℕ
+  rest = replicate (productBytes maxLevels - M) 0
+
+  -- the products' numbers, with tag 5 and without it
+  record ProductsRead (five : Bool) : Type 0 where
+    pub sized : length (productsIn five bytes) ≡ productBytes maxLevels
+    pub right : T (every productRight (take (usedIn five) (productsIn five bytes)))
+    pub unused : T (every (eqb 0) (drop (usedIn five) (productsIn five bytes)))
+
+  products-read : (five : Bool) → hasFifth bytes ≡ five → ProductsRead five
+  unfolding every
+  products-read true five =
+      let v = valueIn bytes productsTag in
+      let few = levels-most bytes e in
+      let long = products-long bytes e five in
+      record {
+        sized = length-append v rest ∙ omega (arith, long, length-replicate {A = ℕ} (productBytes maxLevels - M) 0);
+        right = subst (λ (l : List ℕ). T (every productRight l)) (sym (take-at v rest M long)) (products-right bytes e five);
+        unused = subst (λ (l : List ℕ). T (every (eqb 0) l)) (sym (drop-at v rest M long)) (zeros-right (productBytes maxLevels - M));
+      }
+  products-read false none = record {
+    sized = length-replicate {A = ℕ} (productBytes maxLevels) 0;
+    right = tt;
+    unused = zeros-right (productBytes maxLevels);
+  }
+
   pub read-sized : Sized (tableIn bytes)
   unfolding tableIn
   read-sized =
       let few = levels-most bytes e in
       let start = valueStart (levelsIn bytes) constantsTag in
       record {
-        constants = length-take-le nodesPerPass (drop start bytes) (omega (arith, length-drop start bytes, form-long bytes e));
+        constants = length-take-le nodesPerPass (drop start bytes) (omega (arith, length-drop start bytes, four-there bytes e));
         nodes = length-append (valueIn bytes nodesTag) unused ∙ omega (arith, nodes-long bytes e, length-replicate {A = ℕ} (nodeBytes maxLevels - N) 0);
+        products = products-read (hasFifth bytes) refl .sized;
       }
 
   -- the rules that it keeps
@@ -61,6 +97,8 @@ module _ (bytes : List ℕ) (e : form bytes ≡ passed) where
     constants = form-done bytes e .1 .1 .0 .value;
     widths = subst (λ (l : List ℕ). T (widthsRight l)) (sym (take-at (valueIn bytes nodesTag) unused N (nodes-long bytes e))) (form-done bytes e .1 .1 .1 .0 .value);
     unused = subst (λ (l : List ℕ). T (every (eqb 0) l)) (sym (drop-at (valueIn bytes nodesTag) unused N (nodes-long bytes e))) (zeros-right (nodeBytes maxLevels - N));
+    products = products-read (hasFifth bytes) refl .right;
+    unused-products = products-read (hasFifth bytes) refl .unused;
   }
 
   pub read-formed : formRight (tableIn bytes) ≡ true
@@ -75,6 +113,9 @@ module _ (bytes : List ℕ) (e : form bytes ≡ passed) where
 -- ---- written, then read
 
 module _ (t : WidthTable) (s : Sized t) where
+  abbrev size : ℕ
+  size = tableSize (t .five) (t .levels)
+
   right : formRight t ≡ true → RightForm t
   right h = right-form t s (subst T (sym h) tt)
 
@@ -87,21 +128,21 @@ module _ (t : WidthTable) (s : Sized t) where
       let e = form-written t s (right h) in
       (e, table-read (tableBytes t) e ∙ written-read t s (right h))
 
-  pub lent-reads : formRight t ≡ true → (lent : List ℕ) → tableSize (t .levels) ≤ length lent → ReadsBack (take (tableSize (t .levels)) (bytesAfter t lent))
+  pub lent-reads : formRight t ≡ true → (lent : List ℕ) → size ≤ length lent → ReadsBack (take size (bytesAfter t lent))
   lent-reads h lent k =
-      let e : take (tableSize (t .levels)) (bytesAfter t lent) ≡ tableBytes t =
-      ap (take (tableSize (t .levels))) (sym (table-written t lent h k .1))
-      ∙ take-at (tableBytes t) (drop (length (tableBytes t)) lent) (tableSize (t .levels)) (bytes-length t s (right h))
+      let e : take size (bytesAfter t lent) ≡ tableBytes t =
+      ap (take size) (sym (table-written t lent h k .1))
+      ∙ take-at (tableBytes t) (drop (length (tableBytes t)) lent) size (bytes-length t s (right h))
       in
       subst ReadsBack (sym e) (written-reads h)
 
   -- whatever the answer
-  pub past-kept : (lent : List ℕ) → drop (tableSize (t .levels)) (bytesAfter t lent) ≡ drop (tableSize (t .levels)) lent
+  pub past-kept : (lent : List ℕ) → drop size (bytesAfter t lent) ≡ drop size lent
   unfolding bytesAfter writable
   past-kept lent = go (writable t lent) refl
     where
-      go : (o : Answer Unit) → writable t lent ≡ o → drop (tableSize (t .levels)) (answered o (over (tableBytes t) lent) lent) ≡ drop (tableSize (t .levels)) lent
+      go : (o : Answer Unit) → writable t lent ≡ o → drop size (answered o (over (tableBytes t) lent) lent) ≡ drop size lent
       go (done a) e =
           let long = bytes-length t s (right-form t s (asks-done (formRight t) _ _ e .0)) in
-          drop-at (tableBytes t) (drop (length (tableBytes t)) lent) (tableSize (t .levels)) long ∙ ap (λ (n : ℕ). drop n lent) long
+          drop-at (tableBytes t) (drop (length (tableBytes t)) lent) size long ∙ ap (λ (n : ℕ). drop n lent) long
       go (refused r) e = refl

@@ -3,7 +3,7 @@ use refusals::Outcome;
 use refusals::Refusal;
 ghost use mathlib.Core.Path.{_≡_};
 ghost use Prim.Native.Nat.{_+_, _*_, _-_, _<_, _≤_};
-ghost use mathlib.Core.Bool.{_&&_};
+ghost use mathlib.Core.Bool.{true, false, _&&_};
 ghost use mathlib.Core.List.{_++_};
 ghost use lib.ListN.{length, getD, take, drop, replicate};
 ghost use lib.Seq.{paste};
@@ -12,28 +12,33 @@ ghost use Rattle.refusals.specs.Told.{told};
 ghost use Rattle.numbers.specs.Tests.{between, every};
 ghost use Rattle.numbers.specs.Lists.{over};
 ghost use Rattle.width_table.specs.Nodes.{nodesPerPass};
-ghost use Rattle.width_table.specs.Numbered.{IsNode, IsPass};
-ghost use Rattle.width_table.specs.Table.{maxLevels, depthRight, levelsRight, widthRight, formRight, widthBytes, nodePlace};
-ghost use Rattle.width_table.specs.Fields.{depthTag, levelsTag, constantsTag, nodesTag, IsTag, headBytes, nodeBytes, widthsRight, fields, fieldsAfter, fieldOf, tableSize, valueStart, valueLength};
-ghost use Rattle.width_table.specs.Bytes.{headed, field, formBy, levelsIn, form, tableRead, emptyTable, tableIn, tableBytes, writing, bytesAfter};
-ghost use Rattle.width_table.specs.Names.{valueOf, naming};
-ghost use Rattle.width_table.specs.Changes.{hasNode, changeable, tableAfterWidth, constantChangeable, tableAfterConstant};
+ghost use Rattle.width_table.specs.Numbered.{IsNode, IsPass, IsProduct};
+ghost use Rattle.width_table.specs.Table.{maxLevels, depthRight, levelsRight, widthRight, formRight, widthBytes, nodePlace, productPlace};
+ghost use Rattle.width_table.specs.Fields.{depthTag, levelsTag, constantsTag, nodesTag, productsTag, IsTag, headBytes, nodeBytes, productBytes, widthsRight, fields, fieldsAfter, fieldOf, tableSize, valueStart, valueLength, bytesOf};
+ghost use Rattle.width_table.specs.Bytes.{headed, field, formBy, levelsIn, hasFifth, form, productsIn, tableRead, emptyTable, tableIn, tableBytes, writing, bytesAfter};
+ghost use Rattle.width_table.specs.Names.{hasTag, valueOf, naming};
+ghost use Rattle.width_table.specs.Changes.{hasNode, changeable, tableAfterWidth, constantChangeable, tableAfterConstant, hasProduct, productChangeable, tableAfterProduct};
 ghost use Rattle.width_table.specs.Told.{toldWritten, toldNamed};
-ghost use Rattle.width_table.specs.Readers.{constantBitsAt, integerBitsAt, fractionBitsAt, inputBitsAt};
+ghost use Rattle.width_table.specs.Readers.{constantBitsAt, integerBitsAt, fractionBitsAt, productWidthAt, inputBitsAt};
+ghost use Rattle.width_table.specs.FormLists.{usedProducts};
+ghost use Rattle.width_table.specs.ReadLaws.{formAfter};
 ghost use Rattle.width_table.specs.WriteLaws.{placed};
 
 // A width table. Level l, pass p and node k, counted from 1, have their integer bits at place
 // ((l - 1) * PASSES + (p - 1)) * PASS_BYTES + (k - 1) * WIDTH_BYTES of `nodes` and their fractional bits after them; places of unused
-// levels hold 0.
+// levels hold 0. `five` says whether the table has tag 5; where it has, the product of P1, U1, P2, U2, counted from 1, has its width at
+// place ((l - 1) * PASSES + (p - 1)) * PRODUCTS + (k - 1) of `products`; all other places there hold 0.
 pub struct WidthTable {
     pub depth: u8,
     pub levels: u8,
     pub constants: [u8; WidthTable::CONSTANTS],
     pub nodes: [u8; WidthTable::NODE_BYTES],
+    pub five: bool,
+    pub products: [u8; WidthTable::PRODUCT_BYTES],
 }
 
 impl WidthTable {
-    // Limits of depth, levels, a constant's bits, and a node's integer and fractional bits.
+    // Limits of depth, levels, a constant's bits, a node's integer and fractional bits, and a product's bits.
     pub const MAX_DEPTH: u8 = 12;
 
     pub const MAX_LEVELS: u8 = 5;
@@ -44,12 +49,16 @@ impl WidthTable {
 
     pub const MAX_FRACTION_BITS: u8 = 20;
 
-    // Passes of a level, nodes of a pass, and as many constants.
+    pub const MAX_PRODUCT_BITS: u8 = 44;
+
+    // Passes of a level, nodes of a pass, as many constants, and products of a pass.
     pub const PASSES: u8 = 3;
 
     pub const NODES: u8 = 6;
 
     pub const CONSTANTS: usize = WidthTable::NODES as usize;
+
+    pub const PRODUCTS: u8 = 4;
 
     // The passes, and the nodes.
     pub const ROWS: u8 = 1;
@@ -79,6 +88,12 @@ impl WidthTable {
 
     pub const NODE_BYTES: usize = WidthTable::LEVEL_BYTES * (WidthTable::MAX_LEVELS as usize);
 
+    // Bytes of the widths of the products of a level, one each, and of all levels.
+    pub const LEVEL_PRODUCTS: usize = (WidthTable::PASSES as usize)
+        * (WidthTable::PRODUCTS as usize);
+
+    pub const PRODUCT_BYTES: usize = WidthTable::LEVEL_PRODUCTS * (WidthTable::MAX_LEVELS as usize);
+
     // Bytes of a field before its value: its tag, and its length.
     pub const HEAD_BYTES: usize = 3;
 
@@ -91,12 +106,15 @@ impl WidthTable {
 
     pub const NODES_TAG: u8 = 4;
 
-    // Bytes of a table of all levels: four fields.
-    pub const MAX_BYTES: usize = 4 * WidthTable::HEAD_BYTES
+    pub const PRODUCTS_TAG: u8 = 5;
+
+    // Bytes of a table of all levels with tag 5: five fields.
+    pub const MAX_BYTES: usize = 5 * WidthTable::HEAD_BYTES
         + 1
         + 1
         + WidthTable::CONSTANTS
-        + WidthTable::NODE_BYTES;
+        + WidthTable::NODE_BYTES
+        + WidthTable::PRODUCT_BYTES;
 }
 
 // The answer of writing: how many bytes were written.
@@ -206,7 +224,7 @@ fn widths_right(numbers: &[u8]) -> bool
     true
 }
 
-// How long a tag's value is in a table of so many levels: those before the last are as long in every table.
+// How long a tag's value is in a table of so many levels: the first three are as long in every table.
 fn value_length(levels: u8, tag: u8) -> usize
     requires { ⌜ IsTag tag ⌝ }
     ensures { λ r. ⌜ r ≡ valueLength levels tag ⌝ }
@@ -217,7 +235,10 @@ fn value_length(levels: u8, tag: u8) -> usize
     if tag == WidthTable::CONSTANTS_TAG {
         return WidthTable::CONSTANTS;
     }
-    WidthTable::LEVEL_BYTES * (levels as usize)
+    if tag == WidthTable::NODES_TAG {
+        return WidthTable::LEVEL_BYTES * (levels as usize);
+    }
+    WidthTable::LEVEL_PRODUCTS * (levels as usize)
 }
 
 // Where a tag's value starts in the bytes of a table of so many levels: after the fields before it and its own head.
@@ -235,7 +256,7 @@ fn value_start(levels: u8, tag: u8) -> usize
 // Whether a tag's value is right.
 fn value_right(value: &[u8], tag: u8) -> bool
     requires { ⌜ IsTag tag ⌝ }
-    ensures { λ r. ⌜ r ≡ fieldOf (fields 0) tag .right (now (value .entry)) ⌝ }
+    ensures { λ r. ⌜ r ≡ fieldOf (fields true 0) tag .right (now (value .entry)) ⌝ }
 {
     if tag == WidthTable::DEPTH_TAG {
         return all_between(value, 1, WidthTable::MAX_DEPTH);
@@ -246,13 +267,16 @@ fn value_right(value: &[u8], tag: u8) -> bool
     if tag == WidthTable::CONSTANTS_TAG {
         return all_between(value, 1, WidthTable::MAX_CONSTANT_BITS);
     }
-    widths_right(value)
+    if tag == WidthTable::NODES_TAG {
+        return widths_right(value);
+    }
+    all_between(value, 0, WidthTable::MAX_PRODUCT_BITS)
 }
 
 // The field of a tag at the front of the bytes: refusals 1 to 4.
 fn field(bytes: &[u8], levels: u8, tag: u8) -> Outcome
     requires { ⌜ IsTag tag ⌝ }
-    ensures { λ r. ⌜ told r ≡ field (fieldOf (fields levels) tag) (now (bytes .entry)) ⌝ }
+    ensures { λ r. ⌜ told r ≡ field (fieldOf (fields true levels) tag) (now (bytes .entry)) ⌝ }
 {
     let len = value_length(levels, tag);
     match head(bytes, tag, len) {
@@ -279,7 +303,7 @@ fn after_field(bytes: &[u8], levels: u8, tag: u8) -> &[u8]
 
 // Nothing follows the last field.
 fn ended(bytes: &[u8]) -> Outcome
-    ensures { λ r. ⌜ told r ≡ formBy (fieldsAfter 0 nodesTag) (now (bytes .entry)) ⌝ }
+    ensures { λ r. ⌜ told r ≡ formBy (fieldsAfter true 0 productsTag) (now (bytes .entry)) ⌝ }
 {
     if bytes.len() == 0 {
         Outcome::Done
@@ -288,19 +312,35 @@ fn ended(bytes: &[u8]) -> Outcome
     }
 }
 
+// What follows the fourth field (document 02, job 7): nothing, or tag 5 and nothing after it; any other byte is 5.
+fn after_fourth(bytes: &[u8], levels: u8) -> Outcome
+    ensures { λ r. ⌜ told r ≡ formAfter levels nodesTag (now (bytes .entry)) ⌝ }
+{
+    if bytes.len() == 0 {
+        return Outcome::Done;
+    }
+    if bytes[0] != WidthTable::PRODUCTS_TAG {
+        return Outcome::Refused(Refusal::TrailingBytes);
+    }
+    match field(bytes, levels, WidthTable::PRODUCTS_TAG) {
+        Outcome::Refused(why) => Outcome::Refused(why),
+        Outcome::Done => ended(after_field(bytes, levels, WidthTable::PRODUCTS_TAG)),
+    }
+}
+
 // The form from the fourth field on, for a table of so many levels.
 fn from_fourth(bytes: &[u8], levels: u8) -> Outcome
-    ensures { λ r. ⌜ told r ≡ formBy (fieldsAfter levels constantsTag) (now (bytes .entry)) ⌝ }
+    ensures { λ r. ⌜ told r ≡ formAfter levels constantsTag (now (bytes .entry)) ⌝ }
 {
     match field(bytes, levels, WidthTable::NODES_TAG) {
         Outcome::Refused(why) => Outcome::Refused(why),
-        Outcome::Done => ended(after_field(bytes, levels, WidthTable::NODES_TAG)),
+        Outcome::Done => after_fourth(after_field(bytes, levels, WidthTable::NODES_TAG), levels),
     }
 }
 
 // From the third field on.
 fn from_third(bytes: &[u8], levels: u8) -> Outcome
-    ensures { λ r. ⌜ told r ≡ formBy (fieldsAfter levels levelsTag) (now (bytes .entry)) ⌝ }
+    ensures { λ r. ⌜ told r ≡ formAfter levels levelsTag (now (bytes .entry)) ⌝ }
 {
     match field(bytes, levels, WidthTable::CONSTANTS_TAG) {
         Outcome::Refused(why) => Outcome::Refused(why),
@@ -313,7 +353,7 @@ fn from_third(bytes: &[u8], levels: u8) -> Outcome
 
 // From the second field on, which has the levels.
 fn from_second(bytes: &[u8]) -> Outcome
-    ensures { λ r. ⌜ told r ≡ formBy (fieldsAfter (getD (now (bytes .entry)) headBytes 0) depthTag) (now (bytes .entry)) ⌝ }
+    ensures { λ r. ⌜ told r ≡ formAfter (getD (now (bytes .entry)) headBytes 0) depthTag (now (bytes .entry)) ⌝ }
 {
     match field(bytes, 0, WidthTable::LEVELS_TAG) {
         Outcome::Refused(why) => Outcome::Refused(why),
@@ -354,12 +394,59 @@ fn nodes_of(bytes: &[u8], n: usize) -> [u8; WidthTable::NODE_BYTES]
     nodes
 }
 
+// The same of products.
+fn products_of(bytes: &[u8], n: usize) -> [u8; WidthTable::PRODUCT_BYTES]
+    requires { ⌜ (n ≤ productBytes maxLevels) × (n ≤ length (now bytes)) ⌝ }
+    ensures { λ r. ⌜ r ≡ take n (now (bytes .entry)) ++ replicate (productBytes maxLevels - n) 0 ⌝ }
+{
+    let mut products = [0u8; WidthTable::PRODUCT_BYTES];
+    for i in 0..n {
+        products[i] = bytes[i];
+    }
+    products
+}
+
+// How many bytes a table of so many levels has, with tag 5 or without it: they end with the last tag's value.
+fn table_size(five: bool, levels: u8) -> usize
+    ensures { λ r. ⌜ r ≡ tableSize five levels ⌝ }
+{
+    if five {
+        return value_start(levels, WidthTable::PRODUCTS_TAG)
+            + value_length(levels, WidthTable::PRODUCTS_TAG);
+    }
+    value_start(levels, WidthTable::NODES_TAG) + value_length(levels, WidthTable::NODES_TAG)
+}
+
 // The levels that bytes of a right form hold.
 fn levels_in(bytes: &[u8]) -> u8
     requires { ⌜ form (now bytes) ≡ passed ⌝ }
     ensures { λ r. ⌜ r ≡ levelsIn (now (bytes .entry)) ⌝ }
 {
     bytes[value_start(0, WidthTable::LEVELS_TAG)]
+}
+
+// Whether bytes of a right form have tag 5: they are more than a table without it has.
+fn has_fifth(bytes: &[u8]) -> bool
+    requires { ⌜ form (now bytes) ≡ passed ⌝ }
+    ensures { λ r. ⌜ r ≡ hasFifth (now (bytes .entry)) ⌝ }
+{
+    table_size(false, levels_in(bytes)) < bytes.len()
+}
+
+// The widths of products that bytes of a right form hold; zeros without tag 5.
+fn products_in(bytes: &[u8]) -> [u8; WidthTable::PRODUCT_BYTES]
+    requires { ⌜ form (now bytes) ≡ passed ⌝ }
+    ensures { λ r. ⌜ r ≡ productsIn (hasFifth (now (bytes .entry))) (now (bytes .entry)) ⌝ }
+{
+    if has_fifth(bytes) {} else {
+        return [0; WidthTable::PRODUCT_BYTES];
+    }
+    let levels = levels_in(bytes);
+    let start = value_start(levels, WidthTable::PRODUCTS_TAG);
+    products_of(
+        &bytes[start..],
+        value_length(levels, WidthTable::PRODUCTS_TAG),
+    )
 }
 
 // The table that bytes of a right form hold.
@@ -376,7 +463,9 @@ fn table_of(bytes: &[u8]) -> WidthTable
         &bytes[nodes_at..],
         value_length(levels, WidthTable::NODES_TAG),
     );
-    WidthTable::new(depth, levels, constants, nodes)
+    let five = has_fifth(bytes);
+    let products = products_in(bytes);
+    WidthTable::new(depth, levels, constants, nodes, five, products)
 }
 
 impl WidthTable {
@@ -386,14 +475,18 @@ impl WidthTable {
         levels: u8,
         constants: [u8; WidthTable::CONSTANTS],
         nodes: [u8; WidthTable::NODE_BYTES],
+        five: bool,
+        products: [u8; WidthTable::PRODUCT_BYTES],
     ) -> WidthTable
-        ensures { λ r. ⌜ r ≡ record { depth = depth; levels = levels; constants = constants; nodes = nodes } ⌝ }
+        ensures { λ r. ⌜ r ≡ record { depth = depth; levels = levels; constants = constants; nodes = nodes; five = five; products = products } ⌝ }
     {
         WidthTable {
             depth,
             levels,
             constants,
             nodes,
+            five,
+            products,
         }
     }
 
@@ -406,6 +499,8 @@ impl WidthTable {
             0,
             [0; WidthTable::CONSTANTS],
             [0; WidthTable::NODE_BYTES],
+            false,
+            [0; WidthTable::PRODUCT_BYTES],
         )
     }
 
@@ -427,19 +522,33 @@ impl WidthTable {
     }
 }
 
-// Where a tag's value lies in the caller's bytes.
+// Whether bytes of a right form have a field of this tag: every table has tags 1 to 4.
+fn has_tag(bytes: &[u8], tag: u8) -> bool
+    requires { ⌜ form (now bytes) ≡ passed ⌝ }
+    ensures { λ r. ⌜ r ≡ hasTag (now (bytes .entry)) tag ⌝ }
+{
+    if tag <= WidthTable::NODES_TAG {
+        return true;
+    }
+    has_fifth(bytes)
+}
+
+// Where a tag's value lies in the caller's bytes: 2 for a wrong name, then the form, then 2 for tag 5 where there is none.
 pub fn value_place(bytes: &[u8], tag: u8) -> Named
     ensures { λ r. ⌜ toldNamed r ≡ naming (now (bytes .entry)) tag ⌝ }
 {
     if tag < WidthTable::DEPTH_TAG {
         return Named::NotNamed(Refusal::WrongTag);
     }
-    if WidthTable::NODES_TAG < tag {
+    if WidthTable::PRODUCTS_TAG < tag {
         return Named::NotNamed(Refusal::WrongTag);
     }
     match form_of(bytes) {
         Outcome::Refused(why) => Named::NotNamed(why),
         Outcome::Done => {
+            if has_tag(bytes, tag) {} else {
+                return Named::NotNamed(Refusal::WrongTag);
+            }
             let levels = levels_in(bytes);
             let start = value_start(levels, tag);
             let len = value_length(levels, tag);
@@ -459,6 +568,16 @@ pub fn value_of(bytes: &[u8], tag: u8) -> &[u8]
 }
 
 impl WidthTable {
+    // How many of the products' numbers are widths: none without tag 5.
+    fn used_products(self) -> usize
+        ensures { λ r. ⌜ r ≡ usedProducts self ⌝ }
+    {
+        if self.five {
+            return WidthTable::LEVEL_PRODUCTS * (self.levels as usize);
+        }
+        0
+    }
+
     // Whether a table in memory has a right form: else refusal 4.
     pub fn form_right(self) -> bool
         ensures { λ r. ⌜ r ≡ formRight self ⌝ }
@@ -476,7 +595,15 @@ impl WidthTable {
         if widths_right(&nodes[..n]) {} else {
             return false;
         }
-        all_between(&nodes[n..], 0, 0)
+        if all_between(&nodes[n..], 0, 0) {} else {
+            return false;
+        }
+        let used = self.used_products();
+        let products = self.products;
+        if all_between(&products[..used], 0, WidthTable::MAX_PRODUCT_BITS) {} else {
+            return false;
+        }
+        all_between(&products[used..], 0, 0)
     }
 }
 
@@ -501,6 +628,29 @@ pub fn node_place(level: u8, pass: u8, node: u8) -> usize
     (((level - 1) as usize) * (WidthTable::PASSES as usize) + ((pass - 1) as usize))
         * WidthTable::PASS_BYTES
         + ((node - 1) as usize) * WidthTable::WIDTH_BYTES
+}
+
+// A table of so many levels, with tag 5, has this product: P1, U1, P2 and U2 have one (document 02, job 7).
+pub fn has_product(levels: u8, level: u8, pass: u8, product: u8) -> bool
+    ensures { λ r. ⌜ r ≡ hasProduct levels level pass product ⌝ }
+{
+    if in_between(level, 1, levels) {} else {
+        return false;
+    }
+    if in_between(pass, 1, WidthTable::PASSES) {} else {
+        return false;
+    }
+    in_between(product, 1, WidthTable::PRODUCTS)
+}
+
+// Where a product's width lies.
+pub fn product_place(level: u8, pass: u8, product: u8) -> usize
+    requires { ⌜ (1 ≤ level) × (level ≤ maxLevels) × IsPass pass × IsProduct product ⌝ }
+    ensures { λ r. ⌜ (r ≡ productPlace level pass product) × (r < productBytes maxLevels) ⌝ }
+{
+    (((level - 1) as usize) * (WidthTable::PASSES as usize) + ((pass - 1) as usize))
+        * (WidthTable::PRODUCTS as usize)
+        + ((product - 1) as usize)
 }
 
 impl WidthTable {
@@ -574,6 +724,44 @@ impl WidthTable {
         }
     }
 
+    // The table with one product's width changed; the old one where the change is refused, as it is without tag 5.
+    pub fn with_product(mut self, level: u8, pass: u8, product: u8, bits: u8) -> TableAnswer
+        ensures outcome { λ r. ⌜ told (r .outcome) ≡ productChangeable self level pass product bits ⌝ }
+        ensures table { λ r. ⌜ r .table ≡ tableAfterProduct self level pass product bits ⌝ }
+    {
+        if self.form_right() {} else {
+            return TableAnswer {
+                outcome: Outcome::Refused(Refusal::OutsideLimits),
+                table: self,
+            };
+        }
+        if self.five {} else {
+            return TableAnswer {
+                outcome: Outcome::Refused(Refusal::OutsideLimits),
+                table: self,
+            };
+        }
+        let levels = self.levels;
+        if has_product(levels, level, pass, product) {} else {
+            return TableAnswer {
+                outcome: Outcome::Refused(Refusal::OutsideLimits),
+                table: self,
+            };
+        }
+        if in_between(bits, 0, WidthTable::MAX_PRODUCT_BITS) {} else {
+            return TableAnswer {
+                outcome: Outcome::Refused(Refusal::OutsideLimits),
+                table: self,
+            };
+        }
+        let at = product_place(level, pass, product);
+        self.products[at] = bits;
+        TableAnswer {
+            outcome: Outcome::Done,
+            table: self,
+        }
+    }
+
     // The bits of a stage's constant, by its node; 0 for any other number.
     pub fn constant_bits(self, node: u8) -> u8
         ensures { λ r. ⌜ r ≡ constantBitsAt self node ⌝ }
@@ -602,6 +790,16 @@ impl WidthTable {
             return 0;
         }
         self.nodes[node_place(level, pass, node) + 1]
+    }
+
+    // The width of a product of any level that a table may have; 0 for any other number.
+    pub fn product_width(self, level: u8, pass: u8, product: u8) -> u8
+        ensures { λ r. ⌜ r ≡ productWidthAt self level pass product ⌝ }
+    {
+        if has_product(WidthTable::MAX_LEVELS, level, pass, product) {} else {
+            return 0;
+        }
+        self.products[product_place(level, pass, product)]
     }
 
     // The fractional bits of what enters a pass of such a level, 0 for any other number (specs/Table, `inputBits`).
@@ -637,16 +835,9 @@ fn put(lent: &mut [u8], start: usize, from: &[u8])
     }
 }
 
-// How many bytes a table of so many levels has: they end with the last tag's value.
-fn table_size(levels: u8) -> usize
-    ensures { λ r. ⌜ r ≡ tableSize levels ⌝ }
-{
-    value_start(levels, WidthTable::NODES_TAG) + value_length(levels, WidthTable::NODES_TAG)
-}
-
 // Puts a field into its place: its head, then its value.
 fn put_field(lent: &mut [u8], levels: u8, tag: u8, value: &[u8])
-    requires { ⌜ IsTag tag × (levels ≤ maxLevels) × (length (now value) ≡ valueLength levels tag) × (tableSize levels ≤ length (now lent)) ⌝ }
+    requires { ⌜ IsTag tag × (levels ≤ maxLevels) × (length (now value) ≡ valueLength levels tag) × (valueStart levels tag + valueLength levels tag ≤ length (now lent)) ⌝ }
     ensures { λ _. ⌜ now (lent .exit) ≡ placed levels tag (now (value .entry)) (now (lent .entry)) ⌝ }
 {
     let start = value_start(levels, tag);
@@ -656,10 +847,10 @@ fn put_field(lent: &mut [u8], levels: u8, tag: u8, value: &[u8])
     put(lent, start, value);
 }
 
-// Writes the bytes of a table of right form over the front of lent bytes.
-fn put_table(table: WidthTable, lent: &mut [u8])
-    requires { ⌜ (table .levels ≤ maxLevels) × (tableSize (table .levels) ≤ length (now lent)) ⌝ }
-    ensures { λ _. ⌜ now (lent .exit) ≡ over (tableBytes table) (now (lent .entry)) ⌝ }
+// Writes the first four fields of a table of right form over the front of lent bytes.
+fn put_four(table: WidthTable, lent: &mut [u8])
+    requires { ⌜ (table .levels ≤ maxLevels) × (tableSize false (table .levels) ≤ length (now lent)) ⌝ }
+    ensures { λ _. ⌜ now (lent .exit) ≡ over (bytesOf (fields false (table .levels)) table) (now (lent .entry)) ⌝ }
 {
     let levels = table.levels;
     let depth = [table.depth];
@@ -673,6 +864,19 @@ fn put_table(table: WidthTable, lent: &mut [u8])
     put_field(lent, levels, WidthTable::NODES_TAG, &nodes[..n]);
 }
 
+// The bytes of the whole table: these, and tag 5 where the table has it.
+fn put_table(table: WidthTable, lent: &mut [u8])
+    requires { ⌜ (table .levels ≤ maxLevels) × (tableSize (table .five) (table .levels) ≤ length (now lent)) ⌝ }
+    ensures { λ _. ⌜ now (lent .exit) ≡ over (tableBytes table) (now (lent .entry)) ⌝ }
+{
+    put_four(table, lent);
+    if table.five {
+        let products = table.products;
+        let n = WidthTable::LEVEL_PRODUCTS * (table.levels as usize);
+        put_field(lent, table.levels, WidthTable::PRODUCTS_TAG, &products[..n]);
+    }
+}
+
 impl WidthTable {
     // Writes the table into lent bytes: refusals 4, 9.
     pub fn write(self, lent: &mut [u8]) -> Written
@@ -682,8 +886,7 @@ impl WidthTable {
         if self.form_right() {} else {
             return Written::NotWritten(Refusal::OutsideLimits);
         }
-        let levels = self.levels;
-        let n = table_size(levels);
+        let n = table_size(self.five, self.levels);
         if lent.len() < n {
             return Written::NotWritten(Refusal::SliceTooShort);
         }

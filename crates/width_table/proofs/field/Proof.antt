@@ -13,7 +13,7 @@ use Rattle.width_table.proofs.field.Statement.{statement}
 use Rattle.width_table.proofs.field.Tie as tie
 
 abbrev its : (s : tie.Start) → Field
-its s = fieldOf (fields (s .args .levels)) (s .args .tag)
+its s = fieldOf (fields true (s .args .levels)) (s .args .tag)
 
 -- the head is judged by the field's tag and length
 judged : (h : tie.After-head) → told (h .head .result) ≡ headed (its (h .before .before .before) .tag) (its (h .before .before .before) .size) (h .before .before .before .args .bytes .now)
@@ -45,7 +45,7 @@ decided c t e =
     let a = s .args in
     let n = h .before .value-length .result in
     let part : n ≡ headBytes + n - headBytes = omega arith in
-    let right = fieldOf (fields 0) (a .tag) .right in
+    let right = fieldOf (fields true 0) (a .tag) .right in
     sym (field-judged (its s) (a .bytes .now) (sym (judged h) ∙ ap told (d .enum-told .given .1)) t (
     (λ u. rule-is (a .levels) (a .tag) (s .pre) u (take (sym (h .before .value-length .ensures) u) (drop headBytes (a .bytes .now))))
     ∙ ap (λ (k : ℕ). right (take k (drop headBytes (a .bytes .now)))) part

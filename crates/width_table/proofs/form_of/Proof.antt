@@ -1,4 +1,5 @@
-use mathlib.Core.Path.{_≡_, sym, _∙_, ap}
+use mathlib.Core.Path.{_≡_, refl, sym, _∙_, ap}
+use mathlib.Core.Bool.{true}
 use native.Mathlib.Omega.{arith}
 use lib.ListN.{getD, drop}
 use lib.Seq.{getD-drop}
@@ -6,34 +7,34 @@ use Prim.Native.Nat.{ℕ, _+_}
 use mathlib.Core.List.{List}
 use Rattle.refusals.specs.Answers.{passed}
 use Rattle.refusals.specs.Told.{told}
-use Rattle.width_table.specs.Fields.{depthTag, headBytes, fields, fieldsAfter, fieldOf}
-use Rattle.width_table.specs.Bytes.{field, formBy, levelsIn, form}
-use Rattle.width_table.specs.ReadLaws.{field-holds, next-read, next-refused}
+use Rattle.width_table.specs.Fields.{depthTag, headBytes, fields, fieldOf}
+use Rattle.width_table.specs.Bytes.{field, levelsIn, form}
+use Rattle.width_table.specs.ReadLaws.{field-holds, formAfter, after-refused, after-read}
 use borrow.Author.Needs.{needs}
 use Rattle.width_table.proofs.form_of.Statement.{statement}
 use Rattle.width_table.proofs.form_of.Tie as tie
 
 -- the field is right, and there
-done : (c : tie.After-enum-told) → field (fieldOf (fields 0) depthTag) (c .before .before .before .before .args .bytes .now) ≡ passed
+done : (c : tie.After-enum-told) → field (fieldOf (fields true 0) depthTag) (c .before .before .before .before .args .bytes .now) ≡ passed
 done c = sym (c .before .before .field .ensures) ∙ ap told (c .enum-told .given .1)
 
 returns : tie.Need-returns
-unfolding form
+unfolding form formAfter
 returns c =
     let h = c .before .before .before in
     let s = h .before .before .args in
-    sym (next-refused _ (s .bytes .now) (fieldsAfter (levelsIn (s .bytes .now)) depthTag) _ (sym (h .field .ensures) ∙ ap told (c .before .why .given .1)))
+    sym (after-refused (levelsIn (s .bytes .now)) 0 (s .bytes .now) _ (λ five. refl) _ (sym (h .field .ensures) ∙ ap told (c .before .why .given .1)))
 
 returns-2 : tie.Need-returns-2
-unfolding form
+unfolding form formAfter
 returns-2 c =
     let d = c .before .before in
     let s = d .before .before .before .before .args in
     let b = s .bytes .now in
     sym (
-    next-read _ b (fieldsAfter (levelsIn b) depthTag) (done d)
-    ∙ ap (λ (L : ℕ). formBy (fieldsAfter L depthTag) (drop (headBytes + 1) b)) (sym (getD-drop (headBytes + 1) b headBytes 0))
-    ∙ ap (λ (l : List ℕ). formBy (fieldsAfter (getD l headBytes 0) depthTag) l) (sym (c .before .after-field .ensures))
+    after-read (levelsIn b) 0 b _ (λ five. refl) (done d)
+    ∙ ap (λ (L : ℕ). formAfter L depthTag (drop (headBytes + 1) b)) (sym (getD-drop (headBytes + 1) b headBytes 0))
+    ∙ ap (λ (l : List ℕ). formAfter (getD l headBytes 0) depthTag l) (sym (c .before .after-field .ensures))
     ∙ sym (c .from-second .ensures))
 
 pub form-of-spec : {M : Type 1} → statement M

@@ -1,29 +1,30 @@
-use mathlib.Core.Path.{_≡_, sym, _∙_, ap}
+use mathlib.Core.Path.{_≡_, refl, sym, _∙_, ap}
+use mathlib.Core.Bool.{true}
 use native.Mathlib.Omega.{arith}
 use Rattle.refusals.specs.Answers.{passed}
 use Rattle.refusals.specs.Told.{told}
-use Rattle.width_table.specs.Fields.{nodesTag, fields, fieldsAfter, fieldOf}
-use Rattle.width_table.specs.Bytes.{field, formBy}
-use Rattle.width_table.specs.ReadLaws.{field-holds, next-read, next-refused}
+use Rattle.width_table.specs.Fields.{constantsTag, nodesTag, fields, fieldOf}
+use Rattle.width_table.specs.Bytes.{field}
+use Rattle.width_table.specs.ReadLaws.{field-holds, formAfter, after-refused, after-read}
 use borrow.Author.Needs.{needs}
 use Rattle.width_table.proofs.from_fourth.Statement.{statement}
 use Rattle.width_table.proofs.from_fourth.Tie as tie
 
 -- the field is right, and there
-done : (c : tie.After-enum-told) → field (fieldOf (fields (c .before .before .before .before .args .levels)) nodesTag) (c .before .before .before .before .args .bytes .now) ≡ passed
+done : (c : tie.After-enum-told) → field (fieldOf (fields true (c .before .before .before .before .args .levels)) nodesTag) (c .before .before .before .before .args .bytes .now) ≡ passed
 done c = sym (c .before .before .field .ensures) ∙ ap told (c .enum-told .given .1)
 
 returns : tie.Need-returns
 returns c =
     let h = c .before .before .before in
     let s = h .before .before .args in
-    sym (next-refused _ (s .bytes .now) (fieldsAfter (s .levels) nodesTag) _ (sym (h .field .ensures) ∙ ap told (c .before .why .given .1)))
+    sym (after-refused (s .levels) constantsTag (s .bytes .now) _ (λ five. refl) _ (sym (h .field .ensures) ∙ ap told (c .before .why .given .1)))
 
 returns-2 : tie.Need-returns-2
 returns-2 c =
     let d = c .before .before in
     let s = d .before .before .before .before .args in
-    sym (next-read _ (s .bytes .now) (fieldsAfter (s .levels) nodesTag) (done d) ∙ ap (formBy (fieldsAfter (s .levels) nodesTag)) (sym (c .before .after-field .ensures)) ∙ sym (c .ended .ensures))
+    sym (after-read (s .levels) constantsTag (s .bytes .now) _ (λ five. refl) (done d) ∙ ap (formAfter (s .levels) nodesTag) (sym (c .before .after-field .ensures)) ∙ sym (c .after-fourth .ensures))
 
 pub from-fourth-spec : {M : Type 1} → statement M
 from-fourth-spec =

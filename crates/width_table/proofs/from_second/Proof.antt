@@ -1,30 +1,32 @@
-use mathlib.Core.Path.{_≡_, sym, _∙_, ap}
+use mathlib.Core.Path.{_≡_, refl, sym, _∙_, ap}
+use mathlib.Core.Bool.{true}
 use native.Mathlib.Omega.{arith}
 use lib.ListN.{getD}
 use Rattle.refusals.specs.Answers.{passed}
 use Rattle.refusals.specs.Told.{told}
-use Rattle.width_table.specs.Fields.{levelsTag, headBytes, fields, fieldsAfter, fieldOf}
-use Rattle.width_table.specs.Bytes.{field, formBy}
-use Rattle.width_table.specs.ReadLaws.{field-holds, next-read, next-refused}
+use Rattle.width_table.specs.Fields.{depthTag, levelsTag, headBytes, fields, fieldOf}
+use Rattle.width_table.specs.Bytes.{field}
+use Rattle.width_table.specs.ReadLaws.{field-holds, formAfter, after-refused, after-read}
 use borrow.Author.Needs.{needs}
 use Rattle.width_table.proofs.from_second.Statement.{statement}
 use Rattle.width_table.proofs.from_second.Tie as tie
 
 -- the field is right, and there
-done : (c : tie.After-enum-told) → field (fieldOf (fields 0) levelsTag) (c .before .before .before .before .args .bytes .now) ≡ passed
+done : (c : tie.After-enum-told) → field (fieldOf (fields true 0) levelsTag) (c .before .before .before .before .args .bytes .now) ≡ passed
 done c = sym (c .before .before .field .ensures) ∙ ap told (c .enum-told .given .1)
 
 returns : tie.Need-returns
 returns c =
     let h = c .before .before .before in
     let s = h .before .before .args in
-    sym (next-refused _ (s .bytes .now) (fieldsAfter (getD (s .bytes .now) headBytes 0) levelsTag) _ (sym (h .field .ensures) ∙ ap told (c .before .why .given .1)))
+    sym (after-refused (getD (s .bytes .now) headBytes 0) depthTag (s .bytes .now) _ (λ five. refl) _ (sym (h .field .ensures) ∙ ap told (c .before .why .given .1)))
 
 returns-2 : tie.Need-returns-2
 returns-2 c =
     let d = c .before .before .before in
     let s = d .before .before .before .before .args in
-    sym (next-read _ (s .bytes .now) (fieldsAfter (getD (s .bytes .now) headBytes 0) levelsTag) (done d) ∙ ap (formBy (fieldsAfter (getD (s .bytes .now) headBytes 0) levelsTag)) (sym (c .before .after-field .ensures)) ∙ sym (c .from-third .ensures))
+    let L = getD (s .bytes .now) headBytes 0 in
+    sym (after-read L depthTag (s .bytes .now) _ (λ five. refl) (done d) ∙ ap (formAfter L levelsTag) (sym (c .before .after-field .ensures)) ∙ sym (c .from-third .ensures))
 
 pub from-second-spec : {M : Type 1} → statement M
 from-second-spec =

@@ -1,5 +1,6 @@
 use Prim.Native.Nat.{_+_, _-_, _≤_}
 use mathlib.Core.Path.{_≡_}
+use mathlib.Core.Bool.{true}
 use native.Mathlib.Omega.{arith}
 use lib.ListN.{length}
 use Rattle.width_table.specs.Table.{maxLevels}
@@ -11,7 +12,7 @@ use Rattle.width_table.proofs.put_field.Statement.{statement}
 use Rattle.width_table.proofs.put_field.Tie as tie
 
 -- the field lies within the table
-within : (s : tie.Start) → (valueStart (s .args .levels) (s .args .tag) - headBytes + headBytes ≡ valueStart (s .args .levels) (s .args .tag)) × (valueStart (s .args .levels) (s .args .tag) + length (s .args .value .now) ≤ tableSize (s .args .levels)) × (s .args .levels ≤ maxLevels)
+within : (s : tie.Start) → (valueStart (s .args .levels) (s .args .tag) - headBytes + headBytes ≡ valueStart (s .args .levels) (s .args .tag)) × (valueStart (s .args .levels) (s .args .tag) + length (s .args .value .now) ≤ tableSize true (s .args .levels)) × (s .args .levels ≤ maxLevels)
 within s =
     let a = s .args in
     (start-after (a .levels) (a .tag) (s .pre .0), omega (arith, s .pre .2, value-ends (a .levels) (a .tag) (s .pre .0)), s .pre .1)

@@ -1,11 +1,13 @@
-use mathlib.Core.Path.{refl, sym, _∙_}
 use Prim.Native.Nat.{_≤_}
+use mathlib.Core.Path.{sym, _∙_, subst}
+use mathlib.Core.Bool.{Bool, true, false}
 use native.Mathlib.Omega.{arith}
 use lib.ListN.{length, length-map}
 use lib.Seq.{length-take-le}
-use Rattle.width_table.specs.Fields.{nodeBytes}
+use Rattle.width_table.specs.Fields.{productBytes, tableSize}
 use Rattle.width_table.specs.FormLists.{Sized}
-use Rattle.width_table.specs.WriteLaws.{fields-put}
+use Rattle.width_table.specs.BytesLaws.{without-less}
+use Rattle.width_table.specs.WriteLaws.{five-put, all-put}
 use borrow.Author.Needs.{needs}
 use Rattle.width_table.proofs.put_table.Statement.{statement}
 use Rattle.width_table.proofs.put_table.Tie as tie
@@ -15,38 +17,53 @@ sized : (s : tie.Start) → Sized (s .args .table)
 sized s = record {
   constants = sym (length-map (s .args .table .constants) (λ v. v)) ∙ s .good .0 .1 .1 .1 .1 .0 .1 .0 .1;
   nodes = sym (length-map (s .args .table .nodes) (λ v. v)) ∙ s .good .0 .1 .1 .1 .1 .1 .0 .1 .0 .1;
+  products = sym (length-map (s .args .table .products) (λ v. v)) ∙ s .good .0 .1 .1 .1 .1 .1 .1 .1 .0 .1 .0 .1;
 }
 
--- the nodes of its levels
-taken : (s : tie.Start) → nodeBytes (s .args .table .levels) ≤ length (s .args .table .nodes)
-taken s = omega (arith, s .pre .0, sized s .nodes)
+-- the products of its levels
+taken : (s : tie.Start) → productBytes (s .args .table .levels) ≤ length (s .args .table .products)
+taken s = omega (arith, s .pre .0, sized s .products)
 
-put-field-requires-4 : tie.Need-put-field-requires-4
-put-field-requires-4 c κs = let s = c .before .before .before .before .before .before .before .before .before .before .before .before .before .before .before .before .before .before .before .before in ((omega arith, omega arith), s .pre .0, length-take-le _ _ (taken s), omega (arith, s .pre .1))
+-- with tag 5
+whole : (i : tie.Then1) → let s = i .before .before .before .before .before .before in tableSize true (s .args .table .levels) ≤ length (s .args .lent .now)
+whole i = let s = i .before .before .before .before .before .before in subst (λ (five : Bool). tableSize five (s .args .table .levels) ≤ length (s .args .lent .now)) (i .if1 .taken) (s .pre .1)
+
+put-four-requires : tie.Need-put-four-requires
+put-four-requires c κs =
+    let s = c .before .before in
+    (s .pre .0, omega (arith, s .pre .1, without-less (s .args .table .five) (s .args .table .levels)))
+
+put-field-requires : tie.Need-put-field-requires
+put-field-requires c κs =
+    let i = c .before .before .before .before in
+    let s = i .before .before .before .before .before .before in
+    ((omega arith, omega arith), s .pre .0, length-take-le _ _ (taken s), omega (arith, whole i))
 
 returns : tie.Need-returns
 returns c =
     let q = c .before .before in
-    let p = q .before .before .before .before .before .before in
-    let o = p .before .before .before .before .before .before in
-    let n = o .before .before .before .before .before in
-    let s = n .before .before .before .before in
-    fields-put (s .args .table) (sized s) (s .args .lent .now) _ _ _ _ (n .put-field .ensures) (o .put-field2 .ensures) (p .put-field3 .ensures) (q .put-field4 .ensures)
+    let i = q .before .before .before .before .before in
+    let p = i .before .before .before in
+    let s = p .before .before .before in
+    all-put (s .args .table) (sized s) true (i .if1 .taken) (s .args .lent .now) _ (five-put (s .args .table) (sized s) (s .pre .0) (s .args .lent .now) _ _ (p .put-four .ensures) (q .put-field .ensures))
+
+returns-2 : tie.Need-returns-2
+returns-2 c =
+    let p = c .before .before .before in
+    let s = p .before .before .before in
+    all-put (s .args .table) (sized s) false (c .if1 .left) (s .args .lent .now) _ (p .put-four .ensures)
 
 pub put-table-spec : {M : Type 1} → statement M
 put-table-spec =
     tie.close
     (tie.spec
-    (λ c. search needs)
-    (λ c κs. let s = c .before .before .before in ((omega arith, omega arith), s .pre .0, refl, s .pre .1))
-    (λ c. search needs)
-    (λ c κs. let s = c .before .before .before .before .before .before .before .before in ((omega arith, omega arith), s .pre .0, refl, omega (arith, s .pre .1)))
-    (λ c. search needs)
-    (λ c κs. let s = c .before .before .before .before .before .before .before .before .before .before .before .before .before .before in ((omega arith, omega arith), s .pre .0, sized s .constants, omega (arith, s .pre .1)))
+    put-four-requires
     (λ c. search needs)
     (λ c. search needs)
-    (λ c. taken (c .before .before .before .before .before .before .before .before .before .before .before .before .before .before .before .before .before .before .before))
-    (λ c. sym (length-take-le _ _ (taken (c .before .before .before .before .before .before .before .before .before .before .before .before .before .before .before .before .before .before .before .before))))
-    put-field-requires-4
+    (λ c. taken (c .before .before .before .before .before .before .before .before .before))
+    (λ c. sym (length-take-le _ _ (taken (c .before .before .before .before .before .before .before .before .before .before))))
+    put-field-requires
     (λ c. search needs)
-    returns)
+    returns
+    (λ c. search needs)
+    returns-2)

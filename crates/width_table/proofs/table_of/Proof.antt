@@ -1,5 +1,6 @@
-use Prim.Native.Nat.{ℕ, _+_, _-_, _≤_}
+use Prim.Native.Nat.{ℕ, _-_, _≤_}
 use mathlib.Core.Path.{_≡_, _∙_, ap}
+use mathlib.Core.Bool.{Bool, false}
 use mathlib.Core.List.{List, _++_}
 use native.Mathlib.Omega.{arith}
 use lib.ListN.{length, getD, take, drop, replicate}
@@ -9,14 +10,14 @@ use Rattle.width_table.specs.Nodes.{nodesPerPass}
 use Rattle.width_table.specs.Table.{maxLevels}
 use Rattle.width_table.specs.Fields.{nodesTag, nodeBytes, tableSize, valueStart}
 use Rattle.width_table.specs.Bytes.{depthIn, levelsIn, tableIn}
-use Rattle.width_table.specs.BytesLaws.{form-long, levels-most}
+use Rattle.width_table.specs.BytesLaws.{four-there, levels-most}
 use borrow.Author.Needs.{needs}
 use Rattle.width_table.proofs.table_of.Statement.{statement}
 use Rattle.width_table.proofs.table_of.Tie as tie
 
--- how long the bytes are, and how many levels they hold
-long : (s : tie.Start) → (length (s .args .bytes .now) ≡ tableSize (levelsIn (s .args .bytes .now))) × (levelsIn (s .args .bytes .now) ≤ maxLevels)
-long s = (form-long (s .args .bytes .now) (s .pre), levels-most (s .args .bytes .now) (s .pre))
+-- the first four fields are there, and how many levels they hold
+long : (s : tie.Start) → (tableSize false (levelsIn (s .args .bytes .now)) ≤ length (s .args .bytes .now)) × (levelsIn (s .args .bytes .now) ≤ maxLevels)
+long s = (four-there (s .args .bytes .now) (s .pre), levels-most (s .args .bytes .now) (s .pre))
 
 six-of-requires : tie.Need-six-of-requires
 six-of-requires c κs =
@@ -25,7 +26,7 @@ six-of-requires c κs =
     omega (arith, long s, v .value-start2 .ensures, rest-length (v .value-start2 .result) (s .args .bytes .now))
 
 -- where the nodes start
-nodes-start : (v : tie.After-value-start3) → let n = v .before .before .before .before .before .before .levels-in .result in (v .value-start3 .result ≡ valueStart n nodesTag) × (length (v .before .before .before .before .before .before .before .before .args .bytes .now) ≡ tableSize n) × (n ≤ maxLevels)
+nodes-start : (v : tie.After-value-start3) → let n = v .before .before .before .before .before .before .levels-in .result in (v .value-start3 .result ≡ valueStart n nodesTag) × (tableSize false n ≤ length (v .before .before .before .before .before .before .before .before .args .bytes .now)) × (n ≤ maxLevels)
 nodes-start v =
     let l = v .before .before .before .before .before .before in
     let s = l .before .before in
@@ -41,7 +42,9 @@ nodes-of-requires c κs =
 returns : tie.Need-returns
 unfolding tableIn
 returns c =
-    let n = c .before in
+    let q = c .before in
+    let f = q .before in
+    let n = f .before in
     let m = n .before in
     let v3 = m .before .before in
     let x = v3 .before in
@@ -56,10 +59,10 @@ returns c =
     let nodes = n .nodes-of .ensures
     ∙ ap (λ (r : List ℕ). take (m .value-length .result) r ++ replicate (nodeBytes maxLevels - m .value-length .result) 0) (rest-whole (v3 .value-start3 .result) b)
     ∙ (λ u. take (many u) (drop (v3 .value-start3 .ensures u) b) ++ replicate (nodeBytes maxLevels - many u) 0) in
-    c .new .ensures ∙ (λ u. made (depth u) (levels u) (constants u) (nodes u))
+    c .new .ensures ∙ (λ u. made (depth u) (levels u) (constants u) (nodes u) (f .has-fifth .ensures u) (q .products-in .ensures u))
   where
-    made : ℕ → ℕ → List ℕ → List ℕ → WidthTable
-    made d l k m = record { depth = d; levels = l; constants = k; nodes = m }
+    made : ℕ → ℕ → List ℕ → List ℕ → Bool → List ℕ → WidthTable
+    made d l k m h p = record { depth = d; levels = l; constants = k; nodes = m; five = h; products = p }
 
 pub table-of-spec : {M : Type 1} → statement M
 table-of-spec =
@@ -79,5 +82,7 @@ table-of-spec =
     (λ c. search needs)
     (λ c κs. search needs)
     nodes-of-requires
+    (λ c κs. c .before .before .before .before .before .before .before .before .before .before .before .pre)
+    (λ c κs. c .before .before .before .before .before .before .before .before .before .before .before .before .pre)
     (λ c κs. search needs)
     returns)

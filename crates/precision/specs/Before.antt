@@ -1,12 +1,15 @@
--- The judge as it was before document 02's job 6: G1's error as on lines of two samples or more. No verdict changes (`same-verdict`).
+-- The judge without document 02's job 6: G1's error as on lines of two samples or more. No verdict changes by that job (`same-verdict`), with
+-- widths of products (job 7) or without them.
 use Prim.Native.Nat.{ℕ, zero, suc, _^_}
 use mathlib.Core.List.{List, [], _∷_}
 use mathlib.Core.Path.{_≡_, refl, _∙_, ap, ap₂, fun-ext}
 use Rattle.refusals.specs.Answers.{Answer, passed, asks, _then_}
+use Rattle.stages.specs.Stages.{Product}
 use Rattle.stages.specs.Rule.{Bound}
 use Rattle.width_table.specs.Nodes.{Node, G1, G2, Pass, Rows, LowColumns, HighColumns, TableNode, bookOrder}
 use Rattle.width_table.specs.declared.WidthTable.{WidthTable}
 use Rattle.width_table.specs.Table.{constantBits, integerBits, fractionBits, inputBits, formRight}
+use Rattle.precision.specs.Products.{productOf}
 use Rattle.precision.specs.Bounds.{longBound, boundAt, rowBound, passBound, entering, boundOf}
 use Rattle.precision.specs.Verdict.{keptAt, placeNumbers, judgedBy, judged, firstRefusal, verdict}
 use Rattle.precision.specs.SingleLaws.{same-bound}
@@ -15,12 +18,12 @@ use Rattle.precision.specs.SingleLaws.{same-bound}
 
 module _ (t : WidthTable) (l : ℕ) (b : Bound) where
   unfoldable pub rowBefore : Node → Bound
-  rowBefore = longBound (constantBits t) (inputBits t l Rows) b (fractionBits t l Rows)
+  rowBefore = longBound (constantBits t) (productOf t l Rows) (inputBits t l Rows) b (fractionBits t l Rows)
 
   unfoldable pub passBefore : Pass → Node → Bound
   passBefore Rows = rowBefore
-  passBefore LowColumns = longBound (constantBits t) (inputBits t l LowColumns) (rowBefore G1) (fractionBits t l LowColumns)
-  passBefore HighColumns = longBound (constantBits t) (inputBits t l HighColumns) (rowBefore G2) (fractionBits t l HighColumns)
+  passBefore LowColumns = longBound (constantBits t) (productOf t l LowColumns) (inputBits t l LowColumns) (rowBefore G1) (fractionBits t l LowColumns)
+  passBefore HighColumns = longBound (constantBits t) (productOf t l HighColumns) (inputBits t l HighColumns) (rowBefore G2) (fractionBits t l HighColumns)
 
 unfoldable pub enteringBefore : WidthTable → ℕ → Bound
 enteringBefore t zero = record { range = 0; error = 0 }
@@ -46,19 +49,19 @@ verdictBefore t = asks (formRight t) 4 (firstBefore t (bookOrder (t .levels)))
 abbrev pub SameVerdict : Type 0
 SameVerdict = (t : WidthTable) → verdict t ≡ verdictBefore t
 
-same-at : (F : Node → ℕ) (fi : ℕ) (f : Node → ℕ) {b c : Bound} → b ≡ c → boundAt F fi b f ≡ longBound F fi c f
-same-at F fi f {b} e = fun-ext (same-bound F fi b f) ∙ ap (λ (x : Bound). longBound F fi x f) e
+same-at : (F : Node → ℕ) (fp : Node → Product) (fi : ℕ) (f : Node → ℕ) {b c : Bound} → b ≡ c → boundAt F fp fi b f ≡ longBound F fp fi c f
+same-at F fp fi f {b} e = fun-ext (same-bound F fp fi b f) ∙ ap (λ (x : Bound). longBound F fp fi x f) e
 
 module _ (t : WidthTable) (l : ℕ) {b c : Bound} (e : b ≡ c) where
   same-row : rowBound t l b ≡ rowBefore t l c
   unfolding rowBound rowBefore
-  same-row = same-at (constantBits t) (inputBits t l Rows) (fractionBits t l Rows) e
+  same-row = same-at (constantBits t) (productOf t l Rows) (inputBits t l Rows) (fractionBits t l Rows) e
 
   same-pass : (p : Pass) → passBound t l b p ≡ passBefore t l c p
   unfolding passBound passBefore
   same-pass Rows = same-row
-  same-pass LowColumns = same-at (constantBits t) (inputBits t l LowColumns) (fractionBits t l LowColumns) (ap (λ (x : Node → Bound). x G1) same-row)
-  same-pass HighColumns = same-at (constantBits t) (inputBits t l HighColumns) (fractionBits t l HighColumns) (ap (λ (x : Node → Bound). x G2) same-row)
+  same-pass LowColumns = same-at (constantBits t) (productOf t l LowColumns) (inputBits t l LowColumns) (fractionBits t l LowColumns) (ap (λ (x : Node → Bound). x G1) same-row)
+  same-pass HighColumns = same-at (constantBits t) (productOf t l HighColumns) (inputBits t l HighColumns) (fractionBits t l HighColumns) (ap (λ (x : Node → Bound). x G2) same-row)
 
 same-entering : (t : WidthTable) (l : ℕ) → entering t l ≡ enteringBefore t l
 unfolding entering enteringBefore

@@ -1,6 +1,7 @@
--- The tables that document 01 names, and their verdicts, by computation. So `Accepted` is not empty.
-use Prim.Native.Nat.{ℕ, zero, suc, _-_, _≤_}
-use mathlib.Core.List.{List, [], _∷_, _++_}
+-- The tables that document 01 names, some with widths of products, and their verdicts, by computation. So `Accepted` is not empty.
+use Prim.Native.Nat.{ℕ, zero, suc, _*_, _-_, _≤_}
+use mathlib.Core.Bool.{true, false}
+use mathlib.Core.List.{List, [], _∷_, _++_, map}
 use mathlib.Core.Path.{_≡_, refl, ap}
 use native.Mathlib.Omega.{arith}
 use lib.ListN.{getD}
@@ -8,10 +9,12 @@ use Rattle.exact.specs.Fractions.{_⊕_, _⊗_, whole, magnitude, upDiv, wholes
 use Rattle.numbers.specs.Tests.{every}
 use Rattle.exact.specs.Exact.{lift}
 use Rattle.width_table.specs.declared.WidthTable.{WidthTable}
+use Rattle.width_table.specs.Nodes.{passesPerLevel, bookOrder}
 use Rattle.width_table.specs.Table.{maxLevels, formRight}
 use Rattle.stages.specs.Stages.{made, bits}
 use Rattle.stages.specs.Gains.{gain, exactGain, sumFrom, sumTo, inputAnswer, nodeAnswer, held}
 use Rattle.stages.specs.Rule as Rule
+use Rattle.precision.specs.Products.{productOf}
 use Rattle.precision.specs.Bounds
 use Rattle.refusals.specs.Answers.{Answer, passed, refused}
 use Rattle.precision.specs.Verdict.{judged, firstRefusal, verdict, Accepted}
@@ -29,13 +32,23 @@ abbrev repeat : ℕ → List ℕ → List ℕ
 repeat zero l = []
 repeat (suc k) l = l ++ repeat k l
 
--- a table of depth 8, all F 24; inner levels, then the last one, then zeros
+-- the widths of the products of a pass, of P1 to U2
+abbrev four : ℕ → List ℕ
+four fp = fp ∷ fp ∷ fp ∷ fp ∷ []
+
+-- zeros for the products of so many levels
+abbrev noProducts : ℕ → List ℕ
+noProducts levels = repeat (passesPerLevel * levels) (four 0)
+
+-- a table of depth 8, all F 24, without tag 5; inner levels, then the last one, then zeros
 abbrev pub table : ℕ → List ℕ → List ℕ → WidthTable
 table L inner last = record {
   depth = 8;
   levels = L;
   constants = 24 ∷ 24 ∷ 24 ∷ 24 ∷ 24 ∷ 24 ∷ [];
   nodes = repeat (L - 1) inner ++ last ++ repeat (maxLevels - L) (level 0 0 0 0 0);
+  five = false;
+  products = noProducts maxLevels;
 }
 
 -- all nodes (12, 20), kept ones (12, 2)
@@ -58,7 +71,7 @@ wide = table 1 [] (level 12 13 2 2 20)
 verdicts :
     verdict (usual 1) ∷ verdict (usual 2) ∷ verdict (usual 3) ∷ verdict (usual 4) ∷ verdict (usual 5) ∷ verdict narrow ∷ verdict rough ∷ verdict wide ∷ []
     ≡ passed ∷ passed ∷ passed ∷ passed ∷ passed ∷ refused (6, 1 ∷ 1 ∷ 1 ∷ []) ∷ refused (7, 1 ∷ 2 ∷ 5 ∷ []) ∷ refused (4, []) ∷ []
-unfolding verdict formRight every firstRefusal judged Bounds.boundOf Bounds.entering Bounds.passBound Bounds.rowBound Bounds.boundAt Bounds.longBound Rule.boundAt Rule.rangeAt Rule.errorAt Rule.owns Rule.ownsBring Rule.ownFrom Rule.brought Rule.ownLift Rule.ownScale Rule.loss Rule.timesGain bits upDiv gain exactGain sumFrom sumTo inputAnswer nodeAnswer held made wholesOf lift _⊕_ _⊗_ whole magnitude
+unfolding verdict formRight every firstRefusal judged Bounds.boundOf Bounds.entering Bounds.passBound Bounds.rowBound Bounds.boundAt Bounds.longBound productOf Rule.boundAt Rule.rangeAt Rule.errorAt Rule.owns Rule.ownsBring Rule.ownFrom Rule.brought Rule.ownLift Rule.productLoss Rule.ownScale Rule.loss Rule.timesGain bits upDiv gain exactGain sumFrom sumTo inputAnswer nodeAnswer held made wholesOf lift _⊕_ _⊗_ whole magnitude
 verdicts = refl
 
 abbrev nth : ℕ → List (Answer Unit) → Answer Unit
@@ -94,5 +107,51 @@ told level pass node = (boundable narrow level pass node, rangeTold narrow level
 bounds-told :
     told 1 1 1 ∷ told 1 1 2 ∷ told 2 1 1 ∷ []
     ≡ (passed, 8959885312, 4224) ∷ (refused (6, 1 ∷ 1 ∷ 1 ∷ []), 0, 0) ∷ (refused (4, []), 0, 0) ∷ []
-unfolding boundable formRight every firstRefusal judged Bounds.boundOf Bounds.entering Bounds.passBound Bounds.rowBound Bounds.boundAt Bounds.longBound Rule.boundAt Rule.rangeAt Rule.errorAt Rule.owns Rule.ownsBring Rule.ownFrom Rule.brought Rule.ownLift Rule.ownScale Rule.loss Rule.timesGain bits upDiv gain exactGain sumFrom sumTo inputAnswer nodeAnswer held made wholesOf lift _⊕_ _⊗_ whole magnitude
+unfolding boundable formRight every firstRefusal judged Bounds.boundOf Bounds.entering Bounds.passBound Bounds.rowBound Bounds.boundAt Bounds.longBound productOf Rule.boundAt Rule.rangeAt Rule.errorAt Rule.owns Rule.ownsBring Rule.ownFrom Rule.brought Rule.ownLift Rule.productLoss Rule.ownScale Rule.loss Rule.timesGain bits upDiv gain exactGain sumFrom sumTo inputAnswer nodeAnswer held made wholesOf lift _⊕_ _⊗_ whole magnitude
 bounds-told = refl
+
+-- ---- widths of products (document 02, job 7)
+
+-- a table with tag 5 and these widths of products
+abbrev holding : WidthTable → List ℕ → WidthTable
+holding t widths = record { depth = t .depth; levels = t .levels; constants = t .constants; nodes = t .nodes; five = true; products = widths }
+
+-- the usual table of L levels with tag 5: in each pass these four widths
+abbrev pub cut : ℕ → List ℕ → WidthTable
+cut L widths = holding (usual L) (repeat (passesPerLevel * L) widths ++ noProducts (maxLevels - L))
+
+-- without tag 5 a width is held nevertheless
+abbrev stray : WidthTable
+stray = record { depth = 8; levels = 1; constants = usual 1 .constants; nodes = usual 1 .nodes; five = false; products = 1 ∷ 0 ∷ 0 ∷ 0 ∷ repeat 14 (four 0) }
+
+-- With one level widths of 7 bits are enough and 6 are not, with five levels 15 and 14; of two levels with 0 the first kept node is refused.
+-- 44 cut nothing. Refused 4: 45; a width at an unused level; a width without tag 5.
+cut-verdicts :
+    verdict (cut 1 (four 7)) ∷ verdict (cut 1 (four 6)) ∷ verdict (cut 5 (four 15)) ∷ verdict (cut 5 (four 14)) ∷ verdict (cut 2 (four 0)) ∷ verdict (cut 1 (four 44)) ∷ verdict (cut 1 (four 45))
+    ∷ verdict (holding (usual 1) (repeat 4 (four 44) ++ noProducts 3 ++ repeat 2 (four 0))) ∷ verdict stray ∷ []
+    ≡ passed ∷ refused (7, 1 ∷ 2 ∷ 5 ∷ []) ∷ passed ∷ refused (7, 5 ∷ 2 ∷ 5 ∷ []) ∷ refused (7, 1 ∷ 2 ∷ 6 ∷ []) ∷ passed ∷ refused (4, [])
+    ∷ refused (4, []) ∷ refused (4, []) ∷ []
+unfolding verdict formRight every firstRefusal judged Bounds.boundOf Bounds.entering Bounds.passBound Bounds.rowBound Bounds.boundAt Bounds.longBound productOf Rule.boundAt Rule.rangeAt Rule.errorAt Rule.owns Rule.ownsBring Rule.ownFrom Rule.brought Rule.ownLift Rule.productLoss Rule.ownScale Rule.loss Rule.timesGain bits upDiv gain exactGain sumFrom sumTo inputAnswer nodeAnswer held made wholesOf lift _⊕_ _⊗_ whole magnitude
+cut-verdicts = refl
+
+-- So tables with tag 5 are accepted, and refused.
+pub cut-accepted : Accepted (cut 1 (four 7)) × Accepted (cut 5 (four 15))
+cut-accepted = (ap (nth 0) cut-verdicts, ap (nth 2) cut-verdicts)
+
+pub cut-refused : verdict (cut 1 (four 6)) ≡ refused (7, 1 ∷ 2 ∷ 5 ∷ [])
+cut-refused = ap (nth 1) cut-verdicts
+
+-- The errors of all nodes of one level, in book order: without tag 5; with 44 bits, the same; with 40 to 43, where each product that is cut
+-- loses one unit of 2^-32; with 5 to 8.
+abbrev errors : WidthTable → List ℕ
+errors t = map (λ p. Bounds.boundOf t p .error) (bookOrder (t .levels))
+
+pub cut-errors :
+    errors (usual 1) ∷ errors (cut 1 (four 44)) ∷ errors (cut 1 (40 ∷ 41 ∷ 42 ∷ 43 ∷ [])) ∷ errors (cut 1 (5 ∷ 6 ∷ 7 ∷ 8 ∷ [])) ∷ []
+    ≡ (4224 ∷ 5079 ∷ 16683 ∷ 22999 ∷ 30645 ∷ 18745 ∷ 132206 ∷ 49794 ∷ 82530 ∷ 76839 ∷ 1073830371 ∷ 1073813879 ∷ 82541 ∷ 32569 ∷ 57278 ∷ 56411 ∷ 1073806875 ∷ 1073791897 ∷ [])
+    ∷ (4224 ∷ 5079 ∷ 16683 ∷ 22999 ∷ 30645 ∷ 18745 ∷ 132206 ∷ 49794 ∷ 82530 ∷ 76839 ∷ 1073830371 ∷ 1073813879 ∷ 82541 ∷ 32569 ∷ 57278 ∷ 56411 ∷ 1073806875 ∷ 1073791897 ∷ [])
+    ∷ (4224 ∷ 5080 ∷ 16686 ∷ 23004 ∷ 30650 ∷ 18747 ∷ 132228 ∷ 49802 ∷ 82544 ∷ 76852 ∷ 1073830387 ∷ 1073813891 ∷ 82550 ∷ 32574 ∷ 57286 ∷ 56419 ∷ 1073806885 ∷ 1073791904 ∷ [])
+    ∷ (134217856 ∷ 81332781 ∷ 286275837 ∷ 312459157 ∷ 359207981 ∷ 249026793 ∷ 1632931304 ∷ 599350152 ∷ 1044091200 ∷ 922423131 ∷ 2134164604 ∷ 1981958800 ∷ 1173225427 ∷ 440456870 ∷ 811643919 ∷ 735326962 ∷ 1919077546 ∷ 1779761921 ∷ [])
+    ∷ []
+unfolding Bounds.boundOf Bounds.entering Bounds.passBound Bounds.rowBound Bounds.boundAt Bounds.longBound productOf Rule.boundAt Rule.rangeAt Rule.errorAt Rule.owns Rule.ownsBring Rule.ownFrom Rule.brought Rule.ownLift Rule.productLoss Rule.ownScale Rule.loss Rule.timesGain bits upDiv gain exactGain sumFrom sumTo inputAnswer nodeAnswer held made wholesOf lift _⊕_ _⊗_ whole magnitude
+cut-errors = refl

@@ -9,20 +9,24 @@ use lib.Dec.{T, eqb, leb, leb→le, le→leb, ltb, lt→ltb}
 use lib.ListN.{getD}
 use lib.Pow.{pow-mono}
 use borrow.Author.Tests.{lt-leb, le-ltb}
+use Rattle.numbers.specs.Tests.{by-ltb}
 use Rattle.refusals.specs.Answers.{Answer, passed, refused, asksGiving}
 use Rattle.refusals.specs.AnswerLaws.{asks-done, asks-right, asks-wrong}
 use Rattle.width_table.specs.declared.WidthTable.{WidthTable}
 use Rattle.width_table.specs.Nodes.{Node, G1, G2, Pass, Rows, LowColumns, HighColumns, nodeAt, nodeNumber, passNumber, passNodes}
 use Rattle.width_table.specs.Table.{maxConstantBits, maxIntegerBits, maxFractionBits, nodePlace, constantBits, integerBits, fractionBits, inputBits}
 use Rattle.width_table.specs.Readers.{constantBitsAt, integerBitsAt, fractionBitsAt, inputBitsAt}
-use Rattle.width_table.specs.Limits.{in-nodes, form-constants, form-widths, constant-read, integer-read, fraction-read, input-read}
+use Rattle.width_table.specs.Limits.{in-nodes, form-constants, form-widths, constant-read, integer-read, fraction-read, cut-read, input-read}
+use Rattle.stages.specs.Stages.{Product, cutTo}
 use Rattle.stages.specs.Rule.{timesGain, ownLift, ownScale}
+use Rattle.precision.specs.Products.{productOf}
 use Rattle.precision.specs.Bounds.{longBound, rowBound, passBound, boundOf}
 use Rattle.precision.specs.SingleLaws.{same-bound}
 use Rattle.precision.specs.Verdict.{fits, keptColumn, keptAt, judged, firstRefusal}
 use Rattle.precision.specs.Promise.{each-accepts}
 use Rattle.precision.specs.Places.{places, mostFitting, gainAt, carriedTo, multiplied, other, fed, bitsOf, ownFrom, ownErrorOf, ownHere, ownsOf, ownBy, asHeld, judgedAs, boundOfNode, At, Limited, Read, Enters, Holds}
-use Rattle.width_table.specs.Numbered.{nodeOf, passOf, IsNode, IsPass, node-number, pass-number}
+use Rattle.precision.specs.ProductReads.{own-number}
+use Rattle.width_table.specs.Numbered.{nodeOf, passOf, IsNode, IsPass, IsProduct, node-number, pass-number}
 use Rattle.precision.specs.PlaceLaws.{largest, by-place, multiplied-place, gain-most, times-small, carried-start, carried-next, carried-small, own-is, range-is, error-is, total-is, own-small, owns-most}
 use Rattle.precision.specs.declared.Bound as Code
 use Rattle.precision.specs.declared.PassBounds.{PassBounds}
@@ -86,6 +90,7 @@ module _ {t : WidthTable} {l p : ℕ} {w : Widths} (h : Read t l p w) where
     constant = λ k i. constant-are k i .1;
     integer = λ k i. omega (arith, h .integer k i, integer-read t (h .place .form) l (h .place .level-from) (h .place .level-to) p k (h .place .pass) i);
     fraction = λ k i. bits-are k i .1;
+    product = λ k i. omega (arith, h .product k i, cut-read t (h .place .form) l (h .place .level-from) (h .place .level-to) p k (h .place .pass) i .1);
   }
 
   pub own-read : (k : ℕ) → IsNode k → (r : ℕ) → ownBy w k r ≡ ownErrorOf t l (passOf p) k r
@@ -95,15 +100,33 @@ module _ {t : WidthTable} {l p : ℕ} {w : Widths} (h : Read t l p w) where
       let m = bits-are (multiplied k) (multiplied-place k i) .0 in
       let o = bits-are (other k) (omega arith) .0 in
       let f = bits-are k (omega arith) .0 in
-      λ u. elim (ltb k (nodeNumber G1)) [ true ↦ ownLift (c u) (m u) (o u) (f u) r | false ↦ ownScale (c u) (m u) (f u) r ]
+      (λ u. elim (ltb k (nodeNumber G1)) [ true ↦ ownLift (cutTo (getD (w .products) (k - 1) 0)) (c u) (m u) (o u) (f u) r | false ↦ ownScale (c u) (m u) (f u) r ])
+      ∙ by-ltb (λ (x : Bool). own x (cutTo (getD (w .products) (k - 1) 0)) ≡ own x (productOf t l (passOf p) (nodeOf k))) k (nodeNumber G1) (λ j. lifted (omega arith, omega arith)) (λ j. refl)
+    where
+      F : ℕ
+      F = constantBits t (nodeOf k)
+
+      g : ℕ → ℕ
+      g = bitsOf t l (passOf p)
+
+      -- by whether the stage lifts, and by the width of its product
+      own : Bool → Product → ℕ
+      own lifts q = elim lifts [ true ↦ ownLift q F (g (multiplied k)) (g (other k)) (g k) r | false ↦ ownScale F (g (multiplied k)) (g k) r ]
+
+      lifted : IsProduct k → own true (cutTo (getD (w .products) (k - 1) 0)) ≡ own true (productOf t l (passOf p) (nodeOf k))
+      lifted j =
+          let (c, C) = constant-are k i in
+          let (m, M) = bits-are (multiplied k) (multiplied-place k i) in
+          ap (λ (q : ℕ). own true (cutTo q)) (h .product k j)
+          ∙ sym (own-number (h .place) k j F (g (multiplied k)) (g (other k)) (g k) r (omega (arith, c, C)) (omega (arith, m, M)))
 
 -- ---- what is computed for a pass
 
-bound-fed : (t : WidthTable) (l : ℕ) (p : Pass) (n : Node) → boundOf t (nodeAt l p n) ≡ longBound (constantBits t) (inputBits t l p) (fed t l p) (fractionBits t l p) n
+bound-fed : (t : WidthTable) (l : ℕ) (p : Pass) (n : Node) → boundOf t (nodeAt l p n) ≡ longBound (constantBits t) (productOf t l p) (inputBits t l p) (fed t l p) (fractionBits t l p) n
 unfolding boundOf passBound rowBound
-bound-fed t l Rows n = same-bound (constantBits t) (inputBits t l Rows) (fed t l Rows) (fractionBits t l Rows) n
-bound-fed t l LowColumns n = same-bound (constantBits t) (inputBits t l LowColumns) (fed t l LowColumns) (fractionBits t l LowColumns) n
-bound-fed t l HighColumns n = same-bound (constantBits t) (inputBits t l HighColumns) (fed t l HighColumns) (fractionBits t l HighColumns) n
+bound-fed t l Rows n = same-bound (constantBits t) (productOf t l Rows) (inputBits t l Rows) (fed t l Rows) (fractionBits t l Rows) n
+bound-fed t l LowColumns n = same-bound (constantBits t) (productOf t l LowColumns) (inputBits t l LowColumns) (fed t l LowColumns) (fractionBits t l LowColumns) n
+bound-fed t l HighColumns n = same-bound (constantBits t) (productOf t l HighColumns) (inputBits t l HighColumns) (fed t l HighColumns) (fractionBits t l HighColumns) n
 
 -- x has what v, that enters the pass, carries to each place
 abbrev pub Carries : ℕ → List ℕ → Type 0
@@ -134,10 +157,10 @@ module _ {t : WidthTable} {l p : ℕ} {b : Code.Bound} (h : Enters t l p b) wher
   small-fed = omega (arith, range-fed, ap (λ (x : Code.Bound). x .error) (h .is), h .small)
 
   owns-small : (k i : ℕ) → getD (ownsOf t l P k) i 0 ≤ largest
-  owns-small = owns-most (constantBits t) (inputBits t l P) (fed t l P) (fractionBits t l P) small-fed (λ n. form-constants t (h .place .form) n .0)
+  owns-small = owns-most (constantBits t) (productOf t l P) (inputBits t l P) (fed t l P) (fractionBits t l P) small-fed (λ n. form-constants t (h .place .form) n .0)
 
   pub errors-start : (x : List ℕ) → Carries (b .error) x → Errors t l p 1 x
-  errors-start x c i j = c i j ∙ ap (λ (e : Code.Bound). timesGain (e .error) (gainAt 0 i)) (h .is) ∙ sym (carried-start (constantBits t) (inputBits t l P) (fed t l P) (fractionBits t l P) i)
+  errors-start x c i j = c i j ∙ ap (λ (e : Code.Bound). timesGain (e .error) (gainAt 0 i)) (h .is) ∙ sym (carried-start (constantBits t) (productOf t l P) (inputBits t l P) (fed t l P) (fractionBits t l P) i)
 
   pub ranges-small : (x : List ℕ) → Carries (b .range) x → (i : ℕ) → i < places → getD x i 0 ≤ 2 ^ 48
   ranges-small x r i j = omega (arith, r i j, times-small (b .range) (gainAt 0 i) (omega (arith, h .small)) (gain-most 0 i))
@@ -154,26 +177,26 @@ module _ {t : WidthTable} {l p : ℕ} {b : Code.Bound} (h : Enters t l p b) wher
       ∙ ap (λ (m : ℕ). ownErrorOf t l P k (getD x m 0 + getD y m 0)) em
       ∙ ap (λ (z : ℕ). ownErrorOf t l P k (z + getD y n 0)) (r n here ∙ ap (λ (z : ℕ). timesGain z (gainAt 0 n)) range-fed)
       ∙ ap (λ (z : ℕ). ownErrorOf t l P k (timesGain (fed t l P .range) (gainAt 0 n) + z)) (e n here)
-      ∙ ap (ownErrorOf t l P k) (total-is (constantBits t) (inputBits t l P) (fed t l P) (fractionBits t l P) k i)
-      ∙ sym (own-is (constantBits t) (inputBits t l P) (fed t l P) (fractionBits t l P) k i)
+      ∙ ap (ownErrorOf t l P k) (total-is (constantBits t) (productOf t l P) (inputBits t l P) (fed t l P) (fractionBits t l P) k i)
+      ∙ sym (own-is (constantBits t) (productOf t l P) (inputBits t l P) (fed t l P) (fractionBits t l P) k i)
 
   pub own-most : (k : ℕ) → IsNode k → ownHere t l P k ≤ largest
-  own-most = own-small (constantBits t) (inputBits t l P) (fed t l P) (fractionBits t l P) small-fed (λ n. form-constants t (h .place .form) n .0)
+  own-most = own-small (constantBits t) (productOf t l P) (inputBits t l P) (fed t l P) (fractionBits t l P) small-fed (λ n. form-constants t (h .place .form) n .0)
 
   -- one place more
   pub errors-next : (k : ℕ) → IsNode k → (y z : List ℕ) {own : ℕ} → Errors t l p k y → own ≡ ownHere t l P k → ((i : ℕ) → i < places → getD z i 0 ≡ getD y i 0 + timesGain own (gainAt k i)) → Errors t l p (k + 1) z
   errors-next k i y z {own} e eo c j q =
       c j q
       ∙ (λ u. e j q u + timesGain (eo u) (gainAt k j))
-      ∙ sym (carried-next (constantBits t) (inputBits t l P) (fed t l P) (fractionBits t l P) j k i)
+      ∙ sym (carried-next (constantBits t) (productOf t l P) (inputBits t l P) (fed t l P) (fractionBits t l P) j k i)
 
   -- all of them: the bounds
   bound-is : (k : ℕ) → IsNode k → bound (timesGain (b .range) (gainAt 0 k)) (carriedTo (ownsOf t l P places) k places) ≡ boundOfNode t l p k
   unfolding longBound
   bound-is k i =
       ap (λ (r : ℕ). bound (timesGain r (gainAt 0 k)) (carriedTo (ownsOf t l P places) k places)) range-fed
-      ∙ ap (λ (r : ℕ). bound r (carriedTo (ownsOf t l P places) k places)) (range-is (constantBits t) (inputBits t l P) (fed t l P) (fractionBits t l P) k i)
-      ∙ ap (bound _) (error-is (constantBits t) (inputBits t l P) (fed t l P) (fractionBits t l P) k i)
+      ∙ ap (λ (r : ℕ). bound r (carriedTo (ownsOf t l P places) k places)) (range-is (constantBits t) (productOf t l P) (inputBits t l P) (fed t l P) (fractionBits t l P) k i)
+      ∙ ap (bound _) (error-is (constantBits t) (productOf t l P) (inputBits t l P) (fed t l P) (fractionBits t l P) k i)
       ∙ ap asHeld (sym (bound-fed t l P (nodeOf k)))
 
   pub all-held : (x : PassBounds) → Read t l p (x .widths) → Carries (b .range) (x .ranges) → Errors t l p places (x .errors) → Holds t l p x

@@ -7,15 +7,15 @@ use native.Mathlib.Omega.{arith}
 use native.Mathlib.Nat.{div-mul-le-self, mul-le-mul-left, mul-le-mul-right, le-trans}
 use lib.Dec.{T, eqb, ltb, leb, leb→le, lit≤}
 use lib.ListN.{getD}
-use lib.Pow.{pow-mono}
-use Rattle.numbers.specs.Tests.{every, both, ltb-true, ltb-false}
+use lib.Pow.{pow-pos, pow-mono}
+use Rattle.numbers.specs.Tests.{every, both, by-leb, ltb-true, ltb-false}
 use Rattle.exact.specs.Fractions.{upDiv}
 use Rattle.width_table.specs.Nodes.{Node, P2, G1, G2, nodeNumber}
-use Rattle.stages.specs.Stages.{low, high, stage, forward, bits}
+use Rattle.stages.specs.Stages.{low, high, stage, forward, Product, uncut, cutTo, productBits, bits}
 use Rattle.stages.specs.Gains.{samples, node, gain}
 use Rattle.stages.specs.GainTable.{forwardGains, forward-gain}
 use Rattle.stages.specs.Rule as Rule
-use Rattle.stages.specs.Rule.{Bound, together, timesGain, loss, ownLift, ownScale, brought}
+use Rattle.stages.specs.Rule.{Bound, together, timesGain, loss, productLoss, ownLift, ownScale, brought}
 use Rattle.stages.specs.Held.{weighed}
 use Rattle.stages.specs.RuleLaws as RuleLaws
 use Rattle.stages.specs.RuleLaws.{timesGain-zero, timesGain-none, timesGain-one, weighed-ext, error-sum, bound-start, bound-kept}
@@ -82,13 +82,13 @@ carried-small x h j (suc n) = omega (arith, carried-small x h j n, times-small (
 
 -- ---- the bounds by number
 
-module _ (F : Node → ℕ) (fi : ℕ) (b : Bound) (f : Node → ℕ) where
+module _ (F : Node → ℕ) (fp : Node → Product) (fi : ℕ) (b : Bound) (f : Node → ℕ) where
   -- what the input carries, and what one place more does
-  pub carried-start : (j : ℕ) → carriedTo (ownsBelow F fi b f 1) j places ≡ timesGain (b .error) (gainAt 0 j)
+  pub carried-start : (j : ℕ) → carriedTo (ownsBelow F fp fi b f 1) j places ≡ timesGain (b .error) (gainAt 0 j)
   unfolding carriedTo ownsBelow ownAt
   carried-start j = simp timesGain-zero (omega arith)
 
-  pub carried-next : (j k : ℕ) → IsNode k → carriedTo (ownsBelow F fi b f (k + 1)) j places ≡ carriedTo (ownsBelow F fi b f k) j places + timesGain (ownAt F fi b f k) (gainAt k j)
+  pub carried-next : (j k : ℕ) → IsNode k → carriedTo (ownsBelow F fp fi b f (k + 1)) j places ≡ carriedTo (ownsBelow F fp fi b f k) j places + timesGain (ownAt F fp fi b f k) (gainAt k j)
   unfolding carriedTo ownsBelow
   carried-next j =
       by-place _
@@ -102,19 +102,22 @@ module _ (F : Node → ℕ) (fi : ℕ) (b : Bound) (f : Node → ℕ) where
   abbrev Fs : ℕ → ℕ
   Fs i = F (nodeOf (suc i))
 
+  abbrev fps : ℕ → Product
+  fps i = fp (nodeOf (suc i))
+
   abbrev fs : ℕ → ℕ
   fs i = f (nodeOf (suc i))
 
   -- the first stage multiplies the input, and G2 what P2 left
-  pub own-is : (k : ℕ) → IsNode k → ownAt F fi b f k ≡ ownFrom F fi b f k (totalAt F fi b f (multiplied k))
+  pub own-is : (k : ℕ) → IsNode k → ownAt F fp fi b f k ≡ ownFrom F fp fi b f k (totalAt F fp fi b f (multiplied k))
   unfolding ownAt ownFrom totalAt longBound bits RuleLaws.ownAt Rule.ownFrom Rule.boundAt
   own-is =
       by-place _
-      (ap (λ (x : Bound). ownLift (Fs 0) fi fi (fs 0) (x .range + x .error)) (bound-start forward (together b) Fs (λ s. fi) fs low))
+      (ap (λ (x : Bound). ownLift (fps 0) (Fs 0) fi fi (fs 0) (x .range + x .error)) (bound-start forward (together b) Fs fps (λ s. fi) fs low))
       refl refl refl refl
-      (ap (λ (x : Bound). ownScale (Fs 5) (fs 2) (fs 5) (x .range + x .error)) (bound-kept forward (together b) Fs (λ s. fi) fs 4 high refl ∙ bound-kept forward (together b) Fs (λ s. fi) fs 3 high refl))
+      (ap (λ (x : Bound). ownScale (Fs 5) (fs 2) (fs 5) (x .range + x .error)) (bound-kept forward (together b) Fs fps (λ s. fi) fs 4 high refl ∙ bound-kept forward (together b) Fs fps (λ s. fi) fs 3 high refl))
 
-  pub range-is : (k : ℕ) → IsNode k → timesGain (b .range) (gainAt 0 k) ≡ longBound F fi b f (nodeOf k) .range
+  pub range-is : (k : ℕ) → IsNode k → timesGain (b .range) (gainAt 0 k) ≡ longBound F fp fi b f (nodeOf k) .range
   unfolding longBound Rule.boundAt Rule.rangeAt brought
   range-is = by-place _ (at 1 (lit≤ tt)) (at 2 (lit≤ tt)) (at 3 (lit≤ tt)) (at 4 (lit≤ tt)) (at 5 (lit≤ tt)) (at 6 (lit≤ tt))
     where
@@ -122,17 +125,17 @@ module _ (F : Node → ℕ) (fi : ℕ) (b : Bound) (f : Node → ℕ) where
       at k h = ap (timesGain (b .range)) (sym (forward-gain 0 k (omega arith) (omega arith)))
 
   -- the error of a node by numbers
-  pub error-at : (k : ℕ) → k < places → Rule.errorAt forward (together b) Fs (λ s. fi) fs (stage forward (k - 1) .side) k ≡ timesGain (b .error) (gainAt 0 k) + weighed (λ i. gainAt (suc i) k) (RuleLaws.ownAt forward (together b) Fs (λ s. fi) fs) k
+  pub error-at : (k : ℕ) → k < places → Rule.errorAt forward (together b) Fs fps (λ s. fi) fs (stage forward (k - 1) .side) k ≡ timesGain (b .error) (gainAt 0 k) + weighed (λ i. gainAt (suc i) k) (RuleLaws.ownAt forward (together b) Fs fps (λ s. fi) fs) k
   unfolding brought
   error-at k h =
       omega (
         arith,
-        error-sum forward (together b) Fs (λ s. fi) fs (stage forward (k - 1) .side) k,
+        error-sum forward (together b) Fs fps (λ s. fi) fs (stage forward (k - 1) .side) k,
         ap (timesGain (b .error)) (forward-gain 0 k (omega arith) (omega arith)),
-        weighed-ext (λ i. gain forward (stage forward (k - 1) .side) k (node i)) (λ i. gainAt (suc i) k) (RuleLaws.ownAt forward (together b) Fs (λ s. fi) fs) k (λ i l. forward-gain (suc i) k (omega arith) (omega arith)),
+        weighed-ext (λ i. gain forward (stage forward (k - 1) .side) k (node i)) (λ i. gainAt (suc i) k) (RuleLaws.ownAt forward (together b) Fs fps (λ s. fi) fs) k (λ i l. forward-gain (suc i) k (omega arith) (omega arith)),
       )
 
-  pub error-is : (k : ℕ) → IsNode k → carriedTo (ownsBelow F fi b f places) k places ≡ longBound F fi b f (nodeOf k) .error
+  pub error-is : (k : ℕ) → IsNode k → carriedTo (ownsBelow F fp fi b f places) k places ≡ longBound F fp fi b f (nodeOf k) .error
   unfolding carriedTo ownsBelow ownAt longBound Rule.boundAt weighed
   error-is =
       by-place _
@@ -141,10 +144,10 @@ module _ (F : Node → ℕ) (fi : ℕ) (b : Bound) (f : Node → ℕ) where
       (simp timesGain-none (omega (arith, error-at 3 (lit≤ tt))))
       (simp timesGain-none (omega (arith, error-at 4 (lit≤ tt))))
       (simp timesGain-none (omega (arith, error-at 5 (lit≤ tt))))
-      (simp timesGain-none (omega (arith, error-at 6 (lit≤ tt), timesGain-none (RuleLaws.ownAt forward (together b) Fs (λ s. fi) fs 3), timesGain-none (RuleLaws.ownAt forward (together b) Fs (λ s. fi) fs 4))))
+      (simp timesGain-none (omega (arith, error-at 6 (lit≤ tt), timesGain-none (RuleLaws.ownAt forward (together b) Fs fps (λ s. fi) fs 3), timesGain-none (RuleLaws.ownAt forward (together b) Fs fps (λ s. fi) fs 4))))
 
   -- what the places below k carry to the place that k multiplies
-  pub total-is : (k : ℕ) → IsNode k → timesGain (b .range) (gainAt 0 (multiplied k)) + carriedTo (ownsBelow F fi b f k) (multiplied k) places ≡ totalAt F fi b f (multiplied k)
+  pub total-is : (k : ℕ) → IsNode k → timesGain (b .range) (gainAt 0 (multiplied k)) + carriedTo (ownsBelow F fp fi b f k) (multiplied k) places ≡ totalAt F fp fi b f (multiplied k)
   unfolding carriedTo ownsBelow ownAt totalAt longBound Rule.boundAt weighed
   total-is =
       by-place _
@@ -182,16 +185,38 @@ pub loss-none : (f full : ℕ) → full ≤ f → loss f full ≡ 0
 unfolding loss
 loss-none f full h = ap (λ (t : Bool). elim t [ true ↦ 2 ^ (32 - f) | false ↦ 0 ]) (ltb-false f full h)
 
-pub own-half : (F : Node → ℕ) (fi : ℕ) (b : Bound) (f : Node → ℕ) (k r : ℕ) → 1 ≤ F (nodeOf k) → 2 * ownFrom F fi b f k r ≤ r + 1 + 2 * 2 ^ 32
-unfolding ownFrom ownLift ownScale
-own-half F fi b f k r h = go (ltb k (nodeNumber G1))
+-- a division rounded up gives no more than what is divided
+up-most : (a k : ℕ) → upDiv a (2 ^ k) ≤ a
+unfolding upDiv
+up-most a k = law (2 ^ k) ((a + (2 ^ k - 1)) / 2 ^ k) (pow-pos k) (div-mul-le-self (a + (2 ^ k - 1)) (2 ^ k))
   where
+    law : (m q : ℕ) → 0 < m → q * m ≤ a + (m - 1) → q ≤ a
+    law m zero i j = omega arith
+    law (suc m) (suc q) i j = by-leb (λ (x : Bool). suc q ≤ a) (suc q) a (λ h. h) (λ h. absurd (omega (arith, mul-le-mul-right m h)))
+
+pub product-loss-most : (p : Product) (full : ℕ) → productLoss p full ≤ 2 ^ 32
+unfolding productLoss
+product-loss-most uncut full = lit≤ tt
+product-loss-most (cutTo fp) full = go (ltb fp full)
+  where
+    go : (t : Bool) → elim t [ true ↦ upDiv (2 ^ 32) (2 ^ fp) | false ↦ 0 ] ≤ 2 ^ 32
+    go true = up-most (2 ^ 32) fp
+    go false = lit≤ tt
+
+pub own-half : (F : Node → ℕ) (fp : Node → Product) (fi : ℕ) (b : Bound) (f : Node → ℕ) (k r : ℕ) → 1 ≤ F (nodeOf k) → 2 * ownFrom F fp fi b f k r ≤ r + 1 + 4 * 2 ^ 32
+unfolding ownFrom ownLift ownScale
+own-half F fp fi b f k r h = go (ltb k (nodeNumber G1))
+  where
+    -- of the product before its cut
+    full : ℕ
+    full = F (nodeOf k) + bitsAt F fp fi b f (multiplied k)
+
     go : (t : Bool) → 2 * elim t [
-      | true ↦ upDiv r (2 ^ F (nodeOf k)) + loss (bitsAt F fi b f k) (max (bitsAt F fi b f (other k)) (F (nodeOf k) + bitsAt F fi b f (multiplied k)))
-      | false ↦ upDiv r (2 ^ (F (nodeOf k) + 1)) + loss (bitsAt F fi b f k) (F (nodeOf k) + bitsAt F fi b f (multiplied k))
-    ] ≤ r + 1 + 2 * 2 ^ 32
-    go true = omega (arith, up-half r (F (nodeOf k)) h, loss-most (bitsAt F fi b f k) (max (bitsAt F fi b f (other k)) (F (nodeOf k) + bitsAt F fi b f (multiplied k))))
-    go false = omega (arith, up-half r (F (nodeOf k) + 1) (omega arith), loss-most (bitsAt F fi b f k) (F (nodeOf k) + bitsAt F fi b f (multiplied k)))
+      | true ↦ upDiv r (2 ^ F (nodeOf k)) + productLoss (fp (nodeOf k)) full + loss (bitsAt F fp fi b f k) (max (bitsAt F fp fi b f (other k)) (productBits (fp (nodeOf k)) full))
+      | false ↦ upDiv r (2 ^ (F (nodeOf k) + 1)) + loss (bitsAt F fp fi b f k) full
+    ] ≤ r + 1 + 4 * 2 ^ 32
+    go true = omega (arith, up-half r (F (nodeOf k)) h, product-loss-most (fp (nodeOf k)) full, loss-most (bitsAt F fp fi b f k) (max (bitsAt F fp fi b f (other k)) (productBits (fp (nodeOf k)) full)))
+    go false = omega (arith, up-half r (F (nodeOf k) + 1) (omega arith), loss-most (bitsAt F fp fi b f k) full)
 
 -- what is carried, before its roundings
 abbrev weighted : List ℕ → ℕ → ℕ → ℕ
@@ -207,41 +232,41 @@ held : (t : Bool) {x : ℕ} → x ≤ largest → elim t [ true ↦ x | false �
 held true h = h
 held false h = lit≤ tt
 
-module _ (F : Node → ℕ) (fi : ℕ) (b : Bound) (f : Node → ℕ) (small : b .range + b .error ≤ mostFitting) (positive : (n : Node) → 1 ≤ F n) where
+module _ (F : Node → ℕ) (fp : Node → Product) (fi : ℕ) (b : Bound) (f : Node → ℕ) (small : b .range + b .error ≤ mostFitting) (positive : (n : Node) → 1 ≤ F n) where
   -- twice an own error, from what is carried to the place that is multiplied
-  own-most : (k : ℕ) → IsNode k → 65536 * (2 * ownAt F fi b f k) ≤ b .range * gainAt 0 (multiplied k) + weighted (ownsBelow F fi b f k) (multiplied k) places + 8 * 65535 + 65536 * (1 + 2 * 2 ^ 32)
+  own-most : (k : ℕ) → IsNode k → 65536 * (2 * ownAt F fp fi b f k) ≤ b .range * gainAt 0 (multiplied k) + weighted (ownsBelow F fp fi b f k) (multiplied k) places + 8 * 65535 + 65536 * (1 + 4 * 2 ^ 32)
   own-most k i =
-      omega (arith, own-is F fi b f k i, own-half F fi b f k (totalAt F fi b f (multiplied k)) (positive (nodeOf k)), total-is F fi b f k i, times-most (b .range) (gainAt 0 (multiplied k)), carried-most (ownsBelow F fi b f k) (multiplied k) places)
+      omega (arith, own-is F fp fi b f k i, own-half F fp fi b f k (totalAt F fp fi b f (multiplied k)) (positive (nodeOf k)), total-is F fp fi b f k i, times-most (b .range) (gainAt 0 (multiplied k)), carried-most (ownsBelow F fp fi b f k) (multiplied k) places)
 
-  own-0 : ownAt F fi b f 0 ≤ largest
+  own-0 : ownAt F fp fi b f 0 ≤ largest
   unfolding ownAt
   own-0 = omega arith
 
-  own-1 : ownAt F fi b f 1 ≤ 5 * 2 ^ 40
+  own-1 : ownAt F fp fi b f 1 ≤ 5 * 2 ^ 40
   unfolding ownsBelow ownAt
   own-1 = omega (arith, own-most 1 (lit≤ tt, lit≤ tt))
 
-  own-2 : ownAt F fi b f 2 ≤ 77 * 2 ^ 38
+  own-2 : ownAt F fp fi b f 2 ≤ 77 * 2 ^ 38
   unfolding ownsBelow ownAt
   own-2 = omega (arith, own-1, own-most 2 (lit≤ tt, lit≤ tt))
 
-  own-3 : ownAt F fi b f 3 ≤ 63 * 2 ^ 38
+  own-3 : ownAt F fp fi b f 3 ≤ 63 * 2 ^ 38
   unfolding ownsBelow ownAt
   own-3 = omega (arith, own-1, own-2, own-most 3 (lit≤ tt, lit≤ tt))
 
-  own-4 : ownAt F fi b f 4 ≤ 9 * 2 ^ 42
+  own-4 : ownAt F fp fi b f 4 ≤ 9 * 2 ^ 42
   unfolding ownsBelow ownAt
   own-4 = omega (arith, own-1, own-2, own-3, own-most 4 (lit≤ tt, lit≤ tt))
 
-  own-5 : ownAt F fi b f 5 ≤ largest
+  own-5 : ownAt F fp fi b f 5 ≤ largest
   unfolding ownsBelow ownAt
   own-5 = omega (arith, own-1, own-2, own-3, own-4, own-most 5 (lit≤ tt, lit≤ tt))
 
-  own-6 : ownAt F fi b f 6 ≤ largest
+  own-6 : ownAt F fp fi b f 6 ≤ largest
   unfolding ownsBelow ownAt
   own-6 = omega (arith, own-1, own-2, own-3, own-4, own-most 6 (lit≤ tt, lit≤ tt))
 
-  pub owns-most : (k i : ℕ) → getD (ownsBelow F fi b f k) i 0 ≤ largest
+  pub owns-most : (k i : ℕ) → getD (ownsBelow F fp fi b f k) i 0 ≤ largest
   unfolding ownsBelow
   owns-most k zero = held (ltb 0 k) own-0
   owns-most k (suc zero) = held (ltb 1 k) (le-trans own-1 (lit≤ tt))
@@ -252,5 +277,5 @@ module _ (F : Node → ℕ) (fi : ℕ) (b : Bound) (f : Node → ℕ) (small : b
   owns-most k (suc (suc (suc (suc (suc (suc zero)))))) = held (ltb 6 k) own-6
   owns-most k (suc (suc (suc (suc (suc (suc (suc i))))))) = lit≤ tt
 
-  pub own-small : (k : ℕ) → IsNode k → ownAt F fi b f k ≤ largest
+  pub own-small : (k : ℕ) → IsNode k → ownAt F fp fi b f k ≤ largest
   own-small = by-place _ (le-trans own-1 (lit≤ tt)) (le-trans own-2 (lit≤ tt)) (le-trans own-3 (lit≤ tt)) (le-trans own-4 (lit≤ tt)) own-5 own-6

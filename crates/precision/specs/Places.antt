@@ -6,15 +6,16 @@ use lib.Dec.{T, ltb, eqb}
 use mathlib.Core.Path.{_≡_}
 use lib.ListN.{getD}
 use Rattle.refusals.specs.Answers.{Answer}
-use Rattle.width_table.specs.Numbered.{nodeOf, passOf, IsNode, IsPass}
+use Rattle.width_table.specs.Numbered.{nodeOf, passOf, IsNode, IsPass, IsProduct}
 use Rattle.width_table.specs.Nodes.{Node, P2, G1, G2, nodesPerPass, nodeNumber, Pass, Rows, LowColumns, HighColumns, nodeAt}
 use Rattle.width_table.specs.declared.WidthTable.{WidthTable}
-use Rattle.width_table.specs.Table.{maxConstantBits, maxIntegerBits, maxFractionBits, constantBits, fractionBits, inputBits, formRight}
-use Rattle.width_table.specs.Readers.{constantBitsAt, integerBitsAt, fractionBitsAt, inputBitsAt}
-use Rattle.stages.specs.Stages.{forward}
+use Rattle.width_table.specs.Table.{maxConstantBits, maxIntegerBits, maxFractionBits, maxProductBits, constantBits, fractionBits, inputBits, formRight}
+use Rattle.width_table.specs.Readers.{constantBitsAt, integerBitsAt, fractionBitsAt, cutAt, inputBitsAt}
+use Rattle.stages.specs.Stages.{forward, Product, cutTo}
 use Rattle.stages.specs.GainTable.{forwardGains}
 use Rattle.stages.specs.RuleLaws as RuleLaws
 use Rattle.stages.specs.Rule.{Bound, together, timesGain, ownLift, ownScale}
+use Rattle.precision.specs.Products.{productOf}
 use Rattle.precision.specs.Bounds.{longBound, boundOf, entering}
 use Rattle.precision.specs.declared.Bound as Code
 use Rattle.precision.specs.declared.PassBounds.{PassBounds}
@@ -51,7 +52,7 @@ abbrev pub other : ℕ → ℕ
 other k = k - 2
 
 -- One pass, as in Bounds.
-module _ (F : Node → ℕ) (fi : ℕ) (b : Bound) (f : Node → ℕ) where
+module _ (F : Node → ℕ) (fp : Node → Product) (fi : ℕ) (b : Bound) (f : Node → ℕ) where
   abbrev pub bitsAt : ℕ → ℕ
   bitsAt zero = fi
   bitsAt (suc k) = f (nodeOf (suc k))
@@ -59,17 +60,17 @@ module _ (F : Node → ℕ) (fi : ℕ) (b : Bound) (f : Node → ℕ) where
   -- the own error of a place; the input's error
   unfoldable pub ownAt : ℕ → ℕ
   ownAt zero = b .error
-  ownAt (suc i) = RuleLaws.ownAt forward (together b) (λ i. F (nodeOf (suc i))) (λ s. fi) (λ i. f (nodeOf (suc i))) i
+  ownAt (suc i) = RuleLaws.ownAt forward (together b) (λ i. F (nodeOf (suc i))) (λ i. fp (nodeOf (suc i))) (λ s. fi) (λ i. f (nodeOf (suc i))) i
 
   -- range plus error of a place
   unfoldable pub totalAt : ℕ → ℕ
   totalAt zero = b .range + b .error
-  totalAt (suc k) = longBound F fi b f (nodeOf (suc k)) .range + longBound F fi b f (nodeOf (suc k)) .error
+  totalAt (suc k) = longBound F fp fi b f (nodeOf (suc k)) .range + longBound F fp fi b f (nodeOf (suc k)) .error
 
   -- the own error of place k where r is the range plus error of the value that it multiplies
   unfoldable pub ownFrom : ℕ → ℕ → ℕ
   ownFrom k r = elim (ltb k (nodeNumber G1)) [
-    | true ↦ ownLift (F (nodeOf k)) (bitsAt (multiplied k)) (bitsAt (other k)) (bitsAt k) r
+    | true ↦ ownLift (fp (nodeOf k)) (F (nodeOf k)) (bitsAt (multiplied k)) (bitsAt (other k)) (bitsAt k) r
     | false ↦ ownScale (F (nodeOf k)) (bitsAt (multiplied k)) (bitsAt k) r
   ]
 
@@ -97,21 +98,21 @@ fedAfter t l (suc (suc (suc k))) = boundOf t (nodeAt l LowColumns G1)
 
 module _ (t : WidthTable) (l : ℕ) (p : Pass) where
   abbrev pub bitsOf : ℕ → ℕ
-  bitsOf = bitsAt (constantBits t) (inputBits t l p) (fed t l p) (fractionBits t l p)
+  bitsOf = bitsAt (constantBits t) (productOf t l p) (inputBits t l p) (fed t l p) (fractionBits t l p)
 
   abbrev pub ownErrorOf : ℕ → ℕ → ℕ
-  ownErrorOf = ownFrom (constantBits t) (inputBits t l p) (fed t l p) (fractionBits t l p)
+  ownErrorOf = ownFrom (constantBits t) (productOf t l p) (inputBits t l p) (fed t l p) (fractionBits t l p)
 
   abbrev pub ownHere : ℕ → ℕ
-  ownHere = ownAt (constantBits t) (inputBits t l p) (fed t l p) (fractionBits t l p)
+  ownHere = ownAt (constantBits t) (productOf t l p) (inputBits t l p) (fed t l p) (fractionBits t l p)
 
   abbrev pub ownsOf : ℕ → List ℕ
-  ownsOf = ownsBelow (constantBits t) (inputBits t l p) (fed t l p) (fractionBits t l p)
+  ownsOf = ownsBelow (constantBits t) (productOf t l p) (inputBits t l p) (fed t l p) (fractionBits t l p)
 
 -- the own error of a place, from a pass's widths as the program holds them, where r is as above
 unfoldable pub ownBy : Widths → ℕ → ℕ → ℕ
 ownBy w k r = elim (ltb k (nodeNumber G1)) [
-  | true ↦ ownLift (getD (w .constants) (k - 1) 0) (getD (w .fractions) (multiplied k) 0) (getD (w .fractions) (other k) 0) (getD (w .fractions) k 0) r
+  | true ↦ ownLift (cutTo (getD (w .products) (k - 1) 0)) (getD (w .constants) (k - 1) 0) (getD (w .fractions) (multiplied k) 0) (getD (w .fractions) (other k) 0) (getD (w .fractions) k 0) r
   | false ↦ ownScale (getD (w .constants) (k - 1) 0) (getD (w .fractions) (multiplied k) 0) (getD (w .fractions) k 0) r
 ]
 
@@ -142,6 +143,7 @@ pub record Limited (w : Widths) : Type 0 where
   pub constant : (k : ℕ) → IsNode k → getD (w .constants) (k - 1) 0 ≤ maxConstantBits
   pub integer : (k : ℕ) → IsNode k → (1 ≤ getD (w .integers) (k - 1) 0) × (getD (w .integers) (k - 1) 0 ≤ maxIntegerBits)
   pub fraction : (k : ℕ) → k < places → getD (w .fractions) k 0 ≤ maxFractionBits
+  pub product : (k : ℕ) → IsProduct k → getD (w .products) (k - 1) 0 ≤ maxProductBits
 
 -- the program holds the widths of the pass
 pub record Read (t : WidthTable) (l p : ℕ) (w : Widths) : Type 0 where
@@ -150,6 +152,7 @@ pub record Read (t : WidthTable) (l p : ℕ) (w : Widths) : Type 0 where
   pub integer : (k : ℕ) → IsNode k → getD (w .integers) (k - 1) 0 ≡ integerBitsAt t l p k
   pub fraction : (k : ℕ) → IsNode k → getD (w .fractions) k 0 ≡ fractionBitsAt t l p k
   pub input : getD (w .fractions) 0 0 ≡ inputBitsAt t l p
+  pub product : (k : ℕ) → IsProduct k → getD (w .products) (k - 1) 0 ≡ cutAt t l p k
 
 -- and b is what enters the pass; it is small, since the node that feeds it fits
 pub record Enters (t : WidthTable) (l p : ℕ) (b : Code.Bound) : Type 0 where

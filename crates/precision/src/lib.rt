@@ -1,26 +1,28 @@
-// The precision analysis of a width table (document 01: the judge). Every definition that the contracts cite is in specs/.
-// All bounds are whole numbers of 2^-32.
+// The precision analysis of a width table (document 01: the judge; document 02, jobs 6 and 7). Every definition that the contracts cite
+// is in specs/. All bounds are whole numbers of 2^-32.
 use refusals::NodePlace;
 use refusals::Outcome;
 use refusals::Refusal;
 use width_table::WidthTable;
 ghost use mathlib.Core.Path.{_≡_};
-ghost use Prim.Native.Nat.{ℕ, _+_, _*_, _-_, _^_, _<_, _≤_, max};
+ghost use Prim.Native.Nat.{ℕ, _+_, _*_, _-_, _^_, _<_, _≤_, max, min};
 ghost use mathlib.Core.List.{[], _∷_};
 ghost use lib.Dec.{T};
 ghost use lib.ListN.{getD, take};
 ghost use Rattle.exact.specs.Fractions.{upDiv};
 ghost use Rattle.stages.specs.GainTable.{forwardGains};
-ghost use Rattle.stages.specs.Rule.{timesGain, loss, ownLift, ownScale};
+ghost use Rattle.stages.specs.Stages.{cutTo};
+ghost use Rattle.stages.specs.Rule.{timesGain, loss, productLoss, ownLift, ownScale};
 ghost use Rattle.precision.specs.Verdict.{keptAt, firstRefusal, verdict};
 ghost use Rattle.precision.specs.Places.{places, mostTotal, asHeld, gainAt, multiplied, other, ownBy, heldAt, judgedAs, fedAfter, At, Limited, Read, Enters, Holds, Reached};
-ghost use Rattle.width_table.specs.Numbered.{nodeOf, passOf, IsNode, IsPass};
+ghost use Rattle.width_table.specs.Numbered.{nodeOf, passOf, IsNode, IsPass, IsProduct};
+ghost use Rattle.width_table.specs.Readers.{cutAt};
 ghost use Rattle.precision.specs.PlaceLaws.{largest, largestGain};
 ghost use Rattle.precision.specs.Bounds.{entering, boundOf};
 ghost use Rattle.precision.specs.BoundCalls.{nodesBefore, boundable, boundNumbered, rangeTold, errorTold};
 ghost use Rattle.refusals.specs.Answers.{passed, refused, answered};
 ghost use Rattle.refusals.specs.Told.{toldRefusal, told};
-ghost use Rattle.width_table.specs.Table.{maxConstantBits, maxIntegerBits, maxFractionBits, formRight};
+ghost use Rattle.width_table.specs.Table.{maxConstantBits, maxIntegerBits, maxFractionBits, maxProductBits, formRight};
 ghost use Rattle.width_table.specs.Nodes.{G1, G2, nodesPerPass, passNumber, passesPerLevel, Rows, nodeAt, passNodes, levelNodes, bookOrder};
 
 // Range and error of a place.
@@ -62,12 +64,31 @@ fn larger(x: u8, y: u8) -> u8
     if x < y { y } else { x }
 }
 
+// The smaller of two.
+fn smaller(x: u8, y: u8) -> u8
+    ensures { λ r. ⌜ r ≡ min x y ⌝ }
+{
+    if x < y { x } else { y }
+}
+
 // 2^-f where f is below the full precision.
 fn loss_of(f: u8, full: u8) -> u64
     requires { ⌜ f ≤ maxFractionBits ⌝ }
     ensures { λ r. ⌜ (r ≡ loss f full) × (r ≤ 2 ^ 32) ⌝ }
 {
     if f < full { power(32 - f) } else { 0 }
+}
+
+// The loss of a product of so many bits that is cut to its width: 2^-width where the width is below them, rounded up.
+fn product_loss(width: u8, full: u8) -> u64
+    requires { ⌜ width ≤ maxProductBits ⌝ }
+    ensures { λ r. ⌜ (r ≡ productLoss (cutTo width) full) × (r ≤ 2 ^ 32) ⌝ }
+{
+    if width < full {
+        up_div(Bound::ONE, width)
+    } else {
+        0
+    }
 }
 
 // The gains from a place to each, in whole numbers of 2^-16. Place 0 is the input, places 1 to 6 are the nodes.
@@ -108,14 +129,16 @@ fn carry(sums: [u64; Bound::PLACES as usize], x: u64, from: u8) -> [u64; Bound::
     carried
 }
 
-// Own error of a stage P1, U1, P2, U2 whose constant has so many bits; the value that it multiplies has `multiplied` bits and `total`
-// is its range plus error.
-fn own_lift(constant: u8, multiplied: u8, other: u8, f: u8, total: u64) -> u64
-    requires { ⌜ (constant ≤ maxConstantBits) × (multiplied ≤ maxFractionBits) × (f ≤ maxFractionBits) × (total ≤ mostTotal) ⌝ }
-    ensures { λ r. ⌜ r ≡ ownLift constant multiplied other f total ⌝ }
+// Own error of a stage P1, U1, P2, U2 whose product is cut to `width` bits and whose constant has so many; the value that it multiplies
+// has `multiplied` bits and `total` is its range plus error.
+fn own_lift(width: u8, constant: u8, multiplied: u8, other: u8, f: u8, total: u64) -> u64
+    requires { ⌜ (width ≤ maxProductBits) × (constant ≤ maxConstantBits) × (multiplied ≤ maxFractionBits) × (f ≤ maxFractionBits) × (total ≤ mostTotal) ⌝ }
+    ensures { λ r. ⌜ r ≡ ownLift (cutTo width) constant multiplied other f total ⌝ }
 {
-    let product = constant + multiplied;
-    up_div(total, constant) + loss_of(f, larger(other, product))
+    let full = constant + multiplied;
+    up_div(total, constant)
+        + product_loss(width, full)
+        + loss_of(f, larger(other, smaller(width, full)))
 }
 
 // Own error of a stage G1, G2.
@@ -126,11 +149,31 @@ fn own_scale(constant: u8, multiplied: u8, f: u8, total: u64) -> u64
     up_div(total, constant + 1) + loss_of(f, constant + multiplied)
 }
 
-// The widths of a pass: the bits of its constants and its nodes' integer bits, from P1 on; the fractional bits of its places.
+// The widths of a pass: the bits of its constants and its nodes' integer bits, from P1 on; the fractional bits of its places; the bits
+// that its products are cut to, from P1 on.
 struct Widths {
     constants: [u8; WidthTable::CONSTANTS],
     integers: [u8; WidthTable::NODES as usize],
     fractions: [u8; Bound::PLACES as usize],
+    products: [u8; WidthTable::PRODUCTS as usize],
+}
+
+// The bits that the products of a pass are cut to: without tag 5 the limit, which cuts none.
+fn products_of(table: WidthTable, level: u8, pass: u8) -> [u8; WidthTable::PRODUCTS as usize]
+    requires { ⌜ At table level pass ⌝ }
+    ensures { λ r. ⌜ ((k : ℕ) → IsProduct k → getD r (k - 1) 0 ≡ cutAt table level pass k) ⌝ }
+{
+    if table.five {} else {
+        return [WidthTable::MAX_PRODUCT_BITS; WidthTable::PRODUCTS as usize];
+    }
+    let at = width_table::product_place(level, pass, WidthTable::P1);
+    let products = table.products;
+    [
+        products[at],
+        products[at + 1],
+        products[at + 2],
+        products[at + 3],
+    ]
 }
 
 // The widths of a pass, read once: each call of a method of the table would copy the whole table.
@@ -161,6 +204,7 @@ fn widths_of(table: WidthTable, level: u8, pass: u8) -> Widths
             nodes[at + 9],
             nodes[at + 11],
         ],
+        products: products_of(table, level, pass),
     }
 }
 
@@ -195,7 +239,8 @@ fn own_error(widths: Widths, node: u8, total: u64) -> u64
     let f = widths.fractions[node as usize];
     if node < WidthTable::G1 {
         let other = widths.fractions[other_place(node) as usize];
-        return own_lift(constant, multiplied, other, f, total);
+        let width = widths.products[node as usize - 1];
+        return own_lift(width, constant, multiplied, other, f, total);
     }
     own_scale(constant, multiplied, f, total)
 }

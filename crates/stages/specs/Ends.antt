@@ -6,13 +6,15 @@ use Rattle.numbers.specs.Laws.{twice-times}
 use Rattle.lines.specs.CaseLaws.{Reduced}
 use Rattle.exact.specs.Fractions.{Frac, whole, _⊗_}
 use Rattle.exact.specs.Exact.{alpha}
-use Rattle.stages.specs.Fixed.{nearest, cut, step, stepEnd}
+use Rattle.stages.specs.Stages.{Product, productBits}
+use Rattle.stages.specs.Fixed.{nearest, cut, cutProduct, step, stepEnd}
 
-pub step-end : (c : Frac) (F fm fo f : ℕ) → Reduced _≡_ (step c F fm fo f) (stepEnd c F fm fo f)
+pub step-end : (p : Product) (c : Frac) (F fm fo f : ℕ) → Reduced _≡_ (step p c F fm fo f) (stepEnd p c F fm fo f)
 unfolding step stepEnd
-step-end c F fm fo f own x =
-    let full : ℕ = max fo (F + fm) in
-    ap (λ (z : ℤ). cut full f (own *ℤ pos (2 ^ (full - fo)) +ℤ z *ℤ pos (2 ^ (full - (F + fm))))) (twice-times (nearest c F) x)
+step-end p c F fm fo f own x =
+    let product : ℕ = productBits p (F + fm) in
+    let full : ℕ = max fo product in
+    ap (λ (z : ℤ). cut full f (own *ℤ pos (2 ^ (full - fo)) +ℤ cutProduct p (F + fm) z *ℤ pos (2 ^ (full - product)))) (twice-times (nearest c F) x)
 
 -- The order matters: alpha at 24 bits, doubled after it was rounded and before.
 pub rounded-doubled : (pos 2 *ℤ nearest alpha 24 ≡ negℤ (pos 53221836)) × (nearest (whole (pos 2) ⊗ alpha) 24 ≡ negℤ (pos 53221837))

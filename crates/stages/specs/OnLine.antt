@@ -5,7 +5,7 @@ use mathlib.Core.List.{List}
 use lib.IntN.{ℤ}
 use Rattle.lines.specs.Lines.{lows, highs, lowAfter, highBefore, highAfter}
 use Rattle.exact.specs.Fractions.{Frac}
-use Rattle.stages.specs.Stages.{Side, low, high, Kind, lifts, scales, Stage, stage, made, worked, bits}
+use Rattle.stages.specs.Stages.{Side, low, high, Kind, lifts, scales, Stage, stage, made, worked, Product, bits}
 use Rattle.stages.specs.Fixed.{step, scale}
 
 abbrev pub other : Side → Side
@@ -32,13 +32,14 @@ exactAfter st n x zero = x
 exactAfter st n x (suc m) = worked beforeIn (afterIn n) (stage st m .side) (λ k. made (stage st m .kind) (stage st m .constant)) (exactAfter st n x m)
 
 -- what a stage makes of an own value at fo bits and its two neighbours at fm bits
-unfoldable pub fixedMade : Kind → Frac → ℕ → ℕ → ℕ → ℕ → ℤ → ℤ → ℤ → ℤ
-fixedMade lifts c F fm fo f own x y = step c F fm fo f own x y
-fixedMade scales c F fm fo f own x y = scale c F fo f own
+unfoldable pub fixedMade : Kind → Product → Frac → ℕ → ℕ → ℕ → ℕ → ℤ → ℤ → ℤ → ℤ
+fixedMade lifts p c F fm fo f own x y = step p c F fm fo f own x y
+fixedMade scales p c F fm fo f own x y = scale c F fo f own
 
--- what stands on a line of n after m stages: F are the bits of the constants, fi the bits of the input's sides, f those of the nodes
-unfoldable pub fixedAfter : List Stage → (ℕ → ℕ) → (Side → ℕ) → (ℕ → ℕ) → ℕ → (Side → ℕ → ℤ) → ℕ → Side → ℕ → ℤ
-fixedAfter st F fi f n v zero = v
-fixedAfter st F fi f n v (suc m) =
+-- what stands on a line of n after m stages: F are the bits of the constants, fp the widths of the products, fi the bits of the input's
+-- sides, f those of the nodes
+unfoldable pub fixedAfter : List Stage → (ℕ → ℕ) → (ℕ → Product) → (Side → ℕ) → (ℕ → ℕ) → ℕ → (Side → ℕ → ℤ) → ℕ → Side → ℕ → ℤ
+fixedAfter st F fp fi f n v zero = v
+fixedAfter st F fp fi f n v (suc m) =
     let t = stage st m .side in
-    worked beforeIn (afterIn n) t (λ k. fixedMade (stage st m .kind) (stage st m .constant) (F m) (bits st fi f m (other t)) (bits st fi f m t) (f m)) (fixedAfter st F fi f n v m)
+    worked beforeIn (afterIn n) t (λ k. fixedMade (stage st m .kind) (fp m) (stage st m .constant) (F m) (bits st fi f m (other t)) (bits st fi f m t) (f m)) (fixedAfter st F fp fi f n v m)

@@ -1,5 +1,5 @@
--- The own error of a step: what the nearest constant and the cut add to the exact lifting of the same operands.
-use Prim.Native.Nat.{ℕ, _+_, _*_, _-_, _^_, _<_, _≤_, max}
+-- The own error of a step: what the nearest constant, the product's cut and the cut add to the exact lifting of the same operands.
+use Prim.Native.Nat.{ℕ, _+_, _*_, _-_, _^_, _<_, _≤_, max, min}
 use mathlib.Core.Path.{_≡_, sym, _∙_, ap, subst, subst₂}
 use mathlib.Core.Bool.{Bool, true, false, not}
 use native.Mathlib.Omega.{arith}
@@ -14,8 +14,9 @@ use Rattle.numbers.specs.Abs.{abs-mul}
 use Rattle.numbers.specs.Floor.{floor-≤, floor-<, floor-mul-r, round-near}
 use Rattle.exact.specs.Fractions.{Frac, _≈_, _⊕_, _⊗_, neg, upDiv}
 use Rattle.exact.specs.Exact.{lift}
-use Rattle.stages.specs.Fixed.{meant, nearest, cut, step, scale}
-use Rattle.stages.specs.Rule.{loss, ownLift, ownScale}
+use Rattle.stages.specs.Stages.{Product, uncut, cutTo, productBits}
+use Rattle.stages.specs.Fixed.{meant, nearest, cut, cutProduct, step, scale}
+use Rattle.stages.specs.Rule.{loss, productLoss, ownLift, ownScale}
 use Rattle.exact.specs.FracLaws.{ring, ≈-refl, ≈-sym, ≈-trans, ⊕-cong, ⊗-cong, ⊕-neg, through, sub-times, sub-own, Within, within-≈, within-⊕, within-product, within-zero, within-weaken}
 use Rattle.stages.specs.Linear.{upDiv-most}
 
@@ -62,13 +63,13 @@ nearest-within c F = record { most = last (natAbs (N *ℤ pos (c .den) +ℤ neg�
 floor-off : (z q : ℤ) (m : ℕ) → (pos m *ℤ q) ≤ℤ z → z <ℤ (pos m *ℤ q +ℤ pos m) → natAbs (pos m *ℤ q -ℤ z) ≤ m
 floor-off = by-dif _ λ a a'. by-dif _ λ b b'. λ m. simp difs (omega arith)
 
-cut-lossy : (full f : ℕ) (z : ℤ) → f < full → cut full f z ≡ shrZ z (2 ^ (full - f))
+pub cut-lossy : (full f : ℕ) (z : ℤ) → f < full → cut full f z ≡ shrZ z (2 ^ (full - f))
 unfolding cut
 cut-lossy full f z h =
     let e : f - full ≡ 0 = omega arith in
     ap (λ (t : ℕ). shrZ (z *ℤ pos (2 ^ t)) (2 ^ (full - f))) e ∙ ap (λ (t : ℤ). shrZ t (2 ^ (full - f))) (*ℤ-one-r z)
 
-cut-whole : (full f : ℕ) (z : ℤ) → full ≤ f → cut full f z ≡ z *ℤ pos (2 ^ (f - full))
+pub cut-whole : (full f : ℕ) (z : ℤ) → full ≤ f → cut full f z ≡ z *ℤ pos (2 ^ (f - full))
 unfolding cut
 cut-whole full f z h =
     let x = z *ℤ pos (2 ^ (f - full)) in
@@ -108,6 +109,45 @@ cut-within full f z small = go (ltb f full) (ltb→lt f full) (nltb→le f full)
     go true h k = lossy (h tt)
     go false h k = exact (k tt)
 
+-- ---- a product's cut
+
+cut-product : (fp full : ℕ) (z : ℤ) → fp < full → Within (meant (cut full fp z) fp ⊕ neg (meant z full)) (upDiv (2 ^ 32) (2 ^ fp)) (2 ^ 32)
+unfolding meant neg _⊕_
+cut-product fp full z h =
+    let m = 2 ^ (full - fp) in
+    let q = shrZ z m in
+    rw (cut-lossy full fp z h)
+    (within-weaken (pow-pos fp) (omega (arith, upDiv-most (2 ^ 32) (2 ^ fp) (pow-pos fp)))
+    (one q m (pow-split fp full (omega arith)) (floor-off z q m (floor-≤ z m (pow-pos (full - fp))) (floor-< z m (pow-pos (full - fp))))))
+  where
+    one : (q : ℤ) (m : ℕ) → 2 ^ full ≡ m * 2 ^ fp → natAbs (pos m *ℤ q -ℤ z) ≤ m → Within (meant q fp ⊕ neg (meant z full)) 1 (2 ^ fp)
+    one q m e h = record { most = subst (λ (D : ℕ). natAbs (q *ℤ pos D +ℤ negℤ z *ℤ pos (2 ^ fp)) * 2 ^ fp ≤ 1 * (2 ^ fp * D)) (sym e) (last (2 ^ fp) _ (lossy-law z q m (2 ^ fp) 1 h)) }
+      where
+        last : (P : ℕ) (u : ℕ) → u * (1 * P) ≤ 1 * (P * (m * P)) → u * P ≤ 1 * (P * (m * P))
+        last P u i = omega arith
+
+pub product-within : (p : Product) (full : ℕ) (z : ℤ) → Within (meant (cutProduct p full z) (productBits p full) ⊕ neg (meant z full)) (productLoss p full) (2 ^ 32)
+unfolding cutProduct productLoss
+product-within uncut full z = within-≈ (≈-sym (⊕-neg (meant z full))) (within-zero 0 (2 ^ 32))
+product-within (cutTo fp) full z = go (ltb fp full) (ltb→lt fp full) (nltb→le fp full)
+  where
+    lossy : fp < full → Within (meant (cut full (min fp full) z) (min fp full) ⊕ neg (meant z full)) (upDiv (2 ^ 32) (2 ^ fp)) (2 ^ 32)
+    lossy h =
+        let e : fp ≡ min fp full = omega arith in
+        subst (λ (k : ℕ). Within (meant (cut full k z) k ⊕ neg (meant z full)) (upDiv (2 ^ 32) (2 ^ fp)) (2 ^ 32)) e (cut-product fp full z h)
+
+    exact : full ≤ fp → Within (meant (cut full (min fp full) z) (min fp full) ⊕ neg (meant z full)) 0 (2 ^ 32)
+    exact h =
+        let e : full ≡ min fp full = omega arith in
+        subst (λ (k : ℕ). Within (meant (cut full k z) k ⊕ neg (meant z full)) 0 (2 ^ 32)) e (same (cut full full z) (cut-whole full full z (omega arith)))
+      where
+        same : (y : ℤ) → y ≡ z *ℤ pos (2 ^ (full - full)) → Within (meant y full ⊕ neg (meant z full)) 0 (2 ^ 32)
+        same y e = subst (λ (x : ℤ). Within (meant x full ⊕ neg (meant z full)) 0 (2 ^ 32)) (sym e) (within-≈ (≈-sym (≈-trans (⊕-cong (meant-up z full full (omega arith)) (≈-refl (neg (meant z full)))) (⊕-neg (meant z full)))) (within-zero 0 (2 ^ 32)))
+
+    go : (t : Bool) → (T t → fp < full) → (T (not t) → full ≤ fp) → Within (meant (cut full (min fp full) z) (min fp full) ⊕ neg (meant z full)) (elim t [ true ↦ upDiv (2 ^ 32) (2 ^ fp) | false ↦ 0 ]) (2 ^ 32)
+    go true h k = lossy (h tt)
+    go false h k = exact (k tt)
+
 -- ---- the own errors
 
 -- 1 / 2^(F+1) of a sum of two values of at most r
@@ -117,19 +157,29 @@ lift-off F r h = within-weaken (mul-pos (mul-pos {m = 2} (omega arith) (pow-pos 
     law : (P Q u : ℕ) → r ≤ u * P → 1 * (r + r) * Q ≤ u * (2 * P * Q)
     law P Q u i = omega (arith, mul-le-mul-right (2 * Q) i)
 
-pub lift-own : (c : Frac) (F fm fo f : ℕ) (o x y : ℤ) (r : ℕ) → f ≤ 32 → Within (meant x fm) r (2 ^ 32) → Within (meant y fm) r (2 ^ 32) → Within (meant (step c F fm fo f o x y) f ⊕ neg (lift c (meant o fo) (meant x fm) (meant y fm))) (ownLift F fm fo f r) (2 ^ 32)
+pub lift-own : (p : Product) (c : Frac) (F fm fo f : ℕ) (o x y : ℤ) (r : ℕ) → f ≤ 32 → Within (meant x fm) r (2 ^ 32) → Within (meant y fm) r (2 ^ 32) → Within (meant (step p c F fm fo f o x y) f ⊕ neg (lift c (meant o fo) (meant x fm) (meant y fm))) (ownLift p F fm fo f r) (2 ^ 32)
 unfolding step lift ownLift
-lift-own c F fm fo f o x y r small hx hy =
-    within-≈ (through A B out) (within-⊕ (within-≈ (≈-sym near) (lift-off F r (within-product (nearest-within c F) (within-⊕ hx hy)))) (cut-within full f z small))
+lift-own p c F fm fo f o x y r small hx hy =
+    within-≈ (through A B out) (within-⊕ (within-≈ (≈-sym near) (within-⊕ (within-≈ (≈-sym nearly) (lift-off F r (within-product (nearest-within c F) (within-⊕ hx hy)))) (product-within p (F + fm) W))) (cut-within full f z small))
   where
-    full : ℕ
-    full = max fo (F + fm)
-
     N : ℤ
     N = nearest c F
 
+    -- the product at its full bits, and cut
+    W : ℤ
+    W = N *ℤ (x +ℤ y)
+
+    bits : ℕ
+    bits = productBits p (F + fm)
+
+    K : ℤ
+    K = cutProduct p (F + fm) W
+
+    full : ℕ
+    full = max fo bits
+
     z : ℤ
-    z = o *ℤ pos (2 ^ (full - fo)) +ℤ N *ℤ (x +ℤ y) *ℤ pos (2 ^ (full - (F + fm)))
+    z = o *ℤ pos (2 ^ (full - fo)) +ℤ K *ℤ pos (2 ^ (full - bits))
 
     out : Frac
     out = meant (cut full f z) f
@@ -143,11 +193,19 @@ lift-own c F fm fo f o x y r small hx hy =
     B : Frac
     B = meant o fo ⊕ c ⊗ S
 
-    split : A ≈ meant o fo ⊕ meant N F ⊗ S
-    split = ≈-trans (meant-add _ _ full) (⊕-cong (meant-up o fo full (omega arith)) (≈-trans (meant-up (N *ℤ (x +ℤ y)) (F + fm) full (omega arith)) (≈-trans (meant-mul N (x +ℤ y) F fm) (⊗-cong (≈-refl (meant N F)) (meant-add x y fm)))))
+    split : A ≈ meant o fo ⊕ meant K bits
+    split = ≈-trans (meant-add _ _ full) (⊕-cong (meant-up o fo full (omega arith)) (meant-up K bits full (omega arith)))
 
-    near : A ⊕ neg B ≈ (meant N F ⊕ neg c) ⊗ S
-    near = ≈-trans (⊕-cong split (≈-refl (neg B))) (≈-trans (sub-own (meant o fo) (meant N F ⊗ S) (c ⊗ S)) (≈-sym (sub-times (meant N F) c S)))
+    whole : meant W (F + fm) ≈ meant N F ⊗ S
+    whole = ≈-trans (meant-mul N (x +ℤ y) F fm) (⊗-cong (≈-refl (meant N F)) (meant-add x y fm))
+
+    -- what the nearest constant adds to the product
+    nearly : meant W (F + fm) ⊕ neg (c ⊗ S) ≈ (meant N F ⊕ neg c) ⊗ S
+    nearly = ≈-trans (⊕-cong whole (≈-refl (neg (c ⊗ S)))) (≈-sym (sub-times (meant N F) c S))
+
+    -- and what its cut adds
+    near : A ⊕ neg B ≈ (meant W (F + fm) ⊕ neg (c ⊗ S)) ⊕ (meant K bits ⊕ neg (meant W (F + fm)))
+    near = ≈-trans (⊕-cong split (≈-refl (neg B))) (≈-trans (sub-own (meant o fo) (meant K bits) (c ⊗ S)) (≈-sym (through (meant W (F + fm)) (c ⊗ S) (meant K bits))))
 
 scale-off : (F r : ℕ) {x : Frac} → Within x (1 * r) (2 * 2 ^ F * 2 ^ 32) → Within x (upDiv r (2 ^ (F + 1))) (2 ^ 32)
 scale-off F r h = within-weaken (mul-pos (mul-pos {m = 2} (omega arith) (pow-pos F)) (pow-pos 32)) (law (2 ^ F) (2 ^ (F + 1)) (2 ^ 32) (upDiv r (2 ^ (F + 1))) (pow-add 2 F 1) (upDiv-most r (2 ^ (F + 1)) (pow-pos (F + 1)))) h

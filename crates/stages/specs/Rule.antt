@@ -5,7 +5,7 @@ use mathlib.Core.Bool.{true, false}
 use mathlib.Core.List.{List, [], _∷_}
 use lib.Dec.{ltb}
 use Rattle.exact.specs.Fractions.{upDiv}
-use Rattle.stages.specs.Stages.{Side, low, high, Kind, lifts, scales, Stage, stage, bits}
+use Rattle.stages.specs.Stages.{Side, low, high, Kind, lifts, scales, Stage, stage, Product, uncut, cutTo, productBits, bits}
 use Rattle.stages.specs.Gains.{Source, samples, lows, highs, node, gain}
 
 pub record Bound : Type 0 where
@@ -20,10 +20,17 @@ timesGain x g = upDiv (x * g) 65536
 unfoldable pub loss : ℕ → ℕ → ℕ
 loss f full = elim (ltb f full) [ true ↦ 2 ^ (32 - f) | false ↦ 0 ]
 
+-- The loss of a product's cut (document 02, job 7): 2^-fp where fp is below F plus the multiplied value's bits, rounded up to a whole
+-- number of 2^-32.
+unfoldable pub productLoss : Product → ℕ → ℕ
+productLoss uncut full = 0
+productLoss (cutTo fp) full = elim (ltb fp full) [ true ↦ upDiv (2 ^ 32) (2 ^ fp) | false ↦ 0 ]
+
 -- Own error of a stage that lifts: the constant has F bits; the value that it multiplies has fm bits and r is its range plus error; the
--- other operand has fo bits and the node f.
-unfoldable pub ownLift : ℕ → ℕ → ℕ → ℕ → ℕ → ℕ
-ownLift F fm fo f r = upDiv r (2 ^ F) + loss f (max fo (F + fm))
+-- other operand has fo bits and the node f. The loss of the product's cut joins it, and in the full precision the product's width, where
+-- it is smaller, takes the place of F + fm.
+unfoldable pub ownLift : Product → ℕ → ℕ → ℕ → ℕ → ℕ → ℕ
+ownLift p F fm fo f r = upDiv r (2 ^ F) + productLoss p (F + fm) + loss f (max fo (productBits p (F + fm)))
 
 -- of one that scales
 unfoldable pub ownScale : ℕ → ℕ → ℕ → ℕ → ℕ
@@ -48,16 +55,17 @@ module _ (st : List Stage) where
   brought r (together b) s m = carried (r b) samples s m
   brought r (apart a b) s m = carried (r a) lows s m + carried (r b) highs s m
 
--- One pass: e bounds what enters, F are the bits of the constants, fi the bits of the input's sides, f the bits of the nodes.
-module _ (st : List Stage) (e : Entering) (F : ℕ → ℕ) (fi : Side → ℕ) (f : ℕ → ℕ) where
+-- One pass: e bounds what enters, F are the bits of the constants, fp the widths of the products, fi the bits of the input's sides, f the
+-- bits of the nodes.
+module _ (st : List Stage) (e : Entering) (F : ℕ → ℕ) (fp : ℕ → Product) (fi : Side → ℕ) (f : ℕ → ℕ) where
   -- range of a node: the input's range times the gain from the input
   unfoldable pub rangeAt : Side → ℕ → ℕ
   rangeAt s m = brought st (λ b. b .range) e s m
 
   -- own error of stage i by its kind and side, where r is the range plus error of each side before it
   unfoldable pub ownFrom : Kind → Side → ℕ → (Side → ℕ) → ℕ
-  ownFrom lifts low i r = ownLift (F i) (bits st fi f i high) (bits st fi f i low) (f i) (r high)
-  ownFrom lifts high i r = ownLift (F i) (bits st fi f i low) (bits st fi f i high) (f i) (r low)
+  ownFrom lifts low i r = ownLift (fp i) (F i) (bits st fi f i high) (bits st fi f i low) (f i) (r high)
+  ownFrom lifts high i r = ownLift (fp i) (F i) (bits st fi f i low) (bits st fi f i high) (f i) (r low)
   ownFrom scales low i r = ownScale (F i) (bits st fi f i low) (f i) (r low)
   ownFrom scales high i r = ownScale (F i) (bits st fi f i high) (f i) (r high)
 

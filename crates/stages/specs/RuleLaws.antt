@@ -10,7 +10,7 @@ use lib.Pow.{pow-pos}
 use lib.IntN.{ℤ, pos, negsuc}
 use Rattle.exact.specs.Fractions.{Frac, _≈_, _⊕_, whole, magnitude, upDiv, wholesOf}
 use Rattle.exact.specs.FracLaws.{≈-trans, ⊕-cong, ⊕-zero-r, zeroF}
-use Rattle.stages.specs.Stages.{Side, low, high, Kind, lifts, scales, Stage, stage, made, worked}
+use Rattle.stages.specs.Stages.{Side, low, high, Kind, lifts, scales, Stage, stage, Product, made, worked}
 use Rattle.stages.specs.OnLine.{other}
 use Rattle.stages.specs.Gains.{Line, before, after, held, nothing, unit, feed, only, sumTo, Source, samples, lows, highs, node, inputAnswer, nodeAnswer, sumFrom, exactGain, gain}
 use Rattle.stages.specs.Rule.{Bound, timesGain, ownLift, ownScale, Entering, together, apart, carried, brought, rangeAt, ownFrom, ownsBring, owns, errorAt, boundAt}
@@ -38,18 +38,18 @@ unfolding weighed
 nothing-brings st s m zero = refl
 nothing-brings st s m (suc j) = omega (arith, nothing-brings st s m j, timesGain-zero (gain st s m (node j)))
 
-module _ (st : List Stage) (e : Entering) (F : ℕ → ℕ) (fi : Side → ℕ) (f : ℕ → ℕ) where
+module _ (st : List Stage) (e : Entering) (F : ℕ → ℕ) (fp : ℕ → Product) (fi : Side → ℕ) (f : ℕ → ℕ) where
   -- own error of stage i: by range and error of the value that it multiplies
   unfoldable pub ownAt : ℕ → ℕ
-  ownAt i = ownFrom st e F fi f (stage st i .kind) (stage st i .side) i (λ s. rangeAt st e F fi f s i + errorAt st e F fi f s i)
+  ownAt i = ownFrom st e F fp fi f (stage st i .kind) (stage st i .side) i (λ s. rangeAt st e F fp fi f s i + errorAt st e F fp fi f s i)
 
-  owns-bring : (s : Side) (m j : ℕ) → ownsBring st e F fi f j (owns st e F fi f j) s m ≡ nodesBring st s m (ownAt) j
+  owns-bring : (s : Side) (m j : ℕ) → ownsBring st e F fp fi f j (owns st e F fp fi f j) s m ≡ nodesBring st s m (ownAt) j
   unfolding weighed ownsBring owns ownAt errorAt
   owns-bring s m zero = refl
   owns-bring s m (suc j) = ap (λ (t : ℕ). t + carried st (ownAt j) (node j) s m) (owns-bring s m j)
 
   -- The error of a node is the input's error times the gain from the input, plus each stage's own error times the gain from it.
-  pub error-sum : (s : Side) (m : ℕ) → errorAt st e F fi f s m ≡ brought st (λ b. b .error) e s m + nodesBring st s m (ownAt) m
+  pub error-sum : (s : Side) (m : ℕ) → errorAt st e F fp fi f s m ≡ brought st (λ b. b .error) e s m + nodesBring st s m (ownAt) m
   unfolding errorAt
   error-sum s m = ap (λ (t : ℕ). brought st (λ b. b .error) e s m + t) (owns-bring s m m)
 
@@ -68,8 +68,8 @@ brought-start st r (together b) high = timesGain-one (r b)
 brought-start st r (apart a b) low = omega (arith, timesGain-one (r a), timesGain-none (r b))
 brought-start st r (apart a b) high = omega (arith, timesGain-none (r a), timesGain-one (r b))
 
-module _ (st : List Stage) (e : Entering) (F : ℕ → ℕ) (fi : Side → ℕ) (f : ℕ → ℕ) where
-  pub bound-start : (s : Side) → boundAt st e F fi f s 0 ≡ enters e s
+module _ (st : List Stage) (e : Entering) (F : ℕ → ℕ) (fp : ℕ → Product) (fi : Side → ℕ) (f : ℕ → ℕ) where
+  pub bound-start : (s : Side) → boundAt st e F fp fi f s 0 ≡ enters e s
   unfolding boundAt rangeAt errorAt owns ownsBring
   bound-start s =
       let bound : ℕ → ℕ → Bound = λ r t. record { range = r; error = t } in
@@ -119,7 +119,7 @@ gain-later : (st : List Stage) (s : Side) (m i : ℕ) → m ≤ i → gain st s 
 unfolding gain exactGain sumFrom nodeAnswer whole wholesOf
 gain-later st s m i h = wholes-≈ 65536 {y = zeroF} (sum-none m _ (λ p. node-later st s m i (unit p) h))
 
-module _ (st : List Stage) (e : Entering) (F : ℕ → ℕ) (fi : Side → ℕ) (f : ℕ → ℕ) (m : ℕ) (s : Side) (elsewhere : stage st m .side ≡ other s) where
+module _ (st : List Stage) (e : Entering) (F : ℕ → ℕ) (fp : ℕ → Product) (fi : Side → ℕ) (f : ℕ → ℕ) (m : ℕ) (s : Side) (elsewhere : stage st m .side ≡ other s) where
   brought-kept : (r : Bound → ℕ) (e : Entering) → brought st r e s (suc m) ≡ brought st r e s m
   unfolding brought
   brought-kept r (together b) = ap (timesGain (r b)) (gain-kept st m s elsewhere samples)
@@ -135,12 +135,12 @@ module _ (st : List Stage) (e : Entering) (F : ℕ → ℕ) (fi : Side → ℕ) 
   last-kept o = omega (arith, bring-kept o m, ap (timesGain (o m)) (gain-kept st m s elsewhere (node m) ∙ gain-later st s m m (omega arith)), timesGain-none (o m))
 
   -- A side that a stage does not work keeps its bound.
-  pub bound-kept : boundAt st e F fi f s (suc m) ≡ boundAt st e F fi f s m
+  pub bound-kept : boundAt st e F fp fi f s (suc m) ≡ boundAt st e F fp fi f s m
   unfolding boundAt rangeAt
   bound-kept =
       let bound : ℕ → ℕ → Bound = λ r t. record { range = r; error = t } in
-      ap (λ (t : ℕ). bound t (errorAt st e F fi f s (suc m))) (brought-kept (λ b. b .range) e)
-      ∙ ap (bound (brought st (λ b. b .range) e s m)) (omega (arith, error-sum st e F fi f s (suc m), error-sum st e F fi f s m, brought-kept (λ b. b .error) e, last-kept (ownAt st e F fi f)))
+      ap (λ (t : ℕ). bound t (errorAt st e F fp fi f s (suc m))) (brought-kept (λ b. b .range) e)
+      ∙ ap (bound (brought st (λ b. b .range) e s m)) (omega (arith, error-sum st e F fp fi f s (suc m), error-sum st e F fp fi f s m, brought-kept (λ b. b .error) e, last-kept (ownAt st e F fp fi f)))
 
 -- ---- the bounds grow with what enters
 
@@ -170,15 +170,15 @@ apart-at-most {a} {a'} {b} {b'} h k = record {
   );
 }
 
-module _ (st : List Stage) (e e' : Entering) (F : ℕ → ℕ) (fi : Side → ℕ) (f : ℕ → ℕ) (h : EnterAtMost e e') where
-  own-grows : (k : Kind) (s : Side) (i : ℕ) (r r' : Side → ℕ) → ((s : Side) → r s ≤ r' s) → ownFrom st e F fi f k s i r ≤ ownFrom st e' F fi f k s i r'
+module _ (st : List Stage) (e e' : Entering) (F : ℕ → ℕ) (fp : ℕ → Product) (fi : Side → ℕ) (f : ℕ → ℕ) (h : EnterAtMost e e') where
+  own-grows : (k : Kind) (s : Side) (i : ℕ) (r r' : Side → ℕ) → ((s : Side) → r s ≤ r' s) → ownFrom st e F fp fi f k s i r ≤ ownFrom st e' F fp fi f k s i r'
   unfolding ownFrom ownLift ownScale
   own-grows lifts low i r r' k = omega (arith, up-grows (r high) (r' high) (2 ^ F i) (pow-pos (F i)) (k high))
   own-grows lifts high i r r' k = omega (arith, up-grows (r low) (r' low) (2 ^ F i) (pow-pos (F i)) (k low))
   own-grows scales low i r r' k = omega (arith, up-grows (r low) (r' low) (2 ^ (F i + 1)) (pow-pos (F i + 1)) (k low))
   own-grows scales high i r r' k = omega (arith, up-grows (r high) (r' high) (2 ^ (F i + 1)) (pow-pos (F i + 1)) (k high))
 
-  owns-grow : (i : ℕ) (s : Side) (m : ℕ) → ownsBring st e F fi f i (owns st e F fi f i) s m ≤ ownsBring st e' F fi f i (owns st e' F fi f i) s m
+  owns-grow : (i : ℕ) (s : Side) (m : ℕ) → ownsBring st e F fp fi f i (owns st e F fp fi f i) s m ≤ ownsBring st e' F fp fi f i (owns st e' F fp fi f i) s m
   unfolding ownsBring owns rangeAt
   owns-grow zero s m = omega arith
   owns-grow (suc i) s m =
@@ -187,13 +187,13 @@ module _ (st : List Stage) (e e' : Entering) (F : ℕ → ℕ) (fi : Side → �
         owns-grow i s m,
         times-grows _ _ (gain st s m (node i)) (gain st s m (node i))
             (own-grows (stage st i .kind) (stage st i .side) i
-            (λ s. rangeAt st e F fi f s i + (brought st (λ b. b .error) e s i + ownsBring st e F fi f i (owns st e F fi f i) s i))
-            (λ s. rangeAt st e' F fi f s i + (brought st (λ b. b .error) e' s i + ownsBring st e' F fi f i (owns st e' F fi f i) s i))
+            (λ s. rangeAt st e F fp fi f s i + (brought st (λ b. b .error) e s i + ownsBring st e F fp fi f i (owns st e F fp fi f i) s i))
+            (λ s. rangeAt st e' F fp fi f s i + (brought st (λ b. b .error) e' s i + ownsBring st e' F fp fi f i (owns st e' F fp fi f i) s i))
             (λ s. omega (arith, h .carries st s i .0, h .carries st s i .1, owns-grow i s i)))
             (omega arith),
       )
 
   -- A larger range and error in, no smaller ones out.
-  pub bound-grows : (s : Side) (m : ℕ) → AtMost (boundAt st e F fi f s m) (boundAt st e' F fi f s m)
+  pub bound-grows : (s : Side) (m : ℕ) → AtMost (boundAt st e F fp fi f s m) (boundAt st e' F fp fi f s m)
   unfolding boundAt rangeAt errorAt
   bound-grows s m = record { range = h .carries st s m .0; error = omega (arith, h .carries st s m .1, owns-grow m s m) }

@@ -13,7 +13,7 @@ use Rattle.lines.specs.Neighbours.{low-after-in, high-before-in, high-after-in}
 use Rattle.exact.specs.Fractions.{Frac, _≈_, _⊕_, _⊗_, neg}
 use Rattle.exact.specs.Exact.{lift}
 use Rattle.exact.specs.FracLaws.{≈-refl, ≈-sym, ≈-trans, ⊕-cong, ⊗-cong, ⊕-zero-r, neg-cong, zeroF, through, times-sub, sub-sum, Within, within-≈, within-zero, within-near}
-use Rattle.stages.specs.Stages.{Side, low, high, Kind, lifts, scales, Stage, stage, made, worked, replaced, bits}
+use Rattle.stages.specs.Stages.{Side, low, high, Kind, lifts, scales, Stage, stage, made, worked, replaced, Product, bits}
 use Rattle.stages.specs.OnLine.{other, beforeIn, afterIn, count, exactAfter, fixedMade, fixedAfter}
 use Rattle.stages.specs.Rule.{Bound, Entering, rangeAt, ownFrom, errorAt, boundAt}
 use Rattle.stages.specs.Fixed.{meant}
@@ -61,13 +61,13 @@ made-dev scales c v O X Y o x y = scale-dev c v O o
 
 -- ---- a line of n
 
-module _ (st : List Stage) (e : Entering) (F : ℕ → ℕ) (fi : Side → ℕ) (f : ℕ → ℕ) where
+module _ (st : List Stage) (e : Entering) (F : ℕ → ℕ) (fp : ℕ → Product) (fi : Side → ℕ) (f : ℕ → ℕ) where
   module _ (n : ℕ) (v : Side → ℕ → ℤ) (x : Side → ℕ → Frac) where
     abbrev exactly : ℕ → Side → ℕ → Frac
     exactly = exactAfter st n x
 
     abbrev fixed : ℕ → Side → ℕ → ℤ
-    fixed = fixedAfter st F fi f n v
+    fixed = fixedAfter st F fp fi f n v
 
     -- the exact stages add nothing
     exact-stages : Stages st n (λ i k. zeroF) exactly
@@ -92,7 +92,7 @@ module _ (st : List Stage) (e : Entering) (F : ℕ → ℕ) (fi : Side → ℕ) 
     -- the own error of stage m, on side t
     abbrev ownOn : ℕ → Side → ℕ → Frac
     ownOn m t k =
-        meant (fixedMade (stage st m .kind) (stage st m .constant) (F m) (bits st fi f m (other t)) (bits st fi f m t) (f m) (fixed m t k) (fixed m (other t) (beforeIn t k)) (fixed m (other t) (afterIn n t k))) (f m)
+        meant (fixedMade (stage st m .kind) (fp m) (stage st m .constant) (F m) (bits st fi f m (other t)) (bits st fi f m t) (f m) (fixed m t k) (fixed m (other t) (beforeIn t k)) (fixed m (other t) (afterIn n t k))) (f m)
         ⊕ neg (made (stage st m .kind) (stage st m .constant) (means m t k) (means m (other t) (beforeIn t k)) (means m (other t) (afterIn n t k)))
 
     -- errors go through the stages as values do
@@ -100,7 +100,7 @@ module _ (st : List Stage) (e : Entering) (F : ℕ → ℕ) (fi : Side → ℕ) 
     unfolding exactAfter fixedAfter bits
     error-stages m s k i = go (stage st m .side) s
       where
-        go : (t s : Side) → off (worked beforeIn (afterIn n) t (λ k. fixedMade (stage st m .kind) (stage st m .constant) (F m) (bits st fi f m (other t)) (bits st fi f m t) (f m)) (fixed m) s k) (replaced t (f m) (bits st fi f m) s) (worked beforeIn (afterIn n) t (λ k. made (stage st m .kind) (stage st m .constant)) (exactly m) s k)
+        go : (t s : Side) → off (worked beforeIn (afterIn n) t (λ k. fixedMade (stage st m .kind) (fp m) (stage st m .constant) (F m) (bits st fi f m (other t)) (bits st fi f m t) (f m)) (fixed m) s k) (replaced t (f m) (bits st fi f m) s) (worked beforeIn (afterIn n) t (λ k. made (stage st m .kind) (stage st m .constant)) (exactly m) s k)
             ≈ worked beforeIn (afterIn n) t (λ k own x z. made (stage st m .kind) (stage st m .constant) own x z ⊕ ownOn m t k) (λ s k. off (fixed m s k) (bits st fi f m s) (exactly m s k)) s k
         go low low = made-dev (stage st m .kind) (stage st m .constant) _ _ _ _ _ _ _
         go low high = ≈-refl _
@@ -108,38 +108,38 @@ module _ (st : List Stage) (e : Entering) (F : ℕ → ℕ) (fi : Side → ℕ) 
         go high high = made-dev (stage st m .kind) (stage st m .constant) _ _ _ _ _ _ _
 
     module _ (works : Liftable n) (small : (m : ℕ) → f m ≤ 32) (given : (s : Side) (k : ℕ) → k < count n s → Good (enters e s) (fi s) (v s k) (x s k)) where
-      ranges : (m : ℕ) (s : Side) (k : ℕ) → k < count n s → Within (exactly m s k) (rangeAt st e F fi f s m) Q
+      ranges : (m : ℕ) (s : Side) (k : ℕ) → k < count n s → Within (exactly m s k) (rangeAt st e F fp fi f s m) Q
       unfolding rangeAt exactAfter
       ranges m s k i =
           subst (λ (t : ℕ). Within (exactly m s k) t Q) (omega (arith, nothing-brings st s m m))
           (line-within st n (λ i k. zeroF) exactly exact-stages works Q (pow-pos 32) (λ b. b .range) e (λ i. 0) (λ t k i. given t k i .range) m (λ i k l h. within-zero 0 Q) s k i)
 
       abbrev Owns : ℕ → Type 0
-      Owns m = (i k : ℕ) → i < m → k < count n (stage st i .side) → Within (ownOn i (stage st i .side) k) (ownAt st e F fi f i) Q
+      Owns m = (i k : ℕ) → i < m → k < count n (stage st i .side) → Within (ownOn i (stage st i .side) k) (ownAt st e F fp fi f i) Q
 
-      errors : (m : ℕ) → Owns m → (s : Side) (k : ℕ) → k < count n s → Within (off (fixed m s k) (bits st fi f m s) (exactly m s k)) (errorAt st e F fi f s m) Q
+      errors : (m : ℕ) → Owns m → (s : Side) (k : ℕ) → k < count n s → Within (off (fixed m s k) (bits st fi f m s) (exactly m s k)) (errorAt st e F fp fi f s m) Q
       unfolding errorAt exactAfter fixedAfter bits
       errors m own s k i =
-          subst (λ (t : ℕ). Within (off (fixed m s k) (bits st fi f m s) (exactly m s k)) t Q) (sym (error-sum st e F fi f s m))
-          (line-within st n (λ m. ownOn m (stage st m .side)) (λ m s k. off (fixed m s k) (bits st fi f m s) (exactly m s k)) error-stages works Q (pow-pos 32) (λ b. b .error) e (ownAt st e F fi f) (λ t k i. given t k i .error) m own s k i)
+          subst (λ (t : ℕ). Within (off (fixed m s k) (bits st fi f m s) (exactly m s k)) t Q) (sym (error-sum st e F fp fi f s m))
+          (line-within st n (λ m. ownOn m (stage st m .side)) (λ m s k. off (fixed m s k) (bits st fi f m s) (exactly m s k)) error-stages works Q (pow-pos 32) (λ b. b .error) e (ownAt st e F fp fi f) (λ t k i. given t k i .error) m own s k i)
 
       -- what the fixed-point line means is at most range plus error
-      sizes : (m : ℕ) → Owns m → (s : Side) (k : ℕ) → k < count n s → Within (means m s k) (rangeAt st e F fi f s m + errorAt st e F fi f s m) Q
+      sizes : (m : ℕ) → Owns m → (s : Side) (k : ℕ) → k < count n s → Within (means m s k) (rangeAt st e F fp fi f s m + errorAt st e F fp fi f s m) Q
       sizes m own s k i = within-near (ranges m s k i) (errors m own s k i)
 
-      own-next : (m : ℕ) → Owns m → (k : ℕ) → k < count n (stage st m .side) → Within (ownOn m (stage st m .side) k) (ownAt st e F fi f m) Q
+      own-next : (m : ℕ) → Owns m → (k : ℕ) → k < count n (stage st m .side) → Within (ownOn m (stage st m .side) k) (ownAt st e F fp fi f m) Q
       unfolding ownAt ownFrom fixedMade made
       own-next m own k = go (stage st m .kind) (stage st m .side)
         where
-          size : (s : Side) (k : ℕ) → k < count n s → Within (means m s k) (rangeAt st e F fi f s m + errorAt st e F fi f s m) Q
+          size : (s : Side) (k : ℕ) → k < count n s → Within (means m s k) (rangeAt st e F fp fi f s m + errorAt st e F fp fi f s m) Q
           size = sizes m own
 
           go : (d : Kind) (t : Side) → k < count n t
-              → Within (meant (fixedMade d (stage st m .constant) (F m) (bits st fi f m (other t)) (bits st fi f m t) (f m) (fixed m t k) (fixed m (other t) (beforeIn t k)) (fixed m (other t) (afterIn n t k))) (f m)
+              → Within (meant (fixedMade d (fp m) (stage st m .constant) (F m) (bits st fi f m (other t)) (bits st fi f m t) (f m) (fixed m t k) (fixed m (other t) (beforeIn t k)) (fixed m (other t) (afterIn n t k))) (f m)
               ⊕ neg (made d (stage st m .constant) (means m t k) (means m (other t) (beforeIn t k)) (means m (other t) (afterIn n t k))))
-              (ownFrom st e F fi f d t m (λ s. rangeAt st e F fi f s m + errorAt st e F fi f s m)) Q
-          go lifts low i = lift-own (stage st m .constant) (F m) _ _ (f m) _ _ _ _ (small m) (size high (highBefore k) (high-before-in n k (some-highs n works) i)) (size high (highAfter n k) (high-after-in n k (some-highs n works) i))
-          go lifts high i = lift-own (stage st m .constant) (F m) _ _ (f m) _ _ _ _ (small m) (size low k (omega arith)) (size low (lowAfter n k) (low-after-in n k i))
+              (ownFrom st e F fp fi f d t m (λ s. rangeAt st e F fp fi f s m + errorAt st e F fp fi f s m)) Q
+          go lifts low i = lift-own (fp m) (stage st m .constant) (F m) _ _ (f m) _ _ _ _ (small m) (size high (highBefore k) (high-before-in n k (some-highs n works) i)) (size high (highAfter n k) (high-after-in n k (some-highs n works) i))
+          go lifts high i = lift-own (fp m) (stage st m .constant) (F m) _ _ (f m) _ _ _ _ (small m) (size low k (omega arith)) (size low (lowAfter n k) (low-after-in n k i))
           go scales low i = scale-own (stage st m .constant) (F m) _ (f m) _ _ (small m) (size low k i)
           go scales high i = scale-own (stage st m .constant) (F m) _ (f m) _ _ (small m) (size high k i)
 
@@ -147,13 +147,13 @@ module _ (st : List Stage) (e : Entering) (F : ℕ → ℕ) (fi : Side → ℕ) 
       owns zero i k l h = absurd (omega arith)
       owns (suc m) i k l h = go (decLt i m) (owns m)
         where
-          go : Dec (i < m) → Owns m → Within (ownOn i (stage st i .side) k) (ownAt st e F fi f i) Q
+          go : Dec (i < m) → Owns m → Within (ownOn i (stage st i .side) k) (ownAt st e F fp fi f i) Q
           go (yes less) before = before i k less h
           go (no not) before =
               let same : m ≡ i = omega arith in
-              subst (λ (j : ℕ). (k : ℕ) → k < count n (stage st j .side) → Within (ownOn j (stage st j .side) k) (ownAt st e F fi f j) Q) same (own-next m before) k h
+              subst (λ (j : ℕ). (k : ℕ) → k < count n (stage st j .side) → Within (ownOn j (stage st j .side) k) (ownAt st e F fp fi f j) Q) same (own-next m before) k h
 
       -- Each side after any number of stages is good.
-      pub good : (m : ℕ) (s : Side) (k : ℕ) → k < count n s → Good (boundAt st e F fi f s m) (bits st fi f m s) (fixedAfter st F fi f n v m s k) (exactAfter st n x m s k)
+      pub good : (m : ℕ) (s : Side) (k : ℕ) → k < count n s → Good (boundAt st e F fp fi f s m) (bits st fi f m s) (fixedAfter st F fp fi f n v m s k) (exactAfter st n x m s k)
       unfolding boundAt
       good m s k i = record { range = ranges m s k i; error = errors m (owns m) s k i }

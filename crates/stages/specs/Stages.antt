@@ -1,5 +1,5 @@
 -- A pass as the list of its stages (document 01: the lifting).
-use Prim.Native.Nat.{ℕ, zero, suc}
+use Prim.Native.Nat.{ℕ, zero, suc, min}
 use mathlib.Core.List.{List, [], _∷_}
 use lib.ListN.{getD}
 use Rattle.exact.specs.Fractions.{Frac, _⊗_, neg}
@@ -50,6 +50,16 @@ module _ {A : Type 0} {I : Type 0} (before after : Side → I → I) where
   worked low f x high k = x high k
   worked high f x low k = x low k
   worked high f x high k = f k (x high k) (x low (before high k)) (x low (after high k))
+
+-- The width of a stage's product (document 02, job 7): the product is not cut, or it is cut downwards to fp fractional bits.
+pub data Product : Type 0 where
+  uncut : Product
+  cutTo : ℕ → Product
+
+-- the bits of a product that has so many before its cut: fp, where it is smaller, takes their place
+abbrev pub productBits : Product → ℕ → ℕ
+productBits uncut full = full
+productBits (cutTo fp) full = min fp full
 
 -- a number for each side: a stage on side t gives its side a new one
 abbrev pub replaced : Side → ℕ → (Side → ℕ) → Side → ℕ

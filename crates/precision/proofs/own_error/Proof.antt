@@ -7,6 +7,7 @@ use lib.Dec.{ltb}
 use lib.ListN.{getD}
 use Rattle.numbers.specs.Tests.{ltb-true, ltb-false}
 use Rattle.width_table.specs.Nodes.{G1, nodeNumber}
+use Rattle.stages.specs.Stages.{cutTo}
 use Rattle.stages.specs.Rule.{ownLift, ownScale}
 use Rattle.precision.specs.declared.Widths.{Widths}
 use Rattle.precision.specs.Places.{places, multiplied, other, ownBy}
@@ -18,7 +19,7 @@ use Rattle.precision.proofs.own_error.Tie as tie
 module _ (w : Widths) (k r : ℕ) where
   abbrev chosen : Bool → ℕ
   chosen t = elim t [
-    | true ↦ ownLift (getD (w .constants) (k - 1) 0) (getD (w .fractions) (multiplied k) 0) (getD (w .fractions) (other k) 0) (getD (w .fractions) k 0) r
+    | true ↦ ownLift (cutTo (getD (w .products) (k - 1) 0)) (getD (w .constants) (k - 1) 0) (getD (w .fractions) (multiplied k) 0) (getD (w .fractions) (other k) 0) (getD (w .fractions) k 0) r
     | false ↦ ownScale (getD (w .constants) (k - 1) 0) (getD (w .fractions) (multiplied k) 0) (getD (w .fractions) k 0) r
   ]
 
@@ -31,19 +32,19 @@ operand c = let s = c .before .before in omega (arith, c .multiplied-place .ensu
 
 own-lift-requires : tie.Need-own-lift-requires
 own-lift-requires c κs =
-    let m = c .before .before .before .before .before in
+    let m = c .before .before .before .before .before .before in
     let s = m .before .before in
     let l = s .pre .0 in
-    (l .constant (s .args .node) (s .pre .1 .0), l .fraction (m .multiplied-place .result) (operand m), l .fraction (s .args .node) (omega arith), s .pre .1 .1)
+    (l .product (s .args .node) (omega arith, omega arith), l .constant (s .args .node) (s .pre .1 .0), l .fraction (m .multiplied-place .result) (operand m), l .fraction (s .args .node) (omega arith), s .pre .1 .1)
 
 returns : tie.Need-returns
 returns c =
-    let o = c .before .before in
+    let o = c .before .before .before in
     let m = o .before .before .before .before in
     let a = m .before .before .args in
     let f : ℕ → ℕ = λ k. getD (a .t1 .fractions) k 0 in
     c .own-lift .ensures
-    ∙ ap₂ (λ (x y : ℕ). ownLift (getD (a .t1 .constants) (a .node - 1) 0) (f x) (f y) (f (a .node)) (a .total)) (m .multiplied-place .ensures) (o .other-place .ensures)
+    ∙ ap₂ (λ (x y : ℕ). ownLift (cutTo (getD (a .t1 .products) (a .node - 1) 0)) (getD (a .t1 .constants) (a .node - 1) 0) (f x) (f y) (f (a .node)) (a .total)) (m .multiplied-place .ensures) (o .other-place .ensures)
     ∙ chosen-is (a .t1) (a .node) (a .total) true (ltb-true (a .node) (nodeNumber G1) (o .before .if1 .taken))
 
 own-scale-requires : tie.Need-own-scale-requires
@@ -73,6 +74,8 @@ own-error-spec =
     (λ c. omega (arith, operand c))
     (λ c. search needs)
     (λ c κs. search needs)
+    (λ c. search needs)
+    (λ c. search needs)
     (λ c. search needs)
     (λ c. search needs)
     own-lift-requires

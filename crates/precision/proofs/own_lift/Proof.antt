@@ -8,4 +8,4 @@ unfolding ownLift
 returns c = cc
 
 pub own-lift-spec : {M : Type 1} → statement M
-own-lift-spec = tie.close (tie.spec (λ c. omega arith) (λ c κs. omega arith) (λ c κs. tt) (λ c κs. omega arith) (λ c. omega arith) returns)
+own-lift-spec = tie.close (tie.spec (λ c. omega arith) (λ c κs. omega arith) (λ c κs. omega arith) (λ c. omega arith) (λ c κs. tt) (λ c κs. tt) (λ c κs. omega arith) (λ c. omega arith) returns)

@@ -15,7 +15,7 @@ node-place-requires c κs =
 
 returns : tie.Need-returns
 returns c =
-    let n = c .before .before in
+    let n = c .before .before .before in
     let s = n .before .before in
     let h = s .pre in
     let t = s .args .table in
@@ -27,6 +27,7 @@ returns c =
       integer = by-place _ (integer-at h 1 (lit≤ tt, lit≤ tt) at (omega (arith, is))) (integer-at h 2 (lit≤ tt, lit≤ tt) (at + 2) (omega (arith, is))) (integer-at h 3 (lit≤ tt, lit≤ tt) (at + 4) (omega (arith, is))) (integer-at h 4 (lit≤ tt, lit≤ tt) (at + 6) (omega (arith, is))) (integer-at h 5 (lit≤ tt, lit≤ tt) (at + 8) (omega (arith, is))) (integer-at h 6 (lit≤ tt, lit≤ tt) (at + 10) (omega (arith, is)));
       fraction = by-place _ (fraction-at h 1 (lit≤ tt, lit≤ tt) (at + 1) (omega (arith, is))) (fraction-at h 2 (lit≤ tt, lit≤ tt) (at + 3) (omega (arith, is))) (fraction-at h 3 (lit≤ tt, lit≤ tt) (at + 5) (omega (arith, is))) (fraction-at h 4 (lit≤ tt, lit≤ tt) (at + 7) (omega (arith, is))) (fraction-at h 5 (lit≤ tt, lit≤ tt) (at + 9) (omega (arith, is))) (fraction-at h 6 (lit≤ tt, lit≤ tt) (at + 11) (omega (arith, is)));
       input = n .before .input-bits .ensures;
+      product = c .products-of .ensures;
     }
 
 pub widths-of-spec : {M : Type 1} → statement M
@@ -58,4 +59,5 @@ widths-of-spec =
     (λ c. search needs)
     (λ c. search needs)
     (λ c. search needs)
+    (λ c κs. search needs)
     returns)

@@ -16,6 +16,7 @@ use Rattle.lines.specs.Planes.{Plane, side, rows}
 use Rattle.width_table.specs.declared.WidthTable.{WidthTable}
 use Rattle.width_table.specs.Table.{constantBits, integerBits, fractionBits, inputBits}
 use Rattle.pictures.specs.Pictures.{Admitted}
+use Rattle.precision.specs.Products.{productOf}
 use Rattle.precision.specs.Verdict.{Accepted}
 use Rattle.exact.specs.Picture.{exactPlane}
 use Rattle.irreversible.specs.Transforms.{fixedLine, fixedAfter, fixedPlane}
@@ -69,7 +70,7 @@ Holds IB f v = (negℤ (pos (2 ^ (IB + f - 1))) ≤ℤ v) × (v <ℤ pos (2 ^ (I
 -- each value that a pass of level l over n samples v leaves: two samples or more in every node, a single one in G1 alone (document 02, job 6)
 pub record InWidth (t : WidthTable) (l : ℕ) (p : Pass) (n : ℕ) (v : ℕ → ℤ) : Type 0 where
   pub long : Liftable n → (i : Node) (k : ℕ) → k < countAt n i
-      → Holds (integerBits t l p i) (fractionBits t l p i) (valueAt (constantBits t) (inputBits t l p) (fractionBits t l p) n v i k)
+      → Holds (integerBits t l p i) (fractionBits t l p i) (valueAt (constantBits t) (productOf t l p) (inputBits t l p) (fractionBits t l p) n v i k)
   pub single : n ≡ 1 → Holds (integerBits t l p G1) (fractionBits t l p G1) (fixedLine t l p n v 0)
 
 -- each value of level l, which is fed w columns and h rows of the plane p: in each row, and in each column of what the rows leave

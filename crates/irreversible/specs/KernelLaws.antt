@@ -17,39 +17,41 @@ use Rattle.lifting.specs.declared.Kernel.the-variants.{Two}
 use Rattle.lifting.specs.Steps.{applied, scaledBy, SameFactor}
 use Rattle.lifting.specs.Passes.{evens, odds}
 use Rattle.lifting.specs.Kernels.{worked, SameKernel, firstHighs, firstLows, secondHighs, secondLows}
+use Rattle.stages.specs.Stages.{Product}
 use Rattle.stages.specs.Fixed.{nearest, cut, step, scale}
+use Rattle.precision.specs.Products.{productOf}
 use Rattle.irreversible.specs.Fixed.{atP1, atU1, atP2, atU2, atG1, atG2, fixedLong, fixedPass}
 use Rattle.irreversible.specs.Transforms.{fixedLine}
 use Rattle.irreversible.specs.StepLaws.{stepOf, factorOf, step-applied, scale-applied, singleOf, single-applied}
 
 -- a stage with its constant at F bits
-abbrev pub stageOf : Frac → ℕ → ℕ → ℕ → ℕ → Step
-stageOf c F fm fo f = stepOf (nearest c F) F fm fo f
+abbrev pub stageOf : Product → Frac → ℕ → ℕ → ℕ → ℕ → Step
+stageOf p c F fm fo f = stepOf p (nearest c F) F fm fo f
 
 abbrev pub scalingOf : Frac → ℕ → ℕ → ℕ → Factor
 scalingOf c F fm f = factorOf (nearest c F) F fm f
 
 -- the steps as functions
-applied-is : (c : Frac) (F fm fo f : ℕ) → applied (stageOf c F fm fo f) ≡ step c F fm fo f
-applied-is c F fm fo f = fun-ext λ own. fun-ext λ x. fun-ext λ y. step-applied c F fm fo f own x y
+applied-is : (p : Product) (c : Frac) (F fm fo f : ℕ) → applied (stageOf p c F fm fo f) ≡ step p c F fm fo f
+applied-is p c F fm fo f = fun-ext λ own. fun-ext λ x. fun-ext λ y. step-applied p c F fm fo f own x y
 
 scaled-is : (c : Frac) (F fm f : ℕ) → scaledBy (scalingOf c F fm f) ≡ scale c F fm f
 scaled-is c F fm f = fun-ext λ x. scale-applied c F fm f x
 
--- One pass: F the bits of the constants, fi those of the input, f those of the nodes.
-module _ (F : Node → ℕ) (fi : ℕ) (f : Node → ℕ) where
+-- One pass: F the bits of the constants, fp the widths of the products, fi the bits of the input, f those of the nodes.
+module _ (F : Node → ℕ) (fp : Node → Product) (fi : ℕ) (f : Node → ℕ) where
   -- its stages
   abbrev pub sP1 : Step
-  sP1 = stageOf alpha (F P1) fi fi (f P1)
+  sP1 = stageOf (fp P1) alpha (F P1) fi fi (f P1)
 
   abbrev pub sU1 : Step
-  sU1 = stageOf beta (F U1) (f P1) fi (f U1)
+  sU1 = stageOf (fp U1) beta (F U1) (f P1) fi (f U1)
 
   abbrev pub sP2 : Step
-  sP2 = stageOf gamma (F P2) (f U1) (f P1) (f P2)
+  sP2 = stageOf (fp P2) gamma (F P2) (f U1) (f P1) (f P2)
 
   abbrev pub sU2 : Step
-  sU2 = stageOf delta (F U2) (f P2) (f U1) (f U2)
+  sU2 = stageOf (fp U2) delta (F U2) (f P2) (f U1) (f U2)
 
   abbrev pub sG1 : Factor
   sG1 = scalingOf zeta (F G1) (f U2) (f G1)
@@ -69,36 +71,36 @@ module _ (F : Node → ℕ) (fi : ℕ) (f : Node → ℕ) where
 
   -- what the kernel leaves on its way in the line, and at last
   module _ (n : ℕ) (x : ℕ → ℤ) where
-    pub first-highs : firstHighs firstPair secondPair n x ≡ atP1 F fi f n x
+    pub first-highs : firstHighs firstPair secondPair n x ≡ atP1 F fp fi f n x
     unfolding atP1
-    first-highs = λ u. onHighs (applied-is alpha (F P1) fi fi (f P1) u) n (evens x) (odds x)
+    first-highs = λ u. onHighs (applied-is (fp P1) alpha (F P1) fi fi (f P1) u) n (evens x) (odds x)
 
-    pub first-lows : firstLows firstPair secondPair n x ≡ atU1 F fi f n x
+    pub first-lows : firstLows firstPair secondPair n x ≡ atU1 F fp fi f n x
     unfolding atU1
-    first-lows = λ u. onLows (applied-is beta (F U1) (f P1) fi (f U1) u) n (evens x) (first-highs u)
+    first-lows = λ u. onLows (applied-is (fp U1) beta (F U1) (f P1) fi (f U1) u) n (evens x) (first-highs u)
 
-    pub second-highs : secondHighs firstPair secondPair n x ≡ atP2 F fi f n x
+    pub second-highs : secondHighs firstPair secondPair n x ≡ atP2 F fp fi f n x
     unfolding atP2
-    second-highs = λ u. onHighs (applied-is gamma (F P2) (f U1) (f P1) (f P2) u) n (first-lows u) (first-highs u)
+    second-highs = λ u. onHighs (applied-is (fp P2) gamma (F P2) (f U1) (f P1) (f P2) u) n (first-lows u) (first-highs u)
 
-    pub second-lows : secondLows firstPair secondPair n x ≡ atU2 F fi f n x
+    pub second-lows : secondLows firstPair secondPair n x ≡ atU2 F fp fi f n x
     unfolding atU2
-    second-lows = λ u. onLows (applied-is delta (F U2) (f P2) (f U1) (f U2) u) n (first-lows u) (second-highs u)
+    second-lows = λ u. onLows (applied-is (fp U2) delta (F U2) (f P2) (f U1) (f U2) u) n (first-lows u) (second-highs u)
 
-    pub worked-pass : worked kernelFrom n x ≡ fixedLong F fi f n x
+    pub worked-pass : worked kernelFrom n x ≡ fixedLong F fp fi f n x
     unfolding worked fixedLong atG1 atG2
     worked-pass = λ u. lowsFirst n (λ i. scaled-is zeta (F G1) (f U2) (f G1) u (second-lows u i)) (λ i. scaled-is zetaInverse (F G2) (f P2) (f G2) u (second-highs u i))
 
 -- the kernel of a pass of level l
 unfoldable pub kernelOf : WidthTable → ℕ → Pass → Kernel
-kernelOf t l p = kernelFrom (constantBits t) (inputBits t l p) (fractionBits t l p)
+kernelOf t l p = kernelFrom (constantBits t) (productOf t l p) (inputBits t l p) (fractionBits t l p)
 
 -- What the kernel makes of a line of two samples or more is the pass.
 pub worked-fixed : (t : WidthTable) (l : ℕ) (p : Pass) (n : ℕ) → Liftable n → worked (kernelOf t l p) n ≡ fixedLine t l p n
 unfolding kernelOf fixedLine fixedPass
 worked-fixed t l p n works =
-    (fun-ext λ x. worked-pass (constantBits t) (inputBits t l p) (fractionBits t l p) n x)
-    ∙ sym (long-line (cut (inputBits t l p) (fractionBits t l p G1)) (fixedLong (constantBits t) (inputBits t l p) (fractionBits t l p)) n works)
+    (fun-ext λ x. worked-pass (constantBits t) (productOf t l p) (inputBits t l p) (fractionBits t l p) n x)
+    ∙ sym (long-line (cut (inputBits t l p) (fractionBits t l p G1)) (fixedLong (constantBits t) (productOf t l p) (inputBits t l p) (fractionBits t l p)) n works)
 
 -- the cut of a single sample of a pass of level l
 abbrev pub singleFor : WidthTable → ℕ → Pass → Factor
@@ -109,7 +111,7 @@ pub single-fixed : (t : WidthTable) (l : ℕ) (p : Pass) (n : ℕ) → n < 2 →
 unfolding fixedLine fixedPass
 single-fixed t l p n one =
     (fun-ext λ x. fun-ext λ k. single-applied (inputBits t l p) (fractionBits t l p G1) (x k))
-    ∙ sym (single-line (cut (inputBits t l p) (fractionBits t l p G1)) (fixedLong (constantBits t) (inputBits t l p) (fractionBits t l p)) n one)
+    ∙ sym (single-line (cut (inputBits t l p) (fractionBits t l p G1)) (fixedLong (constantBits t) (productOf t l p) (inputBits t l p) (fractionBits t l p)) n one)
 
 -- the same in whatever form kernel and cut are run
 module _ (t : WidthTable) (l : ℕ) (p : Pass) (n : ℕ) where

@@ -13,6 +13,7 @@ use Rattle.lines.specs.Planes.{Plane, rows, columns}
 use Rattle.width_table.specs.declared.WidthTable.{WidthTable}
 use Rattle.width_table.specs.Table.{maxFractionBits, constantBits, integerBits, fractionBits, inputBits}
 use Rattle.stages.specs.Rule.{Bound}
+use Rattle.precision.specs.Products.{productOf}
 use Rattle.precision.specs.Bounds.{boundAt, rowBound, passBound}
 use Rattle.irreversible.specs.Transforms.{fixedLine}
 use Rattle.irreversible.specs.Claims.{InWidth, LevelInWidth}
@@ -41,7 +42,7 @@ module _ (t : WidthTable) (l : ℕ) (bits : (p : Pass) (n : Node) → fractionBi
 
   pub row-good : (r c : ℕ) → r < h → c < w → Good (rowBound t l b (lastNode (ltb c (lows w)))) (fractionBits t l Rows (lastNode (ltb c (lows w)))) (rowV t l w v r c) (rowX w x r c)
   unfolding rowV rowX rows fixedLine rowBound
-  row-good r c i j = pass-good (constantBits t) (inputBits t l Rows) b (fractionBits t l Rows) w (v r) (x r) (small Rows) (λ k q. given r k i q) c j
+  row-good r c i j = pass-good (constantBits t) (productOf t l Rows) (inputBits t l Rows) b (fractionBits t l Rows) w (v r) (x r) (small Rows) (λ k q. given r k i q) c j
 
   -- the rows are good at column c, which holds row-low values or row-high ones
   RowsGood : Bool → ℕ → Type 0
@@ -49,8 +50,8 @@ module _ (t : WidthTable) (l : ℕ) (bits : (p : Pass) (n : Node) → fractionBi
 
   column-good : (q : Bool) (c : ℕ) → RowsGood q c → (r : ℕ) → r < h → Good (passBound t l b (columnPass q) (lastNode (ltb r (lows h)))) (fractionBits t l (columnPass q) (lastNode (ltb r (lows h)))) (fixedLine t l (columnPass q) h (λ k. rowV t l w v k c) r) (exactPass h (λ k. rowX w x k c) r)
   unfolding RowsGood passBound fixedLine
-  column-good true c g r i = pass-good (constantBits t) (inputBits t l LowColumns) (rowBound t l b G1) (fractionBits t l LowColumns) h (λ k. rowV t l w v k c) (λ k. rowX w x k c) (small LowColumns) g r i
-  column-good false c g r i = pass-good (constantBits t) (inputBits t l HighColumns) (rowBound t l b G2) (fractionBits t l HighColumns) h (λ k. rowV t l w v k c) (λ k. rowX w x k c) (small HighColumns) g r i
+  column-good true c g r i = pass-good (constantBits t) (productOf t l LowColumns) (inputBits t l LowColumns) (rowBound t l b G1) (fractionBits t l LowColumns) h (λ k. rowV t l w v k c) (λ k. rowX w x k c) (small LowColumns) g r i
+  column-good false c g r i = pass-good (constantBits t) (productOf t l HighColumns) (inputBits t l HighColumns) (rowBound t l b G2) (fractionBits t l HighColumns) h (λ k. rowV t l w v k c) (λ k. rowX w x k c) (small HighColumns) g r i
 
   pub level-good : (r c : ℕ) → r < h → c < w → Good (passBound t l b (columnPass (ltb c (lows w))) (lastNode (ltb r (lows h)))) (fractionBits t l (columnPass (ltb c (lows w))) (lastNode (ltb r (lows h)))) (newV t l w h v r c) (newX w h x r c)
   unfolding newV newX columns RowsGood
@@ -58,13 +59,13 @@ module _ (t : WidthTable) (l : ℕ) (bits : (p : Pass) (n : Node) → fractionBi
 
   -- each value on the way stays in its width
   module _ (some : (p : Pass) (n : Node) → 1 ≤ integerBits t l p n) (room : (p : Pass) (n : Node) → passBound t l b p n .range + passBound t l b p n .error + 2 ^ (32 - fractionBits t l p n) ≤ 2 ^ (integerBits t l p n - 1) * 2 ^ 32) where
-    line-in-width : (p : Pass) (c : Bound) → ((n : Node) → passBound t l b p n ≡ boundAt (constantBits t) (inputBits t l p) c (fractionBits t l p) n) → (n : ℕ) (y : ℕ → ℤ) (z : ℕ → Frac) → ((k : ℕ) → k < n → Good c (inputBits t l p) (y k) (z k)) → InWidth t l p n y
+    line-in-width : (p : Pass) (c : Bound) → ((n : Node) → passBound t l b p n ≡ boundAt (constantBits t) (productOf t l p) (inputBits t l p) c (fractionBits t l p) n) → (n : ℕ) (y : ℕ → ℤ) (z : ℕ → Frac) → ((k : ℕ) → k < n → Good c (inputBits t l p) (y k) (z k)) → InWidth t l p n y
     unfolding fixedLine
     line-in-width p c e n y z g =
-        let fit : (i : Node) → boundAt (constantBits t) (inputBits t l p) c (fractionBits t l p) i .range + boundAt (constantBits t) (inputBits t l p) c (fractionBits t l p) i .error + 2 ^ (32 - fractionBits t l p i) ≤ 2 ^ (integerBits t l p i - 1) * 2 ^ 32 = λ i. subst (λ (q : Bound). q .range + q .error + 2 ^ (32 - fractionBits t l p i) ≤ 2 ^ (integerBits t l p i - 1) * 2 ^ 32) (e i) (room p i) in
+        let fit : (i : Node) → boundAt (constantBits t) (productOf t l p) (inputBits t l p) c (fractionBits t l p) i .range + boundAt (constantBits t) (productOf t l p) (inputBits t l p) c (fractionBits t l p) i .error + 2 ^ (32 - fractionBits t l p i) ≤ 2 ^ (integerBits t l p i - 1) * 2 ^ 32 = λ i. subst (λ (q : Bound). q .range + q .error + 2 ^ (32 - fractionBits t l p i) ≤ 2 ^ (integerBits t l p i - 1) * 2 ^ 32) (e i) (room p i) in
         record {
-          long = long-in-width (constantBits t) (inputBits t l p) c (fractionBits t l p) n y z (small p) g (integerBits t l p) (some p) fit;
-          single = single-in-width (constantBits t) (inputBits t l p) c (fractionBits t l p) n y z (small p) g (integerBits t l p) (some p) fit;
+          long = long-in-width (constantBits t) (productOf t l p) (inputBits t l p) c (fractionBits t l p) n y z (small p) g (integerBits t l p) (some p) fit;
+          single = single-in-width (constantBits t) (productOf t l p) (inputBits t l p) c (fractionBits t l p) n y z (small p) g (integerBits t l p) (some p) fit;
         }
 
     rows-in-width : (r : ℕ) → r < h → InWidth t l Rows w (v r)

@@ -1,22 +1,50 @@
--- The bits of a level of an accepted table, by number.
+-- The bits of a level of an accepted table, by number, and its stages by the bits that their products are cut to (document 02, job 7).
 use Prim.Native.Nat.{ℕ, _+_, _≤_}
-use mathlib.Core.Path.{_≡_, sym, _∙_, ap, subst}
+use mathlib.Core.Bool.{Bool, true, false}
+use mathlib.Core.Path.{_≡_, refl, sym, _∙_, ap, subst}
+use native.Mathlib.Omega.{arith}
 use lib.ListN.{getD}
+use Rattle.exact.specs.Fractions.{Frac}
+use Rattle.stages.specs.Stages.{Product, cutTo}
+use Rattle.stages.specs.Fixed.{nearest}
 use Rattle.width_table.specs.declared.WidthTable.{WidthTable}
-use Rattle.width_table.specs.Nodes.{Node, nodeNumber}
-use Rattle.width_table.specs.Table.{maxFractionBits, nodePlace, constantBits, fractionBits, inputBits}
+use Rattle.width_table.specs.Nodes.{productsPerPass, Node, P1, U1, P2, U2, G1, G2, Pass, nodeNumber}
+use Rattle.width_table.specs.Table.{maxConstantBits, maxFractionBits, maxProductBits, nodePlace, productPlace, constantBits, fractionBits, productWidth, inputBits}
 use Rattle.width_table.specs.Readers.{fractionBitsAt, inputBitsAt}
 use Rattle.width_table.specs.Numbered.{nodeOf, passOf, IsNode, IsPass, pass-number}
 use Rattle.width_table.specs.Limits.{form-constants, form-widths, fraction-read, input-read}
+use Rattle.precision.specs.Products.{widthOf, productOf}
 use Rattle.precision.specs.Verdict.{Accepted}
 use Rattle.precision.specs.Promise.{promise}
+use Rattle.irreversible.specs.StepLaws.{step-of-wide}
+use Rattle.irreversible.specs.KernelLaws.{stageOf}
 use Rattle.irreversible.specs.SafeLaws.{ConstantBits}
+
+-- the bits that a product is cut to: its width where the table has tag 5, else the limit
+abbrev pub cutBits : Bool → ℕ → ℕ
+cutBits true fp = fp
+cutBits false fp = maxProductBits
+
+-- no product has more bits than the limit, so that a stage by it is one whose product has no width
+cut-stage : (five : Bool) (fp : ℕ) (c : Frac) (F fm fo f : ℕ) → F ≤ maxConstantBits → fm ≤ maxFractionBits → stageOf (cutTo (cutBits five fp)) c F fm fo f ≡ stageOf (widthOf five fp) c F fm fo f
+cut-stage true fp c F fm fo f a b = refl
+cut-stage false fp c F fm fo f a b = step-of-wide maxProductBits (nearest c F) F fm fo f (omega arith)
 
 -- a level of an accepted table
 pub record IsLevel (t : WidthTable) (l : ℕ) : Type 0 where
   pub accepted : Accepted t
   pub least : 1 ≤ l
   pub most : l ≤ t .levels
+
+-- the product of a stage that lifts
+product-is : (t : WidthTable) (l : ℕ) (p : Pass) (n : Node) → nodeNumber n ≤ productsPerPass → productOf t l p n ≡ widthOf (t .five) (productWidth t l p n)
+unfolding productOf
+product-is t l p P1 i = refl
+product-is t l p U1 i = refl
+product-is t l p P2 i = refl
+product-is t l p U2 i = refl
+product-is t l p G1 i = absurd (omega arith)
+product-is t l p G2 i = absurd (omega arith)
 
 -- what is read of it is what the definitions have, and within its limits
 module _ (t : WidthTable) where
@@ -36,6 +64,15 @@ module _ (t : WidthTable) where
     fraction-at n m e =
         let same = ap (λ (m : ℕ). getD (t .nodes) m 0) (e ∙ ap (λ (q : ℕ). nodePlace l q (nodeNumber n) + 1) (sym (pass-number p h))) in
         (same, subst (λ (x : ℕ). x ≤ maxFractionBits) (sym same) (form-widths t (promise t (ok .accepted) .form) l (ok .least) (ok .most) (passOf p) n .2))
+
+    -- a stage by the bits that its product is cut to, whose width lies among the products' numbers
+    pub stage-at : (n : Node) → nodeNumber n ≤ productsPerPass → (m : ℕ) → m ≡ productPlace l p (nodeNumber n) → {w : ℕ} → w ≡ cutBits (t .five) (getD (t .products) m 0)
+        → (c : Frac) (F fm fo f : ℕ) → F ≤ maxConstantBits → fm ≤ maxFractionBits → stageOf (cutTo w) c F fm fo f ≡ stageOf (productOf t l (passOf p) n) c F fm fo f
+    stage-at n lifts m e is c F fm fo f a b =
+        let same = ap (λ (m : ℕ). getD (t .products) m 0) (e ∙ ap (λ (q : ℕ). productPlace l q (nodeNumber n)) (sym (pass-number p h))) in
+        ap (λ (w : ℕ). stageOf (cutTo w) c F fm fo f) (is ∙ ap (cutBits (t .five)) same)
+        ∙ cut-stage (t .five) (productWidth t l (passOf p) n) c F fm fo f a b
+        ∙ ap (λ (q : Product). stageOf q c F fm fo f) (sym (product-is t l (passOf p) n lifts))
 
     -- f of what enters a pass
     pub input-is : {x : ℕ} → x ≡ inputBitsAt t l p → (x ≡ inputBits t l (passOf p)) × (x ≤ maxFractionBits)

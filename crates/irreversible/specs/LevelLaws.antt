@@ -20,7 +20,9 @@ use Rattle.width_table.specs.Table.{constantBits, fractionBits, inputBits}
 use Rattle.lifting.specs.Steps.{FactorSafe}
 use Rattle.lifting.specs.Kernels.{SafeKernel, rowOf, columnOf, rowsBy, columnsBy}
 use Rattle.pictures.specs.MemoryLaws.{Reads, Stands, columnsPlane, columns-in, columns-below, columns-left, columns-right, one-reads, rows-stand, rows-beyond, columns-stand, columns-beyond}
+use Rattle.stages.specs.Stages.{Product}
 use Rattle.stages.specs.Fixed.{cut, step, scale}
+use Rattle.precision.specs.Products.{productOf}
 use Rattle.irreversible.specs.Fixed.{atP1, atU1, atP2, atU2, atG1, atG2, valueAt, countAt, fixedLong, fixedPass}
 use Rattle.irreversible.specs.Transforms.{fixedLine, fixedLevel}
 use Rattle.irreversible.specs.Sized.{SizedTo, LineSizedTo, Sized, LineSized, LevelSized}
@@ -29,26 +31,26 @@ use Rattle.irreversible.specs.SafeLaws.{Limits, kernel-safe, single-safe
 
 -- ---- a pass reads a line's own values only
 
-module _ (F : Node → ℕ) (fi : ℕ) (f : Node → ℕ) (n : ℕ) (x y : ℕ → ℤ) (works : Liftable n) (same : Equal n x y) where
+module _ (F : Node → ℕ) (fp : Node → Product) (fi : ℕ) (f : Node → ℕ) (n : ℕ) (x y : ℕ → ℤ) (works : Liftable n) (same : Equal n x y) where
   -- the same values in a node
   abbrev Same : Node → Type 0
-  Same i = Equal (countAt n i) (valueAt F fi f n x i) (valueAt F fi f n y i)
+  Same i = Equal (countAt n i) (valueAt F fp fi f n x i) (valueAt F fp fi f n y i)
 
   same-P1 : Same P1
   unfolding atP1
-  same-P1 = on-highs-equal n (evens-equal n same) (odds-equal n same) (step alpha (F P1) fi fi (f P1))
+  same-P1 = on-highs-equal n (evens-equal n same) (odds-equal n same) (step (fp P1) alpha (F P1) fi fi (f P1))
 
   same-U1 : Same U1
   unfolding atU1
-  same-U1 = on-lows-equal n (evens-equal n same) same-P1 (step beta (F U1) (f P1) fi (f U1)) (some-highs n works)
+  same-U1 = on-lows-equal n (evens-equal n same) same-P1 (step (fp U1) beta (F U1) (f P1) fi (f U1)) (some-highs n works)
 
   same-P2 : Same P2
   unfolding atP2
-  same-P2 = on-highs-equal n same-U1 same-P1 (step gamma (F P2) (f U1) (f P1) (f P2))
+  same-P2 = on-highs-equal n same-U1 same-P1 (step (fp P2) gamma (F P2) (f U1) (f P1) (f P2))
 
   same-U2 : Same U2
   unfolding atU2
-  same-U2 = on-lows-equal n same-U1 same-P2 (step delta (F U2) (f P2) (f U1) (f U2)) (some-highs n works)
+  same-U2 = on-lows-equal n same-U1 same-P2 (step (fp U2) delta (F U2) (f P2) (f U1) (f U2)) (some-highs n works)
 
   -- in every node
   value-same : (i : Node) → Same i
@@ -64,9 +66,10 @@ pub line-same : (t : WidthTable) (l : ℕ) (p : Pass) → Reads (fixedLine t l p
 unfolding fixedLine fixedPass fixedLong
 line-same t l p =
     let F = constantBits t in
+    let fp = productOf t l p in
     let fi = inputBits t l p in
     let f = fractionBits t l p in
-    one-reads (cut fi (f G1)) (fixedLong F fi f) (λ n works x y e. first-equal n (value-same F fi f n x y works e G1) (value-same F fi f n x y works e G2))
+    one-reads (cut fi (f G1)) (fixedLong F fp fi f) (λ n works x y e. first-equal n (value-same F fp fi f n x y works e G1) (value-same F fp fi f n x y works e G2))
 
 -- ---- one line
 
@@ -84,15 +87,16 @@ pub line-safe : (t : WidthTable) (l : ℕ) → BitsRight t l → (p : Pass) (n :
 unfolding kernelOf fixedLine fixedPass
 line-safe t l bits p n v inside given x same =
     let F = constantBits t in
+    let fp = productOf t l p in
     let fi = inputBits t l p in
     let f = fractionBits t l p in
     record {
-      long = λ works. kernel-safe F fi f (bits p) n x works
+      long = λ works. kernel-safe F fp fi f (bits p) n x works
           (λ k h. subst (Sized fi) (sym (same k h)) (given k h))
-          (λ i k h. subst (Sized (f i)) (sym (value-same F fi f n x v works same i k h)) (inside .long works i k h));
+          (λ i k h. subst (Sized (f i)) (sym (value-same F fp fi f n x v works same i k h)) (inside .long works i k h));
       single = λ one k h.
           let z : 0 ≡ k = omega arith in
-          let left : Sized (f G1) (cut fi (f G1) (v k)) = subst (Sized (f G1)) (ap (λ (j : ℕ). fixedLine t l p n v j) z ∙ one-single (cut fi (f G1)) (fixedLong F fi f) n v k one) (inside .single (omega arith)) in
+          let left : Sized (f G1) (cut fi (f G1) (v k)) = subst (Sized (f G1)) (ap (λ (j : ℕ). fixedLine t l p n v j) z ∙ one-single (cut fi (f G1)) (fixedLong F fp fi f) n v k one) (inside .single (omega arith)) in
           subst (FactorSafe (singleFor t l p)) (sym (same k h)) (single-safe fi (f G1) (bits p .enters) (bits p .fractions G1) (v k) (given k h) left);
     }
 
@@ -101,6 +105,7 @@ pub line-sized : (e : ℕ) (t : WidthTable) (l : ℕ) (p : Pass) (n : ℕ) (v : 
 unfolding fixedLine fixedPass fixedLong lowsFirst
 line-sized e t l p n v inside k h =
     let F = constantBits t in
+    let fp = productOf t l p in
     let fi = inputBits t l p in
     let f = fractionBits t l p in
     by-one _ n
@@ -108,8 +113,8 @@ line-sized e t l p n v inside k h =
     let z : 0 ≡ k = omega arith in
     subst (λ (q : Bool). SizedTo e (f (lastNode q)) (fixedLine t l p n v k)) (sym (ltb-true k (lows n) (omega arith)))
     (subst (λ (j : ℕ). SizedTo e (f G1) (fixedLine t l p n v j)) z (inside .single (omega arith))))
-    (λ works. subst (SizedTo e (f (lastNode (ltb k (lows n))))) (sym (one-long (cut fi (f G1)) (fixedLong F fi f) n v k works))
-    (by-ltb (λ q. SizedTo e (f (lastNode q)) (elim q [ true ↦ atG1 F fi f n v k | false ↦ atG2 F fi f n v (k - lows n) ])) k (lows n)
+    (λ works. subst (SizedTo e (f (lastNode (ltb k (lows n))))) (sym (one-long (cut fi (f G1)) (fixedLong F fp fi f) n v k works))
+    (by-ltb (λ q. SizedTo e (f (lastNode q)) (elim q [ true ↦ atG1 F fp fi f n v k | false ↦ atG2 F fp fi f n v (k - lows n) ])) k (lows n)
     (λ i. inside .long works G1 k i)
     (λ i. inside .long works G2 (k - lows n) (omega arith))))
 

@@ -15,7 +15,7 @@ use lib.Pow.{pow-pos}
 use lib.ListN.{getD}
 use Rattle.numbers.specs.Tests.{both, four}
 use Rattle.exact.specs.Fractions.{upDiv}
-use Rattle.stages.specs.Stages.{Side, stage, forward}
+use Rattle.stages.specs.Stages.{Side, stage, forward, Product}
 use Rattle.stages.specs.Gains.{Source, samples, node, gain}
 use Rattle.stages.specs.Rule as Rule
 use Rattle.stages.specs.Rule.{Bound, timesGain, together, brought, rangeAt}
@@ -28,6 +28,7 @@ use Rattle.width_table.specs.Numbered.{nodeOf}
 use Rattle.width_table.specs.declared.WidthTable.{WidthTable}
 use Rattle.width_table.specs.Table.{maxLevels, constantBits, integerBits, fractionBits, inputBits}
 use Rattle.precision.specs.SingleLaws.{same-bound}
+use Rattle.precision.specs.Products.{productOf}
 use Rattle.precision.specs.Bounds.{boundAfter, longBound, boundAt, rowBound, passBound, entering, boundOf}
 use Rattle.precision.specs.Verdict.{keptAt, AcceptPromise}
 
@@ -150,12 +151,12 @@ gain-under n i h = rw (gain-to n i h, gain-to (last n) i h) (leb→le (gainTo n 
 
 -- ---- one pass
 
-module _ (F : Node → ℕ) (fi : ℕ) (b : Bound) (f : Node → ℕ) where
-  node-is : (n : Node) → boundAt F fi b f n ≡ boundAfter F fi b f (sideOf n) (suc (stageOf n))
+module _ (F : Node → ℕ) (fp : Node → Product) (fi : ℕ) (b : Bound) (f : Node → ℕ) where
+  node-is : (n : Node) → boundAt F fp fi b f n ≡ boundAfter F fp fi b f (sideOf n) (suc (stageOf n))
   unfolding longBound
-  node-is n = same-bound F fi b f n ∙ stage-is n
+  node-is n = same-bound F fp fi b f n ∙ stage-is n
     where
-      stage-is : (n : Node) → longBound F fi b f n ≡ boundAfter F fi b f (sideOf n) (suc (stageOf n))
+      stage-is : (n : Node) → longBound F fp fi b f n ≡ boundAfter F fp fi b f (sideOf n) (suc (stageOf n))
       stage-is P1 = refl
       stage-is U1 = refl
       stage-is P2 = refl
@@ -163,18 +164,18 @@ module _ (F : Node → ℕ) (fi : ℕ) (b : Bound) (f : Node → ℕ) where
       stage-is G1 = refl
       stage-is G2 = refl
 
-  node-range : (n : Node) → boundAt F fi b f n .range ≡ timesGain (b .range) (gainTo n 0)
+  node-range : (n : Node) → boundAt F fp fi b f n .range ≡ timesGain (b .range) (gainTo n 0)
   unfolding Rule.boundAt rangeAt brought
   node-range n = ap (λ (c : Bound). c .range) (node-is n) ∙ ap (timesGain (b .range)) (gain-to n 0 (omega arith))
 
   own : ℕ → ℕ
-  own = ownAt forward (together b) (λ i. F (nodeOf (suc i))) (λ s. fi) (λ i. f (nodeOf (suc i)))
+  own = ownAt forward (together b) (λ i. F (nodeOf (suc i))) (λ i. fp (nodeOf (suc i))) (λ s. fi) (λ i. f (nodeOf (suc i)))
 
-  node-error : (n : Node) → boundAt F fi b f n .error ≡ timesGain (b .error) (gain forward (sideOf n) (suc (stageOf n)) samples) + nodesBring forward (sideOf n) (suc (stageOf n)) own (suc (stageOf n))
+  node-error : (n : Node) → boundAt F fp fi b f n .error ≡ timesGain (b .error) (gain forward (sideOf n) (suc (stageOf n)) samples) + nodesBring forward (sideOf n) (suc (stageOf n)) own (suc (stageOf n))
   unfolding Rule.boundAt brought own
-  node-error n = ap (λ (c : Bound). c .error) (node-is n) ∙ error-sum forward (together b) _ _ _ (sideOf n) (suc (stageOf n))
+  node-error n = ap (λ (c : Bound). c .error) (node-is n) ∙ error-sum forward (together b) _ _ _ _ (sideOf n) (suc (stageOf n))
 
-  error-under : (n : Node) → boundAt F fi b f n .error ≤ 3 * boundAt F fi b f (last n) .error
+  error-under : (n : Node) → boundAt F fp fi b f n .error ≤ 3 * boundAt F fp fi b f (last n) .error
   error-under n =
       let to : Node → Source → ℕ = λ m i. gain forward (sideOf m) (suc (stageOf m)) i in
       omega (
@@ -187,7 +188,7 @@ module _ (F : Node → ℕ) (fi : ℕ) (b : Bound) (f : Node → ℕ) where
       )
 
   -- what enters is in what the pass leaves
-  enters-under : (q : Bool) → b .error ≤ boundAt F fi b f (lastNode q) .error
+  enters-under : (q : Bool) → b .error ≤ boundAt F fp fi b f (lastNode q) .error
   enters-under q = omega (arith, node-error (lastNode q), times-least (b .error) (gain forward (sideOf (lastNode q)) (suc (stageOf (lastNode q))) samples) (omega (arith, gain-to (lastNode q) 0 (omega arith), large q)))
     where
       large : (q : Bool) → 65536 ≤ gainTo (lastNode q) 0
@@ -203,20 +204,20 @@ module _ (t : WidthTable) (l : ℕ) (b : Bound) where
   given LowColumns = rowBound t l b G1
   given HighColumns = rowBound t l b G2
 
-  pass-is : (p : Pass) → passBound t l b p ≡ boundAt (constantBits t) (inputBits t l p) (given p) (fractionBits t l p)
+  pass-is : (p : Pass) → passBound t l b p ≡ boundAt (constantBits t) (productOf t l p) (inputBits t l p) (given p) (fractionBits t l p)
   unfolding passBound rowBound
   pass-is Rows = refl
   pass-is LowColumns = refl
   pass-is HighColumns = refl
 
   pass-range : (p : Pass) (n : Node) → passBound t l b p n .range ≡ timesGain (given p .range) (gainTo n 0)
-  pass-range p n = rw (pass-is p) (node-range (constantBits t) (inputBits t l p) (given p) (fractionBits t l p) n)
+  pass-range p n = rw (pass-is p) (node-range (constantBits t) (productOf t l p) (inputBits t l p) (given p) (fractionBits t l p) n)
 
   pass-error : (p : Pass) (n : Node) → passBound t l b p n .error ≤ 3 * passBound t l b p (last n) .error
-  pass-error p n = rw (pass-is p) (error-under (constantBits t) (inputBits t l p) (given p) (fractionBits t l p) n)
+  pass-error p n = rw (pass-is p) (error-under (constantBits t) (productOf t l p) (inputBits t l p) (given p) (fractionBits t l p) n)
 
   pass-enters : (p : Pass) (q : Bool) → given p .error ≤ passBound t l b p (lastNode q) .error
-  pass-enters p q = rw (pass-is p) (enters-under (constantBits t) (inputBits t l p) (given p) (fractionBits t l p) q)
+  pass-enters p q = rw (pass-is p) (enters-under (constantBits t) (productOf t l p) (inputBits t l p) (given p) (fractionBits t l p) q)
 
 -- ---- ranges
 

@@ -22,7 +22,7 @@ use Rattle.precision.specs.Bounds.{boundAfter, longBound, boundAt}
 use Rattle.precision.specs.PlaceLaws.{range-is}
 use Rattle.precision.specs.SingleLaws.{times-least, same-bound}
 use Rattle.exact.specs.FracLaws.{within-near}
-use Rattle.stages.specs.Stages.{Side, low, high, forward, made, bits}
+use Rattle.stages.specs.Stages.{Side, low, high, forward, made, Product, bits}
 use Rattle.stages.specs.Rule.{together}
 use Rattle.stages.specs.OnLine.{count, exactAfter, fixedMade, fixedAfter}
 use Rattle.stages.specs.Sound.{Good, good}
@@ -43,14 +43,14 @@ abbrev split : {A : Type 0} → (ℕ → A) → Side → ℕ → A
 split x low k = x (2 * k)
 split x high k = x (2 * k + 1)
 
-module _ (F : Node → ℕ) (fi : ℕ) (b : Bound) (f : Node → ℕ) (n : ℕ) (v : ℕ → ℤ) (x : ℕ → Frac) (works : Liftable n) (small : Small f) (given : (k : ℕ) → k < n → Good b fi (v k) (x k)) where
+module _ (F : Node → ℕ) (fp : Node → Product) (fi : ℕ) (b : Bound) (f : Node → ℕ) (n : ℕ) (v : ℕ → ℤ) (x : ℕ → Frac) (works : Liftable n) (small : Small f) (given : (k : ℕ) → k < n → Good b fi (v k) (x k)) where
   entered : (s : Side) (k : ℕ) → k < count n s → Good b fi (split v s k) (split x s k)
   entered low k i = given (2 * k) (omega arith)
   entered high k i = given (2 * k + 1) (omega arith)
 
   -- each side after m stages
-  after : (m : ℕ) (s : Side) (k : ℕ) → k < count n s → Good (boundAfter F fi b f s m) (bits forward (λ s. fi) (λ i. f (nodeOf (suc i))) m s) (fixedAfter forward (λ i. F (nodeOf (suc i))) (λ s. fi) (λ i. f (nodeOf (suc i))) n (split v) m s k) (exactAfter forward n (split x) m s k)
-  after = good forward (together b) (λ i. F (nodeOf (suc i))) (λ s. fi) (λ i. f (nodeOf (suc i))) n (split v) (split x) works (λ m. small (nodeOf (suc m))) entered
+  after : (m : ℕ) (s : Side) (k : ℕ) → k < count n s → Good (boundAfter F fp fi b f s m) (bits forward (λ s. fi) (λ i. f (nodeOf (suc i))) m s) (fixedAfter forward (λ i. F (nodeOf (suc i))) (λ i. fp (nodeOf (suc i))) (λ s. fi) (λ i. f (nodeOf (suc i))) n (split v) m s k) (exactAfter forward n (split x) m s k)
+  after = good forward (together b) (λ i. F (nodeOf (suc i))) (λ i. fp (nodeOf (suc i))) (λ s. fi) (λ i. f (nodeOf (suc i))) n (split v) (split x) works (λ m. small (nodeOf (suc m))) entered
 
   -- the exact value of each node
   abbrev exactAt : Node → ℕ → Frac
@@ -61,7 +61,7 @@ module _ (F : Node → ℕ) (fi : ℕ) (b : Bound) (f : Node → ℕ) (n : ℕ) 
   exactAt G1 = g1 n x
   exactAt G2 = g2 n x
 
-  long-good : (i : Node) (k : ℕ) → k < countAt n i → Good (longBound F fi b f i) (f i) (valueAt F fi f n v i k) (exactAt i k)
+  long-good : (i : Node) (k : ℕ) → k < countAt n i → Good (longBound F fp fi b f i) (f i) (valueAt F fp fi f n v i k) (exactAt i k)
   unfolding longBound bits fixedAfter fixedMade exactAfter made atP1 atU1 atP2 atU2 atG1 atG2 p1 u1 p2 u2 g1 g2 low₀ high₀ onHighs onLows
   long-good P1 k i = after 1 high k i
   long-good U1 k i = after 2 low k i
@@ -71,39 +71,39 @@ module _ (F : Node → ℕ) (fi : ℕ) (b : Bound) (f : Node → ℕ) (n : ℕ) 
   long-good G2 k i = after 6 high k i
 
   -- the larger bound of G1 is the same
-  pub node-good : (i : Node) (k : ℕ) → k < countAt n i → Good (boundAt F fi b f i) (f i) (valueAt F fi f n v i k) (exactAt i k)
-  node-good i k h = subst (λ (c : Bound). Good c (f i) (valueAt F fi f n v i k) (exactAt i k)) (sym (same-bound F fi b f i)) (long-good i k h)
+  pub node-good : (i : Node) (k : ℕ) → k < countAt n i → Good (boundAt F fp fi b f i) (f i) (valueAt F fp fi f n v i k) (exactAt i k)
+  node-good i k h = subst (λ (c : Bound). Good c (f i) (valueAt F fp fi f n v i k) (exactAt i k)) (sym (same-bound F fp fi b f i)) (long-good i k h)
 
   -- the lows first, then the highs
-  line-good : (i : ℕ) → i < n → Good (boundAt F fi b f (lastNode (ltb i (lows n)))) (f (lastNode (ltb i (lows n)))) (fixedLong F fi f n v i) (exactLong n x i)
+  line-good : (i : ℕ) → i < n → Good (boundAt F fp fi b f (lastNode (ltb i (lows n)))) (f (lastNode (ltb i (lows n)))) (fixedLong F fp fi f n v i) (exactLong n x i)
   unfolding fixedLong exactLong lowsFirst
   line-good i h =
-      by-ltb (λ q. Good (boundAt F fi b f (lastNode q)) (f (lastNode q)) (elim q [ true ↦ atG1 F fi f n v i | false ↦ atG2 F fi f n v (i - lows n) ]) (elim q [ true ↦ g1 n x i | false ↦ g2 n x (i - lows n) ])) i (lows n)
+      by-ltb (λ q. Good (boundAt F fp fi b f (lastNode q)) (f (lastNode q)) (elim q [ true ↦ atG1 F fp fi f n v i | false ↦ atG2 F fp fi f n v (i - lows n) ]) (elim q [ true ↦ g1 n x i | false ↦ g2 n x (i - lows n) ])) i (lows n)
       (λ j. node-good G1 i j)
       (λ j. node-good G2 (i - lows n) (omega arith))
 
 -- ---- a single sample, and any line
 
 -- the range of G1 is not below the input's
-range-least : (F : Node → ℕ) (fi : ℕ) (b : Bound) (f : Node → ℕ) → b .range ≤ boundAt F fi b f G1 .range
+range-least : (F : Node → ℕ) (fp : Node → Product) (fi : ℕ) (b : Bound) (f : Node → ℕ) → b .range ≤ boundAt F fp fi b f G1 .range
 unfolding boundAt
-range-least F fi b f = omega (arith, times-least (b .range) 127934 (lit≤ tt), range-is F fi b f 5 (lit≤ tt, lit≤ tt))
+range-least F fp fi b f = omega (arith, times-least (b .range) 127934 (lit≤ tt), range-is F fp fi b f 5 (lit≤ tt, lit≤ tt))
 
-sample-good : (F : Node → ℕ) (fi : ℕ) (b : Bound) (f : Node → ℕ) (v : ℤ) (x : Frac) → Small f → Good b fi v x → Good (boundAt F fi b f G1) (f G1) (cut fi (f G1) v) x
+sample-good : (F : Node → ℕ) (fp : Node → Product) (fi : ℕ) (b : Bound) (f : Node → ℕ) (v : ℤ) (x : Frac) → Small f → Good b fi v x → Good (boundAt F fp fi b f G1) (f G1) (cut fi (f G1) v) x
 unfolding boundAt
-sample-good F fi b f v x small g = good-most (range-least F fi b f) (omega arith) (single-good fi b (f G1) v x (small G1) g)
+sample-good F fp fi b f v x small g = good-most (range-least F fp fi b f) (omega arith) (single-good fi b (f G1) v x (small G1) g)
 
-module _ (F : Node → ℕ) (fi : ℕ) (b : Bound) (f : Node → ℕ) (n : ℕ) (v : ℕ → ℤ) (x : ℕ → Frac) (small : Small f) (given : (k : ℕ) → k < n → Good b fi (v k) (x k)) where
-  pub pass-good : (i : ℕ) → i < n → Good (boundAt F fi b f (lastNode (ltb i (lows n)))) (f (lastNode (ltb i (lows n)))) (fixedPass F fi f n v i) (exactPass n x i)
+module _ (F : Node → ℕ) (fp : Node → Product) (fi : ℕ) (b : Bound) (f : Node → ℕ) (n : ℕ) (v : ℕ → ℤ) (x : ℕ → Frac) (small : Small f) (given : (k : ℕ) → k < n → Good b fi (v k) (x k)) where
+  pub pass-good : (i : ℕ) → i < n → Good (boundAt F fp fi b f (lastNode (ltb i (lows n)))) (f (lastNode (ltb i (lows n)))) (fixedPass F fp fi f n v i) (exactPass n x i)
   unfolding fixedPass exactPass
   pass-good i h = by-one _ n
-      (λ one. subst₂ (Good _ _) (sym (one-single (cut fi (f G1)) (fixedLong F fi f) n v i one)) (sym (one-single (λ a. a) exactLong n x i one))
-      (subst (λ (q : Bool). Good (boundAt F fi b f (lastNode q)) (f (lastNode q)) (cut fi (f G1) (v i)) (x i)) (sym (ltb-true i (lows n) (omega arith))) (sample-good F fi b f (v i) (x i) small (given i h))))
-      (λ works. subst₂ (Good _ _) (sym (one-long (cut fi (f G1)) (fixedLong F fi f) n v i works)) (sym (one-long (λ a. a) exactLong n x i works)) (line-good F fi b f n v x works small given i h))
+      (λ one. subst₂ (Good _ _) (sym (one-single (cut fi (f G1)) (fixedLong F fp fi f) n v i one)) (sym (one-single (λ a. a) exactLong n x i one))
+      (subst (λ (q : Bool). Good (boundAt F fp fi b f (lastNode q)) (f (lastNode q)) (cut fi (f G1) (v i)) (x i)) (sym (ltb-true i (lows n) (omega arith))) (sample-good F fp fi b f (v i) (x i) small (given i h))))
+      (λ works. subst₂ (Good _ _) (sym (one-long (cut fi (f G1)) (fixedLong F fp fi f) n v i works)) (sym (one-long (λ a. a) exactLong n x i works)) (line-good F fp fi b f n v x works small given i h))
 
   -- the first value, where it is the only one
-  pub first-good : n ≡ 1 → Good (boundAt F fi b f G1) (f G1) (fixedPass F fi f n v 0) (exactPass n x 0)
-  first-good e = subst (λ (q : Bool). Good (boundAt F fi b f (lastNode q)) (f (lastNode q)) (fixedPass F fi f n v 0) (exactPass n x 0)) (ltb-true 0 (lows n) (omega arith)) (pass-good 0 (omega arith))
+  pub first-good : n ≡ 1 → Good (boundAt F fp fi b f G1) (f G1) (fixedPass F fp fi f n v 0) (exactPass n x 0)
+  first-good e = subst (λ (q : Bool). Good (boundAt F fp fi b f (lastNode q)) (f (lastNode q)) (fixedPass F fp fi f n v 0) (exactPass n x 0)) (ltb-true 0 (lows n) (omega arith)) (pass-good 0 (omega arith))
 
 -- ---- what good values give
 
@@ -143,10 +143,10 @@ holds b f IB v x small some room g =
     let e : IB - 1 + f ≡ IB + f - 1 = omega arith in
     mag-holds (2 ^ (IB + f - 1)) v (subst (λ (k : ℕ). mag v < 2 ^ k) e (fits b f IB v x small room g))
 
-module _ (F : Node → ℕ) (fi : ℕ) (b : Bound) (f : Node → ℕ) (n : ℕ) (v : ℕ → ℤ) (x : ℕ → Frac) (small : Small f) (given : (k : ℕ) → k < n → Good b fi (v k) (x k))
-    (IB : Node → ℕ) (some : (i : Node) → 1 ≤ IB i) (room : (i : Node) → boundAt F fi b f i .range + boundAt F fi b f i .error + 2 ^ (32 - f i) ≤ 2 ^ (IB i - 1) * 2 ^ 32) where
-  pub long-in-width : Liftable n → (i : Node) (k : ℕ) → k < countAt n i → Holds (IB i) (f i) (valueAt F fi f n v i k)
-  long-in-width works i k h = holds _ _ _ _ _ (small i) (some i) (room i) (node-good F fi b f n v x works small given i k h)
+module _ (F : Node → ℕ) (fp : Node → Product) (fi : ℕ) (b : Bound) (f : Node → ℕ) (n : ℕ) (v : ℕ → ℤ) (x : ℕ → Frac) (small : Small f) (given : (k : ℕ) → k < n → Good b fi (v k) (x k))
+    (IB : Node → ℕ) (some : (i : Node) → 1 ≤ IB i) (room : (i : Node) → boundAt F fp fi b f i .range + boundAt F fp fi b f i .error + 2 ^ (32 - f i) ≤ 2 ^ (IB i - 1) * 2 ^ 32) where
+  pub long-in-width : Liftable n → (i : Node) (k : ℕ) → k < countAt n i → Holds (IB i) (f i) (valueAt F fp fi f n v i k)
+  long-in-width works i k h = holds _ _ _ _ _ (small i) (some i) (room i) (node-good F fp fi b f n v x works small given i k h)
 
-  pub single-in-width : n ≡ 1 → Holds (IB G1) (f G1) (fixedPass F fi f n v 0)
-  single-in-width e = holds _ _ _ _ _ (small G1) (some G1) (room G1) (first-good F fi b f n v x small given e)
+  pub single-in-width : n ≡ 1 → Holds (IB G1) (f G1) (fixedPass F fp fi f n v 0)
+  single-in-width e = holds _ _ _ _ _ (small G1) (some G1) (room G1) (first-good F fp fi b f n v x small given e)

@@ -1,29 +1,33 @@
 -- Where the values of a pass are sized (Sized), every number on the way fits its machine type (`kernel-safe`).
 use Prim.Native.Nat.{ℕ, _+_, _*_, _-_, _^_, _<_, _≤_, max}
-use mathlib.Core.Path.{_≡_, sym, subst}
+use mathlib.Core.Bool.{Bool, true, false}
+use mathlib.Core.Path.{_≡_, sym, _∙_, ap, subst}
 use native.Mathlib.Omega.{arith}
 use native.Mathlib.Nat.{pow-le-pow-right, le-refl, le-trans, le-of-lt, lt-of-le-of-lt, lt-of-lt-of-le}
-use lib.Pow.{pow-add}
+use lib.Pow.{pow-add, pow-pos}
 use lib.IntN.{ℤ, pos, natAbs, _+ℤ_, _-ℤ_, _*ℤ_, +ℤ-idr}
 use mir.Syntax.{w32, w64}
 use mir.Val.{SFits}
 use Rattle.numbers.specs.Dif.{by-dif, difs}
 use Rattle.numbers.specs.Abs.{abs-add, abs-add-≤, abs-mul-≤, mag-of-abs}
 use Rattle.numbers.specs.Laws.{*ℤ-one-r}
+use Rattle.numbers.specs.Floor.{floorDiv}
 use Rattle.lines.specs.Lines.{Liftable, onHighs, onLows}
 use Rattle.lines.specs.LineLaws.{some-highs}
 use Rattle.lines.specs.Neighbours.{low-after-in, high-before-in, high-after-in}
 use Rattle.width_table.specs.Nodes.{Node, P1, U1, P2, U2, G1, G2}
-use Rattle.lifting.specs.Steps.{Safe, SumSafe, FactorSafe}
+use Rattle.lifting.specs.declared.Step.{Step}
+use Rattle.lifting.specs.Steps.{applied, Safe, SumSafe, FactorSafe}
 use Rattle.lifting.specs.Runs.{as-type}
 use Rattle.lifting.specs.Passes.{evens}
 use Rattle.lifting.specs.Kernels.{SafeKernel}
+use Rattle.stages.specs.Stages.{Product, uncut, cutTo}
 use Rattle.stages.specs.Fixed.{nearest, cut, step, scale}
 use Rattle.irreversible.specs.Fixed.{valueAt, countAt, atP1, atU1, atP2, atU2, atG1, atG2}
 use Rattle.irreversible.specs.Constants.{constantOf}
-use Rattle.irreversible.specs.Sizes.{product-size}
+use Rattle.irreversible.specs.Sizes.{floor-size, product-size}
 use Rattle.irreversible.specs.Sized.{Sized}
-use Rattle.irreversible.specs.StepLaws.{stepTop, stepOf, factorOf, step-applied, scale-applied, singleOf, single-applied}
+use Rattle.irreversible.specs.StepLaws.{stepTop, onceOf, cutOf, stepOf, factorOf, by-together, step-applied, scale-applied, singleOf, single-applied}
 use Rattle.irreversible.specs.KernelLaws.{stageOf, scalingOf, kernelFrom, sU1, sP2, sU2, sG1, sG2, first-highs, first-lows, second-highs, second-lows}
 use Rattle.width_table.specs.Table.{maxConstantBits, maxFractionBits}
 
@@ -100,30 +104,70 @@ module _ (n : Node) (F fm : ℕ) (const : ConstantBits F) (small : fm ≤ maxFra
       small-sum = lt-of-le-of-lt (abs-add x y) (omega (arith, hx, hy, pow-up (10 + fm) 30 (omega arith)))
 
   module _ (f : ℕ) (less : f ≤ maxFractionBits) where
-    -- a step whose operands and result are sized
-    pub step-safe : (fo : ℕ) → fo ≤ maxFractionBits → (own x y : ℤ) → Sized fo own → Sized fm x → Sized fm y → Sized f (step (constantOf n) F fm fo f own x y) → Safe (stageOf (constantOf n) F fm fo f) own x y
-    unfolding stepOf
-    step-safe fo low own x y ho hx hy h =
-        let top : ℕ = stepTop F fm fo f in
-        let A : ℤ = pos (2 ^ (top - fo)) *ℤ own in
-        let B : ℤ = nearest (constantOf n) F *ℤ pos (2 ^ (top - (F + fm))) *ℤ (x +ℤ y) in
-        let a : natAbs A ≤ 2 ^ 55 = times-size (top - fo) (11 + fo) 55 (pos (2 ^ (top - fo))) own (le-refl _) (sized-most fo own ho) (omega arith) in
-        let b : natAbs B ≤ 2 ^ 57 = sum-size top (omega arith) (omega arith) x y (sized-most fm x hx) (sized-most fm y hy) in
-        record {
-          few = omega arith;
-          short = omega arith;
-          sides = sides-safe x y hx hy;
-          left = fits-64 55 A (omega arith) a;
-          right = fits-64 57 B (omega arith) b;
-          both = fits-64 58 (A +ℤ B) (omega arith) (le-trans (abs-add-≤ A B a b) (omega arith));
-          doubled = fits-64 58 _ (omega arith) (times-size 1 57 58 (pos 2) (nearest (constantOf n) F *ℤ pos (2 ^ (top - (F + fm)))) (omega arith) (constant-size n F fm top const (omega arith) (omega arith)) (omega arith));
-          risen = λ r e. risen-fits r (omega arith);
-          result = subst (λ (z : ℤ). SFits w32 z) (sym (step-applied (constantOf n) F fm fo f own x y)) (sized-fits f _ less h);
-        }
-      where
-        -- the own value at the node's bits
-        risen-fits : (r : ℕ) → fo + r ≡ f → SFits w32 (own *ℤ pos (2 ^ r))
-        risen-fits r e = fits-32 (own *ℤ pos (2 ^ r)) (times-size (10 + fo) r 30 own (pos (2 ^ r)) (le-of-lt ho) (le-refl _) (omega arith))
+    module _ (fo : ℕ) (low : fo ≤ maxFractionBits) (own x y : ℤ) (ho : Sized fo own) (hx : Sized fm x) (hy : Sized fm y) where
+      -- a step with one cut whose operands and result are sized
+      once-safe : SFits w32 (applied (onceOf (nearest (constantOf n) F) F fm fo f) own x y) → Safe (onceOf (nearest (constantOf n) F) F fm fo f) own x y
+      unfolding onceOf
+      once-safe fits =
+          let top : ℕ = stepTop F fm fo f in
+          let A : ℤ = pos (2 ^ (top - fo)) *ℤ own in
+          let B : ℤ = nearest (constantOf n) F *ℤ pos (2 ^ (top - (F + fm))) *ℤ (x +ℤ y) in
+          let a : natAbs A ≤ 2 ^ 55 = times-size (top - fo) (11 + fo) 55 (pos (2 ^ (top - fo))) own (le-refl _) (sized-most fo own ho) (omega arith) in
+          let b : natAbs B ≤ 2 ^ 57 = sum-size top (omega arith) (omega arith) x y (sized-most fm x hx) (sized-most fm y hy) in
+          record {
+            few = omega arith;
+            short = omega arith;
+            sides = sides-safe x y hx hy;
+            left = fits-64 55 A (omega arith) a;
+            right = fits-64 57 B (omega arith) b;
+            both = fits-64 58 (A +ℤ B) (omega arith) (le-trans (abs-add-≤ A B a b) (omega arith));
+            doubled = fits-64 58 _ (omega arith) (times-size 1 57 58 (pos 2) (nearest (constantOf n) F *ℤ pos (2 ^ (top - (F + fm)))) (omega arith) (constant-size n F fm top const (omega arith) (omega arith)) (omega arith));
+            risen = λ r e. risen-fits r (omega arith);
+            result = fits;
+          }
+        where
+          -- the own value at the node's bits
+          risen-fits : (r : ℕ) → fo + r ≡ f → SFits w32 (own *ℤ pos (2 ^ r))
+          risen-fits r e = fits-32 (own *ℤ pos (2 ^ r)) (times-size (10 + fo) r 30 own (pos (2 ^ r)) (le-of-lt ho) (le-refl _) (omega arith))
+
+      -- one whose product is cut first: it leaves at most 2^13
+      cut-safe : (fp : ℕ) → fp < F + fm → fp < max fo f → SFits w32 (applied (cutOf fp (nearest (constantOf n) F) F fm fo f) own x y) → Safe (cutOf fp (nearest (constantOf n) F) F fm fo f) own x y
+      unfolding cutOf
+      cut-safe fp few more fits =
+          let top : ℕ = max fo f in
+          let W : ℤ = nearest (constantOf n) F *ℤ (x +ℤ y) in
+          let A : ℤ = pos (2 ^ (top - fo)) *ℤ own in
+          let B : ℤ = pos (2 ^ (top - fp)) *ℤ floorDiv W (2 ^ (F + fm - fp)) in
+          let w : natAbs W ≤ 2 ^ (13 + F + fm) = product-size n F fm (const .0) (const .1) small x y (sized-most fm x hx) (sized-most fm y hy) in
+          let s : 2 ^ (13 + F + fm) ≡ 2 ^ (13 + fp) * 2 ^ (F + fm - fp) = ap (λ (k : ℕ). 2 ^ k) (omega arith) ∙ pow-add 2 (13 + fp) (F + fm - fp) in
+          let k : natAbs (floorDiv W (2 ^ (F + fm - fp))) ≤ 2 ^ (13 + fp) = floor-size W (2 ^ (13 + fp)) (2 ^ (F + fm - fp)) (pow-pos (F + fm - fp)) (subst (λ (t : ℕ). natAbs W ≤ t) s w) in
+          let a : natAbs A ≤ 2 ^ 31 = times-size (top - fo) (11 + fo) 31 (pos (2 ^ (top - fo))) own (le-refl _) (sized-most fo own ho) (omega arith) in
+          let b : natAbs B ≤ 2 ^ 33 = times-size (top - fp) (13 + fp) 33 (pos (2 ^ (top - fp))) (floorDiv W (2 ^ (F + fm - fp))) (le-refl _) k (omega arith) in
+          record {
+            few = omega arith;
+            rises = omega arith;
+            early = omega (arith, const .1);
+            short = omega arith;
+            sides = sides-safe x y hx hy;
+            whole = fits-64 (13 + F + fm) W (omega (arith, const .1)) w;
+            doubled = fits-64 (14 + F) _ (omega (arith, const .1)) (times-size 1 (13 + F) (14 + F) (pos 2) (nearest (constantOf n) F) (omega arith) (constant-small n F const) (omega arith));
+            left = fits-64 31 A (omega arith) a;
+            right = fits-64 33 B (omega arith) b;
+            both = fits-64 34 (A +ℤ B) (omega arith) (le-trans (abs-add-≤ A B a b) (omega arith));
+            result = fits;
+          }
+
+      -- a stage, whatever the width of its product
+      pub step-safe : (p : Product) → Sized f (step p (constantOf n) F fm fo f own x y) → Safe (stageOf p (constantOf n) F fm fo f) own x y
+      unfolding stepOf
+      step-safe p h = by-product p (subst (λ (z : ℤ). SFits w32 z) (sym (step-applied p (constantOf n) F fm fo f own x y)) (sized-fits f _ less h))
+        where
+          by-product : (p : Product) → SFits w32 (applied (stageOf p (constantOf n) F fm fo f) own x y) → Safe (stageOf p (constantOf n) F fm fo f) own x y
+          by-product uncut = once-safe
+          by-product (cutTo fp) =
+              let k : ℤ = nearest (constantOf n) F in
+              let s : Bool → Step = λ q. elim q [ true ↦ onceOf k F fm fo f | false ↦ cutOf fp k F fm fo f ] in
+              by-together (λ q. SFits w32 (applied (s q) own x y) → Safe (s q) own x y) fp (F + fm) fo f (λ i. once-safe) (λ i j l. once-safe) (λ i j. cut-safe fp i j)
 
     -- a scaling likewise
     pub scale-safe : (x : ℤ) → Sized fm x → Sized f (scale (constantOf n) F fm f x) → FactorSafe (scalingOf (constantOf n) F fm f) x
@@ -153,37 +197,37 @@ pub record Limits (F : Node → ℕ) (fi : ℕ) (f : Node → ℕ) : Type 0 wher
   pub fractions : (i : Node) → f i ≤ maxFractionBits
   pub enters : fi ≤ maxFractionBits
 
-module _ (F : Node → ℕ) (fi : ℕ) (f : Node → ℕ) (ok : Limits F fi f) (n : ℕ) (x : ℕ → ℤ) (works : Liftable n)
+module _ (F : Node → ℕ) (fp : Node → Product) (fi : ℕ) (f : Node → ℕ) (ok : Limits F fi f) (n : ℕ) (x : ℕ → ℤ) (works : Liftable n)
     (given : (k : ℕ) → k < n → Sized fi (x k))
-    (inside : (i : Node) (k : ℕ) → k < countAt n i → Sized (f i) (valueAt F fi f n x i k)) where
+    (inside : (i : Node) (k : ℕ) → k < countAt n i → Sized (f i) (valueAt F fp fi f n x i k)) where
   -- the stages, with the limits of the pass
-  lifts : (i : Node) (fm : ℕ) → fm ≤ maxFractionBits → (fo : ℕ) → fo ≤ maxFractionBits → (own a b : ℤ) → Sized fo own → Sized fm a → Sized fm b → Sized (f i) (step (constantOf i) (F i) fm fo (f i) own a b) → Safe (stageOf (constantOf i) (F i) fm fo (f i)) own a b
-  lifts i fm p fo q own a b = step-safe i (F i) fm (ok .constants i) p (f i) (ok .fractions i) fo q own a b
+  lifts : (i : Node) (fm : ℕ) → fm ≤ maxFractionBits → (fo : ℕ) → fo ≤ maxFractionBits → (own a b : ℤ) → Sized fo own → Sized fm a → Sized fm b → Sized (f i) (step (fp i) (constantOf i) (F i) fm fo (f i) own a b) → Safe (stageOf (fp i) (constantOf i) (F i) fm fo (f i)) own a b
+  lifts i fm p fo q own a b ho ha hb = step-safe i (F i) fm (ok .constants i) p (f i) (ok .fractions i) fo q own a b ho ha hb (fp i)
 
   scales : (i : Node) (fm : ℕ) → fm ≤ maxFractionBits → (a : ℤ) → Sized fm a → Sized (f i) (scale (constantOf i) (F i) fm (f i) a) → FactorSafe (scalingOf (constantOf i) (F i) fm (f i)) a
   scales i fm p a = scale-safe i (F i) fm (ok .constants i) p (f i) (ok .fractions i) a
 
   -- every stage of the pass
-  pub kernel-safe : SafeKernel (kernelFrom F fi f) n x
+  pub kernel-safe : SafeKernel (kernelFrom F fp fi f) n x
   unfolding onHighs onLows atP1 atU1 atP2 atU2 atG1 atG2
   kernel-safe =
-      let p1 = first-highs F fi f n x in
-      let u1 = first-lows F fi f n x in
-      let p2 = second-highs F fi f n x in
-      let u2 = second-lows F fi f n x in
+      let p1 = first-highs F fp fi f n x in
+      let u1 = first-lows F fp fi f n x in
+      let p2 = second-highs F fp fi f n x in
+      let u2 = second-lows F fp fi f n x in
       let low = ok .fractions in
       record {
         at-first = record {
           on-highs = λ i h. lifts P1 fi (ok .enters) fi (ok .enters) _ _ _ (given _ (omega arith)) (given _ (omega arith)) (given _ (omega (arith, low-after-in n i h))) (inside P1 i h);
-          on-lows = λ i h. as-type (λ u. onLows (Safe (sU1 F fi f)) n (evens x) (sym p1 u) i)
+          on-lows = λ i h. as-type (λ u. onLows (Safe (sU1 F fp fi f)) n (evens x) (sym p1 u) i)
               (lifts U1 (f P1) (low P1) fi (ok .enters) _ _ _ (given _ (omega arith)) (inside P1 _ (high-before-in n i (some-highs n works) h)) (inside P1 _ (high-after-in n i (some-highs n works) h)) (inside U1 i h));
         };
         at-second = record {
-          on-highs = λ i h. as-type (λ u. onHighs (Safe (sP2 F fi f)) n (sym u1 u) (sym p1 u) i)
+          on-highs = λ i h. as-type (λ u. onHighs (Safe (sP2 F fp fi f)) n (sym u1 u) (sym p1 u) i)
               (lifts P2 (f U1) (low U1) (f P1) (low P1) _ _ _ (inside P1 _ h) (inside U1 _ (omega arith)) (inside U1 _ (low-after-in n i h)) (inside P2 i h));
-          on-lows = λ i h. as-type (λ u. onLows (Safe (sU2 F fi f)) n (sym u1 u) (sym p2 u) i)
+          on-lows = λ i h. as-type (λ u. onLows (Safe (sU2 F fp fi f)) n (sym u1 u) (sym p2 u) i)
               (lifts U2 (f P2) (low P2) (f U1) (low U1) _ _ _ (inside U1 _ h) (inside P2 _ (high-before-in n i (some-highs n works) h)) (inside P2 _ (high-after-in n i (some-highs n works) h)) (inside U2 i h));
         };
-        at-lows = λ i h. as-type (λ u. FactorSafe (sG1 F fi f) (sym u2 u i)) (scales G1 (f U2) (low U2) _ (inside U2 i h) (inside G1 i h));
-        at-highs = λ i h. as-type (λ u. FactorSafe (sG2 F fi f) (sym p2 u i)) (scales G2 (f P2) (low P2) _ (inside P2 i h) (inside G2 i h));
+        at-lows = λ i h. as-type (λ u. FactorSafe (sG1 F fp fi f) (sym u2 u i)) (scales G1 (f U2) (low U2) _ (inside U2 i h) (inside G1 i h));
+        at-highs = λ i h. as-type (λ u. FactorSafe (sG2 F fp fi f) (sym p2 u i)) (scales G2 (f P2) (low P2) _ (inside P2 i h) (inside G2 i h));
       }

@@ -11,6 +11,7 @@ use Rattle.width_table.specs.Nodes.{Node, G1, Pass, Rows, columnPass}
 use Rattle.width_table.specs.declared.WidthTable.{WidthTable}
 use Rattle.width_table.specs.Table.{constantBits, fractionBits, inputBits}
 use Rattle.pictures.specs.Pictures.{sample}
+use Rattle.precision.specs.Products.{productOf}
 use Rattle.precision.specs.Verdict.{Accepted}
 use Rattle.irreversible.specs.Fixed.{valueAt, countAt}
 use Rattle.irreversible.specs.Transforms.{fixedLine, fixedAfter}
@@ -23,7 +24,7 @@ SizedTo e f v = natAbs v < 2 ^ (e + f)
 -- each value that a pass of level l over n samples v leaves: two samples or more in every node, a single one in G1 alone
 pub record LineSizedTo (e : ℕ) (t : WidthTable) (l : ℕ) (p : Pass) (n : ℕ) (v : ℕ → ℤ) : Type 0 where
   pub long : Liftable n → (i : Node) (k : ℕ) → k < countAt n i
-      → SizedTo e (fractionBits t l p i) (valueAt (constantBits t) (inputBits t l p) (fractionBits t l p) n v i k)
+      → SizedTo e (fractionBits t l p i) (valueAt (constantBits t) (productOf t l p) (inputBits t l p) (fractionBits t l p) n v i k)
   pub single : n ≡ 1 → SizedTo e (fractionBits t l p G1) (fixedLine t l p n v 0)
 
 -- each value of level l, which is fed w columns and h rows of the plane p: what enters, each row, and each column of what the rows leave

@@ -20,6 +20,7 @@ use Rattle.width_table.specs.Nodes.{Node, G1, G2, Pass, Rows, LowColumns, HighC
 use Rattle.width_table.specs.Limits.{form-levels, form-widths, form-input}
 use Rattle.width_table.specs.declared.WidthTable.{WidthTable}
 use Rattle.width_table.specs.Table.{maxFractionBits, constantBits, fractionBits, inputBits}
+use Rattle.precision.specs.Products.{productOf}
 use Rattle.precision.specs.Bounds.{boundAt, rowBound, passBound, entering, boundOf}
 use Rattle.precision.specs.Verdict.{AcceptPromise}
 use Rattle.precision.specs.Promise.{promise}
@@ -46,12 +47,12 @@ good-sized e b f v x small room g =
 
 -- ---- a line
 
-module _ (e : ℕ) (t : WidthTable) (l : ℕ) (p : Pass) (b : Bound) (n : ℕ) (v : ℕ → ℤ) (x : ℕ → Frac) (small : Small (fractionBits t l p)) (room : (i : Node) → Room e (boundAt (constantBits t) (inputBits t l p) b (fractionBits t l p) i) (fractionBits t l p i)) (given : (k : ℕ) → k < n → Good b (inputBits t l p) (v k) (x k)) where
+module _ (e : ℕ) (t : WidthTable) (l : ℕ) (p : Pass) (b : Bound) (n : ℕ) (v : ℕ → ℤ) (x : ℕ → Frac) (small : Small (fractionBits t l p)) (room : (i : Node) → Room e (boundAt (constantBits t) (productOf t l p) (inputBits t l p) b (fractionBits t l p) i) (fractionBits t l p i)) (given : (k : ℕ) → k < n → Good b (inputBits t l p) (v k) (x k)) where
   line-sized : LineSizedTo e t l p n v
   unfolding fixedLine
   line-sized = record {
-    long = λ works i k h. good-sized e _ _ _ _ (small i) (room i) (node-good (constantBits t) (inputBits t l p) b (fractionBits t l p) n v x works small given i k h);
-    single = λ one. good-sized e _ _ _ _ (small G1) (room G1) (first-good (constantBits t) (inputBits t l p) b (fractionBits t l p) n v x small given one);
+    long = λ works i k h. good-sized e _ _ _ _ (small i) (room i) (node-good (constantBits t) (productOf t l p) (inputBits t l p) b (fractionBits t l p) n v x works small given i k h);
+    single = λ one. good-sized e _ _ _ _ (small G1) (room G1) (first-good (constantBits t) (productOf t l p) (inputBits t l p) b (fractionBits t l p) n v x small given one);
   }
 
 -- ---- a level

@@ -1,4 +1,5 @@
--- The 9/7 transform in fixed point under a width table (document 01: the lifting; pictures and planes).
+-- The 9/7 transform in fixed point under a width table (document 01: the lifting; pictures and planes), with the widths of its products
+-- (document 02, job 7).
 use Prim.Native.Nat.{ℕ}
 use mathlib.Core.List.{List}
 use lib.IntN.{ℤ}
@@ -6,12 +7,13 @@ use Rattle.lines.specs.Planes.{Plane, OnLine, OnPart, rowsFirst, levels}
 use Rattle.width_table.specs.Nodes.{Pass, Rows, columnPass}
 use Rattle.width_table.specs.declared.WidthTable.{WidthTable}
 use Rattle.width_table.specs.Table.{constantBits, fractionBits, inputBits}
+use Rattle.precision.specs.Products.{productOf}
 use Rattle.pictures.specs.Pictures.{sample}
 use Rattle.irreversible.specs.Fixed.{fixedPass}
 
 -- a pass of level l
 unfoldable pub fixedLine : WidthTable → ℕ → Pass → OnLine ℤ
-fixedLine t l p = fixedPass (constantBits t) (inputBits t l p) (fractionBits t l p)
+fixedLine t l p = fixedPass (constantBits t) (productOf t l p) (inputBits t l p) (fractionBits t l p)
 
 -- a level: the rows, then the columns, those of row-low and of row-high by passes of their own
 abbrev pub fixedLevel : WidthTable → ℕ → OnPart ℤ

@@ -10,12 +10,13 @@ use Rattle.width_table.specs.declared.WidthTable.{WidthTable}
 use Rattle.width_table.specs.Table.{constantBits, fractionBits, inputBits}
 use Rattle.pictures.specs.Pictures.{sample}
 use Rattle.stages.specs.Fixed.{cut}
+use Rattle.precision.specs.Products.{productOf}
 use Rattle.irreversible.specs.Fixed.{fixedLong, fixedPass}
 use Rattle.irreversible.specs.Transforms.{fixedLine, fixedAfter, fixedPlane}
 
 -- a pass of level l over two samples or more
 abbrev pub longLine : WidthTable → ℕ → Pass → OnLine ℤ
-longLine t l p = fixedLong (constantBits t) (inputBits t l p) (fractionBits t l p)
+longLine t l p = fixedLong (constantBits t) (productOf t l p) (inputBits t l p) (fractionBits t l p)
 
 pub fixed-unchanged : (t : WidthTable) (pixels : List ℕ) (w h : ℕ) → 2 ^ (t .levels - 1) < w → 2 ^ (t .levels - 1) < h
     → fixedPlane t pixels w h ≡ levels (λ l. rowsFirst (longLine t l Rows) (λ low. longLine t l (columnPass low))) (t .levels) w h (sample pixels (t .depth) w)

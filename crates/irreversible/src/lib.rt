@@ -11,17 +11,18 @@ ghost use Rattle.lines.specs.Planes.{rowByRow};
 ghost use Rattle.numbers.specs.Floor.{floorDiv};
 ghost use Rattle.numbers.specs.Lists.{over};
 ghost use Rattle.refusals.specs.Told.{told};
+ghost use Rattle.stages.specs.Stages.{cutTo};
 ghost use Rattle.stages.specs.Fixed.{nearest};
 ghost use Rattle.irreversible.specs.Constants.{constantOf};
 ghost use Rattle.irreversible.specs.Transforms.{fixedLine, fixedPlane};
 ghost use Rattle.irreversible.specs.Calls.{fixedAnswer, fixedPlaneAfter, fixedWork};
 ghost use Rattle.width_table.specs.Numbered.{nodeOf, passOf, IsNode, IsPass};
-ghost use Rattle.irreversible.specs.StepLaws.{stepTop, stepOf, factorOf, singleOf};
+ghost use Rattle.irreversible.specs.StepLaws.{stepTop, onceOf, cutOf, cutTogether, stepOf, factorOf, singleOf};
 ghost use Rattle.irreversible.specs.KernelLaws.{stageOf, scalingOf, kernelOf, singleFor};
 ghost use Rattle.irreversible.specs.StagesLaws.{AsStages};
 ghost use Rattle.irreversible.specs.SafeLaws.{ConstantBits};
 ghost use Rattle.irreversible.specs.LevelLaws.{rowed, columned, levelWorked};
-ghost use Rattle.irreversible.specs.LevelBits.{IsLevel};
+ghost use Rattle.irreversible.specs.LevelBits.{IsLevel, cutBits};
 ghost use Rattle.irreversible.specs.CallSteps.{RowsReady, ColumnsReady, BothReady, LevelReady, Ready, answerOf};
 ghost use Rattle.lifting.specs.Kernels.{SameKernel, columnsBy};
 ghost use Rattle.pictures.specs.MemoryLaws.{loaded};
@@ -86,11 +87,24 @@ fn times(a: i64, b: i64) -> i64
     a * b
 }
 
-// A step by a constant of so many bits: the bits of the neighbours, of the own value and of the node.
-fn step_of(constant: i64, bits: u8, sides: u8, own: u8, kept: u8) -> Step
+// A product of so many bits is cut with the sum: no bit of it is cut, or own value and node have no more bits than its width.
+fn cut_together(product: u8, own: u8, kept: u8, width: u8) -> bool
+    ensures { λ r. ⌜ r ≡ cutTogether (cutTo width) product own kept ⌝ }
+{
+    if product <= width {
+        return true;
+    }
+    if own <= width {} else {
+        return false;
+    }
+    kept <= width
+}
+
+// A step by a constant of so many bits, with one cut: the bits of the neighbours, of the own value and of the node.
+fn once_of(constant: i64, bits: u8, sides: u8, own: u8, kept: u8) -> Step
     requires { ⌜ ConstantBits bits × (sides ≤ maxFractionBits) × (own ≤ maxFractionBits) × (kept ≤ maxFractionBits) ⌝ }
     requires { ⌜ SFits w64 (constant *ℤ pos (2 ^ (stepTop bits sides own kept - (bits + sides)))) ⌝ }
-    ensures { λ r. ⌜ r ≡ stepOf constant bits sides own kept ⌝ }
+    ensures { λ r. ⌜ r ≡ onceOf constant bits sides own kept ⌝ }
 {
     let product = bits + sides;
     let top = larger(larger(own, product), kept);
@@ -100,6 +114,33 @@ fn step_of(constant: i64, bits: u8, sides: u8, own: u8, kept: u8) -> Step
         c,
         cut: (top - kept) as u32,
     }
+}
+
+// The same where the product is cut to its width first.
+fn cut_of(constant: i64, bits: u8, sides: u8, own: u8, kept: u8, width: u8) -> Step
+    requires { ⌜ ConstantBits bits × (sides ≤ maxFractionBits) × (width < bits + sides) × (width < max own kept) ⌝ }
+    ensures { λ r. ⌜ r ≡ cutOf width constant bits sides own kept ⌝ }
+{
+    let top = larger(own, kept);
+    Step::Cut {
+        k: (top - own) as u32,
+        c: constant,
+        first: (bits + sides - width) as u32,
+        up: (top - width) as u32,
+        cut: (top - kept) as u32,
+    }
+}
+
+// A step by a constant of so many bits, with the width of its product.
+fn step_of(constant: i64, bits: u8, sides: u8, own: u8, kept: u8, width: u8) -> Step
+    requires { ⌜ ConstantBits bits × (sides ≤ maxFractionBits) × (own ≤ maxFractionBits) × (kept ≤ maxFractionBits) ⌝ }
+    requires { ⌜ SFits w64 (constant *ℤ pos (2 ^ (stepTop bits sides own kept - (bits + sides)))) ⌝ }
+    ensures { λ r. ⌜ r ≡ stepOf (cutTo width) constant bits sides own kept ⌝ }
+{
+    if cut_together(bits + sides, own, kept, width) {
+        return once_of(constant, bits, sides, own, kept);
+    }
+    cut_of(constant, bits, sides, own, kept, width)
 }
 
 // A scaling by a constant of so many bits: the bits of the value and of the node.
@@ -117,12 +158,13 @@ fn factor_of(constant: i64, bits: u8, value: u8, kept: u8) -> Factor
     }
 }
 
-// A stage P1, U1, P2, U2, by its number: the bits of its constant, of the neighbours, of the own value and of the node.
-fn stage(node: u8, bits: u8, sides: u8, own: u8, kept: u8) -> Step
+// A stage P1, U1, P2, U2, by its number: the bits of its constant, of the neighbours, of the own value and of the node, and the width of its
+// product.
+fn stage(node: u8, bits: u8, sides: u8, own: u8, kept: u8, width: u8) -> Step
     requires { ⌜ IsNode node × ConstantBits bits × (sides ≤ maxFractionBits) × (own ≤ maxFractionBits) × (kept ≤ maxFractionBits) ⌝ }
-    ensures { λ r. ⌜ r ≡ stageOf (constantOf (nodeOf node)) bits sides own kept ⌝ }
+    ensures { λ r. ⌜ r ≡ stageOf (cutTo width) (constantOf (nodeOf node)) bits sides own kept ⌝ }
 {
-    step_of(nearest_at(node, bits), bits, sides, own, kept)
+    step_of(nearest_at(node, bits), bits, sides, own, kept, width)
 }
 
 // A stage G1, G2, by its number: the bits of its constant, of the value and of the node.
@@ -141,6 +183,17 @@ pub struct Stages {
     pub high: Factor,
 }
 
+// The bits that a product is cut to: its width in a table that has tag 5, else the limit, which cuts none.
+fn cut_bits(cuts: bool, width: u8) -> u8
+    ensures { λ r. ⌜ r ≡ cutBits cuts width ⌝ }
+{
+    if cuts {
+        width
+    } else {
+        WidthTable::MAX_PRODUCT_BITS
+    }
+}
+
 // The stages of a pass. Its widths are read once: each call of a method of the table would copy the whole table.
 pub fn stages_of(table: WidthTable, level: u8, pass: u8) -> Stages
     requires { ⌜ IsLevel table level × IsPass pass ⌝ }
@@ -148,21 +201,28 @@ pub fn stages_of(table: WidthTable, level: u8, pass: u8) -> Stages
 {
     let enters = table.input_bits(level, pass);
     let at = width_table::node_place(level, pass, WidthTable::P1);
+    let from = width_table::product_place(level, pass, WidthTable::P1);
     let constants = table.constants;
     let nodes = table.nodes;
+    let cuts = table.five;
+    let products = table.products;
     let p1 = nodes[at + 1];
     let u1 = nodes[at + 3];
     let p2 = nodes[at + 5];
     let u2 = nodes[at + 7];
     let g1 = nodes[at + 9];
     let g2 = nodes[at + 11];
+    let w1 = cut_bits(cuts, products[from]);
+    let w2 = cut_bits(cuts, products[from + 1]);
+    let w3 = cut_bits(cuts, products[from + 2]);
+    let w4 = cut_bits(cuts, products[from + 3]);
     let first = Pair {
-        highs: stage(WidthTable::P1, constants[0], enters, enters, p1),
-        lows: stage(WidthTable::U1, constants[1], p1, enters, u1),
+        highs: stage(WidthTable::P1, constants[0], enters, enters, p1, w1),
+        lows: stage(WidthTable::U1, constants[1], p1, enters, u1, w2),
     };
     let second = Pair {
-        highs: stage(WidthTable::P2, constants[2], u1, p1, p2),
-        lows: stage(WidthTable::U2, constants[3], p2, u1, u2),
+        highs: stage(WidthTable::P2, constants[2], u1, p1, p2, w3),
+        lows: stage(WidthTable::U2, constants[3], p2, u1, u2, w4),
     };
     let low = scaling(WidthTable::G1, constants[4], u2, g1);
     let high = scaling(WidthTable::G2, constants[5], p2, g2);

@@ -8,7 +8,7 @@ use mir.Syntax.{Width, w64}
 use mir.Val.{SFits, hbits}
 use mir.Facts.{toZ-ofZ}
 use Rattle.lifting.specs.declared.Step.{Step}
-use Rattle.lifting.specs.declared.Step.the-variants.{Scaled}
+use Rattle.lifting.specs.declared.Step.the-variants.{Scaled, Cut}
 use Rattle.lifting.specs.declared.Factor.{Factor}
 use Rattle.lifting.specs.declared.Factor.the-variants.{Plain}
 use Rattle.lifting.specs.Steps.{applied, ended, Safe}
@@ -32,9 +32,15 @@ ended-back w fo fx same fr e = got w fr (e ∙ (λ k. ended (sym same k) (toZ-of
 pub scaled-as : {s : Step} {k : ℕ} {c c′ : ℤ} {cut : ℕ} → c′ ≡ c → s ≡ Scaled k c cut → s ≡ Scaled k c′ cut
 scaled-as {k} {cut} same e = e ∙ (λ u. Scaled k (sym same u) cut)
 
+pub cut-as : {s : Step} {k : ℕ} {c c′ : ℤ} {first up cut : ℕ} → c′ ≡ c → s ≡ Cut k c first up cut → s ≡ Cut k c′ first up cut
+cut-as {k} {first} {up} {cut} same e = e ∙ (λ u. Cut k (sym same u) first up cut)
+
 -- a step or a scaling whose constant was read back
 pub scaled-back : {s : Step} {k : ℕ} {c : ℤ} {cut : ℕ} → SFits w64 c → s ≡ Scaled k c cut → s ≡ Scaled k (back w64 c) cut
 scaled-back fc e = scaled-as (toZ-ofZ fc) e
+
+pub cut-back : {s : Step} {k : ℕ} {c : ℤ} {first up cut : ℕ} → SFits w64 c → s ≡ Cut k c first up cut → s ≡ Cut k (back w64 c) first up cut
+cut-back fc e = cut-as (toZ-ofZ fc) e
 
 pub plain-back : {g : Factor} {c : ℤ} {cut : ℕ} → SFits w64 c → g ≡ Plain c cut → g ≡ Plain (back w64 c) cut
 plain-back {cut} fc e = e ∙ (λ u. Plain (sym (toZ-ofZ fc) u) cut)

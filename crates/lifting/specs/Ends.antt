@@ -15,14 +15,17 @@ use Rattle.numbers.specs.Abs.{abs-neg, abs-add-≤, abs-mul-≤, mag-of-abs}
 use Rattle.numbers.specs.Floor.{half-twice, quarter-twice}
 use Rattle.numbers.specs.Laws.{twice-times}
 use Rattle.lifting.specs.declared.Step.{Step}
-use Rattle.lifting.specs.declared.Step.the-variants.{Predict, Update, Unpredict, Unupdate, Scaled, Near, Far}
-use Rattle.lifting.specs.Steps.{scaled, scaledEnd, signed, applied, ended, Safe, SumSafe, ScaledSafe, NearSafe, FarSafe}
+use Rattle.lifting.specs.declared.Step.the-variants.{Predict, Update, Unpredict, Unupdate, Scaled, Near, Far, Cut, RaisedCut}
+use Rattle.lifting.specs.Steps.{scaled, scaledEnd, cutFirst, cutFirstEnd, signed, applied, ended, Safe, SumSafe, ScaledSafe, NearSafe, FarSafe}
 use Rattle.lifting.specs.Raise.{power-out}
 
 -- ---- the reduced equations
 
 scaled-twice : (k : ℕ) (c : ℤ) (cut : ℕ) (own x : ℤ) → scaledEnd k c cut own x ≡ scaled k c cut own x x
 scaled-twice k c cut own x = ap (λ (z : ℤ). shrZ (pos (2 ^ k) *ℤ own +ℤ z) (2 ^ cut)) (twice-times c x)
+
+cut-twice : (k : ℕ) (c : ℤ) (first up cut : ℕ) (own x : ℤ) → cutFirstEnd k c first up cut own x ≡ cutFirst k c first up cut own x x
+cut-twice k c first up cut own x = ap (λ (z : ℤ). shrZ (pos (2 ^ k) *ℤ own +ℤ pos (2 ^ up) *ℤ shrZ z (2 ^ first)) (2 ^ cut)) (twice-times c x)
 
 pub ended-is : (s : Step) (own x : ℤ) → ended s own x ≡ applied s own x x
 ended-is Predict own x = ap (λ (z : ℤ). own -ℤ z) (sym (half-twice x))
@@ -32,6 +35,8 @@ ended-is Unupdate own x = ap (λ (z : ℤ). own -ℤ z) (sym (quarter-twice x))
 ended-is (Scaled k c cut) own x = scaled-twice k c cut own x
 ended-is (Near down rise c base cut) own x = scaled-twice (cut + rise) (signed down c) cut own x
 ended-is (Far down k c pad base cut) own x = scaled-twice k (signed down c) cut own x
+ended-is (Cut k c first up cut) own x = cut-twice k c first up cut own x
+ended-is (RaisedCut down k c pad first up base cut) own x = cut-twice k (signed down c) first up cut own x
 
 -- ---- every number on the way fits
 
@@ -54,7 +59,7 @@ more-fits x h = record { sfits = mag-of-abs (x +ℤ pos 1) (lt-of-le-of-lt (abs-
     halved (pos n) h = let l : n + n < 2147483648 = h .sfits in omega arith
     halved (negsuc n) h = let l : suc (n + n) < 2147483648 = h .sfits in omega arith
 
--- ---- the raised forms as the scaled steps that they stand for
+-- ---- the raised forms as the steps that they stand for
 
 abbrev pub unraised : Step → Step
 unraised Predict = Predict
@@ -64,6 +69,8 @@ unraised Unupdate = Unupdate
 unraised (Scaled k c cut) = Scaled k c cut
 unraised (Near down rise c base cut) = Scaled (cut + rise) (signed down c) cut
 unraised (Far down k c pad base cut) = Scaled k (signed down c) cut
+unraised (Cut k c first up cut) = Cut k c first up cut
+unraised (RaisedCut down k c pad first up base cut) = Cut k (signed down c) first up cut
 
 pub unraised-is : (s : Step) (own x : ℤ) → ended (unraised s) own x ≡ ended s own x
 unraised-is Predict own x = refl
@@ -73,6 +80,8 @@ unraised-is Unupdate own x = refl
 unraised-is (Scaled k c cut) own x = refl
 unraised-is (Near down rise c base cut) own x = refl
 unraised-is (Far down k c pad base cut) own x = refl
+unraised-is (Cut k c first up cut) own x = refl
+unraised-is (RaisedCut down k c pad first up base cut) own x = refl
 
 -- a scaled step with a constant of 31 bits and a sign
 module _ (c : ℤ) (own x y : ℤ) (room : natAbs c ≤ 2147483647) (sides : SumSafe x y) where
@@ -119,3 +128,5 @@ unraised-safe Unupdate own x y fits h = h
 unraised-safe (Scaled k c cut) own x y fits h = h
 unraised-safe (Near down rise c base cut) own x y fits h = near-safe down rise c base cut own x y h
 unraised-safe (Far down k c pad base cut) own x y fits h = far-safe down k c pad base cut own x y fits h
+unraised-safe (Cut k c first up cut) own x y fits h = h
+unraised-safe (RaisedCut down k c pad first up base cut) own x y fits h = h .signedly

@@ -7,6 +7,7 @@
 -- Proved of them:
 --   Turns, TileRuns   a turn of a run on signed numbers; a step at a tile's highs or lows by runs
 --   Raise      steps and scalings by unsigned numbers
+--   RaisedCut  the same of steps whose product is cut first
 --   Ends       the reduced equations at an end of a line are the step there
 --   Strips     a strip's lines, worked on their way out of the tile; a plane worked row by row and strip by strip; rows of pixels
 pub mod Steps
@@ -17,6 +18,7 @@ pub mod Passes
 pub mod Tiles
 pub mod Kernels
 pub mod Raise
+pub mod RaisedCut
 pub mod Ends
 pub mod Strips
 pub mod Turns

@@ -45,7 +45,7 @@ raised-small (negsuc n) h = let l : n < 2147483648 = h .sfits in omega arith
 
 -- ---- a sum of raised values, shifted and lowered
 
-lowered : (z : ℤ) (u base m : ℕ) → 0 < m → z +ℤ pos m *ℤ pos base ≡ pos u → shrZ z m ≡ pos (u / m) -ℤ pos base
+pub lowered : (z : ℤ) (u base m : ℕ) → 0 < m → z +ℤ pos m *ℤ pos base ≡ pos u → shrZ z m ≡ pos (u / m) -ℤ pos base
 lowered z u base m h e =
     sym (ap (λ (w : ℤ). w -ℤ pos base) (ap (λ (w : ℤ). shrZ w m) (sym e) ∙ floor-add-mul z (pos base) m h) ∙ +ℤ-negℤ-cancel (shrZ z m) (pos base))
 
@@ -76,7 +76,7 @@ turned-product : (c s : ℤ) → negℤ c *ℤ s ≡ c *ℤ (pos 0 -ℤ s)
 turned-product c s = let ρ : List ℤ = c ∷ s ∷ [] in ring ρ (search (terms, vars ρ) depth 30) (search (terms, vars ρ) depth 30) tt
 
 -- a constant of either sign times a sum
-signed-product : (down : Bool) (c : ℕ) (x y : ℤ) → signed down c *ℤ (x +ℤ y) ≡ pos c *ℤ turnedSum down x y
+pub signed-product : (down : Bool) (c : ℕ) (x y : ℤ) → signed down c *ℤ (x +ℤ y) ≡ pos c *ℤ turnedSum down x y
 signed-product true c x y = turned-product (pos c) (x +ℤ y)
 signed-product false c x y = refl
 

@@ -8,7 +8,7 @@ use lib.Signed.{shrZ}
 use mir.Syntax.{w32, w64}
 use mir.Val.{SFits}
 use Rattle.lifting.specs.declared.Step.{Step}
-use Rattle.lifting.specs.declared.Step.the-variants.{Predict, Update, Unpredict, Unupdate, Scaled, Near, Far}
+use Rattle.lifting.specs.declared.Step.the-variants.{Predict, Update, Unpredict, Unupdate, Scaled, Near, Far, Cut, RaisedCut}
 use Rattle.lifting.specs.declared.Factor.{Factor}
 use Rattle.lifting.specs.declared.Factor.the-variants.{Plain, Raised}
 
@@ -25,6 +25,14 @@ quarter z = shrZ (z +ℤ pos 2) 4
 abbrev pub scaled : ℕ → ℤ → ℕ → ℤ → ℤ → ℤ → ℤ
 scaled k c cut own x y = shrZ (pos (2 ^ k) *ℤ own +ℤ c *ℤ (x +ℤ y)) (2 ^ cut)
 
+-- a product that is cut by itself: ⌊c (x + y) / 2 ^ first⌋
+abbrev pub product : ℤ → ℕ → ℤ → ℤ → ℤ
+product c first x y = shrZ (c *ℤ (x +ℤ y)) (2 ^ first)
+
+-- the step with such a product: ⌊(2 ^ k own + 2 ^ up ⌊c (x + y) / 2 ^ first⌋) / 2 ^ cut⌋
+abbrev pub cutFirst : ℕ → ℤ → ℕ → ℕ → ℕ → ℤ → ℤ → ℤ → ℤ
+cutFirst k c first up cut own x y = shrZ (pos (2 ^ k) *ℤ own +ℤ pos (2 ^ up) *ℤ product c first x y) (2 ^ cut)
+
 -- a constant by its size and its sign
 abbrev pub signed : Bool → ℕ → ℤ
 signed true c = negℤ (pos c)
@@ -38,10 +46,16 @@ applied Unupdate own x y = own -ℤ quarter (x +ℤ y)
 applied (Scaled k c cut) own x y = scaled k c cut own x y
 applied (Near down rise c base cut) own x y = scaled (cut + rise) (signed down c) cut own x y
 applied (Far down k c pad base cut) own x y = scaled k (signed down c) cut own x y
+applied (Cut k c first up cut) own x y = cutFirst k c first up cut own x y
+applied (RaisedCut down k c pad first up base cut) own x y = cutFirst k (signed down c) first up cut own x y
 
 -- ⌊(2 ^ k own + 2 c x) / 2 ^ cut⌋
 abbrev pub scaledEnd : ℕ → ℤ → ℕ → ℤ → ℤ → ℤ
 scaledEnd k c cut own x = shrZ (pos (2 ^ k) *ℤ own +ℤ pos 2 *ℤ c *ℤ x) (2 ^ cut)
+
+-- ⌊(2 ^ k own + 2 ^ up ⌊2 c x / 2 ^ first⌋) / 2 ^ cut⌋
+abbrev pub cutFirstEnd : ℕ → ℤ → ℕ → ℕ → ℕ → ℤ → ℤ → ℤ
+cutFirstEnd k c first up cut own x = shrZ (pos (2 ^ k) *ℤ own +ℤ pos (2 ^ up) *ℤ shrZ (pos 2 *ℤ c *ℤ x) (2 ^ first)) (2 ^ cut)
 
 -- A step at an end of its line, where both neighbours are x, by the reduced equations: source document 003, equations 3 and 4 (the constant is
 -- doubled), source document 004, equations 4 to 6. `ended-is` of Ends: it is the step of x and x.
@@ -53,6 +67,8 @@ ended Unupdate own x = own -ℤ half (x +ℤ pos 1)
 ended (Scaled k c cut) own x = scaledEnd k c cut own x
 ended (Near down rise c base cut) own x = scaledEnd (cut + rise) (signed down c) cut own x
 ended (Far down k c pad base cut) own x = scaledEnd k (signed down c) cut own x
+ended (Cut k c first up cut) own x = cutFirstEnd k c first up cut own x
+ended (RaisedCut down k c pad first up base cut) own x = cutFirstEnd k (signed down c) first up cut own x
 
 -- a step that is not in a raised form
 abbrev pub plain : Step → Bool
@@ -63,6 +79,8 @@ plain Unupdate = true
 plain (Scaled k c cut) = true
 plain (Near down rise c base cut) = false
 plain (Far down k c pad base cut) = false
+plain (Cut k c first up cut) = true
+plain (RaisedCut down k c pad first up base cut) = false
 
 abbrev pub PlainStep : Step → Type 0
 PlainStep s = T (plain s)
@@ -129,6 +147,33 @@ pub record FarSafe (down : Bool) (k c pad base cut : ℕ) (own x y : ℤ) : Type
   pub risen : (r : ℕ) → k ≡ cut + r → SFits w32 (own *ℤ pos (2 ^ r))
   pub result : SFits w32 (scaled k (signed down c) cut own x y)
 
+-- products in i64, before and after their cut, and twice the constant
+pub record CutSafe (k : ℕ) (c : ℤ) (first up cut : ℕ) (own x y : ℤ) : Type 0 where
+  pub few : k ≤ 62
+  pub rises : up ≤ 62
+  pub early : first < 64
+  pub short : cut < 64
+  pub sides : SumSafe x y
+  pub whole : SFits w64 (c *ℤ (x +ℤ y))
+  pub doubled : SFits w64 (pos 2 *ℤ c)
+  pub left : SFits w64 (pos (2 ^ k) *ℤ own)
+  pub right : SFits w64 (pos (2 ^ up) *ℤ product c first x y)
+  pub both : SFits w64 (pos (2 ^ k) *ℤ own +ℤ pos (2 ^ up) *ℤ product c first x y)
+  pub result : SFits w32 (cutFirst k c first up cut own x y)
+
+-- Unsigned numbers: own value and sum are raised. `pad` more makes what the product is too large by `mid` times 2 ^ first, and the whole is too
+-- large by `base` times 2 ^ cut. An end takes the step in the form of `CutSafe`.
+pub record RaisedCutSafe (down : Bool) (k c pad first up base cut : ℕ) (own x y : ℤ) : Type 0 where
+  pub few : k ≤ 30
+  pub room : c < 268435456
+  pub more : pad ≤ 288230376151711744
+  pub early : first ≤ 58
+  pub rises : up ≤ first
+  pub mid : ℕ
+  pub tied : c * 2147483648 + pad ≡ mid * 2 ^ first
+  pub even : 2 ^ k * 2147483648 + mid * 2 ^ up ≡ base * 2 ^ cut
+  pub signedly : CutSafe k (signed down c) first up cut own x y
+
 abbrev pub Safe : Step → ℤ → ℤ → ℤ → Type 0
 Safe Predict own x y = HalfSafe x y (own -ℤ half (x +ℤ y))
 Safe Update own x y = QuarterSafe x y (own +ℤ quarter (x +ℤ y))
@@ -137,6 +182,8 @@ Safe Unupdate own x y = QuarterSafe x y (own -ℤ quarter (x +ℤ y))
 Safe (Scaled k c cut) own x y = ScaledSafe k c cut own x y
 Safe (Near down rise c base cut) own x y = NearSafe down rise c base cut own x y
 Safe (Far down k c pad base cut) own x y = FarSafe down k c pad base cut own x y
+Safe (Cut k c first up cut) own x y = CutSafe k c first up cut own x y
+Safe (RaisedCut down k c pad first up base cut) own x y = RaisedCutSafe down k c pad first up base cut own x y
 
 -- r does what s does, wherever s may be taken
 pub record Same (s r : Step) : Type 0 where

@@ -9,6 +9,7 @@ ghost use mir.Val.{SFits};
 ghost use Rattle.lines.specs.Lines.{interleaved};
 ghost use Rattle.lifting.specs.Steps.{applied, ended, PlainStep, Safe, Same, SumSafe, turnedSum, signed, raisedStep, scaledBy, FactorSafe, SameFactor};
 ghost use Rattle.lifting.specs.Raise.{raised};
+ghost use Rattle.lifting.specs.RaisedCut.{joined, JoinSafe};
 ghost use Rattle.lifting.specs.Patch.{at, Free, patch};
 ghost use Rattle.lifting.specs.Runs.{ran, Runs, SafeRun};
 ghost use Rattle.lifting.specs.PatchLines.{lineAt, patchLines, Lying};
@@ -18,7 +19,8 @@ ghost use Rattle.lifting.specs.Kernels.{worked, Forward, SafeKernel, Sam
 ghost use Rattle.lifting.specs.Strips.{Strip, Ready, Finished, pixelLine};
 
 // A lifting step: what it makes of a value and two neighbours is `applied` of specs/Steps. `Near` and `Far` are the forms in which a
-// scaled step is run: by products of unsigned numbers, the neighbours' sum turned where the constant is negative.
+// scaled step is run: by products of unsigned numbers, the neighbours' sum turned where the constant is negative. `Cut` cuts the product by
+// itself, first; `RaisedCut` is the form in which it is run.
 pub enum Step {
     Predict,
     Update,
@@ -41,6 +43,23 @@ pub enum Step {
         k: u32,
         c: u32,
         pad: u64,
+        base: u64,
+        cut: u32,
+    },
+    Cut {
+        k: u32,
+        c: i64,
+        first: u32,
+        up: u32,
+        cut: u32,
+    },
+    RaisedCut {
+        down: bool,
+        k: u32,
+        c: u32,
+        pad: u64,
+        first: u32,
+        up: u32,
         base: u64,
         cut: u32,
     },
@@ -165,6 +184,33 @@ fn scaled_of(k: u32, c: i64, cut: u32, own: i32, x: i32, y: i32) -> i32
     narrowed(plus(left, right), cut)
 }
 
+// A number shifted to the right.
+fn shifted(z: i64, by: u32) -> i64
+    requires { ⌜ by < 64 ⌝ }
+    ensures { λ r. ⌜ r ≡ shrZ z (2 ^ by) ⌝ }
+{
+    z >> by
+}
+
+// A value and a cut product, cut together.
+fn join(k: u32, up: u32, cut: u32, own: i32, part: i64) -> i32
+    requires { ⌜ JoinSafe k up cut own part ⌝ }
+    ensures { λ r. ⌜ r ≡ joined k up cut own part ⌝ }
+{
+    let left = times(power(k) as i64, wide(own));
+    let right = times(power(up) as i64, part);
+    narrowed(plus(left, right), cut)
+}
+
+// The step `Cut`, in i64.
+fn cut_of(k: u32, c: i64, first: u32, up: u32, cut: u32, own: i32, x: i32, y: i32) -> i32
+    requires { ⌜ Safe (Step.Cut k c first up cut) own x y ⌝ }
+    ensures { λ r. ⌜ r ≡ applied (Step.Cut k c first up cut) own x y ⌝ }
+{
+    let part = shifted(times(c, plus(wide(x), wide(y))), first);
+    join(k, up, cut, own, part)
+}
+
 // z + 2 ^ 31
 pub fn raise(z: i32) -> u32
     ensures { λ r. ⌜ r ≡ raised z ⌝ }
@@ -182,7 +228,7 @@ fn fused(c: u32, s: u32, pad: u64) -> u64
 
 // t shifted to the right, less base.
 fn settled(t: u64, cut: u32, base: u64) -> i64
-    requires { ⌜ (1 ≤ cut) × (cut < 64) × (base < 9223372036854775808) ⌝ }
+    requires { ⌜ (cut < 64) × (t / 2 ^ cut < 9223372036854775808) × (base < 9223372036854775808) ⌝ }
     ensures { λ r. ⌜ r ≡ pos (t / 2 ^ cut) -ℤ pos base ⌝ }
 {
     ((t >> cut) as i64) - (base as i64)
@@ -280,6 +326,35 @@ fn raised_of(
     }
 }
 
+// A number shifted to the right, and no further back to the left.
+fn recut(t: u64, first: u32, up: u32) -> u64
+    requires { ⌜ (first < 64) × (up ≤ first) ⌝ }
+    ensures { λ r. ⌜ (r ≡ t / 2 ^ first * 2 ^ up) × (r ≤ t) ⌝ }
+{
+    (t >> first) << up
+}
+
+// The step `RaisedCut`.
+fn raised_cut_of(
+    down: bool,
+    k: u32,
+    c: u32,
+    pad: u64,
+    first: u32,
+    up: u32,
+    base: u64,
+    cut: u32,
+    own: i32,
+    x: i32,
+    y: i32,
+) -> i32
+    requires { ⌜ Safe (Step.RaisedCut down k c pad first up base cut) own x y ⌝ }
+    ensures { λ r. ⌜ r ≡ applied (Step.RaisedCut down k c pad first up base cut) own x y ⌝ }
+{
+    let part = recut(product(down, c, pad, x, y), first, up);
+    narrow(settled(fused(1u32 << k, raise(own), part), cut, base))
+}
+
 // One step of one value, not in a raised form.
 fn apply(step: Step, own: i32, x: i32, y: i32) -> i32
     requires { ⌜ PlainStep step × Safe step own x y ⌝ }
@@ -291,6 +366,13 @@ fn apply(step: Step, own: i32, x: i32, y: i32) -> i32
         Step::Unpredict => unpredicted(own, x, y),
         Step::Unupdate => unupdated(own, x, y),
         Step::Scaled { k, c, cut } => scaled_of(k, c, cut, own, x, y),
+        Step::Cut {
+            k,
+            c,
+            first,
+            up,
+            cut,
+        } => cut_of(k, c, first, up, cut, own, x, y),
         _ => own,
     }
 }
@@ -340,6 +422,15 @@ fn scaled_end(k: u32, c: i64, cut: u32, own: i32, x: i32) -> i32
     narrowed(plus(left, right), cut)
 }
 
+// The step `Cut` there: the product of the doubled constant is cut.
+fn cut_end(k: u32, c: i64, first: u32, up: u32, cut: u32, own: i32, x: i32) -> i32
+    requires { ⌜ Safe (Step.Cut k c first up cut) own x x ⌝ }
+    ensures { λ r. ⌜ r ≡ ended (Step.Cut k c first up cut) own x ⌝ }
+{
+    let part = shifted(times(times(2, c), wide(x)), first);
+    join(k, up, cut, own, part)
+}
+
 // A constant by its sign and its size.
 fn signed_of(down: bool, c: u32) -> i64
     ensures { λ r. ⌜ r ≡ signed down c ⌝ }
@@ -372,6 +463,22 @@ fn apply_end(step: Step, own: i32, x: i32) -> i32
             cut,
             ..
         } => scaled_end(k, signed_of(down, c), cut, own, x),
+        Step::Cut {
+            k,
+            c,
+            first,
+            up,
+            cut,
+        } => cut_end(k, c, first, up, cut, own, x),
+        Step::RaisedCut {
+            down,
+            k,
+            c,
+            first,
+            up,
+            cut,
+            ..
+        } => cut_end(k, signed_of(down, c), first, up, cut, own, x),
     }
 }
 
@@ -498,6 +605,115 @@ fn far_run(
     }
 }
 
+// A run of the step `RaisedCut`.
+fn raised_cut_run(
+    buf: &mut [i32],
+    t: usize,
+    a: usize,
+    b: usize,
+    n: usize,
+    down: bool,
+    k: u32,
+    c: u32,
+    pad: u64,
+    first: u32,
+    up: u32,
+    base: u64,
+    cut: u32,
+)
+    requires { ⌜ Runs (now buf) t a b n ⌝ }
+    requires { ⌜ SafeRun (Step.RaisedCut down k c pad first up base cut) t a b n (at (now buf)) ⌝ }
+    ensures { λ _. ⌜ at (now (buf .exit)) ≡ ran (applied (Step.RaisedCut down k c pad first up base cut)) t a b n (at (now (buf .entry))) ⌝ }
+{
+    for j in 0..n {
+        let v = raised_cut_of(
+            down,
+            k,
+            c,
+            pad,
+            first,
+            up,
+            base,
+            cut,
+            buf[t + j],
+            buf[a + j],
+            buf[b + j],
+        );
+        buf[t + j] = v;
+    }
+}
+
+// The same, with a loop of its own for either sign.
+fn signed_cut_run(
+    buf: &mut [i32],
+    t: usize,
+    a: usize,
+    b: usize,
+    n: usize,
+    down: bool,
+    k: u32,
+    c: u32,
+    pad: u64,
+    first: u32,
+    up: u32,
+    base: u64,
+    cut: u32,
+)
+    requires { ⌜ Runs (now buf) t a b n ⌝ }
+    requires { ⌜ SafeRun (Step.RaisedCut down k c pad first up base cut) t a b n (at (now buf)) ⌝ }
+    ensures { λ _. ⌜ at (now (buf .exit)) ≡ ran (applied (Step.RaisedCut down k c pad first up base cut)) t a b n (at (now (buf .entry))) ⌝ }
+{
+    if down {
+        raised_cut_run(buf, t, a, b, n, true, k, c, pad, first, up, base, cut);
+    } else {
+        raised_cut_run(buf, t, a, b, n, false, k, c, pad, first, up, base, cut);
+    }
+}
+
+// The same, with a loop of its own where nothing is cut after the sum, and where the own value is not shifted either.
+fn cut_run(
+    buf: &mut [i32],
+    t: usize,
+    a: usize,
+    b: usize,
+    n: usize,
+    down: bool,
+    k: u32,
+    c: u32,
+    pad: u64,
+    first: u32,
+    up: u32,
+    base: u64,
+    cut: u32,
+)
+    requires { ⌜ Runs (now buf) t a b n ⌝ }
+    requires { ⌜ SafeRun (Step.RaisedCut down k c pad first up base cut) t a b n (at (now buf)) ⌝ }
+    ensures { λ _. ⌜ at (now (buf .exit)) ≡ ran (applied (Step.RaisedCut down k c pad first up base cut)) t a b n (at (now (buf .entry))) ⌝ }
+{
+    if cut == 0 {
+        if k == 0 {
+            signed_cut_run(buf, t, a, b, n, down, 0, c, pad, first, up, base, 0);
+        } else {
+            signed_cut_run(buf, t, a, b, n, down, k, c, pad, first, up, base, 0);
+        }
+    } else {
+        signed_cut_run(buf, t, a, b, n, down, k, c, pad, first, up, base, cut);
+    }
+}
+
+// The step `Cut` by its numbers.
+fn cut_step(k: u32, c: i64, first: u32, up: u32, cut: u32) -> Step
+    ensures { λ r. ⌜ r ≡ Step.Cut k c first up cut ⌝ }
+{
+    Step::Cut {
+        k,
+        c,
+        first,
+        up,
+        cut,
+    }
+}
+
 // A step at each place of a run, dispatched once: each arm's loop is compiled for its own step.
 pub fn lift_run(buf: &mut [i32], t: usize, a: usize, b: usize, n: usize, step: Step)
     requires { ⌜ Runs (now buf) t a b n ⌝ }
@@ -525,6 +741,23 @@ pub fn lift_run(buf: &mut [i32], t: usize, a: usize, b: usize, n: usize, step: S
             base,
             cut,
         } => far_run(buf, t, a, b, n, down, k, c, pad, base, cut),
+        Step::Cut {
+            k,
+            c,
+            first,
+            up,
+            cut,
+        } => run(buf, t, a, b, n, cut_step(k, c, first, up, cut)),
+        Step::RaisedCut {
+            down,
+            k,
+            c,
+            pad,
+            first,
+            up,
+            base,
+            cut,
+        } => cut_run(buf, t, a, b, n, down, k, c, pad, first, up, base, cut),
     }
 }
 
@@ -625,12 +858,63 @@ fn quick(k: u32, c: i64, cut: u32) -> Step
     near(c < 0, k - cut, f, cut)
 }
 
+// The step `Cut` in the form `RaisedCut`.
+fn raised_cut(down: bool, k: u32, c: u32, first: u32, up: u32, cut: u32) -> Step
+    requires { ⌜ (k ≤ 30) × (c < 268435456) × (up ≤ first) × (first + cut ≤ 58) × (cut ≤ 31) ⌝ }
+    ensures { λ r. ⌜ Same (Step.Cut k (signed down c) first up cut) r ⌝ }
+{
+    let total = (c as u64) * 2147483648;
+    let m = multiple(total, first + cut);
+    Step::RaisedCut {
+        down,
+        k,
+        c,
+        pad: m * power(first + cut) - total,
+        first,
+        up,
+        base: power(31 + k - cut) + m * power(up),
+        cut,
+    }
+}
+
+// The step `Cut` in the form in which it is run.
+fn quick_cut(k: u32, c: i64, first: u32, up: u32, cut: u32) -> Step
+    ensures { λ r. ⌜ Same (Step.Cut k c first up cut) r ⌝ }
+{
+    let f = size(c);
+    if f < 268435456 {
+        if k <= 30 {
+            if up <= first {
+                if cut <= 31 {
+                    if first <= 58 - cut {
+                        return raised_cut(c < 0, k, f, first, up, cut);
+                    }
+                }
+            }
+        }
+    }
+    Step::Cut {
+        k,
+        c,
+        first,
+        up,
+        cut,
+    }
+}
+
 // The form in which a step is run.
 fn quickest(step: Step) -> Step
     ensures { λ r. ⌜ Same step r ⌝ }
 {
     match step {
         Step::Scaled { k, c, cut } => quick(k, c, cut),
+        Step::Cut {
+            k,
+            c,
+            first,
+            up,
+            cut,
+        } => quick_cut(k, c, first, up, cut),
         _ => step,
     }
 }

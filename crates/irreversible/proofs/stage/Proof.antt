@@ -2,6 +2,7 @@ use mathlib.Core.Path.{_≡_, ap, _∙_}
 use Prim.Native.Nat.{ℕ, _+_, _-_, _^_}
 use native.Mathlib.Omega.{arith}
 use lib.IntN.{ℤ, pos, _*ℤ_}
+use Rattle.stages.specs.Stages.{cutTo}
 use Rattle.stages.specs.Fixed.{nearest}
 use Rattle.irreversible.specs.Constants.{constantOf}
 use Rattle.width_table.specs.Numbered.{nodeOf}
@@ -26,7 +27,7 @@ step-of-requires c κs =
 returns : tie.Need-returns
 returns c =
     let a = c .before .before .args in
-    c .step-of .ensures ∙ ap (λ (z : ℤ). stepOf z (a .bits) (a .sides) (a .own) (a .kept)) (constant (c .before))
+    c .step-of .ensures ∙ ap (λ (z : ℤ). stepOf (cutTo (a .width)) z (a .bits) (a .sides) (a .own) (a .kept)) (constant (c .before))
 
 pub stage-spec : {M : Type 1} → statement M
 stage-spec = tie.close (tie.spec (λ c κs. (c .pre .0, c .pre .1)) step-of-requires returns)

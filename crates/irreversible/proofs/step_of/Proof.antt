@@ -1,34 +1,44 @@
-use mathlib.Core.Path.{_≡_, ap, ap₂, _∙_}
-use Prim.Native.Nat.{ℕ, _+_, _-_, _^_, max}
+use Prim.Native.Nat.{_+_, _-_, _^_}
+use mathlib.Core.Path.{sym, _∙_, ap}
 use native.Mathlib.Omega.{arith}
 use lib.IntN.{ℤ, pos, _*ℤ_}
 use mir.Facts.{toZ-ofZ}
-use Rattle.lifting.specs.declared.Step.the-variants.{Scaled}
-use Rattle.irreversible.specs.StepLaws.{stepTop, stepOf}
-use Rattle.irreversible.proofs.Read.{back, got, fits-at}
+use Rattle.irreversible.specs.StepLaws.{stepTop, onceOf, cutOf, step-once, step-cut, cut-apart}
+use Rattle.irreversible.proofs.Read.{fits-at}
 use Rattle.irreversible.proofs.step_of.Statement.{statement}
 use Rattle.irreversible.proofs.step_of.Tie as tie
 
--- the bits at which the sum is formed
-top : (c : tie.After-larger2) → let a = c .before .before .args in c .larger2 .result ≡ stepTop (a .bits) (a .sides) (a .own) (a .kept)
-top c = c .larger2 .ensures ∙ ap (λ (m : ℕ). max m (c .before .before .args .kept)) (c .before .larger .ensures)
-
--- the constant at these bits
-raised : (c : tie.After-power) → let a = c .before .before .before .args in back (a .constant) *ℤ back (c .power .result) ≡ a .constant *ℤ pos (2 ^ (stepTop (a .bits) (a .sides) (a .own) (a .kept) - (a .bits + a .sides)))
-raised c =
-    let s = c .before .before .before in
-    ap₂ _*ℤ_ (toZ-ofZ (s .fits .constant)) (got (c .power .ok) (c .power .ensures ∙ ap (λ (k : ℕ). pos (2 ^ (k - (s .args .bits + s .args .sides)))) (top (c .before))))
-
-times-requires : tie.Need-times-requires
-times-requires c κs = fits-at (raised c) (c .before .before .before .pre .1)
+once-of-requires : tie.Need-once-of-requires
+once-of-requires c κs =
+    let s = c .before .before in
+    let a = s .args in
+    (s .pre .0, fits-at (ap (λ (z : ℤ). z *ℤ pos (2 ^ (stepTop (a .bits) (a .sides) (a .own) (a .kept) - (a .bits + a .sides)))) (toZ-ofZ (s .fits .constant))) (s .pre .1))
 
 returns : tie.Need-returns
-unfolding stepOf
 returns c =
-    let p = c .before in
-    let s = p .before .before .before in
-    let d = got (c .times .ok) (c .times .ensures ∙ raised p) in
-    λ u. Scaled (top (p .before) u - s .args .own) (d u) (top (p .before) u - s .args .kept)
+    let i = c .before in
+    let s = i .before .before in
+    let a = s .args in
+    c .once-of .ensures
+    ∙ ap (λ (k : ℤ). onceOf k (a .bits) (a .sides) (a .own) (a .kept)) (toZ-ofZ (s .fits .constant))
+    ∙ sym (step-once (a .width) (a .constant) (a .bits) (a .sides) (a .own) (a .kept) (sym (i .before .cut-together .ensures) ∙ i .if1 .taken))
+
+cut-of-requires : tie.Need-cut-of-requires
+cut-of-requires c κs =
+    let s = c .before .before in
+    let a = s .args in
+    let p = s .pre .0 in
+    let (less, below) = cut-apart (a .width) (a .bits + a .sides) (a .own) (a .kept) (sym (c .before .cut-together .ensures) ∙ c .if1 .left) in
+    (p .0, p .1, less, below)
+
+returns-2 : tie.Need-returns-2
+returns-2 c =
+    let i = c .before in
+    let s = i .before .before in
+    let a = s .args in
+    c .cut-of .ensures
+    ∙ ap (λ (k : ℤ). cutOf (a .width) k (a .bits) (a .sides) (a .own) (a .kept)) (toZ-ofZ (s .fits .constant))
+    ∙ sym (step-cut (a .width) (a .constant) (a .bits) (a .sides) (a .own) (a .kept) (sym (i .before .cut-together .ensures) ∙ i .if1 .left))
 
 pub step-of-spec : {M : Type 1} → statement M
 step-of-spec =
@@ -36,12 +46,7 @@ step-of-spec =
     (tie.spec
     (λ c. omega arith)
     (λ c κs. tt)
-    (λ c κs. tt)
-    (λ c. omega arith)
-    (λ c κs. omega arith)
-    times-requires
-    (λ c. omega arith)
-    (λ c. omega arith)
-    (λ c. omega arith)
-    (λ c. omega arith)
-    returns)
+    once-of-requires
+    returns
+    cut-of-requires
+    returns-2)

@@ -6,22 +6,24 @@ use denote.Enum.Declared.{tagOf}
 use types.Run.{OneOf, miss}
 use mir.Syntax.{w32}
 use Rattle.lifting.specs.declared.Step.{Step}
-use Rattle.lifting.specs.declared.Step.the-variants.{Predict, Update, Unpredict, Unupdate, Scaled, Near, Far}
+use Rattle.lifting.specs.declared.Step.the-variants.{Predict, Update, Unpredict, Unupdate, Scaled, Near, Far, Cut, RaisedCut}
 use Rattle.lifting.specs.Steps.{PlainStep}
 use Rattle.lifting.proofs.Step.{the-type}
-use Rattle.lifting.proofs.Read.{safe-back, applied-back, scaled-back}
+use Rattle.lifting.proofs.Read.{safe-back, applied-back, scaled-back, cut-back}
 use Rattle.lifting.proofs.apply.Statement.{statement}
 use Rattle.lifting.proofs.apply.Tie as tie
 
--- no plain step is one of the last two forms
-not-raised : (s : Step) → PlainStep s → OneOf (5 ∷ 6 ∷ []) (tagOf the-type s) → ⊥
-not-raised Predict p h = miss (5 ∷ 6 ∷ []) _ tt h
-not-raised Update p h = miss (5 ∷ 6 ∷ []) _ tt h
-not-raised Unpredict p h = miss (5 ∷ 6 ∷ []) _ tt h
-not-raised Unupdate p h = miss (5 ∷ 6 ∷ []) _ tt h
-not-raised (Scaled k c cut) p h = miss (5 ∷ 6 ∷ []) _ tt h
+-- no plain step is in a raised form
+not-raised : (s : Step) → PlainStep s → OneOf (5 ∷ 6 ∷ 8 ∷ []) (tagOf the-type s) → ⊥
+not-raised Predict p h = miss (5 ∷ 6 ∷ 8 ∷ []) _ tt h
+not-raised Update p h = miss (5 ∷ 6 ∷ 8 ∷ []) _ tt h
+not-raised Unpredict p h = miss (5 ∷ 6 ∷ 8 ∷ []) _ tt h
+not-raised Unupdate p h = miss (5 ∷ 6 ∷ 8 ∷ []) _ tt h
+not-raised (Scaled k c cut) p h = miss (5 ∷ 6 ∷ 8 ∷ []) _ tt h
 not-raised (Near down rise c base cut) p h = p
 not-raised (Far down k c pad base cut) p h = p
+not-raised (Cut k c first up cut) p h = miss (5 ∷ 6 ∷ 8 ∷ []) _ tt h
+not-raised (RaisedCut down k c pad first up base cut) p h = p
 
 predicted-requires : tie.Need-predicted-requires
 predicted-requires c κs = let a = c .before .before in safe-back w32 (a .fits .own) (a .fits .x) (a .fits .y) (c .enum-told .given .1) (a .pre .1)
@@ -37,6 +39,9 @@ unupdated-requires c κs = let a = c .before .before in safe-back w32 (a .fits .
 
 scaled-of-requires : tie.Need-scaled-of-requires
 scaled-of-requires c κs = let a = c .before .before .before in safe-back w32 (a .fits .own) (a .fits .x) (a .fits .y) (scaled-back (search needs) (c .before .step .given .1)) (a .pre .1)
+
+cut-of-requires : tie.Need-cut-of-requires
+cut-of-requires c κs = let a = c .before .before .before in safe-back w32 (a .fits .own) (a .fits .x) (a .fits .y) (cut-back (search needs) (c .before .step2 .given .1)) (a .pre .1)
 
 returns : tie.Need-returns
 returns c =
@@ -64,7 +69,12 @@ returns-5 c =
     applied-back w32 (a .fits .own) (a .fits .x) (a .fits .y) (scaled-back (search needs) (c .before .before .step .given .1)) (c .scaled-of .ok) (c .scaled-of .ensures)
 
 returns-6 : tie.Need-returns-6
-returns-6 c = absurd (not-raised (c .before .args .step) (c .before .pre .0) (c .match .keys6))
+returns-6 c =
+    let a = c .before .before .before .before in
+    applied-back w32 (a .fits .own) (a .fits .x) (a .fits .y) (cut-back (search needs) (c .before .before .step2 .given .1)) (c .cut-of .ok) (c .cut-of .ensures)
+
+returns-7 : tie.Need-returns-7
+returns-7 c = absurd (not-raised (c .before .args .step) (c .before .pre .0) (c .match .keys7))
 
 pub apply-spec : {M : Type 1} → statement M
 apply-spec =
@@ -80,9 +90,12 @@ apply-spec =
     unupdated-requires
     (λ c. search needs)
     scaled-of-requires
+    (λ c. search needs)
+    cut-of-requires
     returns
     returns-2
     returns-3
     returns-4
     returns-5
-    returns-6)
+    returns-6
+    returns-7)

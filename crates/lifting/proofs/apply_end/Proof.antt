@@ -1,4 +1,4 @@
--- `lifting::apply_end` meets its contract: in each arm the step is the one that the arm takes, or the scaled step that this stands for.
+-- `lifting::apply_end` meets its contract: in each arm the step is the one that the arm takes, or the one that this stands for.
 -- Assumes nothing.
 use mathlib.Core.Path.{ap, _∙_}
 use native.Mathlib.Omega.{arith}
@@ -8,7 +8,7 @@ use Rattle.lifting.specs.Steps.{Safe}
 use Rattle.lifting.specs.Runs.{as-type}
 use Rattle.lifting.specs.Turns.{got}
 use Rattle.lifting.specs.Ends.{unraised, unraised-is, unraised-safe}
-use Rattle.lifting.proofs.Read.{safe-back, ended-back, scaled-as, scaled-back}
+use Rattle.lifting.proofs.Read.{safe-back, ended-back, scaled-as, scaled-back, cut-as, cut-back}
 use Rattle.lifting.proofs.apply_end.Statement.{statement}
 use Rattle.lifting.proofs.apply_end.Tie as tie
 
@@ -45,6 +45,15 @@ scaled-end-requires-3 c κs =
     safe-back w32 (a .fits .own) (a .fits .x) (a .fits .x) (scaled-as (got w64 (c .signed-of2 .ok) (c .signed-of2 .ensures)) (ap unraised (c .before .before .step3 .given .1)))
     (unraised-safe (a .args .step) (a .args .own) (a .args .x) (a .args .x) (a .fits .own) (a .pre))
 
+cut-end-requires : tie.Need-cut-end-requires
+cut-end-requires c κs = let a = c .before .before .before in safe-back w32 (a .fits .own) (a .fits .x) (a .fits .x) (cut-back (search needs) (c .before .step4 .given .1)) (a .pre)
+
+cut-end-requires-2 : tie.Need-cut-end-requires-2
+cut-end-requires-2 c κs =
+    let a = c .before .before .before .before in
+    safe-back w32 (a .fits .own) (a .fits .x) (a .fits .x) (cut-as (got w64 (c .signed-of3 .ok) (c .signed-of3 .ensures)) (ap unraised (c .before .before .step5 .given .1)))
+    (unraised-safe (a .args .step) (a .args .own) (a .args .x) (a .args .x) (a .fits .own) (a .pre))
+
 returns : tie.Need-returns
 returns c = let a = c .before .before .before in ended-back w32 (a .fits .own) (a .fits .x) (c .before .enum-told .given .1) (c .predicted-end .ok) (c .predicted-end .ensures)
 
@@ -76,6 +85,18 @@ returns-7 c =
     ended-back w32 (a .fits .own) (a .fits .x) (scaled-as (got w64 (s .signed-of2 .ok) (s .signed-of2 .ensures)) (ap unraised (s .before .before .step3 .given .1))) (c .scaled-end3 .ok) (c .scaled-end3 .ensures)
     ∙ unraised-is (a .args .step) (a .args .own) (a .args .x)
 
+returns-8 : tie.Need-returns-8
+returns-8 c =
+    let a = c .before .before .before .before in
+    ended-back w32 (a .fits .own) (a .fits .x) (cut-back (search needs) (c .before .before .step4 .given .1)) (c .cut-end .ok) (c .cut-end .ensures)
+
+returns-9 : tie.Need-returns-9
+returns-9 c =
+    let s = c .before in
+    let a = s .before .before .before .before in
+    ended-back w32 (a .fits .own) (a .fits .x) (cut-as (got w64 (s .signed-of3 .ok) (s .signed-of3 .ensures)) (ap unraised (s .before .before .step5 .given .1))) (c .cut-end2 .ok) (c .cut-end2 .ensures)
+    ∙ unraised-is (a .args .step) (a .args .own) (a .args .x)
+
 pub apply-end-spec : {M : Type 1} → statement M
 apply-end-spec =
     tie.close
@@ -97,10 +118,17 @@ apply-end-spec =
     (λ c. search needs)
     (λ c κs. search needs)
     scaled-end-requires-3
+    (λ c. search needs)
+    cut-end-requires
+    (λ c. search needs)
+    (λ c κs. search needs)
+    cut-end-requires-2
     returns
     returns-2
     returns-3
     returns-4
     returns-5
     returns-6
-    returns-7)
+    returns-7
+    returns-8
+    returns-9)

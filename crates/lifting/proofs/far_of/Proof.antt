@@ -9,7 +9,7 @@ use lib.Pow.{pow-mono, shl-exact}
 use mir.Syntax.{w32, w64}
 use mir.Facts.{toZ-ofZ}
 use Rattle.lifting.specs.Steps.{scaled, signed, turnedSum}
-use Rattle.lifting.specs.Raise.{raised, far-is, fused-small, base-small}
+use Rattle.lifting.specs.Raise.{raised, far-is, fused-small, cut-small, base-small}
 use Rattle.lifting.specs.Turns.{got, fits-at}
 use Rattle.lifting.proofs.far_of.Statement.{statement}
 use Rattle.lifting.proofs.far_of.Tie as tie
@@ -29,7 +29,7 @@ fused-requires c κs =
 settled-requires : tie.Need-settled-requires
 settled-requires c κs =
     let a = c .before .before .before in
-    (a .pre .some, a .pre .short, base-small ((2 ^ a .args .k + a .args .c) * 2147483648 + a .args .pad) (a .args .base) (a .args .cut) (omega (arith, factor a .1, a .pre .room, a .pre .more)) (a .pre .some) (a .pre .tied))
+    (a .pre .short, cut-small (c .fused .result) (a .args .cut) (c .fused .ok) (a .pre .some), base-small ((2 ^ a .args .k + a .args .c) * 2147483648 + a .args .pad) (a .args .base) (a .args .cut) (omega (arith, factor a .1, a .pre .room, a .pre .more)) (a .pre .some) (a .pre .tied))
 
 value : (c : tie.After-settled) → let a = c .before .before .before .before .args in c .settled .result ≡ scaled (a .k) (signed (a .down) (a .c)) (a .cut) (a .own) (a .x) (a .y)
 value c =

@@ -1,14 +1,14 @@
 -- `lifting::lift_run` meets its contract: in each arm the step is the one that the arm hands on.
 -- Assumes nothing.
-use mathlib.Core.Path.{_≡_}
+use mathlib.Core.Path.{_≡_, sym, subst, _∙_}
 use Prim.Native.Nat.{ℕ}
 use borrow.Author.Needs.{needs}
 use lib.IntN.{ℤ}
 use Rattle.lifting.specs.declared.Step.{Step}
-use Rattle.lifting.specs.Steps.{applied}
+use Rattle.lifting.specs.Steps.{applied, PlainStep}
 use Rattle.lifting.specs.Patch.{at}
 use Rattle.lifting.specs.Runs.{ran, Runs, SafeRun}
-use Rattle.lifting.proofs.Read.{scaled-back}
+use Rattle.lifting.proofs.Read.{scaled-back, cut-back}
 use Rattle.lifting.proofs.Turn.{run-asks, run-gives}
 use Rattle.lifting.proofs.lift_run.Statement.{statement}
 use Rattle.lifting.proofs.lift_run.Tie as tie
@@ -62,6 +62,22 @@ far-run-requires c κs = asks (c .before .before .before .before) (c .before .be
 returns-7 : tie.Need-returns-7
 returns-7 c = gives (c .before .before .before .before .before .before) (c .before .before .before .before .step3 .given .1) (c .before .far-run .ensures)
 
+-- the step, made anew
+made : (c : tie.After-cut-step) → c .before .before .before .before .before .args .step ≡ c .cut-step .result
+made c = cut-back (search needs) (c .before .before .before .step4 .given .1) ∙ sym (c .cut-step .ensures)
+
+run-requires-6 : tie.Need-run-requires-6
+run-requires-6 c κs = let h = asks (c .before .before .before .before .before) (made c) in ((subst PlainStep (sym (c .cut-step .ensures)) tt, h .0), h .1)
+
+returns-8 : tie.Need-returns-8
+returns-8 c = gives (c .before .before .before .before .before .before .before) (made (c .before .before)) (c .before .run6 .ensures)
+
+cut-run-requires : tie.Need-cut-run-requires
+cut-run-requires c κs = asks (c .before .before .before .before) (c .before .before .step5 .given .1)
+
+returns-9 : tie.Need-returns-9
+returns-9 c = gives (c .before .before .before .before .before .before) (c .before .before .before .before .step5 .given .1) (c .before .cut-run .ensures)
+
 pub lift-run-spec : {M : Type 1} → statement M
 lift-run-spec =
     tie.close
@@ -81,6 +97,11 @@ lift-run-spec =
     (λ c. search needs)
     far-run-requires
     (λ c. search needs)
+    (λ c κs. search needs)
+    run-requires-6
+    (λ c. search needs)
+    cut-run-requires
+    (λ c. search needs)
     returns
     (λ c. search needs)
     returns-2
@@ -93,4 +114,8 @@ lift-run-spec =
     (λ c. search needs)
     returns-6
     (λ c. search needs)
-    returns-7)
+    returns-7
+    (λ c. search needs)
+    returns-8
+    (λ c. search needs)
+    returns-9)

@@ -8,7 +8,7 @@ use lib.IntN.{ℤ, pos, _+ℤ_, _-ℤ_, _*ℤ_}
 use mir.Syntax.{w32, w64}
 use mir.Facts.{toZ-ofZ}
 use Rattle.lifting.specs.Steps.{scaled, signed, turnedSum}
-use Rattle.lifting.specs.Raise.{raised, near-is, base-small}
+use Rattle.lifting.specs.Raise.{raised, near-is, cut-small, base-small}
 use Rattle.lifting.specs.Turns.{back, got, fits-at}
 use Rattle.lifting.proofs.near_of.Statement.{statement}
 use Rattle.lifting.proofs.near_of.Tie as tie
@@ -16,7 +16,7 @@ use Rattle.lifting.proofs.near_of.Tie as tie
 settled-requires : tie.Need-settled-requires
 settled-requires c κs =
     let a = c .before in
-    (a .pre .some, omega (arith, a .pre .short), base-small (a .args .c * 2147483648) (a .args .base) (a .args .cut) (omega (arith, a .pre .room)) (a .pre .some) (a .pre .tied))
+    (omega (arith, a .pre .short), cut-small (c .product .result) (a .args .cut) (c .product .ok) (a .pre .some), base-small (a .args .c * 2147483648) (a .args .base) (a .args .cut) (omega (arith, a .pre .room)) (a .pre .some) (a .pre .tied))
 
 value : (c : tie.After-risen) → let a = c .before .before .before .args in back w32 (c .risen .result) +ℤ back w64 (c .before .settled .result) ≡ scaled (a .cut + a .rise) (signed (a .down) (a .c)) (a .cut) (a .own) (a .x) (a .y)
 value c =

@@ -8,7 +8,7 @@ use lib.IntN.{pos, _-ℤ_, _*ℤ_}
 use lib.Signed.{shrZ}
 use mir.Syntax.{w32, w64}
 use mir.Facts.{toZ-ofZ}
-use Rattle.lifting.specs.Raise.{raised, padded-is, fused-small, base-small}
+use Rattle.lifting.specs.Raise.{raised, padded-is, fused-small, cut-small, base-small}
 use Rattle.lifting.specs.Turns.{got, fits-at}
 use Rattle.lifting.proofs.raised_by.Statement.{statement}
 use Rattle.lifting.proofs.raised_by.Tie as tie
@@ -19,7 +19,7 @@ fused-requires c κs = let a = c .before in fused-small (a .args .c) (c .raise .
 settled-requires : tie.Need-settled-requires
 settled-requires c κs =
     let a = c .before .before in
-    (a .pre .some, a .pre .short, base-small (a .args .c * 2147483648 + a .args .pad) (a .args .base) (a .args .cut) (omega (arith, a .pre .room, a .pre .more)) (a .pre .some) (a .pre .tied))
+    (a .pre .short, cut-small (c .fused .result) (a .args .cut) (c .fused .ok) (a .pre .some), base-small (a .args .c * 2147483648 + a .args .pad) (a .args .base) (a .args .cut) (omega (arith, a .pre .room, a .pre .more)) (a .pre .some) (a .pre .tied))
 
 value : (c : tie.After-settled) → let a = c .before .before .before .args in c .settled .result ≡ shrZ (pos (a .c) *ℤ a .x) (2 ^ a .cut)
 value c =

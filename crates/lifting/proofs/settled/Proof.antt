@@ -4,25 +4,21 @@ use Prim.Native.Nat.{_/_, _^_}
 use native.Mathlib.Omega.{arith}
 use mir.Syntax.{w64}
 use mir.Facts.{toZ-ofZ, toZ-pos}
-use Rattle.lifting.specs.Raise.{cut-small, difference-fits}
+use Rattle.lifting.specs.Raise.{difference-fits}
 use Rattle.lifting.proofs.settled.Statement.{statement}
 use Rattle.lifting.proofs.settled.Tie as tie
 
 cast-result : tie.Need-cast-result
-cast-result c = record { sfits = cut-small (c .args .t) (c .args .cut) (omega arith) (c .pre .0) }
+cast-result c = record { sfits = c .pre .1 }
 
 cast-result-2 : tie.Need-cast-result-2
 cast-result-2 c = record { sfits = c .pre .2 }
 
 sub-result : tie.Need-sub-result
-sub-result c =
-    let l = cut-small (c .args .t) (c .args .cut) (omega arith) (c .pre .0) in
-    rw (toZ-pos w64 l, toZ-pos w64 (c .pre .2)) (difference-fits (c .args .t / 2 ^ c .args .cut) (c .args .base) l (c .pre .2))
+sub-result c = rw (toZ-pos w64 (c .pre .1), toZ-pos w64 (c .pre .2)) (difference-fits (c .args .t / 2 ^ c .args .cut) (c .args .base) (c .pre .1) (c .pre .2))
 
 returns : tie.Need-returns
-returns c =
-    let l = cut-small (c .args .t) (c .args .cut) (omega arith) (c .pre .0) in
-    rw (toZ-pos w64 l, toZ-pos w64 (c .pre .2), toZ-ofZ (difference-fits (c .args .t / 2 ^ c .args .cut) (c .args .base) l (c .pre .2)))
+returns c = rw (toZ-pos w64 (c .pre .1), toZ-pos w64 (c .pre .2), toZ-ofZ (difference-fits (c .args .t / 2 ^ c .args .cut) (c .args .base) (c .pre .1) (c .pre .2)))
 
 pub settled-spec : {M : Type 1} → statement M
 settled-spec =

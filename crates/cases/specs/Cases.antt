@@ -9,10 +9,10 @@ use Rattle.lines.specs.Planes.{fromOne, tabulate}
 use Rattle.exact.specs.Fractions.{_⊕_, _⊗_, whole, magnitude, upDiv, wholesOf}
 use Rattle.exact.specs.Exact.{alpha, lift}
 use Rattle.stages.specs.Stages as S
-use Rattle.stages.specs.Stages.{forward, made}
+use Rattle.stages.specs.Stages.{forward, made, uncut}
 use Rattle.stages.specs.Gains.{samples, node, held, sumTo, inputAnswer, nodeAnswer, sumFrom, exactGain, gain}
 use Rattle.reversible.specs.Reversible.{predict, update, high, low, reversibleLong, reversiblePass}
-use Rattle.stages.specs.Fixed.{step, cut, nearest}
+use Rattle.stages.specs.Fixed.{step, cut, cutProduct, nearest}
 use Rattle.listing.specs.Listing.{copyText}
 use Rattle.listing.specs.Cases.{document}
 
@@ -22,7 +22,7 @@ pass l = tabulate (length l) (reversiblePass (length l) (λ i. getD l i (pos 0))
 
 -- P1 with B = 1 and F = 1: own pixel, then neighbours, as integers, and the node's f
 abbrev pub firstStage : ℤ → ℤ → ℤ → ℕ → ℤ
-firstStage own x y f = step alpha 1 1 1 f own x y
+firstStage own x y f = step uncut alpha 1 1 1 f own x y
 
 pub record Table : Type 0 where
   -- 0 0 gives 0 | 0; 1 3 gives 2 | 2; -1 0 gives 0 | 1; 0 -3 gives -1 | -3; 3 0 -2 gives 3 -2 | 0; 0 0 0 1 gives 0 0 | 0 1
@@ -44,5 +44,5 @@ pub record Table : Type 0 where
   pub gains : gain forward S.high 1 samples ∷ gain forward S.low 2 (node 0) ∷ gain forward S.low 5 (node 3) ∷ [] ≡ 273434 ∷ 6945 ∷ 75341 ∷ []
 
 pub table : Table
-unfolding reversiblePass reversibleLong fromOne low high onHighs onLows lowAfter highBefore highAfter lowsFirst predict update tabulate step cut nearest gain exactGain sumFrom sumTo inputAnswer nodeAnswer held made wholesOf upDiv lift _⊕_ _⊗_ whole magnitude
+unfolding reversiblePass reversibleLong fromOne low high onHighs onLows lowAfter highBefore highAfter lowsFirst predict update tabulate step cutProduct cut nearest gain exactGain sumFrom sumTo inputAnswer nodeAnswer held made wholesOf upDiv lift _⊕_ _⊗_ whole magnitude
 table = record { passes = refl; alpha-one = refl; stage-0 = refl; stage-2 = refl; stage-down = refl; listing = document; gains = refl }

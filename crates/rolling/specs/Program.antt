@@ -14,6 +14,7 @@ use Rattle.lifting.specs.declared.Step.{Step}
 use Rattle.lifting.specs.declared.Factor.{Factor}
 use Rattle.lifting.specs.Steps.{Same, SameFactor}
 use Rattle.precision.specs.Promise.{promise}
+use Rattle.precision.specs.Products.{productOf}
 use Rattle.irreversible.specs.StepLaws.{step-applied, scale-applied, single-applied}
 use Rattle.irreversible.specs.KernelLaws.{sP1, sU1, sP2, sU2, sG1, sG2, singleFor}
 use Rattle.irreversible.specs.SafeLaws.{Limits}
@@ -87,83 +88,83 @@ module _ (cs : Columns) (stages : AsColumns cs) (w : ℕ) where
   module _ (own a b : Line) where
     pub P1-within : Enters t w own → Enters t w a → Enters t w b → FromP1 t w (lineP1 t w own a b)
     unfolding lineP1
-    P1-within ho ha hb c i = P1-grows F _ _ (limits (passOf w c)) (own c) (a c) (b c) (ho c i) (ha c i) (hb c i)
+    P1-within ho ha hb c i = P1-grows F (productOf t 1 (passOf w c)) _ _ (limits (passOf w c)) (own c) (a c) (b c) (ho c i) (ha c i) (hb c i)
 
     pub U1-within : Enters t w own → FromP1 t w a → FromP1 t w b → FromU1 t w (lineU1 t w own a b)
     unfolding lineU1
-    U1-within ho ha hb c i = U1-grows F _ _ (limits (passOf w c)) (own c) (a c) (b c) (ho c i) (ha c i) (hb c i)
+    U1-within ho ha hb c i = U1-grows F (productOf t 1 (passOf w c)) _ _ (limits (passOf w c)) (own c) (a c) (b c) (ho c i) (ha c i) (hb c i)
 
     pub P2-within : FromP1 t w own → FromU1 t w a → FromU1 t w b → FromP2 t w (lineP2 t w own a b)
     unfolding lineP2
-    P2-within ho ha hb c i = P2-grows F _ _ (limits (passOf w c)) (own c) (a c) (b c) (ho c i) (ha c i) (hb c i)
+    P2-within ho ha hb c i = P2-grows F (productOf t 1 (passOf w c)) _ _ (limits (passOf w c)) (own c) (a c) (b c) (ho c i) (ha c i) (hb c i)
 
     pub U2-within : FromU1 t w own → FromP2 t w a → FromP2 t w b → FromU2 t w (lineU2 t w own a b)
     unfolding lineU2
-    U2-within ho ha hb c i = U2-grows F _ _ (limits (passOf w c)) (own c) (a c) (b c) (ho c i) (ha c i) (hb c i)
+    U2-within ho ha hb c i = U2-grows F (productOf t 1 (passOf w c)) _ _ (limits (passOf w c)) (own c) (a c) (b c) (ho c i) (ha c i) (hb c i)
 
     -- what the forms make of lines, and that they may be taken
     pub P1-line : onLines (cs .low .first .highs) (cs .high .first .highs) w own a b ≡ lineP1 t w own a b
     unfolding lineP1
     P1-line = fun-ext λ c.
-        same-at (λ p. sP1 F (inputBits t 1 p) (fractionBits t 1 p)) _ _ (stages .low .first .on-highs) (stages .high .first .on-highs) (ltb c (lows w)) .same (own c) (a c) (b c)
-        ∙ step-applied alpha (F P1) _ _ _ (own c) (a c) (b c)
+        same-at (λ p. sP1 F (productOf t 1 p) (inputBits t 1 p) (fractionBits t 1 p)) _ _ (stages .low .first .on-highs) (stages .high .first .on-highs) (ltb c (lows w)) .same (own c) (a c) (b c)
+        ∙ step-applied _ alpha (F P1) _ _ _ (own c) (a c) (b c)
 
     pub P1-may : Enters t w own → Enters t w a → Enters t w b → SafeLines (cs .low .first .highs) (cs .high .first .highs) w own a b
     P1-may ho ha hb c i =
-        same-at (λ p. sP1 F (inputBits t 1 p) (fractionBits t 1 p)) _ _ (stages .low .first .on-highs) (stages .high .first .on-highs) (ltb c (lows w)) .safe (own c) (a c) (b c)
-        (P1-safe F _ _ (limits (passOf w c)) (own c) (a c) (b c) (ho c i) (ha c i) (hb c i))
+        same-at (λ p. sP1 F (productOf t 1 p) (inputBits t 1 p) (fractionBits t 1 p)) _ _ (stages .low .first .on-highs) (stages .high .first .on-highs) (ltb c (lows w)) .safe (own c) (a c) (b c)
+        (P1-safe F (productOf t 1 (passOf w c)) _ _ (limits (passOf w c)) (own c) (a c) (b c) (ho c i) (ha c i) (hb c i))
 
     pub U1-line : onLines (cs .low .first .lows) (cs .high .first .lows) w own a b ≡ lineU1 t w own a b
     unfolding lineU1
     U1-line = fun-ext λ c.
-        same-at (λ p. sU1 F (inputBits t 1 p) (fractionBits t 1 p)) _ _ (stages .low .first .on-lows) (stages .high .first .on-lows) (ltb c (lows w)) .same (own c) (a c) (b c)
-        ∙ step-applied beta (F U1) _ _ _ (own c) (a c) (b c)
+        same-at (λ p. sU1 F (productOf t 1 p) (inputBits t 1 p) (fractionBits t 1 p)) _ _ (stages .low .first .on-lows) (stages .high .first .on-lows) (ltb c (lows w)) .same (own c) (a c) (b c)
+        ∙ step-applied _ beta (F U1) _ _ _ (own c) (a c) (b c)
 
     pub U1-may : Enters t w own → FromP1 t w a → FromP1 t w b → SafeLines (cs .low .first .lows) (cs .high .first .lows) w own a b
     U1-may ho ha hb c i =
-        same-at (λ p. sU1 F (inputBits t 1 p) (fractionBits t 1 p)) _ _ (stages .low .first .on-lows) (stages .high .first .on-lows) (ltb c (lows w)) .safe (own c) (a c) (b c)
-        (U1-safe F _ _ (limits (passOf w c)) (own c) (a c) (b c) (ho c i) (ha c i) (hb c i))
+        same-at (λ p. sU1 F (productOf t 1 p) (inputBits t 1 p) (fractionBits t 1 p)) _ _ (stages .low .first .on-lows) (stages .high .first .on-lows) (ltb c (lows w)) .safe (own c) (a c) (b c)
+        (U1-safe F (productOf t 1 (passOf w c)) _ _ (limits (passOf w c)) (own c) (a c) (b c) (ho c i) (ha c i) (hb c i))
 
     pub P2-line : onLines (cs .low .second .highs) (cs .high .second .highs) w own a b ≡ lineP2 t w own a b
     unfolding lineP2
     P2-line = fun-ext λ c.
-        same-at (λ p. sP2 F (inputBits t 1 p) (fractionBits t 1 p)) _ _ (stages .low .second .on-highs) (stages .high .second .on-highs) (ltb c (lows w)) .same (own c) (a c) (b c)
-        ∙ step-applied gamma (F P2) _ _ _ (own c) (a c) (b c)
+        same-at (λ p. sP2 F (productOf t 1 p) (inputBits t 1 p) (fractionBits t 1 p)) _ _ (stages .low .second .on-highs) (stages .high .second .on-highs) (ltb c (lows w)) .same (own c) (a c) (b c)
+        ∙ step-applied _ gamma (F P2) _ _ _ (own c) (a c) (b c)
 
     pub P2-may : FromP1 t w own → FromU1 t w a → FromU1 t w b → SafeLines (cs .low .second .highs) (cs .high .second .highs) w own a b
     P2-may ho ha hb c i =
-        same-at (λ p. sP2 F (inputBits t 1 p) (fractionBits t 1 p)) _ _ (stages .low .second .on-highs) (stages .high .second .on-highs) (ltb c (lows w)) .safe (own c) (a c) (b c)
-        (P2-safe F _ _ (limits (passOf w c)) (own c) (a c) (b c) (ho c i) (ha c i) (hb c i))
+        same-at (λ p. sP2 F (productOf t 1 p) (inputBits t 1 p) (fractionBits t 1 p)) _ _ (stages .low .second .on-highs) (stages .high .second .on-highs) (ltb c (lows w)) .safe (own c) (a c) (b c)
+        (P2-safe F (productOf t 1 (passOf w c)) _ _ (limits (passOf w c)) (own c) (a c) (b c) (ho c i) (ha c i) (hb c i))
 
     pub U2-line : onLines (cs .low .second .lows) (cs .high .second .lows) w own a b ≡ lineU2 t w own a b
     unfolding lineU2
     U2-line = fun-ext λ c.
-        same-at (λ p. sU2 F (inputBits t 1 p) (fractionBits t 1 p)) _ _ (stages .low .second .on-lows) (stages .high .second .on-lows) (ltb c (lows w)) .same (own c) (a c) (b c)
-        ∙ step-applied delta (F U2) _ _ _ (own c) (a c) (b c)
+        same-at (λ p. sU2 F (productOf t 1 p) (inputBits t 1 p) (fractionBits t 1 p)) _ _ (stages .low .second .on-lows) (stages .high .second .on-lows) (ltb c (lows w)) .same (own c) (a c) (b c)
+        ∙ step-applied _ delta (F U2) _ _ _ (own c) (a c) (b c)
 
     pub U2-may : FromU1 t w own → FromP2 t w a → FromP2 t w b → SafeLines (cs .low .second .lows) (cs .high .second .lows) w own a b
     U2-may ho ha hb c i =
-        same-at (λ p. sU2 F (inputBits t 1 p) (fractionBits t 1 p)) _ _ (stages .low .second .on-lows) (stages .high .second .on-lows) (ltb c (lows w)) .safe (own c) (a c) (b c)
-        (U2-safe F _ _ (limits (passOf w c)) (own c) (a c) (b c) (ho c i) (ha c i) (hb c i))
+        same-at (λ p. sU2 F (productOf t 1 p) (inputBits t 1 p) (fractionBits t 1 p)) _ _ (stages .low .second .on-lows) (stages .high .second .on-lows) (ltb c (lows w)) .safe (own c) (a c) (b c)
+        (U2-safe F (productOf t 1 (passOf w c)) _ _ (limits (passOf w c)) (own c) (a c) (b c) (ho c i) (ha c i) (hb c i))
 
   module _ (x : Line) where
     pub G1-line : scaledLine (cs .low .low) (cs .high .low) w x ≡ lineG1 t w x
     unfolding lineG1
     G1-line = fun-ext λ c.
-        same-factor-at (λ p. sG1 F (inputBits t 1 p) (fractionBits t 1 p)) _ _ (stages .low .low) (stages .high .low) (ltb c (lows w)) .same (x c) ∙ scale-applied zeta (F G1) _ _ (x c)
+        same-factor-at (λ p. sG1 F (productOf t 1 p) (inputBits t 1 p) (fractionBits t 1 p)) _ _ (stages .low .low) (stages .high .low) (ltb c (lows w)) .same (x c) ∙ scale-applied zeta (F G1) _ _ (x c)
 
     pub G1-may : FromU2 t w x → SafeScaling (cs .low .low) (cs .high .low) w x
     G1-may h c i =
-        same-factor-at (λ p. sG1 F (inputBits t 1 p) (fractionBits t 1 p)) _ _ (stages .low .low) (stages .high .low) (ltb c (lows w)) .safe (x c) (G1-safe F _ _ (limits (passOf w c)) (x c) (h c i))
+        same-factor-at (λ p. sG1 F (productOf t 1 p) (inputBits t 1 p) (fractionBits t 1 p)) _ _ (stages .low .low) (stages .high .low) (ltb c (lows w)) .safe (x c) (G1-safe F (productOf t 1 (passOf w c)) _ _ (limits (passOf w c)) (x c) (h c i))
 
     pub G2-line : scaledLine (cs .low .high) (cs .high .high) w x ≡ lineG2 t w x
     unfolding lineG2
     G2-line = fun-ext λ c.
-        same-factor-at (λ p. sG2 F (inputBits t 1 p) (fractionBits t 1 p)) _ _ (stages .low .high) (stages .high .high) (ltb c (lows w)) .same (x c) ∙ scale-applied zetaInverse (F G2) _ _ (x c)
+        same-factor-at (λ p. sG2 F (productOf t 1 p) (inputBits t 1 p) (fractionBits t 1 p)) _ _ (stages .low .high) (stages .high .high) (ltb c (lows w)) .same (x c) ∙ scale-applied zetaInverse (F G2) _ _ (x c)
 
     pub G2-may : FromP2 t w x → SafeScaling (cs .low .high) (cs .high .high) w x
     G2-may h c i =
-        same-factor-at (λ p. sG2 F (inputBits t 1 p) (fractionBits t 1 p)) _ _ (stages .low .high) (stages .high .high) (ltb c (lows w)) .safe (x c) (G2-safe F _ _ (limits (passOf w c)) (x c) (h c i))
+        same-factor-at (λ p. sG2 F (productOf t 1 p) (inputBits t 1 p) (fractionBits t 1 p)) _ _ (stages .low .high) (stages .high .high) (ltb c (lows w)) .safe (x c) (G2-safe F (productOf t 1 (passOf w c)) _ _ (limits (passOf w c)) (x c) (h c i))
 
 -- the cut of a single line (document 02, job 6), in the forms that are run in either kind of columns
 module _ (t : WidthTable) (w : ℕ) (low high : Factor) (as-low : SameFactor (singleFor t 1 LowColumns) low) (as-high : SameFactor (singleFor t 1 HighColumns) high) (x : Line) where

@@ -1,5 +1,6 @@
 -- The columns of one level worked line by line, as the lines come (document 02, job 5; source document 003, section 3.3): each stage
--- works as soon as its lines are there. Lines are whole numbers without limit.
+-- works as soon as its lines are there. Where the table has widths of products, they are cut first (document 02, job 7). Lines are whole
+-- numbers without limit.
 use Prim.Native.Nat.{ℕ}
 use mathlib.Core.Bool.{Bool, true, false}
 use mathlib.Core.List.{List, [], _∷_, _++_}
@@ -13,6 +14,7 @@ use Rattle.width_table.specs.Nodes.{P1, U1, P2, U2, G1, G2, Pass, columnPass}
 use Rattle.width_table.specs.declared.WidthTable.{WidthTable}
 use Rattle.width_table.specs.Table.{constantBits, fractionBits, inputBits}
 use Rattle.stages.specs.Fixed.{cut, step, scale}
+use Rattle.precision.specs.Products.{productOf}
 use Rattle.rolling.specs.declared.Taken.{Taken}
 use Rattle.rolling.specs.declared.Taken.the-variants.{Zero, One, Two, Three, Four, OddMany, EvenMany}
 
@@ -101,16 +103,16 @@ passOf w c = columnPass (ltb c (lows w))
 module _ (t : WidthTable) (w : ℕ) where
   -- The stages on lines (source document 003, equation 2): own line, then the lines on its two sides.
   unfoldable pub lineP1 : Line → Line → Line → Line
-  lineP1 own x y c = step alpha (constantBits t P1) (inputBits t 1 (passOf w c)) (inputBits t 1 (passOf w c)) (fractionBits t 1 (passOf w c) P1) (own c) (x c) (y c)
+  lineP1 own x y c = step (productOf t 1 (passOf w c) P1) alpha (constantBits t P1) (inputBits t 1 (passOf w c)) (inputBits t 1 (passOf w c)) (fractionBits t 1 (passOf w c) P1) (own c) (x c) (y c)
 
   unfoldable pub lineU1 : Line → Line → Line → Line
-  lineU1 own x y c = step beta (constantBits t U1) (fractionBits t 1 (passOf w c) P1) (inputBits t 1 (passOf w c)) (fractionBits t 1 (passOf w c) U1) (own c) (x c) (y c)
+  lineU1 own x y c = step (productOf t 1 (passOf w c) U1) beta (constantBits t U1) (fractionBits t 1 (passOf w c) P1) (inputBits t 1 (passOf w c)) (fractionBits t 1 (passOf w c) U1) (own c) (x c) (y c)
 
   unfoldable pub lineP2 : Line → Line → Line → Line
-  lineP2 own x y c = step gamma (constantBits t P2) (fractionBits t 1 (passOf w c) U1) (fractionBits t 1 (passOf w c) P1) (fractionBits t 1 (passOf w c) P2) (own c) (x c) (y c)
+  lineP2 own x y c = step (productOf t 1 (passOf w c) P2) gamma (constantBits t P2) (fractionBits t 1 (passOf w c) U1) (fractionBits t 1 (passOf w c) P1) (fractionBits t 1 (passOf w c) P2) (own c) (x c) (y c)
 
   unfoldable pub lineU2 : Line → Line → Line → Line
-  lineU2 own x y c = step delta (constantBits t U2) (fractionBits t 1 (passOf w c) P2) (fractionBits t 1 (passOf w c) U1) (fractionBits t 1 (passOf w c) U2) (own c) (x c) (y c)
+  lineU2 own x y c = step (productOf t 1 (passOf w c) U2) delta (constantBits t U2) (fractionBits t 1 (passOf w c) P2) (fractionBits t 1 (passOf w c) U1) (fractionBits t 1 (passOf w c) U2) (own c) (x c) (y c)
 
   unfoldable pub lineG1 : Line → Line
   lineG1 x c = scale zeta (constantBits t G1) (fractionBits t 1 (passOf w c) U2) (fractionBits t 1 (passOf w c) G1) (x c)

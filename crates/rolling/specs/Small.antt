@@ -21,6 +21,7 @@ use Rattle.width_table.specs.Table.{constantBits, fractionBits, inputBits}
 use Rattle.pictures.specs.Pictures.{Admitted, sample}
 use Rattle.precision.specs.Verdict.{Accepted}
 use Rattle.precision.specs.Promise.{promise}
+use Rattle.precision.specs.Products.{productOf}
 use Rattle.irreversible.specs.Fixed.{valueAt, countAt}
 use Rattle.irreversible.specs.Transforms.{fixedLine}
 use Rattle.irreversible.specs.Claims.{Strip, Holds}
@@ -66,7 +67,7 @@ module _ (t : WidthTable) (accepted : Accepted t) (all : List ℕ) (w h : ℕ) (
 
   -- each value that a column's pass leaves in a node
   pub column-five : Liftable h → (c : ℕ) → c < w → (i : Node) (k : ℕ) → k < countAt h i
-      → FiveBits (fractionBits t 1 (passOf w c) i) (valueAt (constantBits t) (inputBits t 1 (passOf w c)) (fractionBits t 1 (passOf w c)) h (λ r. fixedLine t 1 Rows w (sample all (t .depth) w r) c) i k)
+      → FiveBits (fractionBits t 1 (passOf w c) i) (valueAt (constantBits t) (productOf t 1 (passOf w c)) (inputBits t 1 (passOf w c)) (fractionBits t 1 (passOf w c)) h (λ r. fixedLine t 1 Rows w (sample all (t .depth) w r) c) i k)
   unfolding rows
   column-five works c j i k m = sized-five _ _ (small .inColumns c j .long works i k m)
 
@@ -89,5 +90,5 @@ module _ (t : WidthTable) (accepted : Accepted t) (pixels : List ℕ) (w : ℕ) 
       let row = s .inRows 0 (omega arith) in
       let f = fractionBits t 1 Rows in
       line-safe t 1 (bits-right t (promise t accepted) 1 (omega arith) (omega (arith, one))) Rows w y
-      (record { long = λ works i k h. sized-more (f i) (valueAt (constantBits t) (inputBits t 1 Rows) f w y i k) (row .long works i k h); single = λ e. sized-more (f G1) (fixedLine t 1 Rows w y 0) (row .single e) })
+      (record { long = λ works i k h. sized-more (f i) (valueAt (constantBits t) (productOf t 1 Rows) (inputBits t 1 Rows) f w y i k) (row .long works i k h); single = λ e. sized-more (f G1) (fixedLine t 1 Rows w y 0) (row .single e) })
       (λ k i. sized-more (t .depth) (y k) (s .given 0 k (omega arith) i)) x same

@@ -13,6 +13,7 @@ use Rattle.width_table.specs.Nodes.{Node, P1, U1, P2, U2, G1, G2, Pass}
 use Rattle.width_table.specs.declared.WidthTable.{WidthTable}
 use Rattle.width_table.specs.Table.{constantBits, fractionBits, inputBits}
 use Rattle.stages.specs.Fixed.{cut, step, scale}
+use Rattle.precision.specs.Products.{productOf}
 use Rattle.irreversible.specs.Fixed.{atP1, atU1, atP2, atU2, atG1, atG2, valueAt, countAt, fixedLong, fixedPass}
 use Rattle.irreversible.specs.Transforms.{fixedLine}
 use Rattle.rolling.specs.declared.Taken.{Taken}
@@ -45,22 +46,22 @@ contains-same w c a b i s d = record {
 module _ (t : WidthTable) (p : Pass) (h : ℕ) (x : ℕ → ℤ) where
   -- the values of the column's pass over two lines or more
   abbrev pub valP1 : ℕ → ℤ
-  valP1 = atP1 (constantBits t) (inputBits t 1 p) (fractionBits t 1 p) h x
+  valP1 = atP1 (constantBits t) (productOf t 1 p) (inputBits t 1 p) (fractionBits t 1 p) h x
 
   abbrev pub valU1 : ℕ → ℤ
-  valU1 = atU1 (constantBits t) (inputBits t 1 p) (fractionBits t 1 p) h x
+  valU1 = atU1 (constantBits t) (productOf t 1 p) (inputBits t 1 p) (fractionBits t 1 p) h x
 
   abbrev pub valP2 : ℕ → ℤ
-  valP2 = atP2 (constantBits t) (inputBits t 1 p) (fractionBits t 1 p) h x
+  valP2 = atP2 (constantBits t) (productOf t 1 p) (inputBits t 1 p) (fractionBits t 1 p) h x
 
   abbrev pub valU2 : ℕ → ℤ
-  valU2 = atU2 (constantBits t) (inputBits t 1 p) (fractionBits t 1 p) h x
+  valU2 = atU2 (constantBits t) (productOf t 1 p) (inputBits t 1 p) (fractionBits t 1 p) h x
 
   abbrev valG1 : ℕ → ℤ
-  valG1 = atG1 (constantBits t) (inputBits t 1 p) (fractionBits t 1 p) h x
+  valG1 = atG1 (constantBits t) (productOf t 1 p) (inputBits t 1 p) (fractionBits t 1 p) h x
 
   abbrev valG2 : ℕ → ℤ
-  valG2 = atG2 (constantBits t) (inputBits t 1 p) (fractionBits t 1 p) h x
+  valG2 = atG2 (constantBits t) (productOf t 1 p) (inputBits t 1 p) (fractionBits t 1 p) h x
 
   -- what the column's pass leaves
   abbrev pub valPass : ℕ → ℤ
@@ -72,7 +73,7 @@ module _ (t : WidthTable) (p : Pass) (h : ℕ) (x : ℕ → ℤ) where
 
   pass-long : 2 ≤ h → (k : ℕ) → valPass k ≡ lowsFirst h valG1 valG2 k
   unfolding fixedLine fixedPass fixedLong
-  pass-long two k = one-long (cut (inputBits t 1 p) (fractionBits t 1 p G1)) (fixedLong (constantBits t) (inputBits t 1 p) (fractionBits t 1 p)) h x k (record { least = two })
+  pass-long two k = one-long (cut (inputBits t 1 p) (fractionBits t 1 p G1)) (fixedLong (constantBits t) (productOf t 1 p) (inputBits t 1 p) (fractionBits t 1 p)) h x k (record { least = two })
 
   low-turn : (i : ℕ) → 2 ≤ h → 2 * i < h → lineValue (2 * i) ≡ valG1 i
   low-turn i two room = even-place valPass (λ i. valPass (lows h + i)) i ∙ pass-long two i ∙ first-low h valG1 valG2 i (omega arith)
@@ -83,7 +84,7 @@ module _ (t : WidthTable) (p : Pass) (h : ℕ) (x : ℕ → ℤ) where
   -- a single line
   single-turn : h ≡ 1 → lineValue 0 ≡ cut (inputBits t 1 p) (fractionBits t 1 p G1) (x 0)
   unfolding fixedLine fixedPass
-  single-turn one = even-place valPass (λ i. valPass (lows h + i)) 0 ∙ one-single (cut (inputBits t 1 p) (fractionBits t 1 p G1)) (fixedLong (constantBits t) (inputBits t 1 p) (fractionBits t 1 p)) h x 0 (omega arith)
+  single-turn one = even-place valPass (λ i. valPass (lows h + i)) 0 ∙ one-single (cut (inputBits t 1 p) (fractionBits t 1 p G1)) (fixedLong (constantBits t) (productOf t 1 p) (inputBits t 1 p) (fractionBits t 1 p)) h x 0 (omega arith)
 
 -- The same at a column of w: what P1 (V1), U1 (W1), P2 (V2) and U2 (W2) leave.
 module _ (t : WidthTable) (w h c : ℕ) (x : ℕ → ℤ) where
@@ -101,19 +102,19 @@ module _ (t : WidthTable) (w h c : ℕ) (x : ℕ → ℤ) where
 
   p1-is : (i j : ℕ) (own a b : Line) → own c ≡ x (2 * i + 1) → a c ≡ x (2 * i) → b c ≡ x (2 * j) → j ≡ lowAfter h i → lineP1 t w own a b c ≡ V1 i
   unfolding lineP1 atP1 onHighs
-  p1-is i j own a b d e f g = λ u. step alpha (constantBits t P1) (inputBits t 1 (passOf w c)) (inputBits t 1 (passOf w c)) (fractionBits t 1 (passOf w c) P1) (d u) (e u) ((f ∙ ap (λ (k : ℕ). x (2 * k)) g) u)
+  p1-is i j own a b d e f g = λ u. step (productOf t 1 (passOf w c) P1) alpha (constantBits t P1) (inputBits t 1 (passOf w c)) (inputBits t 1 (passOf w c)) (fractionBits t 1 (passOf w c) P1) (d u) (e u) ((f ∙ ap (λ (k : ℕ). x (2 * k)) g) u)
 
   u1-is : (i j k : ℕ) (own a b : Line) → own c ≡ x (2 * i) → a c ≡ V1 j → b c ≡ V1 k → j ≡ highBefore i → k ≡ highAfter h i → lineU1 t w own a b c ≡ W1 i
   unfolding lineU1 atU1 onLows
-  u1-is i j k own a b d e f g s = λ u. step beta (constantBits t U1) (fractionBits t 1 (passOf w c) P1) (inputBits t 1 (passOf w c)) (fractionBits t 1 (passOf w c) U1) (d u) ((e ∙ ap V1 g) u) ((f ∙ ap V1 s) u)
+  u1-is i j k own a b d e f g s = λ u. step (productOf t 1 (passOf w c) U1) beta (constantBits t U1) (fractionBits t 1 (passOf w c) P1) (inputBits t 1 (passOf w c)) (fractionBits t 1 (passOf w c) U1) (d u) ((e ∙ ap V1 g) u) ((f ∙ ap V1 s) u)
 
   p2-is : (i j : ℕ) (own a b : Line) → own c ≡ V1 i → a c ≡ W1 i → b c ≡ W1 j → j ≡ lowAfter h i → lineP2 t w own a b c ≡ V2 i
   unfolding lineP2 atP2 onHighs
-  p2-is i j own a b d e f g = λ u. step gamma (constantBits t P2) (fractionBits t 1 (passOf w c) U1) (fractionBits t 1 (passOf w c) P1) (fractionBits t 1 (passOf w c) P2) (d u) (e u) ((f ∙ ap W1 g) u)
+  p2-is i j own a b d e f g = λ u. step (productOf t 1 (passOf w c) P2) gamma (constantBits t P2) (fractionBits t 1 (passOf w c) U1) (fractionBits t 1 (passOf w c) P1) (fractionBits t 1 (passOf w c) P2) (d u) (e u) ((f ∙ ap W1 g) u)
 
   u2-is : (i j k : ℕ) (own a b : Line) → own c ≡ W1 i → a c ≡ V2 j → b c ≡ V2 k → j ≡ highBefore i → k ≡ highAfter h i → lineU2 t w own a b c ≡ W2 i
   unfolding lineU2 atU2 onLows
-  u2-is i j k own a b d e f g s = λ u. step delta (constantBits t U2) (fractionBits t 1 (passOf w c) P2) (fractionBits t 1 (passOf w c) U1) (fractionBits t 1 (passOf w c) U2) (d u) ((e ∙ ap V2 g) u) ((f ∙ ap V2 s) u)
+  u2-is i j k own a b d e f g s = λ u. step (productOf t 1 (passOf w c) U2) delta (constantBits t U2) (fractionBits t 1 (passOf w c) P2) (fractionBits t 1 (passOf w c) U1) (fractionBits t 1 (passOf w c) U2) (d u) ((e ∙ ap V2 g) u) ((f ∙ ap V2 s) u)
 
   g1-is : (i : ℕ) (a : Line) → a c ≡ W2 i → lineG1 t w a c ≡ valG1 t (passOf w c) h x i
   unfolding lineG1 atG1
@@ -329,7 +330,7 @@ module _ (t : WidthTable) (w h c : ℕ) (x : ℕ → ℤ) where
     pub p2 : FiveBits (fractionBits t 1 (passOf w c) P2) (held .p2 c)
 
   module _ (given : (k : ℕ) → k < h → FiveBits (inputBits t 1 (passOf w c)) (x k))
-      (inside : (i : Node) (k : ℕ) → k < countAt h i → FiveBits (fractionBits t 1 (passOf w c) i) (valueAt (constantBits t) (inputBits t 1 (passOf w c)) (fractionBits t 1 (passOf w c)) h x i k)) where
+      (inside : (i : Node) (k : ℕ) → k < countAt h i → FiveBits (fractionBits t 1 (passOf w c) i) (valueAt (constantBits t) (productOf t 1 (passOf w c)) (inputBits t 1 (passOf w c)) (fractionBits t 1 (passOf w c)) h x i k)) where
     sound-of : (held : Held) {l g p u q : ℤ} → Contains c held l g p u q → FiveBits (inputBits t 1 (passOf w c)) l → FiveBits (inputBits t 1 (passOf w c)) g
         → FiveBits (fractionBits t 1 (passOf w c) P1) p → FiveBits (fractionBits t 1 (passOf w c) U1) u → FiveBits (fractionBits t 1 (passOf w c) P2) q → SoundAt held
     sound-of held d l g p u q = record {

@@ -4,7 +4,7 @@
 --   Turns      the transform of a strip, its lines in turn
 --   History    facts: what holds after any calls, by induction over them
 --   Theorems   the claims, proved: ready-lines, before-end, after-end, counts, one-width, fourteen, refused-keeps, sound-left, in-widths, near-exact
---   Examples   worked strips of 1 to 6 lines, and some one pixel wide, by computation
+--   Examples   worked strips of 1 to 6 lines, and some one pixel wide, by computation, without and with widths of products
 --   Possible   the promises can be kept, and every strip can be scanned
 pub mod Claims
 pub mod Column

@@ -19,7 +19,7 @@ use Rattle.lines.specs.Planes.{rowByRow}
 use Rattle.lines.specs.RowLaws.{place-in, rows-length, rows-at}
 use Rattle.width_table.specs.declared.WidthTable.{WidthTable}
 use Rattle.pictures.specs.Pictures.{Admitted, planeOf}
-use Rattle.precision.specs.Examples.{usual, usual-accepted}
+use Rattle.precision.specs.Examples.{usual, usual-accepted, cut, cut-accepted}
 use Rattle.rolling.specs.declared.Taken.{Taken}
 use Rattle.rolling.specs.declared.Taken.the-variants.{Zero, One, Two, Three, Four, OddMany, EvenMany}
 use Rattle.rolling.specs.declared.Scan.{Scan}
@@ -263,6 +263,11 @@ module _ (t : WidthTable) (e : beginAnswer t ≡ passed) where
 pub usual-begins : beginAnswer (usual 1) ≡ passed
 unfolding beginAnswer
 usual-begins = usual-accepted 1 (omega arith) (omega arith)
+
+-- some of them with tag 5 (document 02, job 7)
+pub cut-begins : beginAnswer (cut 1 (7 ∷ 7 ∷ 7 ∷ 7 ∷ [])) ≡ passed
+unfolding beginAnswer
+cut-begins = cut-accepted .0
 
 -- the smallest strip, and one of two lines
 pub one-scanned : Scanned (usual 1) 1 (10 ∷ [])

@@ -1,26 +1,27 @@
--- A rolling scan as bytes of the caller: its table's bytes, of one level; the width of its lines, high byte first; the number of lines
--- taken; whether it has ended.
-use Prim.Native.Nat.{ℕ, _+_, _*_, _/_, _%_}
+-- A rolling scan as bytes of the caller: its table's bytes, of one level, and zeros to where one with tag 5 ends; the width of its lines,
+-- high byte first; the number of lines taken; whether it has ended.
+use Prim.Native.Nat.{ℕ, _+_, _*_, _-_, _/_, _%_}
 use mathlib.Core.Bool.{Bool, true, false, _&&_}
 use mathlib.Core.List.{List, [], _∷_, _++_}
 use lib.Dec.{leb, ltb, eqb}
 use lib.ListN.{length, getD, take, drop, replicate}
 use Rattle.numbers.specs.Lists.{over}
+use Rattle.numbers.specs.Tests.{every}
 use Rattle.refusals.specs.Answers.{Answer, done, asks, answered}
 use Rattle.width_table.specs.declared.WidthTable.{WidthTable}
 use Rattle.width_table.specs.Table.{formRight}
-use Rattle.width_table.specs.Fields.{tableSize}
+use Rattle.width_table.specs.Fields.{productsTag, tableSize}
 use Rattle.width_table.specs.Bytes.{form, tableIn, tableBytes}
 use Rattle.rolling.specs.declared.Taken.{Taken}
 use Rattle.rolling.specs.declared.Taken.the-variants.{Zero, One, Two, Three, Four, OddMany, EvenMany}
 use Rattle.rolling.specs.declared.Scan.{Scan}
 
--- bytes of a table of one level, 56, and of a scan, 60
-abbrev pub tableLength : ℕ
-tableLength = tableSize 1
+-- room for a table of one level, with tag 5 or without it: 71 bytes; a scan has 75
+abbrev pub tableRoom : ℕ
+tableRoom = tableSize true 1
 
 abbrev pub scanLength : ℕ
-scanLength = tableLength + 4
+scanLength = tableRoom + 4
 
 -- ---- the bytes of a scan
 
@@ -46,9 +47,13 @@ numbersOf w k ended = w / 256 ∷ w % 256 ∷ takenNumber k ∷ endedNumber ende
 abbrev pub numberBytes : Scan → List ℕ
 numberBytes s = numbersOf (s .width) (s .taken) (s .ended)
 
+-- a table's bytes, with zeros in the room that they leave
+unfoldable pub roomBytes : WidthTable → List ℕ
+roomBytes t = tableBytes t ++ replicate (tableRoom - tableSize (t .five) 1) 0
+
 -- all bytes of a scan
 unfoldable pub stateBytes : Scan → List ℕ
-stateBytes s = tableBytes (s .table) ++ numberBytes s
+stateBytes s = roomBytes (s .table) ++ numberBytes s
 
 -- a scan that bytes can hold: its table has a right form and one level, its width has two bytes
 unfoldable pub keepable : Scan → Bool
@@ -64,18 +69,26 @@ takenOf n = getD (Zero ∷ One ∷ Two ∷ Three ∷ Four ∷ OddMany ∷ EvenMa
 abbrev pub heldWith : WidthTable → List ℕ → Scan
 heldWith t bytes = record {
   table = t;
-  width = getD bytes tableLength 0 * 256 + getD bytes (tableLength + 1) 0;
-  taken = takenOf (getD bytes (tableLength + 2) 0);
-  ended = eqb (getD bytes (tableLength + 3) 0) 1;
+  width = getD bytes tableRoom 0 * 256 + getD bytes (tableRoom + 1) 0;
+  taken = takenOf (getD bytes (tableRoom + 2) 0);
+  ended = eqb (getD bytes (tableRoom + 3) 0) 1;
 }
+
+-- where a table of one level ends: with tag 5 where a byte 5 follows the fourth field
+abbrev pub tableEnd : List ℕ → ℕ
+tableEnd bytes = tableSize (eqb (getD bytes (tableSize false 1) 0) productsTag) 1
 
 -- the scan that right bytes hold
 abbrev pub scanHeld : List ℕ → Scan
-scanHeld bytes = heldWith (tableIn (take tableLength bytes)) bytes
+scanHeld bytes = heldWith (tableIn (take (tableEnd bytes) bytes)) bytes
 
--- bytes of a scan: those of a table, which has one level as no other has as many bytes; a number of lines; 0 or 1
+-- bytes of a scan: those of a table, which has one level as no other has as many bytes; zeros; a number of lines; 0 or 1
 unfoldable pub scanRight : List ℕ → Bool
-scanRight bytes = answered (form (take tableLength bytes)) true false && leb (getD bytes (tableLength + 2) 0) 6 && leb (getD bytes (tableLength + 3) 0) 1
+scanRight bytes =
+    answered (form (take (tableEnd bytes) bytes)) true false
+    && every (eqb 0) (drop (tableEnd bytes) (take tableRoom bytes))
+    && leb (getD bytes (tableRoom + 2) 0) 6
+    && leb (getD bytes (tableRoom + 3) 0) 1
 
 -- 9 for fewer bytes than a scan has, 14 for bytes that are not those of a scan
 unfoldable pub scanIn : List ℕ → Answer Scan
@@ -93,7 +106,7 @@ stateAfter s old = elim (keepable s) [ true ↦ stateWith (stateBytes s) old | f
 
 -- other numbers after a table's bytes, in bytes that have room for a scan, where two bytes hold the width
 unfoldable pub numbersAfter : ℕ → Taken → Bool → List ℕ → List ℕ
-numbersAfter w k ended old = elim (leb scanLength (length old) && ltb w 65536) [ true ↦ take tableLength old ++ numbersOf w k ended ++ drop scanLength old | false ↦ old ]
+numbersAfter w k ended old = elim (leb scanLength (length old) && ltb w 65536) [ true ↦ take tableRoom old ++ numbersOf w k ended ++ drop scanLength old | false ↦ old ]
 
 -- zeros: no scan, so that each call of it is refused with 14
 abbrev pub noScan : List ℕ

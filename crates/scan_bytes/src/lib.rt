@@ -1,10 +1,13 @@
 // A rolling scan as bytes of the caller (include/suzdrepa.h). Definitions in specs/.
 ghost use mathlib.Core.Path.{_≡_};
 ghost use Prim.Native.Nat.{_+_, _*_, _≤_};
-ghost use lib.ListN.{length, getD};
+ghost use lib.Dec.{eqb};
+ghost use lib.ListN.{length, getD, replicate};
+ghost use Rattle.numbers.specs.Tests.{every};
+ghost use Rattle.numbers.specs.Lists.{over};
 ghost use Rattle.refusals.specs.Answers.{refused};
 ghost use Rattle.refusals.specs.Told.{toldRefusal};
-ghost use Rattle.scan_bytes.specs.ScanBytes.{tableLength, scanLength, takenNumber, endedNumber, takenOf, keepable, heldWith, scanIn, stateWith, stateAfter, numbersAfter, noScan};
+ghost use Rattle.scan_bytes.specs.ScanBytes.{tableRoom, scanLength, takenNumber, endedNumber, takenOf, keepable, heldWith, tableEnd, scanIn, stateWith, stateAfter, numbersAfter, noScan};
 ghost use Rattle.scan_bytes.specs.Told.{toldRead};
 use refusals::Outcome;
 use refusals::Refusal;
@@ -18,10 +21,12 @@ pub struct ScanRead {
     pub scan: Scan,
 }
 
-// Bytes of a table of one level, and of a scan.
-const TABLE_LENGTH: usize = 56;
+// Bytes of a table of one level without tag 5 and with it (document 02, job 7), which is a table's room; and of a scan.
+const FOUR_FIELDS: usize = 56;
 
-pub const SCAN_LENGTH: usize = 60;
+const TABLE_ROOM: usize = 71;
+
+pub const SCAN_LENGTH: usize = 75;
 
 // Whether a scan has ended, as a byte.
 fn ended_number(ended: bool) -> u8
@@ -84,15 +89,38 @@ fn two(high: u8, low: u8) -> usize
 
 // The scan that right bytes hold, with the table that was read from them.
 fn scan_held(table: WidthTable, state: &[u8]) -> Scan
-    requires { ⌜ (scanLength ≤ length (now state)) × (getD (now state) (tableLength + 2) 0 ≤ 6) ⌝ }
+    requires { ⌜ (scanLength ≤ length (now state)) × (getD (now state) (tableRoom + 2) 0 ≤ 6) ⌝ }
     ensures { λ r. ⌜ r ≡ heldWith table (now (state .entry)) ⌝ }
 {
     Scan {
         table,
-        width: two(state[TABLE_LENGTH], state[TABLE_LENGTH + 1]),
-        taken: taken_of(state[TABLE_LENGTH + 2]),
-        ended: state[TABLE_LENGTH + 3] == 1,
+        width: two(state[TABLE_ROOM], state[TABLE_ROOM + 1]),
+        taken: taken_of(state[TABLE_ROOM + 2]),
+        ended: state[TABLE_ROOM + 3] == 1,
     }
+}
+
+// Where the table's bytes end: where a byte 5 follows the fourth field, with tag 5.
+fn table_end(state: &[u8]) -> usize
+    requires { ⌜ scanLength ≤ length (now state) ⌝ }
+    ensures { λ r. ⌜ r ≡ tableEnd (now (state .entry)) ⌝ }
+{
+    if state[FOUR_FIELDS] == WidthTable::PRODUCTS_TAG {
+        return TABLE_ROOM;
+    }
+    FOUR_FIELDS
+}
+
+// Whether bytes are zeros.
+fn all_zeros(bytes: &[u8]) -> bool
+    ensures { λ r. ⌜ r ≡ every (eqb 0) (now (bytes .entry)) ⌝ }
+{
+    for i in 0..bytes.len() {
+        if bytes[i] != 0 {
+            return false;
+        }
+    }
+    true
 }
 
 // The scan that bytes hold: 9, 14.
@@ -102,13 +130,17 @@ pub fn read(state: &[u8]) -> ScanRead
     if state.len() < SCAN_LENGTH {
         return not_read(Refusal::SliceTooShort);
     }
-    if 6 < state[TABLE_LENGTH + 2] {
+    if 6 < state[TABLE_ROOM + 2] {
         return not_read(Refusal::OutOfTurn);
     }
-    if 1 < state[TABLE_LENGTH + 3] {
+    if 1 < state[TABLE_ROOM + 3] {
         return not_read(Refusal::OutOfTurn);
     }
-    let read = WidthTable::read(&state[..TABLE_LENGTH]);
+    let end = table_end(state);
+    if all_zeros(&state[end..TABLE_ROOM]) {} else {
+        return not_read(Refusal::OutOfTurn);
+    }
+    let read = WidthTable::read(&state[..end]);
     let outcome = read.outcome;
     match outcome {
         Outcome::Refused(_) => not_read(Refusal::OutOfTurn),
@@ -143,13 +175,24 @@ pub fn renew(width: usize, taken: Taken, ended: bool, state: &mut [u8])
     if 65535 < width {
         return;
     }
-    state[TABLE_LENGTH] = (width / 256) as u8;
-    state[TABLE_LENGTH + 1] = (width % 256) as u8;
-    state[TABLE_LENGTH + 2] = taken_number(taken);
-    state[TABLE_LENGTH + 3] = ended_number(ended);
+    state[TABLE_ROOM] = (width / 256) as u8;
+    state[TABLE_ROOM + 1] = (width % 256) as u8;
+    state[TABLE_ROOM + 2] = taken_number(taken);
+    state[TABLE_ROOM + 3] = ended_number(ended);
 }
 
-// Writes a scan over the front of the caller's bytes, where they have room for it and can hold it.
+// Writes zeros over the front of the caller's bytes.
+fn put_zeros(n: usize, state: &mut [u8])
+    requires { ⌜ n ≤ length (now state) ⌝ }
+    ensures { λ _. ⌜ now (state .exit) ≡ over (replicate n 0) (now (state .entry)) ⌝ }
+{
+    for i in 0..n {
+        state[i] = 0;
+    }
+}
+
+// Writes a scan over the front of the caller's bytes, where they have room for it and can hold it: the table's bytes over zeros in
+// their room, then the numbers.
 pub fn write(scan: Scan, state: &mut [u8])
     ensures { λ _. ⌜ now (state .exit) ≡ stateAfter scan (now (state .entry)) ⌝ }
 {
@@ -159,6 +202,7 @@ pub fn write(scan: Scan, state: &mut [u8])
     if state.len() < SCAN_LENGTH {
         return;
     }
+    put_zeros(TABLE_ROOM, state);
     let table = scan.table;
     table.write(state);
     let taken = scan.taken;
@@ -172,7 +216,5 @@ pub fn clear(state: &mut [u8])
     if state.len() < SCAN_LENGTH {
         return;
     }
-    for i in 0..SCAN_LENGTH {
-        state[i] = 0;
-    }
+    put_zeros(SCAN_LENGTH, state);
 }

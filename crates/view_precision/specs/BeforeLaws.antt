@@ -9,7 +9,7 @@ use lib.Dec.{T, leb→le, le→leb, ltb→lt, lt→ltb}
 use Rattle.numbers.specs.Tests.{every, both, four, and-intro}
 use Rattle.refusals.specs.Answers.{passed}
 use Rattle.refusals.specs.AnswerLaws.{asks-done, asks-right, then-done, then-right}
-use Rattle.stages.specs.Stages.{Side, low, high, inverse}
+use Rattle.stages.specs.Stages.{Side, low, high, inverse, uncut}
 use Rattle.stages.specs.Rule.{Bound, apart}
 use Rattle.stages.specs.RuleLaws.{AtMost, apart-at-most, bound-grows}
 use Rattle.unlifting.specs.Fixed.{nodeBits, inverseBits}
@@ -24,7 +24,7 @@ use Rattle.view_precision.specs.Before.{boundAtBefore, passGivesBefore, 
 
 module _ {a a' b b' : Bound} (h : AtMost a a') (k : AtMost b b') where
   after-more : (s : Side) (m : ℕ) → AtMost (boundAfter a b s m) (boundAfter a' b' s m)
-  after-more = bound-grows inverse (apart a b) (apart a' b') (λ i. inverseBits) (λ s. 0) (λ i. nodeBits) (apart-at-most h k)
+  after-more = bound-grows inverse (apart a b) (apart a' b') (λ i. inverseBits) (λ i. uncut) (λ s. 0) (λ i. nodeBits) (apart-at-most h k)
 
   pub node-more : (n : Node) → AtMost (boundAtBefore a b n) (boundAt a' b' n)
   unfolding boundAtBefore boundAt even larger

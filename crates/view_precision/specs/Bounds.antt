@@ -1,11 +1,12 @@
--- Range and error bounds of the inverse (document 02, jobs 1 and 6), by the judge's rule for any pass (Rule of the crate stages).
+-- Range and error bounds of the inverse (document 02, jobs 1 and 6), by the judge's rule for any pass (Rule of the crate stages). No product
+-- of the inverse is cut.
 use Prim.Native.Nat.{ℕ, zero, suc, _+_, _*_, _-_, _^_, max}
 use mathlib.Core.Bool.{Bool, true, _&&_}
 use mathlib.Core.List.{[], _∷_}
 use lib.Dec.{leb, ltb}
 use Rattle.numbers.specs.Tests.{every}
 use Rattle.refusals.specs.Answers.{Answer, passed, asks, _then_}
-use Rattle.stages.specs.Stages.{Side, low, high, inverse}
+use Rattle.stages.specs.Stages.{Side, low, high, inverse, uncut}
 use Rattle.stages.specs.Rule as Rule
 use Rattle.stages.specs.Rule.{Bound, apart, ownLift, brought}
 use Rattle.unlifting.specs.Fixed.{nodeBits, inverseBits}
@@ -23,7 +24,7 @@ larger x y = record { range = max (x .range) (y .range); error = max (x .error) 
 module _ (a b : Bound) where
   -- of a side after m stages, on lines of two values or more
   abbrev pub boundAfter : Side → ℕ → Bound
-  boundAfter = Rule.boundAt inverse (apart a b) (λ i. inverseBits) (λ s. 0) (λ i. nodeBits)
+  boundAfter = Rule.boundAt inverse (apart a b) (λ i. inverseBits) (λ i. uncut) (λ s. 0) (λ i. nodeBits)
 
   -- The even output, which U1 undone leaves, on lines from one value (document 02, job 6): the larger of that and the low input.
   unfoldable pub even : Bound
@@ -32,11 +33,11 @@ module _ (a b : Bound) where
   -- The odd output, which P1 undone leaves. Its own error goes by the even output, which it multiplies.
   unfoldable pub odd : Bound
   odd =
-      let own = ownLift inverseBits nodeBits nodeBits nodeBits (even .range + even .error) in
-      let earlier = Rule.owns inverse (apart a b) (λ i. inverseBits) (λ s. 0) (λ i. nodeBits) 5 in
+      let own = ownLift uncut inverseBits nodeBits nodeBits nodeBits (even .range + even .error) in
+      let earlier = Rule.owns inverse (apart a b) (λ i. inverseBits) (λ i. uncut) (λ s. 0) (λ i. nodeBits) 5 in
       record {
         range = boundAfter high 6 .range;
-        error = brought inverse (λ x. x .error) (apart a b) high 6 + Rule.ownsBring inverse (apart a b) (λ i. inverseBits) (λ s. 0) (λ i. nodeBits) 6 (own ∷ earlier) high 6;
+        error = brought inverse (λ x. x .error) (apart a b) high 6 + Rule.ownsBring inverse (apart a b) (λ i. inverseBits) (λ i. uncut) (λ s. 0) (λ i. nodeBits) 6 (own ∷ earlier) high 6;
       }
 
   -- a node is named by the stage that is undone there

@@ -16,8 +16,10 @@ use Rattle.stages.specs.Stages.{made, bits}
 use Rattle.stages.specs.Gains.{gain, exactGain, sumFrom, sumTo, inputAnswer, nodeAnswer, held}
 use Rattle.stages.specs.Rule as Rule
 use Rattle.precision.specs.Bounds as Judge
+use Rattle.precision.specs.Products.{productOf}
 use Rattle.precision.specs.Verdict.{judged, firstRefusal, verdict}
 use Rattle.view_precision.specs.Bounds
+use Rattle.view_precision.specs.Products.{SeenAlike, same-nodes}
 use Rattle.view_precision.specs.Before
 use Rattle.view_precision.specs.Before.{pixelBoundBefore, viewDistanceBefore, nodesRightBefore, viewVerdictBefore}
 use Rattle.view_precision.specs.Bounds.{startBound, pixelBound, viewDistance, nodesRight, viewable, viewVerdict}
@@ -46,6 +48,19 @@ withKept f B L IB = record {
   levels = L;
   constants = 24 ∷ 24 ∷ 24 ∷ 24 ∷ 24 ∷ 24 ∷ [];
   nodes = repeat (L - 1) (level IB f 20) ++ level IB f f ++ repeat (maxLevels - L) (repeat 36 (0 ∷ []));
+  five = false;
+  products = repeat maxLevels (repeat 12 (0 ∷ []));
+}
+
+-- The same with tag 5 (document 02, job 7): every product is cut to fp bits.
+abbrev pub withProducts : ℕ → WidthTable → WidthTable
+withProducts fp t = record {
+  depth = t .depth;
+  levels = t .levels;
+  constants = t .constants;
+  nodes = t .nodes;
+  five = true;
+  products = repeat (t .levels) (repeat 12 (fp ∷ [])) ++ repeat (maxLevels - t .levels) (repeat 12 (0 ∷ []));
 }
 
 abbrev pub uniform : ℕ → ℕ → ℕ → WidthTable
@@ -58,6 +73,8 @@ lowWide = record {
   levels = 1;
   constants = 24 ∷ 24 ∷ 24 ∷ 24 ∷ 24 ∷ 24 ∷ [];
   nodes = pass 12 20 20 ++ (lifted 12 ++ (12 ∷ 2 ∷ 6 ∷ 2 ∷ [])) ++ (lifted 12 ++ (6 ∷ 2 ∷ 6 ∷ 2 ∷ [])) ++ repeat (maxLevels - 1) (repeat 36 (0 ∷ []));
+  five = false;
+  products = repeat maxLevels (repeat 12 (0 ∷ []));
 }
 
 -- The answer on a table; whether its nodes and its pixel bound are in order (13); its pixel bound, and its distance from scan to view, in
@@ -93,7 +110,7 @@ are a n p b d = record { answer = a; nodes = n; pixel = p; bound = b; distance =
 
 -- computed once for all
 all-figures :
-    figures (uniform 8 1 4) ∷ figures (uniform 8 2 5) ∷ figures (uniform 8 3 7) ∷ figures (uniform 5 4 9) ∷ figures (uniform 3 5 11) ∷ figures (uniform 8 1 12) ∷ figures (uniform 1 5 12) ∷ figures (withKept 14 8 1 4) ∷ figures lowWide ∷ figuresBefore lowWide ∷ []
+    figures (uniform 8 1 4) ∷ figures (uniform 8 2 5) ∷ figures (uniform 8 3 7) ∷ figures (uniform 5 4 9) ∷ figures (uniform 3 5 11) ∷ figures (uniform 8 1 12) ∷ figures (uniform 1 5 12) ∷ figures (withKept 14 8 1 4) ∷ figures lowWide ∷ figuresBefore lowWide ∷ figures (withProducts 20 (uniform 8 1 4)) ∷ figures (withProducts 4 (uniform 8 1 4)) ∷ []
     ≡ are passed true true 291199 9605421042
     ∷ are passed true true 1114755 16554898633
     ∷ are passed true true 6689379 23034874406
@@ -104,8 +121,10 @@ all-figures :
     ∷ are passed true true 291199 2636210
     ∷ are (refused (13, [])) true false 8442504 9613572342
     ∷ are passed true true 8263100 9613392938
+    ∷ are passed true true 291199 9605421042
+    ∷ are (refused (7, 1 ∷ 2 ∷ 5 ∷ [])) true true 291199 9605421042
     ∷ []
-unfolding viewVerdict viewable pixelBound viewDistance nodesRight Bounds.givesFrom Bounds.levelGives Bounds.passBound Bounds.fromLow Bounds.fromHigh Bounds.stored Bounds.larger Bounds.even Bounds.odd Bounds.boundAt Bounds.passGives viewVerdictBefore Before.viewableBefore pixelBoundBefore viewDistanceBefore nodesRightBefore Before.givesFromBefore Before.levelGivesBefore Before.passBoundBefore Before.fromLowBefore Before.fromHighBefore Before.boundAtBefore Before.passGivesBefore verdict formRight every firstRefusal judged Judge.boundOf Judge.entering Judge.passBound Judge.rowBound Judge.boundAt Judge.longBound Rule.boundAt Rule.rangeAt Rule.errorAt Rule.owns Rule.ownsBring Rule.ownFrom Rule.brought Rule.ownLift Rule.ownScale Rule.loss Rule.timesGain bits upDiv gain exactGain sumFrom sumTo inputAnswer nodeAnswer held made wholesOf lift _⊕_ _⊗_ neg whole magnitude
+unfolding viewVerdict viewable pixelBound viewDistance nodesRight Bounds.givesFrom Bounds.levelGives Bounds.passBound Bounds.fromLow Bounds.fromHigh Bounds.stored Bounds.larger Bounds.even Bounds.odd Bounds.boundAt Bounds.passGives viewVerdictBefore Before.viewableBefore pixelBoundBefore viewDistanceBefore nodesRightBefore Before.givesFromBefore Before.levelGivesBefore Before.passBoundBefore Before.fromLowBefore Before.fromHighBefore Before.boundAtBefore Before.passGivesBefore verdict formRight every firstRefusal judged Judge.boundOf Judge.entering Judge.passBound Judge.rowBound Judge.boundAt Judge.longBound productOf Rule.boundAt Rule.rangeAt Rule.errorAt Rule.owns Rule.ownsBring Rule.ownFrom Rule.brought Rule.ownLift Rule.productLoss Rule.ownScale Rule.loss Rule.timesGain bits upDiv gain exactGain sumFrom sumTo inputAnswer nodeAnswer held made wholesOf lift _⊕_ _⊗_ neg whole magnitude
 all-figures = refl
 
 abbrev nth : ℕ → List Figures → Figures
@@ -147,3 +166,14 @@ newly-refused = ap (nth 8) all-figures
 
 pub viewable-before : figuresBefore lowWide ≡ are passed true true 8263100 9613392938
 viewable-before = ap (nth 9) all-figures
+
+-- Two tables with tag 5 (document 02, job 7) that differ from the first in their products alone: one can be viewed, with the same bound and
+-- distance; the other is refused 7, though 13 says the same of it.
+pub products-alike : (fp : ℕ) → SeenAlike (uniform 8 1 4) (withProducts fp (uniform 8 1 4))
+products-alike fp = same-nodes (uniform 8 1 4) (withProducts fp (uniform 8 1 4)) refl refl refl
+
+pub products-viewed : figures (withProducts 20 (uniform 8 1 4)) ≡ are passed true true 291199 9605421042
+products-viewed = ap (nth 10) all-figures
+
+pub products-refused : figures (withProducts 4 (uniform 8 1 4)) ≡ are (refused (7, 1 ∷ 2 ∷ 5 ∷ [])) true true 291199 9605421042
+products-refused = ap (nth 11) all-figures

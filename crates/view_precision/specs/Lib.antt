@@ -4,6 +4,7 @@
 -- Proved of them:
 --   Odd        odd-larger : what a pass gives on is the larger of the odd output and the low input
 --   BeforeLaws viewable-still : a table that is viewable was viewable before job 6
+--   Products   job 7: of the table viewing takes depth, levels and the kept nodes' widths alone (products-no-matter)
 --   Examples   tables that are viewable, tables that are refused 13, one of them newly; pixel bounds and distances as numbers
 -- For the program:
 --   Places     stages, sources of errors and bounds by number
@@ -14,6 +15,7 @@ pub mod Bounds
 pub mod Odd
 pub mod Before
 pub mod BeforeLaws
+pub mod Products
 pub mod Examples
 pub mod Places
 pub mod PlaceLaws

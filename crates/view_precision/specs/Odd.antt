@@ -9,7 +9,7 @@ use lib.Dec.{lit≤, lit<}
 use lib.ListN.{getD}
 use Rattle.unlifting.specs.Fixed.{nodeBits, inverseBits}
 use Rattle.width_table.specs.Nodes.{U1, G2}
-use Rattle.stages.specs.Stages.{low, high, inverse, bits}
+use Rattle.stages.specs.Stages.{low, high, inverse, uncut, bits}
 use Rattle.stages.specs.Gains.{highs, node, gain}
 use Rattle.stages.specs.GainTable.{inverseGains, inverseSource, inverse-gain}
 use Rattle.stages.specs.Rule as Rule
@@ -24,7 +24,7 @@ more i j h x = times-grows x x _ _ (omega arith) (subst₂ _≤_ (sym (inverse-g
 
 module _ (a b : Bound) where
   abbrev own : ℕ → ℕ
-  own = ownAt inverse (apart a b) (λ i. inverseBits) (λ s. 0) (λ i. nodeBits)
+  own = ownAt inverse (apart a b) (λ i. inverseBits) (λ i. uncut) (λ s. 0) (λ i. nodeBits)
 
   brought-more : (r : Bound → ℕ) → brought inverse r (apart a b) low 5 ≤ brought inverse r (apart a b) high 6
   unfolding brought
@@ -39,8 +39,8 @@ module _ (a b : Bound) where
   error-more =
       omega (
         arith,
-        error-sum inverse (apart a b) (λ i. inverseBits) (λ s. 0) (λ i. nodeBits) low 5,
-        error-sum inverse (apart a b) (λ i. inverseBits) (λ s. 0) (λ i. nodeBits) high 6,
+        error-sum inverse (apart a b) (λ i. inverseBits) (λ i. uncut) (λ s. 0) (λ i. nodeBits) low 5,
+        error-sum inverse (apart a b) (λ i. inverseBits) (λ i. uncut) (λ s. 0) (λ i. nodeBits) high 6,
         brought-more (λ b. b .error),
         more 2 (lit< tt) (lit≤ tt) (own 0),
         more 3 (lit< tt) (lit≤ tt) (own 1),
@@ -57,7 +57,7 @@ module _ (a b : Bound) where
 
   -- the own error of undoing P1, which goes by the even output
   abbrev pub ownOdd : ℕ
-  ownOdd = ownLift inverseBits nodeBits nodeBits nodeBits (even a b .range + even a b .error)
+  ownOdd = ownLift uncut inverseBits nodeBits nodeBits nodeBits (even a b .range + even a b .error)
 
   -- it alone differs
   pub odd-differs : odd a b .error + timesGain (own 5) (gain inverse high 6 (node 5)) ≡ boundAfter a b high 6 .error + timesGain ownOdd (gain inverse high 6 (node 5))

@@ -12,11 +12,12 @@ use Rattle.numbers.specs.Tests.{every, ltb-true, ltb-false, left-false, right-f
 use Rattle.exact.specs.Fractions.{upDiv}
 use Rattle.unlifting.specs.Fixed.{nodeBits, inverseBits}
 use Rattle.width_table.specs.Nodes.{Node, P1, U1, P2, U2, G1, G2}
-use Rattle.stages.specs.Stages.{Side, low, high, stage, inverse, bits}
+use Rattle.stages.specs.Stages.{Side, low, high, stage, inverse, uncut, bits}
 use Rattle.stages.specs.Gains.{lows, highs, node, gain}
 use Rattle.stages.specs.GainTable.{inverse-gain}
 use Rattle.stages.specs.Rule as Rule
 use Rattle.stages.specs.Rule.{Bound, apart, timesGain, loss, ownLift, ownScale, brought}
+use Rattle.stages.specs.ProductLaws.{own-uncut}
 use Rattle.stages.specs.Held.{weighed}
 use Rattle.stages.specs.RuleLaws as RuleLaws
 use Rattle.stages.specs.RuleLaws.{timesGain-zero, timesGain-none, weighed-ext, error-sum, bound-start, bound-kept}
@@ -37,12 +38,17 @@ by-stage P a b c d e f (suc (suc (suc (suc (suc (suc j)))))) i = absurd (omega a
 
 -- ---- one pass
 
+-- the own error of a stage that lifts: its product is not cut
+lifted : (r : ℕ) → ownLift uncut inverseBits nodeBits nodeBits nodeBits r ≡ upDiv r (2 ^ inverseBits) + 2 ^ (32 - nodeBits)
+unfolding loss
+lifted r = own-uncut inverseBits nodeBits nodeBits nodeBits r
+
 module _ (a b : Bound) where
   abbrev own : ℕ → ℕ
-  own = RuleLaws.ownAt inverse (apart a b) (λ i. inverseBits) (λ s. 0) (λ i. nodeBits)
+  own = RuleLaws.ownAt inverse (apart a b) (λ i. inverseBits) (λ i. uncut) (λ s. 0) (λ i. nodeBits)
 
   abbrev error : Side → ℕ → ℕ
-  error = Rule.errorAt inverse (apart a b) (λ i. inverseBits) (λ s. 0) (λ i. nodeBits)
+  error = Rule.errorAt inverse (apart a b) (λ i. inverseBits) (λ i. uncut) (λ s. 0) (λ i. nodeBits)
 
   -- `boundAt`, but of the even output that on lines of two values or more
   abbrev long : Node → Bound
@@ -65,12 +71,12 @@ module _ (a b : Bound) where
 
   -- the first two multiply what enters
   pub own-is : (j : ℕ) → j < stages → ownAt a b (j + 2) ≡ ownFrom j (totalBefore j)
-  unfolding ownAt ownFrom totalBefore boundAt bits RuleLaws.ownAt Rule.ownFrom Rule.boundAt ownLift ownScale loss
+  unfolding ownAt ownFrom totalBefore boundAt bits RuleLaws.ownAt Rule.ownFrom Rule.boundAt ownScale loss
   own-is =
       by-stage _
-      (ap (λ (x : Bound). ownScale inverseBits 0 nodeBits (total x)) (bound-start inverse (apart a b) (λ i. inverseBits) (λ s. 0) (λ i. nodeBits) low))
-      (ap (λ (x : Bound). ownScale inverseBits 0 nodeBits (total x)) (bound-kept inverse (apart a b) (λ i. inverseBits) (λ s. 0) (λ i. nodeBits) 0 high refl ∙ bound-start inverse (apart a b) (λ i. inverseBits) (λ s. 0) (λ i. nodeBits) high))
-      refl refl refl refl
+      (ap (λ (x : Bound). ownScale inverseBits 0 nodeBits (total x)) (bound-start inverse (apart a b) (λ i. inverseBits) (λ i. uncut) (λ s. 0) (λ i. nodeBits) low))
+      (ap (λ (x : Bound). ownScale inverseBits 0 nodeBits (total x)) (bound-kept inverse (apart a b) (λ i. inverseBits) (λ i. uncut) (λ s. 0) (λ i. nodeBits) 0 high refl ∙ bound-start inverse (apart a b) (λ i. inverseBits) (λ i. uncut) (λ s. 0) (λ i. nodeBits) high))
+      (lifted _) (lifted _) (lifted _) (lifted _)
 
   range-is : (j : ℕ) → j < stages → timesGain (a .range) (gainAt 0 j) + timesGain (b .range) (gainAt 1 j) ≡ long (nodeAfter j) .range
   unfolding boundAt odd Rule.boundAt Rule.rangeAt brought
@@ -85,7 +91,7 @@ module _ (a b : Bound) where
   error-at j h =
       omega (
         arith,
-        error-sum inverse (apart a b) (λ i. inverseBits) (λ s. 0) (λ i. nodeBits) (stage inverse j .side) (suc j),
+        error-sum inverse (apart a b) (λ i. inverseBits) (λ i. uncut) (λ s. 0) (λ i. nodeBits) (stage inverse j .side) (suc j),
         ap (timesGain (a .error)) (inverse-gain 0 j (lit< tt) h),
         ap (timesGain (b .error)) (inverse-gain 1 j (lit< tt) h),
         weighed-ext (λ i. gain inverse (stage inverse j .side) (suc j) (node i)) (λ i. gainAt (suc (suc i)) j) own (suc j) (λ i l. inverse-gain (suc (suc i)) j (omega arith) h),

@@ -9,7 +9,7 @@ use Rattle.unlifting.specs.Fixed.{nodeBits, inverseBits}
 use Rattle.width_table.specs.Nodes.{Node, P1, U1, P2, U2, G1, G2, nodesPerPass, Rows, LowColumns, HighColumns}
 use Rattle.width_table.specs.declared.WidthTable.{WidthTable}
 use Rattle.width_table.specs.Table.{maxLevels, maxIntegerBits}
-use Rattle.stages.specs.Stages.{inverse}
+use Rattle.stages.specs.Stages.{inverse, uncut}
 use Rattle.stages.specs.GainTable.{inverseGains}
 use Rattle.stages.specs.Rule.{Bound, apart, timesGain}
 use Rattle.stages.specs.RuleLaws as RuleLaws
@@ -82,7 +82,7 @@ ownFrom j r = elim (ltb j scalings) [
 -- One pass, as in Bounds.
 module _ (a b : Bound) where
   abbrev rule : ℕ → ℕ
-  rule = RuleLaws.ownAt inverse (apart a b) (λ i. inverseBits) (λ s. 0) (λ i. nodeBits)
+  rule = RuleLaws.ownAt inverse (apart a b) (λ i. inverseBits) (λ i. uncut) (λ s. 0) (λ i. nodeBits)
 
   -- what a source has of its own: the lows and the highs their errors, a stage its own error
   unfoldable pub ownAt : ℕ → ℕ

@@ -14,6 +14,7 @@
 --              from the scanned ones
 --   Deepest    too-deep: an accepted table of L levels that is deeper than `deepest L` is refused 13; deepest-viewed: these limits are reached
 --   Unchanged  view-unchanged: sides that were admitted before job 6
+--   Products   seen-plane, seen-picture, seen-answer: of the table viewing takes depth, levels and the kept nodes' widths alone (job 7)
 --   Examples   worked lines, planes, greys and widths; a call that is done; a picture, and what is stored of it
 -- Proofs: Pass (by the rule of the crate stages, which is sound), Level lead to Viewing, in this order.
 -- For the proofs of the code:
@@ -37,6 +38,7 @@ pub mod Words
 pub mod Examples
 pub mod Deepest
 pub mod Unchanged
+pub mod Products
 pub mod WidthLaws
 pub mod PixelSteps
 pub mod LevelSteps

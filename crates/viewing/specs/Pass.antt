@@ -19,8 +19,8 @@ use Rattle.exact.specs.Fractions.{Frac, _≈_, _⊕_, neg, upDiv}
 use Rattle.exact.specs.FracLaws.{≈-refl, ≈-sym, ≈-trans, ⊕-cong, neg-⊗-l, within-near}
 use Rattle.exact.specs.Exact.{lift, alpha, beta, gamma, delta}
 use Rattle.exact.specs.Inverse.{unlift, unG1, unG2, unU2, unP2, unU1, unP1, exactBackLong, exactBack}
-use Rattle.stages.specs.Stages.{Side, low, high, lifts, stage, inverse, made, bits}
-use Rattle.stages.specs.Fixed.{meant, nearest, cut, step}
+use Rattle.stages.specs.Stages.{Side, low, high, lifts, stage, inverse, made, Product, uncut, bits}
+use Rattle.stages.specs.Fixed.{meant, nearest, cut, cutProduct, step}
 use Rattle.stages.specs.OnLine.{count, exactAfter, fixedMade, fixedAfter}
 use Rattle.stages.specs.Rule as Rule
 use Rattle.stages.specs.Rule.{Bound, loss, ownScale, Entering, apart, brought, rangeAt, ownFrom, ownsBring, owns, errorAt}
@@ -62,10 +62,10 @@ negates-delta = refl
 
 -- a stage whose own value, neighbours and result are nodes
 abbrev nodeStep : Frac → ℤ → ℤ → ℤ → ℤ
-nodeStep c = step c inverseBits nodeBits nodeBits nodeBits
+nodeStep c = step uncut c inverseBits nodeBits nodeBits nodeBits
 
 unstep-neg : (c : Frac) → Negates c → (o x y : ℤ) → unstep c o x y ≡ nodeStep (neg c) o x y
-unfolding unstep step
+unfolding unstep step cutProduct
 unstep-neg c e o x y =
     ap (cut (inverseBits + nodeBits) nodeBits)
     (law (o *ℤ pos (2 ^ inverseBits)) (nearest c inverseBits) (x +ℤ y) ∙ ap (λ (t : ℤ). o *ℤ pos (2 ^ inverseBits) +ℤ t *ℤ (x +ℤ y) *ℤ pos 1) (sym e))
@@ -84,13 +84,17 @@ module _ (e : Entering) (fi : Side → ℕ) where
   abbrev F : ℕ → ℕ
   F i = inverseBits
 
+  -- no product is cut
+  abbrev fp : ℕ → Product
+  fp i = uncut
+
   abbrev f : ℕ → ℕ
   f i = nodeBits
 
   abbrev zeros : Side → ℕ
   zeros s = 0
 
-  own-free : (i : ℕ) (r : Side → ℕ) → i < 6 → ownFrom inverse e F fi f (stage inverse i .kind) (stage inverse i .side) i r ≡ ownFrom inverse e F zeros f (stage inverse i .kind) (stage inverse i .side) i r
+  own-free : (i : ℕ) (r : Side → ℕ) → i < 6 → ownFrom inverse e F fp fi f (stage inverse i .kind) (stage inverse i .side) i r ≡ ownFrom inverse e F fp zeros f (stage inverse i .kind) (stage inverse i .side) i r
   unfolding ownFrom ownScale bits
   own-free zero r h = ap (λ (t : ℕ). upDiv (r low) (2 ^ (inverseBits + 1)) + t) (node-loss (fi low))
   own-free (suc zero) r h = ap (λ (t : ℕ). upDiv (r high) (2 ^ (inverseBits + 1)) + t) (node-loss (fi high))
@@ -100,25 +104,25 @@ module _ (e : Entering) (fi : Side → ℕ) where
   own-free (suc (suc (suc (suc (suc zero))))) r h = refl
   own-free (suc (suc (suc (suc (suc (suc i)))))) r h = absurd (omega arith)
 
-  owns-free : (i : ℕ) → i ≤ 6 → owns inverse e F fi f i ≡ owns inverse e F zeros f i
+  owns-free : (i : ℕ) → i ≤ 6 → owns inverse e F fp fi f i ≡ owns inverse e F fp zeros f i
   unfolding owns ownsBring rangeAt
   owns-free zero h = refl
   owns-free (suc i) h =
-      own-next (owns inverse e F fi f i) ∙ ap (λ (l : List ℕ). own l ∷ l) (owns-free i (omega arith))
+      own-next (owns inverse e F fp fi f i) ∙ ap (λ (l : List ℕ). own l ∷ l) (owns-free i (omega arith))
     where
       total : List ℕ → Side → ℕ
-      total l s = rangeAt inverse e F zeros f s i + (brought inverse (λ b. b .error) e s i + ownsBring inverse e F zeros f i l s i)
+      total l s = rangeAt inverse e F fp zeros f s i + (brought inverse (λ b. b .error) e s i + ownsBring inverse e F fp zeros f i l s i)
 
       own : List ℕ → ℕ
-      own l = ownFrom inverse e F zeros f (stage inverse i .kind) (stage inverse i .side) i (total l)
+      own l = ownFrom inverse e F fp zeros f (stage inverse i .kind) (stage inverse i .side) i (total l)
 
-      own-next : (l : List ℕ) → ownFrom inverse e F fi f (stage inverse i .kind) (stage inverse i .side) i (total l) ∷ l ≡ own l ∷ l
+      own-next : (l : List ℕ) → ownFrom inverse e F fp fi f (stage inverse i .kind) (stage inverse i .side) i (total l) ∷ l ≡ own l ∷ l
       own-next l = ap (λ (t : ℕ). t ∷ l) (own-free i (total l) (omega arith))
 
   -- so 0 may stand for them (Bounds of view_precision)
-  pub bound-free : (s : Side) (m : ℕ) → m ≤ 6 → Rule.boundAt inverse e F fi f s m ≡ Rule.boundAt inverse e F zeros f s m
+  pub bound-free : (s : Side) (m : ℕ) → m ≤ 6 → Rule.boundAt inverse e F fp fi f s m ≡ Rule.boundAt inverse e F fp zeros f s m
   unfolding Rule.boundAt rangeAt errorAt ownsBring
-  bound-free s m h = ap (λ (l : List ℕ). record { range = brought inverse (λ b. b .range) e s m; error = brought inverse (λ b. b .error) e s m + ownsBring inverse e F zeros f m l s m }) (owns-free m h)
+  bound-free s m h = ap (λ (l : List ℕ). record { range = brought inverse (λ b. b .range) e s m; error = brought inverse (λ b. b .error) e s m + ownsBring inverse e F fp zeros f m l s m }) (owns-free m h)
 
 -- ---- all six nodes of a line of n
 
@@ -174,7 +178,7 @@ module _ (n : ℕ) (x : ℕ → Frac) where
 
 module _ (fl fh n : ℕ) (v : ℕ → ℤ) where
   abbrev fixed : ℕ → Side → ℕ → ℤ
-  fixed = fixedAfter inverse (λ i. inverseBits) (bitsFed fl fh) (λ i. nodeBits) n (split n v)
+  fixed = fixedAfter inverse (λ i. inverseBits) (λ i. uncut) (bitsFed fl fh) (λ i. nodeBits) n (split n v)
 
   unstepped : (c : Frac) → Negates c → {o o' p p' q q' : ℤ} → o ≡ o' → p ≡ p' → q ≡ q' → unstep c o p q ≡ nodeStep (neg c) o' p' q'
   unstepped c e {o} {o'} {p} {p'} {q} {q'} h i j = (λ u. unstep c (h u) (i u) (j u)) ∙ unstep-neg c e o' p' q'
@@ -212,7 +216,7 @@ module _ {fl fh : ℕ} {a b : Bound} {n : ℕ} {v : ℕ → ℤ} {x : ℕ → Fr
     after : (m : ℕ) → m ≤ 6 → (s : Side) (k : ℕ) → k < count n s → Good (boundAfter a b s m) (bits inverse (bitsFed fl fh) (λ i. nodeBits) m s) (fixed fl fh n v m s k) (exactly n x m s k)
     after m h s k i =
         subst (λ (t : Bound). Good t (bits inverse (bitsFed fl fh) (λ i. nodeBits) m s) (fixed fl fh n v m s k) (exactly n x m s k)) (bound-free (apart a b) (bitsFed fl fh) s m h)
-        (good inverse (apart a b) (λ i. inverseBits) (bitsFed fl fh) (λ i. nodeBits) n (split n v) (split n x) works (λ m. omega arith) entered m s k i)
+        (good inverse (apart a b) (λ i. inverseBits) (λ i. uncut) (bitsFed fl fh) (λ i. nodeBits) n (split n v) (split n x) works (λ m. omega arith) entered m s k i)
 
     even-good : (k : ℕ) → k < lows n → Good (even a b) nodeBits (atU1 fl fh n v k) (unU1 n x k)
     unfolding even larger bits

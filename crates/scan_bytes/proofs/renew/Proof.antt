@@ -2,7 +2,7 @@ use Prim.Native.Nat.{ℕ, _+_, _/_, _%_}
 use mathlib.Core.Path.{_∙_, ap₂}
 use native.Mathlib.Omega.{arith}
 use lib.ListN.{set, length-set}
-use Rattle.scan_bytes.specs.ScanBytes.{tableLength}
+use Rattle.scan_bytes.specs.ScanBytes.{tableRoom}
 use Rattle.scan_bytes.specs.ByteLaws.{numbers-short, numbers-wide, numbers-put}
 use borrow.Author.Needs.{needs}
 use Rattle.scan_bytes.proofs.renew.Statement.{statement}
@@ -18,7 +18,7 @@ returns-3 : tie.Need-returns-3
 returns-3 c =
     let t = c .before in
     let a = t .before .before .before .before .args in
-    ap₂ (λ (m n : ℕ). set (set (set (set (a .state .now) tableLength (a .width / 256)) (tableLength + 1) (a .width % 256)) (tableLength + 2) m) (tableLength + 3) n) (t .taken-number .ensures) (c .ended-number .ensures)
+    ap₂ (λ (m n : ℕ). set (set (set (set (a .state .now) tableRoom (a .width / 256)) (tableRoom + 1) (a .width % 256)) (tableRoom + 2) m) (tableRoom + 3) n) (t .taken-number .ensures) (c .ended-number .ensures)
     ∙ numbers-put (a .width) (a .taken) (a .ended) (a .state .now) (omega arith) (omega arith)
 
 pub renew-spec : {M : Type 1} → statement M

@@ -1,6 +1,7 @@
 use mathlib.Core.Path.{sym, _∙_, ap}
 use native.Mathlib.Omega.{arith}
 use lib.ListN.{length-map}
+use Rattle.width_table.specs.Bytes.{bytesAfter}
 use Rattle.width_table.specs.FormLists.{Sized}
 use Rattle.scan_bytes.specs.ScanBytes.{stateBytes, numbersAfter}
 use Rattle.scan_bytes.specs.ByteLaws.{Keepable, kept-is, no-room, room, not-kept, kept, all-written}
@@ -10,10 +11,13 @@ use Rattle.scan_bytes.proofs.write.Tie as tie
 
 -- what its type says of the table
 sized : (s : tie.Start) → Sized (s .args .scan .table)
-sized s = record {
-  constants = sym (length-map (s .args .scan .table .constants) (λ v. v)) ∙ s .good .0 .1 .1 .0 .1 .1 .1 .1 .0 .1 .0 .1;
-  nodes = sym (length-map (s .args .scan .table .nodes) (λ v. v)) ∙ s .good .0 .1 .1 .0 .1 .1 .1 .1 .1 .0 .1 .0 .1;
-}
+sized s =
+    let t = s .args .scan .table in
+    let g = s .good .0 .1 .1 .0 .1 .1 .1 .1 in record {
+      constants = sym (length-map (t .constants) (λ v. v)) ∙ g .0 .1 .0 .1;
+      nodes = sym (length-map (t .nodes) (λ v. v)) ∙ g .1 .0 .1 .0 .1;
+      products = sym (length-map (t .products) (λ v. v)) ∙ g .1 .1 .1 .0 .1 .0 .1;
+    }
 
 returns : tie.Need-returns
 returns c = not-kept _ _ (sym (c .before .keepable .ensures) ∙ c .if1 .left)
@@ -32,10 +36,11 @@ returns-3 : tie.Need-returns-3
 returns-3 c =
     let r = c .before .before in
     let w = r .before .before .before .before in
-    let i = w .before .before .before .before in
+    let z = w .before .before .before .before .before in
+    let i = z .before .before .before in
     let a = i .before .before .before .args in
     r .renew .ensures
-    ∙ ap (numbersAfter (a .scan .width) (a .scan .taken) (a .scan .ended)) (w .write .ensures .1)
+    ∙ ap (numbersAfter (a .scan .width) (a .scan .taken) (a .scan .ended)) (w .write .ensures .1 ∙ ap (bytesAfter (a .scan .table)) (z .put-zeros .ensures))
     ∙ all-written (a .scan) (can i) (a .state .now) (omega arith)
     ∙ room (stateBytes (a .scan)) (a .state .now) (omega arith)
     ∙ kept (a .scan) (a .state .now) (sym (i .before .keepable .ensures) ∙ i .if1 .taken)
@@ -47,6 +52,7 @@ write-spec =
     (λ c κs. search needs)
     returns
     returns-2
+    (λ c κs. search needs)
     (λ c κs. search needs)
     (λ c κs. search needs)
     (λ c. search needs)

@@ -34,10 +34,12 @@
  *   number  meaning
  *    0      done
  *    1      the bytes end before a field's tag, length or announced value is whole
- *    2      the tag is not the next one due, or a caller names one outside 1 to 4
+ *    2      the tag is not the next one due, or a caller names one outside 1 to 5
+ *           or one that the table lacks
  *    3      the length is not that tag's
  *    4      a number is outside its limits, or an unused level is not zero
- *    5      bytes follow the fourth field
+ *    5      bytes follow the last field: any byte but 5 after the fourth, or any
+ *           after the fifth
  *    6      a node does not fit
  *    7      a kept node's error is not below two steps
  *    8      a side is 0 or above 4,096
@@ -59,9 +61,11 @@
  *    80   suz_view97
  *    20   suz_scan_line
  *     4   suz_forward53, suz_forward97, suz_table_check, suz_table_bound,
- *         suz_table_view, suz_view_distance, suz_scan_begin, suz_scan_end
- *     2   suz_table_change, suz_table_change_constant
- *     1   suz_table_form, suz_table_value, suz_table_write
+ *         suz_table_change, suz_table_change_constant,
+ *         suz_table_change_product, suz_table_view, suz_view_distance,
+ *         suz_scan_begin, suz_scan_end
+ *     1   suz_table_form, suz_table_value, suz_table_write,
+ *         suz_table_write_products
  *
  * PICTURES. Depth B is 1 to 12 bits, levels L 1 to 5. A side is 1 to 4,096,
  * whatever the levels. Pixels are 16-bit, row by row, without gaps between rows,
@@ -106,9 +110,9 @@
  *   refused by   nothing is touched
  *   another
  *
- * WIDTH TABLES are bytes: four fields in order, each a tag (one byte), a
- * length (two bytes, high byte first) and a value. The table is 20 + 36 * L
- * bytes long.
+ * WIDTH TABLES are bytes: four fields in order, or five, each a tag (one byte),
+ * a length (two bytes, high byte first) and a value. With four a table is
+ * 20 + 36 * L bytes long, with five 23 + 48 * L.
  *
  *   tag  length  value
  *   1    1       depth B, 1 to 12
@@ -117,20 +121,43 @@
  *                U2, G1, G2
  *   4    36 * L  per level the six nodes of pass 1, of pass 2, of pass 3, each
  *                integer bits (1 to 12), then fractional bits f (0 to 20)
+ *   5    12 * L  may be absent: per level the four products of pass 1, of pass
+ *                2, of pass 3, each its fractional bits fp (0 to 44)
  *
  * They are read field by field. In each the first of these that applies is the
  * answer: tag or length is not whole (1), the tag is not the one due (2), the
  * length is not that tag's (3), the value is not whole (1), a number is outside
- * its limits (4). After a right fourth field, bytes that follow it are 5.
+ * its limits (4). After a right fourth field the table may end. Any byte there
+ * but 5 is refused 5, whatever comes after it; a byte 5 begins the fifth field,
+ * and what follows a right fifth field is refused 5.
  *
  * A node holds an integer v that means v / 2^f, with v from -2^(IB+f-1) to
  * 2^(IB+f-1) - 1. A coefficient of the 9/7 plane has the f of the node that
  * gave it: pass 2 left of the middle, pass 3 right of it, G1 above, G2 below,
  * of its level.
  *
+ * PRODUCT WIDTHS are the numbers of tag 5. The stages P1, U1, P2 and U2 each add
+ * to a value a product: their constant times the sum of two neighbours. It has F
+ * fractional bits more than what is multiplied has, and that is
+ *
+ *   product 1 P1    what enters the pass: the pixels, B bits, or G1 or G2 of the
+ *                   pass before
+ *   product 2 U1    P1
+ *   product 3 P2    U1
+ *   product 4 U2    P2
+ *
+ * A table without tag 5 cuts no product: each is added as it is, and the sum is
+ * cut once, downwards, to the f of its node. With tag 5 a product that has more
+ * than fp fractional bits is cut downwards to fp of them before it is added; the
+ * sum is cut as ever. fp of 44 cuts nothing, since no product has more. What a
+ * cut may lose, 2^-fp, is counted in the error of its stage, so that an accepted
+ * table promises the same with tag 5 as without. Where no fp of a table cuts
+ * anything, it gives the coefficients of the table without tag 5.
+ *
  * VIEWING undoes the 9/7 transform with 20 fractional bits at every node and
  * constants of 24 bits, whatever bits the table has for them; of the table it
  * takes depth, levels, and the widths of the nodes that gave the coefficients.
+ * Product widths count in its verdict (6 and 7) alone.
  * A viewed value means a pixel's (p - 2^(B-1)) / 2^B: it is taken in greys of
  * 2^-B, 2^(B-1) is added, and the pixel shown is the nearest, halves up, within
  * 0 to 2^B - 1. Under a table that viewing does not refuse every value is less
@@ -214,21 +241,32 @@ extern "C" {
 #define SUZ_MAX_INTEGER_BITS 12
 #define SUZ_MAX_FRACTION_BITS 20
 #define SUZ_MAX_CONSTANT_BITS 24
+#define SUZ_MAX_PRODUCT_BITS 44
 
 /* The bytes of a width table before its widths, and the widths of a level. */
 #define SUZ_TABLE_HEAD 20
 #define SUZ_TABLE_LEVEL 36
 
-/* The length in bytes of a width table of so many levels. */
-#define SUZ_TABLE_LENGTH(levels) (SUZ_TABLE_HEAD + SUZ_TABLE_LEVEL * (size_t)(levels))
+/* The bytes of tag 5 before its numbers, and the numbers of a level. */
+#define SUZ_TABLE_PRODUCT_HEAD 3
+#define SUZ_TABLE_PRODUCT_LEVEL 12
 
-/* How many numbers the constants and the widths of a table have, all levels. */
+/* The length in bytes of a width table of so many levels: without tag 5, and
+ * with it. No table is longer than SUZ_TABLE_LENGTH_PRODUCTS(SUZ_MAX_LEVELS). */
+#define SUZ_TABLE_LENGTH(levels) (SUZ_TABLE_HEAD + SUZ_TABLE_LEVEL * (size_t)(levels))
+#define SUZ_TABLE_LENGTH_PRODUCTS(levels) \
+    (SUZ_TABLE_LENGTH(levels) + SUZ_TABLE_PRODUCT_HEAD + SUZ_TABLE_PRODUCT_LEVEL * (size_t)(levels))
+
+/* How many numbers the constants, the widths and the product widths of a table
+ * have, all levels. */
 #define SUZ_TABLE_CONSTANTS 6
 #define SUZ_TABLE_WIDTHS (SUZ_TABLE_LEVEL * SUZ_MAX_LEVELS)
+#define SUZ_TABLE_PRODUCTS (SUZ_TABLE_PRODUCT_LEVEL * SUZ_MAX_LEVELS)
 
 /* The bytes of a scan's state, and the lines that a call is lent to hold and
- * for output. */
-#define SUZ_SCAN_LENGTH 60
+ * for output. (In libraries without tag 5 the state had 60 bytes: a program of
+ * that time is compiled anew, else its scans are refused 9.) */
+#define SUZ_SCAN_LENGTH 75
 #define SUZ_SCAN_HELD_LINES 7
 #define SUZ_SCAN_OUT_LINES 4
 
@@ -238,10 +276,10 @@ static inline const char *suz_refusal_text(uint32_t answer)
     switch (SUZ_NUMBER(answer)) {
     case 0: return "done";
     case 1: return "the bytes end before a field's tag, length or announced value is whole";
-    case 2: return "the tag is not the next one due, or a caller names one outside 1 to 4";
+    case 2: return "the tag is not the next one due, or a caller names one outside 1 to 5 or one that the table lacks";
     case 3: return "the length is not that tag's";
     case 4: return "a number is outside its limits, or an unused level is not zero";
-    case 5: return "bytes follow the fourth field";
+    case 5: return "bytes follow the last field: any byte but 5 after the fourth, or any after the fifth";
     case 6: return "a node does not fit";
     case 7: return "a kept node's error is not below two steps";
     case 8: return "a side is 0 or above 4,096";
@@ -275,8 +313,8 @@ uint32_t suz_table_form(const uint8_t *table, size_t table_len);
  * Where the value of a tag stands in the table's bytes.
  * 0: *start and *length are written; the value is table[*start] up to, not
  *    including, table[*start + *length].
- * Refused 2 for a tag outside 1 to 4, then 1 to 5 of the whole table; *start
- * and *length are untouched.
+ * Refused 2 for a tag outside 1 to 5, then 1 to 5 of the whole table, then 2
+ * for tag 5 where the table has none; *start and *length are untouched.
  */
 uint32_t suz_table_value(const uint8_t *table, size_t table_len, uint8_t tag,
                          uint32_t *start, uint32_t *length);
@@ -320,17 +358,44 @@ uint32_t suz_table_change_constant(const uint8_t *table, size_t table_len,
                                    uint8_t *out, size_t out_len);
 
 /*
+ * Writes a new table, equal to the old but for the fractional bits fp of one
+ * product (1 P1, 2 U1, 3 P2, 4 U2), to the start of `out`, as suz_table_change
+ * does.
+ * Refused 1 to 5 of the old table, 4 where it has no tag 5, where it lacks the
+ * level, pass or product or where the bits are outside their limits, 9 where
+ * `out` is shorter than the table; `out` is untouched.
+ */
+uint32_t suz_table_change_product(const uint8_t *table, size_t table_len,
+                                  uint8_t level, uint8_t pass, uint8_t product,
+                                  uint8_t bits, uint8_t *out, size_t out_len);
+
+/*
  * Writes the table of these parts to the start of `out`: depth, levels, the
  * constants' fractional bits F in the order of tag 3, and the widths in the
  * order of tag 4, of five levels, with zeros at those that the table lacks.
- * The table is SUZ_TABLE_LENGTH(levels) bytes long; `out` past it is
- * untouched. It is not judged.
+ * The table has no tag 5. It is SUZ_TABLE_LENGTH(levels) bytes long; `out` past
+ * it is untouched. It is not judged.
  * Refused 4, 9 where `out` is shorter than the table; `out` is untouched.
  */
 uint32_t suz_table_write(uint8_t depth, uint8_t levels,
                          const uint8_t constants[SUZ_TABLE_CONSTANTS],
                          const uint8_t widths[SUZ_TABLE_WIDTHS],
                          uint8_t *out, size_t out_len);
+
+/*
+ * As suz_table_write, of a table that has tag 5 unless has_products is 0. The
+ * products' numbers stand in the order of tag 5, of five levels, with zeros at
+ * those that the table lacks; where has_products is 0 all of them are 0. With
+ * tag 5 the table is SUZ_TABLE_LENGTH_PRODUCTS(levels) bytes long, without it
+ * SUZ_TABLE_LENGTH(levels).
+ * Refused 4, 9 where `out` is shorter than the table; `out` is untouched.
+ */
+uint32_t suz_table_write_products(uint8_t depth, uint8_t levels,
+                                  const uint8_t constants[SUZ_TABLE_CONSTANTS],
+                                  const uint8_t widths[SUZ_TABLE_WIDTHS],
+                                  uint8_t has_products,
+                                  const uint8_t products[SUZ_TABLE_PRODUCTS],
+                                  uint8_t *out, size_t out_len);
 
 /*
  * Reads a width table, judges it, and judges whether planes stored under it can

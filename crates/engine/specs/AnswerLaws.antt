@@ -2,7 +2,7 @@
 use Prim.Native.Nat.{ℕ}
 use mathlib.Core.Bool.{Bool, true}
 use mathlib.Core.List.{List}
-use mathlib.Core.Path.{_≡_, refl, sym, _∙_, ap, subst, subst₂}
+use mathlib.Core.Path.{_≡_, refl, sym, _∙_, ap, ap₂, subst, subst₂}
 use lib.Dec.{leb}
 use lib.ListN.{length}
 use lib.IntN.{ℤ}
@@ -12,11 +12,11 @@ use Rattle.refusals.specs.AnswerLaws.{gives-done, gives-refused, then-right, th
 use Rattle.width_table.specs.declared.WidthTable.{WidthTable}
 use Rattle.width_table.specs.Table.{formRight}
 use Rattle.width_table.specs.Fields.{tableSize, valueStart, valueLength}
-use Rattle.width_table.specs.Bytes.{levelsIn, form, tableIn, writable, writing, tableBytes, bytesAfter}
+use Rattle.width_table.specs.Bytes.{levelsIn, hasFifth, form, tableIn, writable, writing, tableBytes, bytesAfter}
 use Rattle.width_table.specs.Names.{nameable, naming}
-use Rattle.width_table.specs.Changes.{changeable, withWidth, tableAfterWidth, constantChangeable, withConstant, tableAfterConstant}
+use Rattle.width_table.specs.Changes.{changeable, withWidth, tableAfterWidth, constantChangeable, withConstant, tableAfterConstant, productChangeable, withProduct, tableAfterProduct}
 use Rattle.width_table.specs.RoundTrip.{read-sized}
-use Rattle.width_table.specs.ChangeLaws.{width-form, constant-form}
+use Rattle.width_table.specs.ChangeLaws.{width-form, constant-form, product-form}
 use Rattle.precision.specs.Verdict.{verdict}
 use Rattle.precision.specs.BoundCalls.{boundable}
 use Rattle.irreversible.specs.Calls.{fixedAnswer, fixedPlaneAfter, fixedWork}
@@ -102,8 +102,8 @@ module _ (t : WidthTable) (lent : List ℕ) where
 -- ---- a new table from the old one
 
 module _ (bytes : List ℕ) (change : Answer Unit) (new : WidthTable) (out : List ℕ) where
-  abbrev room : ℕ → Answer Unit
-  room L = asks (leb (tableSize L) (length out)) 9 passed
+  abbrev room : Bool → ℕ → Answer Unit
+  room five L = asks (leb (tableSize five L) (length out)) 9 passed
 
   abbrev after : Answer Unit → List ℕ
   after o = answered o (over (tableBytes new) out) out
@@ -125,28 +125,36 @@ module _ (bytes : List ℕ) (change : Answer Unit) (new : WidthTable) (out : Lis
   abbrev GivesWritten : Answer Unit → WidthTable → Type 0
   GivesWritten o made = Gives (o then writable made out) (answered o (bytesAfter made out) out)
 
-  -- an accepted change keeps the form and the levels, so that 9 alone is left
-  change-read : form bytes ≡ passed → new .levels ≡ levelsIn bytes → (change ≡ passed → formRight new ≡ true)
+  -- an accepted change keeps the form, the levels and whether tag 5 is there, so that 9 alone is left
+  change-read : form bytes ≡ passed → new .levels ≡ levelsIn bytes → new .five ≡ hasFifth bytes → (change ≡ passed → formRight new ≡ true)
       → (o : Answer Unit) (made : WidthTable) → o ≡ change → made ≡ answered change new (tableIn bytes) → GivesWritten o made
   unfolding newTableAnswer writable bytesAfter
-  change-read e levels right o made answer table = subst₂ GivesWritten (sym answer) (sym table) (go change refl)
+  change-read e levels five right o made answer table = subst₂ GivesWritten (sym answer) (sym table) (go change refl)
     where
+      rest : Answer Unit
+      rest = room (hasFifth bytes) (levelsIn bytes)
+
       go : (o : Answer Unit) → change ≡ o → GivesWritten o (answered o new (tableIn bytes))
       go (done tt) q =
-          let formed : writable new out ≡ room (levelsIn bytes) = ap (λ (b : Bool). asks b 4 (room (new .levels))) (right q) ∙ ap room levels in
-          gives (writable new out) (then-right (form bytes) _ e ∙ then-right change (room (levelsIn bytes)) q ∙ sym formed)
-      go (refused r) q = gives (refused r) (then-right (form bytes) _ e ∙ then-refused change (room (levelsIn bytes)) r q)
+          let formed : writable new out ≡ rest = ap (λ (b : Bool). asks b 4 (room (new .five) (new .levels))) (right q) ∙ ap₂ room five levels in
+          gives (writable new out) (then-right (form bytes) _ e ∙ then-right change rest q ∙ sym formed)
+      go (refused r) q = gives (refused r) (then-right (form bytes) _ e ∙ then-refused change rest r q)
 
 module _ (bytes : List ℕ) (out : List ℕ) (e : form bytes ≡ passed) (o : Answer Unit) (made : WidthTable) where
   pub width-changed : (level pass node IB f : ℕ) → let change = changeable (tableIn bytes) level pass node IB f in
       o ≡ change → made ≡ tableAfterWidth (tableIn bytes) level pass node IB f → GivesWritten bytes change (withWidth (tableIn bytes) level pass node IB f) out o made
   unfolding tableAfterWidth tableIn
-  width-changed level pass node IB f = change-read bytes _ (withWidth (tableIn bytes) level pass node IB f) out e refl (width-form (tableIn bytes) (read-sized bytes e) level pass node IB f) o made
+  width-changed level pass node IB f = change-read bytes _ (withWidth (tableIn bytes) level pass node IB f) out e refl refl (width-form (tableIn bytes) (read-sized bytes e) level pass node IB f) o made
 
   pub constant-changed : (node F : ℕ) → let change = constantChangeable (tableIn bytes) node F in
       o ≡ change → made ≡ tableAfterConstant (tableIn bytes) node F → GivesWritten bytes change (withConstant (tableIn bytes) node F) out o made
   unfolding tableAfterConstant tableIn
-  constant-changed node F = change-read bytes _ (withConstant (tableIn bytes) node F) out e refl (constant-form (tableIn bytes) (read-sized bytes e) node F) o made
+  constant-changed node F = change-read bytes _ (withConstant (tableIn bytes) node F) out e refl refl (constant-form (tableIn bytes) (read-sized bytes e) node F) o made
+
+  pub product-changed : (level pass product fp : ℕ) → let change = productChangeable (tableIn bytes) level pass product fp in
+      o ≡ change → made ≡ tableAfterProduct (tableIn bytes) level pass product fp → GivesWritten bytes change (withProduct (tableIn bytes) level pass product fp) out o made
+  unfolding tableAfterProduct tableIn
+  product-changed level pass product fp = change-read bytes _ (withProduct (tableIn bytes) level pass product fp) out e refl refl (product-form (tableIn bytes) (read-sized bytes e) level pass product fp) o made
 
 -- ---- 9/7
 

@@ -1,15 +1,17 @@
 -- The C interface's calls: answers as numbers, and each lent slice afterwards. A width table comes as its bytes (refusals 1 to 5 first).
 use Prim.Native.Nat.{ℕ}
+use mathlib.Core.Bool.{not}
 use mathlib.Core.List.{List}
-use lib.Dec.{leb}
-use lib.ListN.{length}
+use lib.Dec.{leb, eqb}
+use lib.ListN.{length, replicate}
 use lib.IntN.{ℤ}
 use Rattle.numbers.specs.Lists.{over}
 use Rattle.refusals.specs.Answers.{Answer, passed, asks, _then_, answered}
 use Rattle.width_table.specs.declared.WidthTable.{WidthTable}
-use Rattle.width_table.specs.Fields.{tableSize, valueStart, valueLength}
-use Rattle.width_table.specs.Bytes.{levelsIn, form, tableIn, tableBytes}
-use Rattle.width_table.specs.Changes.{changeable, withWidth, constantChangeable, withConstant}
+use Rattle.width_table.specs.Table.{maxLevels}
+use Rattle.width_table.specs.Fields.{productBytes, tableSize, valueStart, valueLength}
+use Rattle.width_table.specs.Bytes.{levelsIn, hasFifth, form, tableIn, tableBytes}
+use Rattle.width_table.specs.Changes.{changeable, withWidth, constantChangeable, withConstant, productChangeable, withProduct}
 use Rattle.width_table.specs.Names.{nameable}
 use Rattle.stages.specs.Rule.{Bound}
 use Rattle.precision.specs.Verdict.{verdict}
@@ -52,7 +54,7 @@ module _ (bytes : List ℕ) (change : Answer Unit) (out : List ℕ) where
   newTableAnswer =
       form bytes
       then change
-      then asks (leb (tableSize (levelsIn bytes)) (length out)) 9 passed
+      then asks (leb (tableSize (hasFifth bytes) (levelsIn bytes)) (length out)) 9 passed
 
   unfoldable pub newTableOut : WidthTable → List ℕ
   newTableOut new = answered newTableAnswer (over (tableBytes new) out) out
@@ -73,9 +75,28 @@ module _ (bytes : List ℕ) (node F : ℕ) (out : List ℕ) where
   abbrev pub constantChangeOut : List ℕ
   constantChangeOut = newTableOut bytes (constantChangeable (tableIn bytes) node F) out (withConstant (tableIn bytes) node F)
 
--- a table from its parts
+-- with another width of a product (document 02, job 7)
+module _ (bytes : List ℕ) (level pass product fp : ℕ) (out : List ℕ) where
+  abbrev pub productChangeAnswer : Answer Unit
+  productChangeAnswer = newTableAnswer bytes (productChangeable (tableIn bytes) level pass product fp) out
+
+  abbrev pub productChangeOut : List ℕ
+  productChangeOut = newTableOut bytes (productChangeable (tableIn bytes) level pass product fp) out (withProduct (tableIn bytes) level pass product fp)
+
+-- a table from its parts; it says by a number other than 0 that it has tag 5
+abbrev pub tableWith : ℕ → ℕ → List ℕ → List ℕ → ℕ → List ℕ → WidthTable
+tableWith B L constants widths five products = record {
+  depth = B;
+  levels = L;
+  constants = constants;
+  nodes = widths;
+  five = not (eqb five 0);
+  products = products;
+}
+
+-- without tag 5
 abbrev pub tableFrom : ℕ → ℕ → List ℕ → List ℕ → WidthTable
-tableFrom B L constants widths = record { depth = B; levels = L; constants = constants; nodes = widths }
+tableFrom B L constants widths = tableWith B L constants widths 0 (replicate (productBytes maxLevels) 0)
 
 -- ---- 9/7 forward: 1 to 5 of the bytes, then the call's own
 

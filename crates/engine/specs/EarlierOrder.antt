@@ -11,7 +11,7 @@ use Rattle.numbers.specs.Lists.{over}
 use Rattle.refusals.specs.Answers.{Answer, passed, asks, _then_, answered}
 use Rattle.width_table.specs.declared.WidthTable.{WidthTable}
 use Rattle.width_table.specs.Fields.{tableSize, valueStart, valueLength}
-use Rattle.width_table.specs.Bytes.{levelsIn, tableIn, tableBytes}
+use Rattle.width_table.specs.Bytes.{levelsIn, hasFifth, tableIn, tableBytes}
 use Rattle.width_table.specs.EarlierOrder.{earlierForm, earlierNameable, Changes, call-changes, same-after, same-lent, same-named}
 use Rattle.precision.specs.Verdict.{verdict}
 use Rattle.precision.specs.BoundCalls.{boundable}
@@ -64,10 +64,10 @@ module _ (bytes : List ℕ) where
     unfolding errorAfter boundAnswered
     same-error error = same-lent bytes (boundable (tableIn bytes) level pass node) (boundIn bytes level pass node .error) error
 
-  -- suz_table_change, suz_table_change_constant
+  -- suz_table_change, suz_table_change_constant, suz_table_change_product
   module _ (change : Answer Unit) (out : List ℕ) where
     abbrev rest : Answer Unit
-    rest = change then asks (leb (tableSize (levelsIn bytes)) (length out)) 9 passed
+    rest = change then asks (leb (tableSize (hasFifth bytes) (levelsIn bytes)) (length out)) 9 passed
 
     pub new-table-changes : Changes bytes (earlierForm bytes then rest) (newTableAnswer bytes change out)
     unfolding newTableAnswer

@@ -3,6 +3,7 @@
 --   Promises     what an answer of 0 promises, at the bytes: demand 3, viewing
 --   Zero         an answer of 0 says that the call was done
 --   EarlierOrder what document 02, job 3, changed of each call
+--   WithoutProducts what each call does with a table without tag 5 (document 02, job 7): what it did
 --   AnswerLaws   what the answers of the calls below say of them
 --   ScanAnswers  the calls of a rolling scan, whose scan is bytes of the caller
 --   ScanLaws     what the answers of the calls below say of them
@@ -12,6 +13,7 @@ pub mod Zero
 pub mod Promises
 pub mod AnswerLaws
 pub mod EarlierOrder
+pub mod WithoutProducts
 pub mod ScanAnswers
 pub mod ScanLaws
 pub mod ScanClaims

@@ -1,4 +1,4 @@
--- What an answer of 0 promises, at the bytes (document 01, demand 3; document 02, job 1).
+-- What an answer of 0 promises, at the bytes (document 01, demand 3; document 02, job 1), of tables with tag 5 too (job 7).
 use Prim.Native.Nat.{ℕ, suc, _+_, _*_, _-_, _^_, _<_, _≤_}
 use mathlib.Core.List.{List}
 use mathlib.Core.Path.{_≡_, sym, _∙_, ap, subst}

@@ -22,7 +22,7 @@ use Rattle.rolling_claims.specs.Claims.{Calls, begun, line, line-refused, end, 
 use Rattle.rolling_claims.specs.History.{facts, table-kept}
 use Rattle.rolling_claims.specs.Possible.{foreign-refused}
 use Rattle.rolling_claims.specs.Theorems.{before-end, after-end, refused-keeps}
-use Rattle.scan_bytes.specs.ScanBytes.{tableLength, scanLength, stateBytes, keepable, scanHeld, scanIn, stateWith, noScan}
+use Rattle.scan_bytes.specs.ScanBytes.{scanLength, stateBytes, keepable, tableEnd, scanHeld, scanIn, stateWith, noScan}
 use Rattle.scan_bytes.specs.ByteLaws.{Keepable, kept-is, room, state-long, read-written, read-is, read-refused, read-formed, written-read, zeros-hold-none}
 use Rattle.engine.specs.ScanAnswers.{begins, scanBeginAnswer, scanBeginState, givenAfter, OnScan, OnBytes, LineOnBytes, EndOnBytes}
 use Rattle.engine.specs.ScanLaws.{begun-kept, line-kept, end-kept, roomy-long}
@@ -237,8 +237,8 @@ module _ (bytes : List ℕ) (formed : form bytes ≡ passed) where
 module _ (state : List ℕ) (below : (k : ℕ) → k < length state → getD state k 0 < 256) (long : scanLength ≤ length state) (foreign : ¬ (LeftState (take scanLength state))) where
   not-left : (s : Scan) → scanIn state ≡ done s → ¬ (Left s)
   not-left s e l =
-      let table = take tableLength state in
-      let formed = read-formed state below s e in
+      let table = take (tableEnd state) state in
+      let formed = read-formed state s e in
       let same : s .table ≡ tableIn table = ap (λ (s : Scan). s .table) (sym (read-is state s e)) in
       let calls = subst (λ (t : WidthTable). Calls t s (l .held) (l .lines) (l .strip) (l .given)) same (l .calls) in
       foreign (subst LeftState (written-read state below s e) (record { table = table; held = l .held; lines = l .lines; strip = l .strip; all = l .given; calls = as-bytes table formed calls }))

@@ -14,7 +14,7 @@ use Rattle.width_table.specs.declared.WidthTable.{WidthTable}
 use Rattle.width_table.specs.Nodes.{TableNode, bookOrder}
 use Rattle.width_table.specs.Table.{formRight, integerBits, fractionBits}
 use Rattle.width_table.specs.Fields.{Field, headBytes, fields}
-use Rattle.width_table.specs.Bytes.{announced, headed, field, formBy, levelsIn, form, tableIn}
+use Rattle.width_table.specs.Bytes.{announced, headed, field, formBy, levelsIn, hasFifth, form, tableIn}
 use Rattle.pictures.specs.Pictures.{sideRight, sided, holds, pixelsRight}
 use Rattle.stages.specs.Rule.{Bound}
 use Rattle.precision.specs.Bounds.{boundOf}
@@ -53,7 +53,7 @@ formed-from-one (f ∷ fs) bytes =
 
 form-from-one : (bytes : List ℕ) → FromOne (form bytes)
 unfolding form
-form-from-one bytes = formed-from-one (fields (levelsIn bytes)) bytes
+form-from-one bytes = formed-from-one (fields (hasFifth bytes) (levelsIn bytes)) bytes
 
 judged-from-one : (b : Bound) (IB f : ℕ) (kept : Bool) (place : List ℕ) → FromOne (judgedBy b IB f kept place)
 judged-from-one b IB f kept place = asks-from-one (fits b IB f) (6, place) _ (omega arith) (asks-from-one (not kept || belowTwoSteps b f) (7, place) passed (omega arith) (done-from-one tt))

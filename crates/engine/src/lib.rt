@@ -9,7 +9,7 @@ ghost use Rattle.width_table.specs.Bytes.{form, writable, bytesAfter};
 ghost use Rattle.width_table.specs.Names.{nameable};
 ghost use Rattle.reversible.specs.Reversible.{columnsThenRows, rowsThenColumns};
 ghost use Rattle.reversible.specs.Calls.{forwardAnswer, forwardPlane, forwardWork, backAnswer, backPixels, backWork};
-ghost use Rattle.engine.specs.Answers.{checked, boundAnswered, rangeAfter, errorAfter, startAfter, lengthAfter, changeAnswer, changeOut, constantChangeAnswer, constantChangeOut, tableFrom, answer97, plane97, work97, viewChecked, distanceAfter, viewAnswer97, viewPixels97, viewWork97};
+ghost use Rattle.engine.specs.Answers.{checked, boundAnswered, rangeAfter, errorAfter, startAfter, lengthAfter, changeAnswer, changeOut, constantChangeAnswer, constantChangeOut, productChangeAnswer, productChangeOut, tableWith, tableFrom, answer97, plane97, work97, viewChecked, distanceAfter, viewAnswer97, viewPixels97, viewWork97};
 ghost use Rattle.rolling.specs.Calls.{outLines};
 ghost use Rattle.rolling.specs.Told.{toldGiven};
 ghost use Rattle.scan_bytes.specs.ScanBytes.{scanLength, stateWith, stateAfter, numbersAfter, noScan};
@@ -168,6 +168,30 @@ pub extern "C" fn suz_table_change_constant(table: &[u8], node: u8, bits: u8, ou
     }
 }
 
+// Reads a table, sets the width of one product, and writes the new table to out: 1 to 5, 4, 9.
+#[no_mangle]
+pub extern "C" fn suz_table_change_product(
+    table: &[u8],
+    level: u8,
+    pass: u8,
+    product: u8,
+    bits: u8,
+    out: &mut [u8],
+) -> u32
+    ensures answer { λ r. ⌜ r ≡ code (productChangeAnswer (now (table .entry)) level pass product bits (now (out .entry))) ⌝ }
+    ensures out { λ _. ⌜ now (out .exit) ≡ productChangeOut (now (table .entry)) level pass product bits (now (out .entry)) ⌝ }
+{
+    let read = WidthTable::read(table);
+    let outcome = read.outcome;
+    match outcome {
+        Outcome::Refused(why) => refusal_code(why),
+        Outcome::Done => {
+            let old = read.table;
+            change_written(old.with_product(level, pass, product, bits), out)
+        }
+    }
+}
+
 // Writes a table of these parts to out: 4, 9. The widths are those of a table in memory, with zeros at unused levels.
 #[no_mangle]
 pub extern "C" fn suz_table_write(
@@ -180,7 +204,27 @@ pub extern "C" fn suz_table_write(
     ensures answer { λ r. ⌜ r ≡ code (writable (tableFrom depth levels (now (constants .entry)) (now (widths .entry))) (now (out .entry))) ⌝ }
     ensures out { λ _. ⌜ now (out .exit) ≡ bytesAfter (tableFrom depth levels (now (constants .entry)) (now (widths .entry))) (now (out .entry)) ⌝ }
 {
-    table_written(WidthTable::new(depth, levels, *constants, *widths), out)
+    let none = [0u8; WidthTable::PRODUCT_BYTES];
+    let table = WidthTable::new(depth, levels, *constants, *widths, false, none);
+    table_written(table, out)
+}
+
+// The same with the widths of products, and a number that is 0 where the table has no tag 5: 4, 9.
+#[no_mangle]
+pub extern "C" fn suz_table_write_products(
+    depth: u8,
+    levels: u8,
+    constants: &[u8; WidthTable::CONSTANTS],
+    widths: &[u8; WidthTable::NODE_BYTES],
+    five: u8,
+    products: &[u8; WidthTable::PRODUCT_BYTES],
+    out: &mut [u8],
+) -> u32
+    ensures answer { λ r. ⌜ r ≡ code (writable (tableWith depth levels (now (constants .entry)) (now (widths .entry)) five (now (products .entry))) (now (out .entry))) ⌝ }
+    ensures out { λ _. ⌜ now (out .exit) ≡ bytesAfter (tableWith depth levels (now (constants .entry)) (now (widths .entry)) five (now (products .entry))) (now (out .entry)) ⌝ }
+{
+    let table = WidthTable::new(depth, levels, *constants, *widths, five != 0, *products);
+    table_written(table, out)
 }
 
 // 5/3 forward, columns before rows: 4, 8, 9, 10.

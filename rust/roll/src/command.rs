@@ -19,11 +19,16 @@ roll - works scanned pictures of punched rolls
                                         status tells: 0 yes, 1 no. With --view:
                                         can its planes be viewed, too?
   roll show TABLE                       its widths, bounds and head-room
-  roll suggest [--view] DEPTH LEVELS [OUT]
+  roll suggest [--view] [--products] DEPTH LEVELS [OUT]
                                         a tight table that is accepted; written
                                         to OUT, or shown. With --view: one whose
                                         planes can be viewed, with the finest
-                                        steps, and how far that leads at most
+                                        steps, and how far that leads at most.
+                                        With --products: with the least product
+                                        widths that are accepted beside it
+  roll suggest [--view] --products --table TABLE [OUT]
+                                        TABLE with the least product widths that
+                                        are accepted beside its other numbers
   roll text TABLE                       the table as lines of text, to edit
   roll table TEXT OUT                   such a text made into a table
   roll change TABLE LEVEL PASS NODE IB f OUT
@@ -31,6 +36,9 @@ roll - works scanned pictures of punched rolls
                                         fractional bits f
   roll constant TABLE NODE F OUT        the constant of a node with other
                                         fractional bits F
+  roll product TABLE LEVEL PASS STEP fp OUT
+                                        the product of a step with other
+                                        fractional bits fp
   roll forward97 TABLE IN.pgm OUT       9/7 coefficients under a width table
   roll scan TABLE IN.pgm OUT            the same line by line, of a strip of any
                                         height; TABLE has one level, and - for
@@ -50,8 +58,9 @@ roll - works scanned pictures of punched rolls
   roll sample DIR                       a drawn roll and some tables to try
   roll --help
 
-TABLE is a width table as bytes: 20 + 36 * levels. Depth is 1 to 12 bits,
-levels 1 to 5; a side is 1 to 4096, whatever the levels.
+TABLE is a width table as bytes: 20 + 36 * levels, or 23 + 48 * levels with
+product widths. Depth is 1 to 12 bits, levels 1 to 5; a side is 1 to 4096,
+whatever the levels.
 
 TEXT has the same numbers, in lines of any order; # starts a comment:
 
@@ -62,13 +71,24 @@ TEXT has the same numbers, in lines of any order; # starts a comment:
   1 rows P1 12 20                       level, pass, node, IB (1 to 12) and f (0
                                         to 20); each node of each level has such
                                         a line
+  product 1 rows P1 15                  level, pass, step and fp (0 to 44); each
+                                        step of each level has such a line, or
+                                        none has
 
 PASS is rows, low-columns (of row-low) or high-columns (of row-high), or 1 to
-3; NODE is P1, U1, P2, U2, G1 or G2, or 1 to 6. Numbers are digits alone.
+3; NODE is P1, U1, P2, U2, G1 or G2, or 1 to 6; STEP is P1, U1, P2 or U2, or 1
+to 4. Numbers are digits alone.
 
-`table`, `change` and `constant` write their table whether it is accepted or
-not, and tell which; `show` tells it too. All four exit 0 where the table is
-not accepted: what they were asked for is done. Ask `check` before it is used.
+Each step adds a product, its constant times the sum of two neighbours. Product
+widths say to how many fractional bits fp each is cut, downwards, before it is
+added; the cuts count when the table is judged. A table without product widths
+cuts no product. `suggest --products` gives the least: no single one of them can
+be lowered, by one or by more, without a refusal. Other numbers stay.
+
+`table`, `change`, `constant` and `product` write their table whether it is
+accepted or not, and tell which; `show` tells it too. All five exit 0 where the
+table is not accepted: what they were asked for is done. Ask `check` before it
+is used.
 
 Viewing is right to half a grey of what is stored, or it is refused 13. Tables
 that can be viewed exist with 1 level at any depth, 2 levels up to 11 bits, 3
@@ -96,6 +116,7 @@ Files of coefficients have two lines of text. The first is one of
   suzdrepa-53 columns-first             an exact copy as it is made now
   suzdrepa-53                           an exact copy made earlier, rows first
   suzdrepa-97                           9/7 coefficients
+  suzdrepa-97 product-widths            the same, under a table that has some
 
 and the second depth, levels, width and height; with 97 the width table
 follows; then the coefficients, 32-bit signed, low byte first, row by row. A
@@ -139,12 +160,32 @@ fn command(arguments: &[OsString], out: &mut dyn Write) -> Result<(), Failure> {
             "--view goes with `check` and `suggest` alone".into(),
         ));
     }
+    let products = options.products;
+    if products && name != "suggest" {
+        return Err(Failure::Usage(
+            "--products goes with `suggest` alone".into(),
+        ));
+    }
+    if options.table.is_some() && !products {
+        return Err(Failure::Usage(
+            "--table goes with `suggest --products` alone".into(),
+        ));
+    }
     match (name, files) {
+        ("suggest", to) if options.table.is_some() && to.len() < 2 => {
+            let from = options.table.unwrap_or_default();
+            suggest_products(view, from, to.first().copied(), out)
+        }
+        ("suggest", _) if options.table.is_some() => Err(Failure::Usage(
+            "`suggest --table TABLE` takes OUT and no more: depth and levels are the table's"
+                .into(),
+        )),
         ("check", [table]) if view => check_view(table, out),
         ("check", [table]) => check(table, out),
         ("show", [table]) => show_table(table, out),
-        ("suggest", [depth, levels]) => suggest_table(view, depth, levels, None, out),
-        ("suggest", [depth, levels, to]) => suggest_table(view, depth, levels, Some(to), out),
+        ("suggest", [depth, levels, to @ ..]) if to.len() < 2 => {
+            suggest_table(view, products, depth, levels, to.first().copied(), out)
+        }
         ("text", [table]) => show_text(table, out),
         ("table", [from, to]) => make_table(from, to, out),
         ("change", [table, level, pass, node, integer_bits, fraction_bits, to]) => {
@@ -164,6 +205,15 @@ fn command(arguments: &[OsString], out: &mut dyn Write) -> Result<(), Failure> {
             let bits = word("F", bits, |word| text::constant_bits(node, word))?;
             change_constant(table, node, bits, to, out)
         }
+        ("product", [table, level, pass, step, bits, to]) => {
+            let place = Place {
+                level: word("LEVEL", level, text::level)?,
+                pass: word("PASS", pass, text::pass)?,
+                node: word("STEP", step, text::step)?,
+            };
+            let bits = word("fp", bits, text::product_bits)?;
+            change_product(table, place, bits, to, out)
+        }
         ("forward97", [table, from, to]) => forward97(table, from, to, out),
         ("scan", [table, from, to]) => scan(table, from, to, out),
         ("view", [from, to]) => view97(None, from, to, out),
@@ -174,8 +224,9 @@ fn command(arguments: &[OsString], out: &mut dyn Write) -> Result<(), Failure> {
         ("picture", [from, to]) => picture(from, to, out),
         ("sample", [folder]) => write_sample(folder, out),
         (
-            "check" | "show" | "suggest" | "text" | "table" | "change" | "constant" | "forward97"
-            | "scan" | "view" | "difference" | "copy" | "restore" | "picture" | "sample",
+            "check" | "show" | "suggest" | "text" | "table" | "change" | "constant" | "product"
+            | "forward97" | "scan" | "view" | "difference" | "copy" | "restore" | "picture"
+            | "sample",
             _,
         ) => Err(Failure::Usage(format!(
             "`{name}` takes other arguments than these"
@@ -185,15 +236,17 @@ fn command(arguments: &[OsString], out: &mut dyn Write) -> Result<(), Failure> {
 }
 
 #[derive(Default)]
-struct Options {
+struct Options<'a> {
     help: bool,
     levels: Option<u8>,
     view: bool,
+    products: bool,
+    table: Option<&'a OsStr>,
 }
 
 /// Takes the options out of the arguments; after `--` there are none. What
 /// starts as a number below 0 is no option: it is told where it stands.
-fn sort(arguments: &[OsString]) -> Result<(Options, Vec<&OsStr>), Failure> {
+fn sort(arguments: &[OsString]) -> Result<(Options<'_>, Vec<&OsStr>), Failure> {
     let mut options = Options::default();
     let mut words = Vec::new();
     let mut rest = arguments.iter();
@@ -205,6 +258,15 @@ fn sort(arguments: &[OsString]) -> Result<(Options, Vec<&OsStr>), Failure> {
             options.help = true;
         } else if text == "--view" {
             options.view = true;
+        } else if text == "--products" {
+            options.products = true;
+        } else if text == "--table" {
+            let table = rest
+                .next()
+                .ok_or_else(|| Failure::Usage("--table needs a file".into()))?;
+            options.table = Some(table);
+        } else if let Some(table) = text.strip_prefix("--table=") {
+            options.table = Some(OsStr::new(table));
         } else if text == "--levels" {
             let number = rest
                 .next()
@@ -371,6 +433,7 @@ fn verdict(table: &WidthTable) -> String {
 
 fn suggest_table(
     view: bool,
+    products: bool,
     depth: &OsStr,
     levels: &OsStr,
     to: Option<&OsStr>,
@@ -378,10 +441,16 @@ fn suggest_table(
 ) -> Result<(), Failure> {
     let depth = word("DEPTH", depth, text::depth)?;
     let levels = word("LEVELS", levels, text::levels)?;
+    let progress = Progress::new();
     let suggested = match view {
-        true => suggest::suggest_viewable(depth, levels, &Progress::new()),
-        false => suggest::suggest(depth, levels, &Progress::new()),
+        true => suggest::suggest_viewable(depth, levels, &progress),
+        false => suggest::suggest(depth, levels, &progress),
     };
+    let suggested = match products {
+        true => suggested.and_then(|table| suggest::least_products(&table, &progress)),
+        false => suggested,
+    };
+    drop(progress);
     let table = suggested.map_err(|refusal| match refusal {
         Refusal::NotViewable => {
             let advice = viewing_advice(depth, levels);
@@ -389,6 +458,36 @@ fn suggest_table(
         }
         _ => Failure::Refused(refusal.to_string()),
     })?;
+    tell_suggested(&table, view, to, out)
+}
+
+fn suggest_products(
+    view: bool,
+    from: &OsStr,
+    to: Option<&OsStr>,
+    out: &mut dyn Write,
+) -> Result<(), Failure> {
+    if let Some(to) = to {
+        apart(&[from], to)?;
+    }
+    let table = WidthTable::from_bytes(&read(from)?).map_err(refused(from))?;
+    let suggested = suggest::least_products(&table, &Progress::new()).map_err(refused(from))?;
+    if view {
+        suggested
+            .viewable()
+            .map_err(viewing_refused(from, &table))?;
+    }
+    tell_suggested(&suggested, view, to, out)
+}
+
+/// Writes a suggested table, or shows it.
+fn tell_suggested(
+    table: &WidthTable,
+    view: bool,
+    to: Option<&OsStr>,
+    out: &mut dyn Write,
+) -> Result<(), Failure> {
+    let (depth, levels) = (table.depth(), table.levels());
     let viewed = match view {
         true => {
             let distance = table.view_distance();
@@ -399,29 +498,40 @@ fn suggest_table(
     };
     match to {
         None => {
-            tell(out, &show::text(&table))?;
+            tell(out, &show::text(table))?;
             viewed.map_or(Ok(()), |far| tell(out, &format!("viewable: {far}\n")))
         }
         Some(path) => {
             write(path, table.as_bytes())?;
-            let bits: usize = table
-                .places()
-                .filter_map(|place| table.width(place))
-                .map(|width| usize::from(width.integer_bits + width.fraction_bits))
-                .sum();
-            let nodes = table.places().count();
+            let widths = table.places().filter_map(|place| table.width(place));
+            let bits = average(widths.map(|width| width.integer_bits + width.fraction_bits));
+            let steps = || Place::steps(levels);
+            let products = match table.has_products() {
+                true => format!(
+                    "; {:.1} fractional bits a product, {:.1} uncut",
+                    average(steps().filter_map(|place| table.product_bits(place))),
+                    average(steps().filter_map(|place| table.full_product_bits(place)))
+                ),
+                false => String::new(),
+            };
             tell(
                 out,
                 &format!(
-                    "{}: {}, {:.1} bits a node on average{}\n",
+                    "{}: {}, {bits:.1} bits a node on average{products}{}\n",
                     shown(path),
                     show::bits_and_levels(depth, levels),
-                    bits as f64 / nodes as f64,
                     viewed.map_or(String::new(), |far| format!("; viewable: {far}"))
                 ),
             )
         }
     }
+}
+
+/// The average of some numbers; there is one at least.
+fn average(numbers: impl Iterator<Item = u8>) -> f64 {
+    let add = |(sum, count), number: u8| (sum + u32::from(number), count + 1);
+    let (sum, count) = numbers.fold((0, 0u32), add);
+    f64::from(sum) / f64::from(count)
 }
 
 fn show_text(path: &OsStr, out: &mut dyn Write) -> Result<(), Failure> {
@@ -445,20 +555,9 @@ fn change_width(
 ) -> Result<(), Failure> {
     apart(&[from], to)?;
     let table = WidthTable::from_bytes(&read(from)?).map_err(refused(from))?;
-    let levels = table.levels();
     let new = table
         .with_width(place, width)
-        .map_err(|refusal| match refusal {
-            // The other numbers are within their limits.
-            Refusal::OutsideLimits if place.level > levels => Failure::Refused(format!(
-                "{}: refused {}: the table has {}, there is no level {}",
-                shown(from),
-                refusal.number(),
-                counted(levels, "level"),
-                place.level
-            )),
-            _ => refused(from)(refusal),
-        })?;
+        .map_err(level_refused(from, &table, place))?;
     write_table(&new, to, out)
 }
 
@@ -474,6 +573,48 @@ fn change_constant(
     // The bits are within their limits, so nothing is refused.
     let new = table.with_constant(node, bits).map_err(refused(from))?;
     write_table(&new, to, out)
+}
+
+fn change_product(
+    from: &OsStr,
+    place: Place,
+    bits: u8,
+    to: &OsStr,
+    out: &mut dyn Write,
+) -> Result<(), Failure> {
+    apart(&[from], to)?;
+    let table = WidthTable::from_bytes(&read(from)?).map_err(refused(from))?;
+    let new = table
+        .with_product(place, bits)
+        .map_err(|refusal| match refusal {
+            Refusal::OutsideLimits if !table.has_products() => Failure::Refused(format!(
+                "{}: refused {}: the table has no product widths; \
+                 `roll suggest --products --table` gives it some",
+                shown(from),
+                refusal.number(),
+            )),
+            _ => level_refused(from, &table, place)(refusal),
+        })?;
+    write_table(&new, to, out)
+}
+
+/// As [`refused`], where all numbers but the level are within their limits.
+fn level_refused<'a>(
+    path: &'a OsStr,
+    table: &'a WidthTable,
+    place: Place,
+) -> impl Fn(Refusal) -> Failure + 'a {
+    let levels = table.levels();
+    move |refusal| match refusal {
+        Refusal::OutsideLimits if place.level > levels => Failure::Refused(format!(
+            "{}: refused {}: the table has {}, there is no level {}",
+            shown(path),
+            refusal.number(),
+            counted(levels, "level"),
+            place.level
+        )),
+        _ => refused(path)(refusal),
+    }
 }
 
 /// Writes a table that need not be accepted, and tells whether it is.

@@ -3,11 +3,14 @@
 //! Two lines of text, then bytes:
 //!
 //! ```text
-//! suzdrepa-53 columns-first        or  suzdrepa-53  or  suzdrepa-97
+//! suzdrepa-53 columns-first        or one of the other first lines below
 //! DEPTH LEVELS WIDTH HEIGHT        decimal numbers, one space between
 //! (suzdrepa-97 only) the width table, 20 + 36 * LEVELS bytes
 //! WIDTH * HEIGHT coefficients, 32-bit signed, low byte first, row by row
 //! ```
+//!
+//! The first line is `suzdrepa-53 columns-first` or `suzdrepa-53` for an exact
+//! copy, `suzdrepa-97` or `suzdrepa-97 product-widths` for 9/7 coefficients.
 //!
 //! Nothing follows the last coefficient. HEIGHT is any number: where a rolling
 //! scan gave the plane (suzdrepa-97 with one level) it may be above 4096.
@@ -17,6 +20,9 @@
 //! orders have no mark: their copies were worked rows first. A tool of that
 //! time does not know the mark and says so; it never takes a new copy for one
 //! of its own.
+//!
+//! `suzdrepa-97 product-widths` is the mark of a width table with tag 5, which
+//! is 23 + 48 * LEVELS bytes: a first coefficient may begin with a byte 5 too.
 
 use suzdrepa::WidthTable;
 
@@ -52,12 +58,17 @@ pub enum Order {
 const COLUMNS_FIRST: &str = "suzdrepa-53 columns-first";
 const ROWS_FIRST: &str = "suzdrepa-53";
 const FIXED: &str = "suzdrepa-97";
+const FIXED_WITH_PRODUCTS: &str = "suzdrepa-97 product-widths";
+
+/// Every first line.
+const FIRST_LINES: [&str; 4] = [COLUMNS_FIRST, ROWS_FIRST, FIXED, FIXED_WITH_PRODUCTS];
 
 impl Kind {
     fn first_line(&self) -> &'static str {
         match self {
             Kind::ExactCopy(Order::ColumnsFirst) => COLUMNS_FIRST,
             Kind::ExactCopy(Order::RowsFirst) => ROWS_FIRST,
+            Kind::Fixed(table) if table.has_products() => FIXED_WITH_PRODUCTS,
             Kind::Fixed(_) => FIXED,
         }
     }
@@ -94,10 +105,10 @@ pub fn coefficients(values: &[i32]) -> impl Iterator<Item = u8> + '_ {
 
 impl Plane {
     pub fn read(bytes: &[u8]) -> Result<Plane, String> {
-        let unknown = "not a file of coefficients \
-                       (suzdrepa-53 columns-first, suzdrepa-53 or suzdrepa-97)";
+        let unknown = "not a file of coefficients (suzdrepa-53 columns-first, \
+                       suzdrepa-53, suzdrepa-97 or suzdrepa-97 product-widths)";
         let (first, rest) = line(bytes)
-            .filter(|(first, _)| [COLUMNS_FIRST, ROWS_FIRST, FIXED].contains(first))
+            .filter(|(first, _)| FIRST_LINES.contains(first))
             .ok_or(unknown)?;
         let wrong = "the second line is not depth, levels, width and height";
         let (shape, mut rest) = line(rest).ok_or(wrong)?;
@@ -113,7 +124,10 @@ impl Plane {
             COLUMNS_FIRST => Kind::ExactCopy(Order::ColumnsFirst),
             ROWS_FIRST => Kind::ExactCopy(Order::RowsFirst),
             _ => {
-                let length = WidthTable::length(levels);
+                let length = match first {
+                    FIXED_WITH_PRODUCTS => WidthTable::length_with_products(levels),
+                    _ => WidthTable::length(levels),
+                };
                 if rest.len() < length {
                     return Err("the file ends within its width table".into());
                 }
@@ -183,9 +197,24 @@ mod tests {
         }
     }
 
+    fn fixed_with_products() -> Plane {
+        let Kind::Fixed(table) = fixed().kind else {
+            panic!("not under a table");
+        };
+        Plane {
+            kind: Kind::Fixed(table.with_products(|_| 15).unwrap()),
+            ..fixed()
+        }
+    }
+
     /// A plane of each kind.
-    fn planes() -> [Plane; 3] {
-        [copy(Order::ColumnsFirst), copy(Order::RowsFirst), fixed()]
+    fn planes() -> [Plane; 4] {
+        [
+            copy(Order::ColumnsFirst),
+            copy(Order::RowsFirst),
+            fixed(),
+            fixed_with_products(),
+        ]
     }
 
     #[test]
@@ -194,6 +223,7 @@ mod tests {
             &b"suzdrepa-53 columns-first\n3 1 2 3\n\x01\x00\x00\x00"[..],
             b"suzdrepa-53\n3 1 2 3\n\x01\x00\x00\x00",
             b"suzdrepa-97\n3 1 2 3\n\x01\x00\x01\x03",
+            b"suzdrepa-97 product-widths\n3 1 2 3\n\x01\x00\x01\x03",
         ];
         for (plane, start) in planes().into_iter().zip(starts) {
             let bytes = plane.write();
@@ -213,6 +243,32 @@ mod tests {
         let unmarked = [kept, rest.strip_prefix(b" columns-first").unwrap()].concat();
         assert_eq!(unmarked, earlier.write());
         assert_eq!(Plane::read(&unmarked), Ok(earlier));
+    }
+
+    /// The mark alone tells whether tag 5 follows: the coefficients may begin as
+    /// it does.
+    #[test]
+    fn coefficients_that_look_like_tag_5() {
+        let mut values = vec![0x000C_0005, 0, 0, 0x0500_0000];
+        values.resize(6, 0);
+        let plane = Plane { values, ..fixed() };
+        let bytes = plane.write();
+        let table = WidthTable::length(1);
+        let at = b"suzdrepa-97\n3 1 2 3\n".len() + table;
+        assert_eq!(bytes[at..][..3], [5, 0, 12]);
+        assert_eq!(Plane::read(&bytes), Ok(plane));
+        // With the mark taken away, and with one put in.
+        let read = |bytes: &[u8], from: &str, to: &str| {
+            let rest = bytes.strip_prefix(from.as_bytes()).unwrap();
+            Plane::read(&[to.as_bytes(), rest].concat()).unwrap_err()
+        };
+        let marked = fixed_with_products().write();
+        let error = read(&marked, FIXED_WITH_PRODUCTS, FIXED);
+        assert!(error.contains("15 bytes follow"), "{error}");
+        let error = read(&fixed().write(), FIXED, FIXED_WITH_PRODUCTS);
+        assert!(error.contains("refused 5"), "{error}");
+        let error = read(&bytes, FIXED, FIXED_WITH_PRODUCTS);
+        assert!(error.contains("before its last coefficient"), "{error}");
     }
 
     #[test]
@@ -244,6 +300,9 @@ mod tests {
             " suzdrepa-53",
             "suzdrepa-97 ",
             "suzdrepa-97 columns-first",
+            "suzdrepa-97 product-widths ",
+            "suzdrepa-97 products",
+            "suzdrepa-53 product-widths",
         ] {
             let rest = &copy(Order::RowsFirst).write()["suzdrepa-53".len()..];
             let error = Plane::read(&[first.as_bytes(), rest].concat()).unwrap_err();

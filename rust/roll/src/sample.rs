@@ -2,7 +2,7 @@
 
 use crate::pgm::Picture;
 use crate::progress::Progress;
-use crate::suggest::{moved, suggest, suggest_viewable};
+use crate::suggest::{least_products, moved, suggest, suggest_viewable};
 use suzdrepa::{Node, Pass, Place, Refusal, Width, WidthTable};
 
 /// The files of the sample, by name.
@@ -12,6 +12,9 @@ pub fn files(progress: &Progress) -> Result<Vec<(&'static str, Vec<u8>)>, Refusa
     let museum = suggest(8, 5, progress)?;
     // Its planes can be viewed; five levels of eight bits never can.
     let archive = suggest_viewable(8, 3, progress)?;
+    // For a board with small multipliers: the church's, with its products cut as
+    // far as is accepted.
+    let board = least_products(&church, progress)?;
     // As in a table that was cut too close at the third level.
     let third = Place::new(3, Pass::Rows, Node::P1);
     let narrow = moved(&museum, third, -1, 0).ok_or(Refusal::OutsideLimits)?;
@@ -25,6 +28,7 @@ pub fn files(progress: &Progress) -> Result<Vec<(&'static str, Vec<u8>)>, Refusa
         ("church.table", church.to_bytes()),
         ("museum.table", museum.to_bytes()),
         ("archive.table", archive.to_bytes()),
+        ("board.table", board.to_bytes()),
         ("refused6.table", narrow.to_bytes()),
         ("refused7.table", rough.to_bytes()),
     ])
@@ -96,6 +100,16 @@ mod tests {
         assert_eq!(viewable("archive.table"), Ok(()));
         assert_eq!(viewable("church.table"), Err(Refusal::NotViewable));
         assert_eq!(viewable("museum.table"), Err(Refusal::NotViewable));
+        assert_eq!(number("board.table"), 0);
+        let table = |name: &str| {
+            let (_, bytes) = files.iter().find(|(n, _)| *n == name).unwrap();
+            WidthTable::from_bytes(bytes).unwrap()
+        };
+        assert!(table("board.table").has_products());
+        assert_eq!(
+            table("board.table").without_products(),
+            table("church.table")
+        );
         assert_eq!(number("refused6.table"), 6);
         assert_eq!(number("refused7.table"), 7);
     }

@@ -37,13 +37,26 @@ fn bounds(table: &WidthTable, place: Place, width: Width, verdict: Result<(), Re
     )
 }
 
+/// The bits of a step's product: what it is cut to, and what it has uncut. Empty
+/// where the table has no product widths.
+fn product(table: &WidthTable, place: Place) -> String {
+    if !table.has_products() {
+        return String::new();
+    }
+    let number = |bits: Option<u8>| bits.map_or(String::new(), |bits| bits.to_string());
+    let bits = table.product_bits(place);
+    let full = table.full_product_bits(place);
+    format!("  {:>3} {:>3}", number(bits), number(full))
+}
+
 /// Depth and levels in words.
 pub fn bits_and_levels(depth: u8, levels: u8) -> String {
     format!("{}, {}", counted(depth, "bit"), counted(levels, "level"))
 }
 
-/// The table as text: widths, bounds and head-room of every node. The nodes
-/// after the first refused one have no bounds.
+/// The table as text: widths, bounds and head-room of every node, and the bits
+/// of its product where the table has product widths. The nodes after the first
+/// refused one have no bounds.
 pub fn text(table: &WidthTable) -> String {
     let mut text = format!("depth {}\n", bits_and_levels(table.depth(), table.levels()));
     text += "bits of the constants:";
@@ -51,19 +64,30 @@ pub fn text(table: &WidthTable) -> String {
         text += &format!(" {node} {}", table.constant_bits(node));
     }
     text += "\n\n";
-    text += "level  pass          node   IB   f       range       error   head-room  error of kept ones in steps\n";
+    let products = match table.has_products() {
+        true => {
+            text += "fp: fractional bits that a step's product is cut to before it is added,\n";
+            text += "    where it has more; of: those that it has uncut\n\n";
+            "   fp  of"
+        }
+        false => "",
+    };
+    text += &format!(
+        "level  pass          node   IB   f{products}       range       error   head-room  error of kept ones in steps\n"
+    );
     let verdict = table.check();
     for place in table.places() {
         let Some(width) = table.width(place) else {
             continue;
         };
         let line = format!(
-            "{:>5}  {:<12}  {:<4}  {:>3} {:>3}  {}",
+            "{:>5}  {:<12}  {:<4}  {:>3} {:>3}{}  {}",
             place.level,
             place.pass,
             place.node,
             width.integer_bits,
             width.fraction_bits,
+            product(table, place),
             bounds(table, place, width, verdict),
         );
         text += line.trim_end();
@@ -108,6 +132,28 @@ mod tests {
                 "2045.91386"
             ]
         );
+    }
+
+    /// Every step has two numbers more, and stands below its heading.
+    #[test]
+    fn product_widths_are_shown_where_there_are_some() {
+        let plain = text(&table());
+        assert!(!plain.contains("fp"), "{plain}");
+        let cut = table().with_products(|place| 20 + place.node.number());
+        let shown = text(&cut.unwrap());
+        assert_eq!(shown.lines().count(), 4 + 3 + 36);
+        let lines: Vec<&str> = shown.lines().skip(6).collect();
+        let end = lines[0].find("fp  of").unwrap() + "fp  of".len();
+        for (line, place) in lines[1..].iter().zip(table().places()) {
+            let numbers = &line[end - 9..end];
+            let due = match (place.is_step(), place.node) {
+                (true, Node::P1) if place.numbers() == [1, 1, 1] => "   21  32".into(),
+                (true, node) => format!("   {}  44", 20 + node.number()),
+                (false, _) => " ".repeat(9),
+            };
+            // What is multiplied has 20 bits, but the pixels' 8.
+            assert_eq!(numbers, due, "{line}");
+        }
     }
 
     #[test]

@@ -1,5 +1,6 @@
 //! A tight table that the engine accepts, or one whose planes can also be
-//! viewed: found by asking the engine.
+//! viewed, and the least product widths beside a table's other numbers: found by
+//! asking the engine.
 
 use crate::progress::Progress;
 use suzdrepa::{Node, Place, Refusal, Width, WidthTable};
@@ -136,6 +137,47 @@ pub fn suggest_viewable(depth: u8, levels: u8, progress: &Progress) -> Result<Wi
     Ok(tightened(table, WidthTable::viewable, progress))
 }
 
+/// The least bits of a product with which the table is accepted, all its other
+/// numbers left as they are: every number from 0 on is tried, since one that is
+/// refused may have an accepted one below it. A product that is cut to the bits
+/// of its node leaves the sum nothing to lose; with a bit more, both are cut.
+fn least_product(table: &WidthTable, place: Place) -> Option<WidthTable> {
+    let bits = table.product_bits(place)?;
+    (0..bits)
+        .filter_map(|fewer| table.with_product(place, fewer).ok())
+        .find(|next| next.check().is_ok())
+}
+
+/// The table with product widths so small that no single one can be lowered, by
+/// however much, without a refusal; its other numbers stay as they are. Refused
+/// as the table without product widths is.
+pub fn least_products(table: &WidthTable, progress: &Progress) -> Result<WidthTable, Refusal> {
+    let plain = table.without_products();
+    plain.check()?;
+    let most = WidthTable::MAX_PRODUCT_BITS;
+    // Nothing is cut: the verdict is that of the table without product widths.
+    let whole = plain.with_products(|_| most)?;
+    // Evenly first, so that the first product does not take all there is.
+    let mut table = (0..most)
+        .filter_map(|bits| plain.with_products(|_| bits).ok())
+        .find(|table| table.check().is_ok())
+        .unwrap_or(whole);
+    let steps: Vec<Place> = Place::steps(table.levels()).collect();
+    // One after the other, until a whole round finds none to lower: every change
+    // makes the sum of all widths less, so that this ends.
+    loop {
+        let before = table.clone();
+        for (left, &place) in steps.iter().enumerate().rev() {
+            let products = steps.len();
+            progress.tell(&format!("product widths: {} of {products} left", left + 1));
+            table = least_product(&table, place).unwrap_or(table);
+        }
+        if table == before {
+            return Ok(table);
+        }
+    }
+}
+
 /// Whether some table of that depth and so many levels has planes that can be
 /// viewed.
 pub fn can_be_viewed(depth: u8, levels: u8) -> bool {
@@ -160,6 +202,61 @@ mod tests {
                 assert!(rougher(&table, node).is_none_or(refused));
             }
         }
+    }
+
+    /// A table with room for cuts: all else is as wide as it gets.
+    fn roomy(levels: u8) -> WidthTable {
+        WidthTable::kept_and_others(8, levels, 24, Width::new(12, 2), WIDEST).unwrap()
+    }
+
+    /// Accepted, and no single product can be lowered: not by one, and not to
+    /// any smaller number.
+    #[test]
+    fn products_are_the_least() {
+        let silent = Progress::silent();
+        let suggested = |depth, levels| suggest(depth, levels, &silent).unwrap();
+        for plain in [
+            suggested(1, 1),
+            suggested(8, 3),
+            suggested(12, 2),
+            suggested(8, 5),
+            suggest_viewable(8, 3, &silent).unwrap(),
+            roomy(1),
+            roomy(5),
+        ] {
+            let table = least_products(&plain, &silent).unwrap();
+            assert_eq!(table.check(), Ok(()));
+            assert_eq!(table.without_products(), plain);
+            assert_eq!(plain.viewable(), table.viewable());
+            let mut cut = 0;
+            for place in Place::steps(table.levels()) {
+                let bits = table.product_bits(place).unwrap();
+                for fewer in 0..bits {
+                    let lowered = table.with_product(place, fewer).unwrap();
+                    assert!(lowered.check().is_err(), "{place} {bits} {fewer}");
+                }
+                let full = plain.full_product_bits(place).unwrap();
+                assert!(bits <= full);
+                cut += usize::from(bits < full);
+            }
+            assert!(cut > 0);
+            // The same whatever product widths there were before.
+            for bits in [0, 15, 44] {
+                let before = plain.with_products(|_| bits).unwrap();
+                assert_eq!(least_products(&before, &silent).as_ref(), Ok(&table));
+            }
+        }
+    }
+
+    /// What a table is refused without product widths it is refused with any.
+    #[test]
+    fn no_products_beside_a_refused_table() {
+        let first = roomy(2).places().next().unwrap();
+        let narrow = roomy(2).with_width(first, Width::new(2, 20)).unwrap();
+        let refused = narrow.check();
+        assert_eq!(refused, Err(Refusal::DoesNotFit(first)));
+        let given = least_products(&narrow, &Progress::silent());
+        assert_eq!(given.map(|_| ()), refused);
     }
 
     #[test]

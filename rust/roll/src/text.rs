@@ -1,8 +1,10 @@
 //! A width table as lines of text that a person reads and edits.
 //!
 //! A line names one thing: the depth, the levels, the bits of the six
-//! constants, or the width of one node. Lines stand in any order; `#` starts a
-//! comment; words are parted by spaces or tabs. A line ends in LF, CR LF or CR.
+//! constants, the width of one node, or the bits of one product. A table without
+//! product widths has no line of the last kind. Lines stand in any order; `#`
+//! starts a comment; words are parted by spaces or tabs. A line ends in LF, CR LF
+//! or CR.
 
 use std::collections::BTreeMap;
 use std::fmt;
@@ -49,6 +51,18 @@ pub fn node(word: &str) -> Result<Node, String> {
                 listed(&Node::ALL.map(Node::name))
             )
         })
+}
+
+/// The step of a name, or of a number from 1 to 4: a node that has a product.
+pub fn step(word: &str) -> Result<Node, String> {
+    let is_step = |node: &Node| Node::STEPS.contains(node);
+    node(word).ok().filter(is_step).ok_or_else(|| {
+        format!(
+            "there is no step {}: it is {} (or 1 to 4)",
+            quoted(word),
+            listed(&Node::STEPS.map(Node::name))
+        )
+    })
 }
 
 /// `P1, U1 or P2`.
@@ -116,6 +130,16 @@ pub fn constant_bits(node: Node, word: &str) -> Result<u8, String> {
     within(&name, word, 1, WidthTable::MAX_CONSTANT_BITS)
 }
 
+/// The fractional bits of a product.
+pub fn product_bits(word: &str) -> Result<u8, String> {
+    within(
+        "the bits of a product are",
+        word,
+        0,
+        WidthTable::MAX_PRODUCT_BITS,
+    )
+}
+
 /// The table as text; [`read`] gives it back.
 pub fn write(table: &WidthTable) -> String {
     let mut text = format!(
@@ -158,6 +182,28 @@ pub fn write(table: &WidthTable) -> String {
             place.level, place.pass, place.node, width.integer_bits, width.fraction_bits,
         );
     }
+    if table.has_products() {
+        text += &format!(
+            "\n\
+             # Products: the fractional bits, 0 to {}, that each is cut to, where it has\n\
+             # more, before it is added. A table has such a line for each step, or none\n\
+             # at all: then no product is cut.\n\
+             #        level  pass          step  fractional bits\n",
+            WidthTable::MAX_PRODUCT_BITS,
+        );
+    }
+    for place in table.places() {
+        let Some(bits) = table.product_bits(place) else {
+            continue;
+        };
+        if place.node == Node::P1 && place.numbers() != [1, 1, 1] {
+            text += "\n";
+        }
+        text += &format!(
+            "product  {:>5}  {:<12}  {:<4}  {bits:>15}\n",
+            place.level, place.pass, place.node,
+        );
+    }
     text
 }
 
@@ -181,6 +227,7 @@ struct Said {
     levels: Option<At<u8>>,
     constants: Option<At<[u8; 6]>>,
     widths: BTreeMap<Place, At<Width>>,
+    products: BTreeMap<Place, At<u8>>,
 }
 
 /// The table of a text.
@@ -239,6 +286,13 @@ impl Said {
                 let bits = constants(rest)?;
                 put(&mut self.constants, "the constants stand", bits, line)
             }
+            ["product", ..] => {
+                let (place, bits) = product_line(words)?;
+                if let Some((_, before)) = self.products.insert(place, (bits, line)) {
+                    return Err(format!("the product of {place} stands already on line {before}"));
+                }
+                Ok(())
+            }
             [first, ..] if first.starts_with(|c: char| c.is_ascii_digit()) => {
                 let (place, width) = node_line(words)?;
                 if let Some((_, before)) = self.widths.insert(place, (width, line)) {
@@ -247,7 +301,7 @@ impl Said {
                 Ok(())
             }
             [first, ..] => Err(format!(
-                "there is no word {} here: a line starts with `depth`, `levels`, `constants` or a level",
+                "there is no word {} here: a line starts with `depth`, `levels`, `constants`, `product` or a level",
                 quoted(first)
             )),
         }
@@ -262,14 +316,16 @@ impl Said {
         let (depth, _) = self.depth.ok_or_else(|| missing("the depth is"))?;
         let (levels, levels_line) = self.levels.ok_or_else(|| missing("the levels are"))?;
         let (constants, _) = self.constants.ok_or_else(|| missing("the constants are"))?;
-        let past = self.widths.iter().filter(|(at, _)| at.level > levels);
-        if let Some((place, &(_, line))) = past.min_by_key(|(_, (_, line))| *line) {
+        let widths = self.widths.iter().map(|(at, (_, line))| (*line, at.level));
+        let products = self
+            .products
+            .iter()
+            .map(|(at, (_, line))| (*line, at.level));
+        let past = widths.chain(products).filter(|&(_, level)| level > levels);
+        if let Some((line, level)) = past.min() {
             return Err(Fault {
                 line,
-                what: format!(
-                    "level {}, but `levels` on line {levels_line} is {levels}",
-                    place.level
-                ),
+                what: format!("level {level}, but `levels` on line {levels_line} is {levels}"),
             });
         }
         let mut absent = Place::all(levels).filter(|place| !self.widths.contains_key(place));
@@ -283,8 +339,25 @@ impl Said {
             Some(&(width, _)) => width,
             None => Width::new(0, 0),
         };
+        // All products, or none.
+        let mut absent = Place::steps(levels).filter(|step| !self.products.contains_key(step));
+        let absent = absent.next().map(|first| (first, absent.count()));
+        let made = match absent {
+            _ if self.products.is_empty() => {
+                WidthTable::from_parts(depth, levels, constants, width)
+            }
+            Some((first, 0)) => return Err(missing(&format!("the product of {first} is"))),
+            Some((first, more)) => {
+                let what = format!("the product of {first} and {more} more products are");
+                return Err(missing(&what));
+            }
+            None => {
+                let product = |place| self.products.get(&place).map_or(0, |&(bits, _)| bits);
+                WidthTable::from_parts_with_products(depth, levels, constants, width, product)
+            }
+        };
         // Every number is within its limits, so nothing is refused.
-        WidthTable::from_parts(depth, levels, constants, width).map_err(|refusal| Fault {
+        made.map_err(|refusal| Fault {
             line: last,
             what: refusal.to_string(),
         })
@@ -331,6 +404,22 @@ fn node_line(words: &[&str]) -> Result<(Place, Width), String> {
     Ok((place, width))
 }
 
+/// `product`, then level, pass, step and fractional bits.
+fn product_line(words: &[&str]) -> Result<(Place, u8), String> {
+    let &[_, at_level, at_pass, at_step, bits] = words else {
+        return Err(format!(
+            "a product's line has five words (`product`, level, pass, step, fractional bits); here are {}",
+            words.len()
+        ));
+    };
+    let place = Place {
+        level: level(at_level)?,
+        pass: pass(at_pass)?,
+        node: step(at_step)?,
+    };
+    Ok((place, product_bits(bits)?))
+}
+
 #[cfg(test)]
 mod tests {
     use super::*;
@@ -359,7 +448,11 @@ mod tests {
         let (depth, levels) = (chance.within(1, 12), chance.within(1, 5));
         let constants = [(); 6].map(|()| chance.within(1, 24));
         let width = |_| Width::new(chance.within(1, 12), chance.within(0, 20));
-        WidthTable::from_parts(depth, levels, constants, width).unwrap()
+        let table = WidthTable::from_parts(depth, levels, constants, width).unwrap();
+        match chance.below(2) {
+            0 => table,
+            _ => table.with_products(|_| chance.within(0, 44)).unwrap(),
+        }
     }
 
     /// The smallest table: one level.
@@ -422,6 +515,12 @@ mod tests {
                 width.integer_bits.to_string(),
                 fraction_bits,
             ]);
+            if let Some(bits) = table.product_bits(place) {
+                let mut words = lines[lines.len() - 1][..3].to_vec();
+                words.insert(0, "product".to_owned());
+                words.push(bits.to_string());
+                lines.push(words);
+            }
         }
         for i in (1..lines.len()).rev() {
             lines.swap(i, chance.below(i + 1));
@@ -509,7 +608,7 @@ mod tests {
     #[test]
     fn what_is_wrong_with_one_line() {
         let wrong_node = "it is P1, U1, P2, U2, G1 or G2 (or 1 to 6)";
-        let start = "a line starts with `depth`, `levels`, `constants` or a level";
+        let start = "a line starts with `depth`, `levels`, `constants`, `product` or a level";
         for (line, to, what) in [
             (1, "depth 0", "the depth is 1 to 12, not `0`".to_owned()),
             (1, "depth 13", "the depth is 1 to 12, not `13`".into()),
@@ -682,6 +781,130 @@ mod tests {
         ] {
             assert_eq!(changed(line, to), format!("line {line}: {what}"), "{to}");
         }
+    }
+
+    /// Product widths are a last part of the text, and only where there are any.
+    #[test]
+    fn the_lines_of_products() {
+        let table = small().with_products(|place| 20 + place.node.number());
+        let text = write(&table.unwrap());
+        let (nodes, products) = text.split_once("\n# Products").unwrap();
+        assert_eq!(format!("{nodes}"), write(&small()));
+        let lines: Vec<&str> = products.lines().skip(3).collect();
+        let bare = |line: &str| line.split_whitespace().collect::<Vec<_>>().join(" ");
+        let words: Vec<String> = lines.iter().map(|line| bare(line)).collect();
+        let words: Vec<&String> = words.iter().filter(|line| !line.is_empty()).collect();
+        assert_eq!(words[1], "product 1 rows P1 21");
+        assert_eq!(words[12], "product 1 high-columns U2 24");
+        assert_eq!(words.len(), 1 + 12);
+        // The numbers stand below their heading.
+        assert!(lines[0].starts_with('#'));
+        for word in ["level", "fractional bits"] {
+            let end = lines[0].find(word).unwrap() + word.len();
+            assert!(lines[1].as_bytes()[end - 1].is_ascii_digit());
+            assert_eq!(lines[1].as_bytes().get(end).unwrap_or(&b' '), &b' ');
+        }
+    }
+
+    /// The plain lines and a line for each product, from line 22 on; one of them
+    /// changed, or taken out where nothing is in its place.
+    fn changed_product(line: usize, to: &str) -> String {
+        let mut lines = plain();
+        let steps = Place::steps(1).map(|at| format!("product 1 {} {} 15", at.pass, at.node));
+        lines.extend(steps);
+        let whole = read(lines.join("\n").as_bytes());
+        assert_eq!(
+            whole,
+            small().with_products(|_| 15).map_err(|_| unreachable!())
+        );
+        lines[line - 1] = to.to_owned();
+        read(lines.join("\n").as_bytes()).unwrap_err().to_string()
+    }
+
+    #[test]
+    fn what_is_wrong_with_the_line_of_a_product() {
+        let wrong_step = "it is P1, U1, P2 or U2 (or 1 to 4)";
+        let words = "a product's line has five words (`product`, level, pass, step, fractional \
+                     bits); here are";
+        for (to, what) in [
+            ("product", format!("{words} 1")),
+            ("product 1 rows P1", format!("{words} 4")),
+            ("product 1 rows P1 15 20", format!("{words} 6")),
+            ("product 0 rows P1 15", "a level is 1 to 5, not `0`".into()),
+            ("product 6 rows P1 15", "a level is 1 to 5, not `6`".into()),
+            (
+                "product 2 rows P1 15",
+                "level 2, but `levels` on line 2 is 1".into(),
+            ),
+            (
+                "product 1 columns P1 15",
+                "there is no pass `columns`: it is rows, low-columns or high-columns (or 1 to 3)"
+                    .into(),
+            ),
+            (
+                "product 1 rows G1 15",
+                format!("there is no step `G1`: {wrong_step}"),
+            ),
+            (
+                "product 1 rows 5 15",
+                format!("there is no step `5`: {wrong_step}"),
+            ),
+            (
+                "product 1 rows P1 45",
+                "the bits of a product are 0 to 44, not `45`".into(),
+            ),
+            (
+                "product 1 rows P1 -1",
+                "the bits of a product are 0 to 44, not `-1`".into(),
+            ),
+            (
+                "product 1 rows U1 15",
+                "the product of level 1, rows, U1 stands already on line 23".into(),
+            ),
+        ] {
+            // A line that stands twice is told where it stands again.
+            let at = if what.contains("already") { 24 } else { 22 };
+            let due = format!("line {at}: {what}");
+            assert_eq!(changed_product(at, to), due, "{to}");
+        }
+        // The first of several lines that are past the levels.
+        let mut lines = plain();
+        lines.push("product 3 1 1 0".into());
+        lines.push("2 1 1 1 0".into());
+        let fault = read(lines.join("\n").as_bytes()).unwrap_err();
+        assert_eq!(
+            fault.to_string(),
+            "line 22: level 3, but `levels` on line 2 is 1"
+        );
+    }
+
+    /// All products or none.
+    #[test]
+    fn products_that_are_missing() {
+        let ends = "line 33: the text ends here and the product of level 1, ";
+        for (line, step) in [(22, "rows, P1"), (33, "high-columns, U2")] {
+            let due = format!("{ends}{step} is missing");
+            assert_eq!(changed_product(line, "# taken out"), due);
+        }
+        let one = [plain(), vec!["product 1 1 1 0".into()]].concat();
+        let fault = read(one.join("\n").as_bytes()).unwrap_err();
+        assert_eq!(
+            fault.to_string(),
+            "line 22: the text ends here and the product of level 1, rows, U1 and 10 more \
+             products are missing"
+        );
+        // Nodes are told first.
+        assert_eq!(
+            changed_product(4, "product 1 1 1 0").replace("already on line 4", ""),
+            "line 22: the product of level 1, rows, P1 stands "
+        );
+        let mut lines = one;
+        lines.remove(3);
+        let fault = read(lines.join("\n").as_bytes()).unwrap_err();
+        assert_eq!(
+            fault.to_string(),
+            "line 21: the text ends here and level 1, rows, P1 is missing"
+        );
     }
 
     /// What is missing is told with the last line.

@@ -71,6 +71,7 @@ fn help() {
         "table",
         "change",
         "constant",
+        "product",
         "forward97",
         "scan",
         "view",
@@ -86,7 +87,9 @@ fn help() {
     assert!(help.contains("roll change TABLE LEVEL PASS NODE IB f OUT"));
     assert!(help.contains("roll constant TABLE NODE F OUT"));
     assert!(help.contains("roll check [--view] TABLE"));
-    assert!(help.contains("roll suggest [--view] DEPTH LEVELS [OUT]"));
+    assert!(help.contains("roll suggest [--view] [--products] DEPTH LEVELS [OUT]"));
+    assert!(help.contains("roll suggest [--view] --products --table TABLE [OUT]"));
+    assert!(help.contains("roll product TABLE LEVEL PASS STEP fp OUT"));
     assert!(help.lines().all(|line| line.len() <= 80), "{help}");
     assert_eq!(succeeds(&["-h"]), help);
     assert_eq!(succeeds(&["help"]), help);
@@ -117,6 +120,25 @@ fn wrong_command_lines() {
         "`check` and `suggest` alone",
     );
     fails(&["check", "--view"], 2, "`check` takes other arguments");
+    for command in ["check", "show", "view", "table"] {
+        fails(&[command, "--products", "a"], 2, "`suggest` alone");
+        fails(&[command, "--table", "a"], 2, "`suggest --products` alone");
+    }
+    fails(&["suggest", "--products"], 2, "`suggest` takes other");
+    fails(&["suggest", "--products", "a"], 2, "`suggest` takes other");
+    fails(&["suggest", "--products", "a", "1"], 2, "not `a`");
+    fails(&["suggest", "--products", "8", "6"], 2, "1 to 5, not `6`");
+    fails(
+        &["suggest", "--table", "a", "8", "3"],
+        2,
+        "`suggest --products` alone",
+    );
+    fails(
+        &["suggest", "--products", "--table", "a", "8", "3"],
+        2,
+        "depth and levels are the table's",
+    );
+    fails(&["suggest", "--products", "--table"], 2, "--table needs");
     fails(&["scan", "a", "b"], 2, "`scan` takes other arguments");
     fails(&["scan", "a", "b", "-"], 2, "OUT of `scan` is a file");
     fails(&["view", "a"], 2, "`view` takes other arguments");
@@ -146,6 +168,24 @@ fn wrong_command_lines() {
     for bits in ["many", "0", "25", "256", "-1", "+3", ""] {
         let text = format!("F: the bits of the constant of P1 are 1 to 24, not `{bits}`");
         fails(&["constant", "a", "P1", bits, "b"], 2, &text);
+    }
+    let product = |words: [&str; 4], text: &str| {
+        let mut arguments = vec!["product", "a"];
+        arguments.extend(words);
+        arguments.push("b");
+        fails(&arguments, 2, text);
+        arguments.pop();
+        fails(&arguments, 2, "`product` takes other arguments");
+    };
+    product(["6", "rows", "P1", "15"], "LEVEL: a level is 1 to 5");
+    product(["1", "columns", "P1", "15"], "PASS: there is no pass");
+    for step in ["G1", "G2", "5", "0", "P3", ""] {
+        let text = format!("STEP: there is no step `{step}`: it is P1, U1, P2 or U2");
+        product(["1", "rows", step, "15"], &text);
+    }
+    for bits in ["x", "45", "256", "-1", "+3", ""] {
+        let text = format!("fp: the bits of a product are 0 to 44, not `{bits}`");
+        product(["1", "rows", "P1", bits], &text);
     }
     let change = |words: [&str; 5], text: &str| {
         let mut arguments = vec!["change", "a"];
@@ -185,6 +225,16 @@ fn files_that_are_not_there() {
     fails(&["constant", &missing, "P1", "24", "x"], 2, "missing: ");
     fails(
         &["change", &missing, "1", "rows", "P1", "12", "20", "x"],
+        2,
+        "missing: ",
+    );
+    fails(
+        &["product", &missing, "1", "rows", "P1", "15", "x"],
+        2,
+        "missing: ",
+    );
+    fails(
+        &["suggest", "--products", "--table", &missing],
         2,
         "missing: ",
     );
@@ -234,7 +284,8 @@ fn tables() {
     fails(
         &["check", &long],
         1,
-        "refused 5: bytes follow the fourth field",
+        "refused 5: bytes follow the last field: any byte but 5 after the fourth, or any after \
+         the fifth",
     );
     fails(&["show", &long], 1, "refused 5");
     for length in 0..table.len() {
@@ -290,6 +341,222 @@ fn a_table_is_edited_as_text() {
             let told = succeeds(&["constant", &table, node, "24", &changed]);
             assert_eq!(told, format!("{changed}: written, {shape}, accepted\n"));
             assert_eq!(folder.bytes("changed.table"), folder.bytes("again.table"));
+        }
+    }
+}
+
+/// The numbers of the `product` lines of a text.
+fn products(text: &str) -> Vec<u8> {
+    let lines = text.lines().filter(|line| line.starts_with("product "));
+    lines
+        .map(|line| line.split_whitespace().last().unwrap().parse().unwrap())
+        .collect()
+}
+
+/// A suggested table and one of another's numbers: judged, shown, written as
+/// text and read back, changed.
+#[test]
+fn product_widths() {
+    let folder = Folder::new("product-widths");
+    let (plain, table, again) = (
+        folder.path("plain.table"),
+        folder.path("t.table"),
+        folder.path("again.table"),
+    );
+    for (depth, levels, view) in [("8", "1", true), ("8", "3", false), ("10", "5", false)] {
+        let view = if view { &["--view"][..] } else { &[] };
+        let suggest = |words: &[&str]| succeeds(&[&["suggest"], view, words].concat());
+        let plainly = suggest(&[depth, levels, &plain]);
+        let told = suggest(&["--products", depth, levels, &table]);
+        let count: usize = levels.parse().unwrap();
+        assert_eq!(folder.bytes("t.table").len(), 23 + 48 * count);
+        // The same but for the product widths, by whatever way.
+        assert!(folder
+            .bytes("t.table")
+            .starts_with(&folder.bytes("plain.table")));
+        for words in [&["--table", &plain][..], &[&format!("--table={table}")]] {
+            let by_table = suggest(&[&["--products"], words, &[&again]].concat());
+            assert_eq!(by_table, told.replace(&table, &again));
+            assert_eq!(folder.bytes("again.table"), folder.bytes("t.table"));
+            let shown = suggest(&[&["--products"], words].concat());
+            assert_eq!(shown, suggest(&["--products", depth, levels]));
+        }
+        // Product widths are told beside the rest.
+        let (before, after) = plainly.split_once(" on average").unwrap();
+        let before = before.replace(&plain, &table);
+        let (start, rest) = told.split_once(" on average; ").unwrap();
+        assert_eq!(start, before);
+        let (cut, rest) = rest.split_once(" fractional bits a product, ").unwrap();
+        let (full, rest) = rest.split_once(" uncut").unwrap();
+        assert_eq!(rest, after);
+        let (cut, full): (f64, f64) = (cut.parse().unwrap(), full.parse().unwrap());
+        assert!(cut + 5.0 < full && full < 44.0, "{told}");
+
+        assert_eq!(succeeds(&["check", &table]), format!("{table}: accepted\n"));
+        let shown = succeeds(&["show", &table]);
+        assert!(shown.ends_with("\naccepted\n"));
+        assert!(shown.contains("   IB   f   fp  of "), "{shown}");
+        assert!(!succeeds(&["show", &plain]).contains("fp"));
+
+        // As text and back.
+        let text = succeeds(&["text", &table]);
+        let numbers = products(&text);
+        assert_eq!(numbers.len(), 12 * count);
+        assert_eq!(products(&succeeds(&["text", &plain])), [0; 0]);
+        assert!(text.starts_with(&succeeds(&["text", &plain])));
+        let average = numbers.iter().map(|&bits| f64::from(bits)).sum::<f64>() / 12.0;
+        assert!((average / count as f64 - cut).abs() < 0.051);
+        let written = folder.file("t.txt", text.as_bytes());
+        let told = succeeds(&["table", &written, &again]);
+        assert!(told.ends_with(", accepted\n"), "{told}");
+        assert_eq!(folder.bytes("again.table"), folder.bytes("t.table"));
+        // Without its last lines it is the plain table.
+        let lines: Vec<&str> = text.lines().filter(|l| !l.starts_with("product")).collect();
+        let written = folder.file("t.txt", lines.join("\n").as_bytes());
+        succeeds(&["table", &written, &again]);
+        assert_eq!(folder.bytes("again.table"), folder.bytes("plain.table"));
+
+        // One product, by hand and by the command; lowered by one it is refused.
+        let first = text.lines().find(|l| l.starts_with("product")).unwrap();
+        let bits = (numbers[0] - 1).to_string();
+        let lower = format!("product 1 rows P1 {bits}");
+        let edited = folder.file("t.txt", text.replacen(first, &lower, 1).as_bytes());
+        let told = succeeds(&["table", &edited, &again]);
+        assert!(told.contains("not accepted: refused "), "{told}");
+        let changed = folder.path("changed.table");
+        for (pass, step) in [("rows", "P1"), ("1", "1")] {
+            let by_word = succeeds(&["product", &table, "1", pass, step, &bits, &changed]);
+            assert_eq!(by_word, told.replace(&again, &changed));
+            assert_eq!(folder.bytes("changed.table"), folder.bytes("again.table"));
+        }
+        let back = numbers[0].to_string();
+        succeeds(&["product", &changed, "1", "rows", "P1", &back, &again]);
+        assert_eq!(folder.bytes("again.table"), folder.bytes("t.table"));
+    }
+}
+
+/// What is refused says why; nothing is written.
+#[test]
+fn refused_product_widths() {
+    let folder = Folder::new("refused_products");
+    let (plain, table, out) = (
+        folder.path("plain.table"),
+        folder.path("t.table"),
+        folder.path("out"),
+    );
+    succeeds(&["suggest", "8", "2", &plain]);
+    succeeds(&["suggest", "--products", "8", "2", &table]);
+    fails(
+        &["product", &plain, "1", "rows", "P1", "15", &out],
+        1,
+        "plain.table: refused 4: the table has no product widths; \
+         `roll suggest --products --table` gives it some",
+    );
+    fails(
+        &["product", &table, "3", "rows", "P1", "15", &out],
+        1,
+        "t.table: refused 4: the table has 2 levels, there is no level 3",
+    );
+    // Wrong forms of the fifth field, by their numbers.
+    let bytes = folder.bytes("t.table");
+    let start = 20 + 72;
+    assert_eq!(bytes[start..][..3], [5, 0, 24]);
+    let with = |at: usize, byte: u8| {
+        let mut bytes = bytes.clone();
+        bytes[at] = byte;
+        bytes
+    };
+    for (wrong, number) in [
+        (bytes[..start + 1].to_vec(), 1),
+        (bytes[..bytes.len() - 1].to_vec(), 1),
+        (with(start + 2, 25), 3),
+        (with(start + 3, 45), 4),
+        ([&bytes[..], &[0]].concat(), 5),
+        (with(start, 6), 5),
+        (with(start, 4), 5),
+    ] {
+        let path = folder.file("wrong.table", &wrong);
+        let text = format!("wrong.table: refused {number}: ");
+        fails(&["check", &path], 1, &text);
+        fails(&["show", &path], 1, &text);
+        fails(&["text", &path], 1, &text);
+        fails(&["product", &path, "1", "1", "1", "15", &out], 1, &text);
+        fails(&["suggest", "--products", "--table", &path, &out], 1, &text);
+    }
+    // A table that is refused without product widths is so with any.
+    let mut narrow = folder.bytes("plain.table");
+    narrow[20] = 2;
+    let narrow = folder.file("narrow.table", &narrow);
+    let refused = "narrow.table: refused 6: a node does not fit (level 1, rows, P1)";
+    fails(
+        &["suggest", "--products", "--table", &narrow, &out],
+        1,
+        refused,
+    );
+    let (kept, others) = (Width::new(12, 8), Width::new(12, 20));
+    let wide = WidthTable::kept_and_others(8, 3, 24, kept, others).unwrap();
+    let wide = folder.file("wide.table", wide.as_bytes());
+    fails(
+        &["suggest", "--view", "--products", "--table", &wide, &out],
+        1,
+        "wide.table: refused 13",
+    );
+    assert!(!std::path::Path::new(&out).exists());
+    fails(
+        &["suggest", "--products", "--table", &table, &table],
+        2,
+        "is the file that is read",
+    );
+    assert_eq!(folder.bytes("t.table"), bytes);
+}
+
+/// Coefficients under a table with product widths: the engine's, kept with the
+/// table, viewed, and scanned line by line.
+#[test]
+fn coefficients_under_product_widths() {
+    let folder = Folder::new("under_products");
+    let (plain, table, plane) = (
+        folder.path("plain.table"),
+        folder.path("t.table"),
+        folder.path("plane"),
+    );
+    for (width, height, levels) in [(21, 14, "3"), (1, 30, "3"), (33, 20, "1"), (2, 2, "1")] {
+        let count: usize = levels.parse().unwrap();
+        let whole = pgm(width, height, 255);
+        let picture = folder.file("p.pgm", &whole);
+        // Room for cuts: all but the kept nodes is as wide as it gets.
+        let (kept, others) = (Width::new(7, 4), Width::new(12, 20));
+        let roomy = WidthTable::kept_and_others(8, count as u8, 24, kept, others).unwrap();
+        folder.file("plain.table", roomy.as_bytes());
+        succeeds(&["suggest", "--products", "--table", &plain, &table]);
+        let told = succeeds(&["forward97", &table, &picture, &plane]);
+        let shape = format!("{width} x {height}, {}\n", counted(levels, "level"));
+        assert!(told.ends_with(&shape), "{told}");
+        let bytes = folder.bytes("plane");
+        let head = format!("suzdrepa-97 product-widths\n8 {levels} {width} {height}\n");
+        assert!(bytes.starts_with(head.as_bytes()));
+        let length = head.len() + 23 + 48 * count + 4 * width * height;
+        assert_eq!(bytes.len(), length);
+        let stored = roll::container::Plane::read(&bytes).unwrap();
+        let pixels = roll::pgm::Picture::read(&whole).unwrap().pixels;
+        let under = |bytes: &[u8]| suzdrepa::forward97_to_vec(bytes, &pixels, width, height);
+        assert_eq!(under(&folder.bytes("t.table")), Ok(stored.values.clone()));
+        let uncut = under(&folder.bytes("plain.table")).unwrap();
+        assert!(uncut != stored.values || width < 3);
+
+        succeeds(&["picture", &plane, &folder.path("plane.png")]);
+        let viewed = folder.path("viewed.pgm");
+        succeeds(&["view", &table, &plane, &viewed]);
+        succeeds(&["difference", &picture, &viewed, &folder.path("changed.pgm")]);
+        fails(
+            &["view", &plain, &plane, &viewed],
+            2,
+            "plane: stored under another table than ",
+        );
+        if count == 1 {
+            let out = folder.path("out");
+            succeeds(&["scan", &table, &picture, &out]);
+            assert!(folder.bytes("out") == bytes);
         }
     }
 }
@@ -423,6 +690,8 @@ fn a_file_that_is_read_is_not_written() {
                 "t.table" => &[
                     &["change", &table, "1", "rows", "P1", "12", "20", to],
                     &["constant", &table, "P1", "24", to],
+                    &["product", &table, "1", "rows", "P1", "24", to],
+                    &["suggest", "--products", "--table", &table, to],
                     &["forward97", &table, &picture, to],
                     &["scan", &table, &picture, to],
                     &["scan", &table, "-", to],
@@ -1241,6 +1510,12 @@ fn random_damage_never_panics() {
     succeeds(&["forward97", &table_path, &p, &fixed]);
     let (copy, fixed) = (folder.bytes("copy"), folder.bytes("fixed"));
     let earlier = two_by_two("suzdrepa-53", [1, 1, -2, -2]);
+    // The same with product widths.
+    let (cut_path, cut_plane) = (folder.path("cut.table"), folder.path("cut"));
+    succeeds(&["suggest", "--products", "8", "2", &cut_path]);
+    succeeds(&["forward97", &cut_path, &p, &cut_plane]);
+    let (cut_table, cut_plane) = (folder.bytes("cut.table"), folder.bytes("cut"));
+    let cut_text = succeeds(&["text", &cut_path]).into_bytes();
     let out = folder.path("out");
     let mut seen = [0usize; 3];
     for _ in 0..200 {
@@ -1251,6 +1526,9 @@ fn random_damage_never_panics() {
             (&copy, &["restore", "picture"][..]),
             (&earlier, &["restore", "picture"][..]),
             (&fixed, &["restore", "picture", "view"][..]),
+            (&cut_table, &["check", "show", "text"][..]),
+            (&cut_text, &["table"][..]),
+            (&cut_plane, &["restore", "picture", "view"][..]),
         ] {
             let mut bytes = whole.clone();
             // Mostly in the head, where the structure is.
@@ -1284,9 +1562,14 @@ fn random_damage_never_panics() {
 fn the_sample() {
     let folder = Folder::new("sample");
     let told = succeeds(&["sample", folder.0.to_str().unwrap()]);
-    assert_eq!(told.lines().count(), 6);
+    assert_eq!(told.lines().count(), 7);
     succeeds(&["check", &folder.path("church.table")]);
     succeeds(&["check", &folder.path("museum.table")]);
+    succeeds(&["check", &folder.path("board.table")]);
+    let again = folder.path("again.table");
+    let church = folder.path("church.table");
+    succeeds(&["suggest", "--products", "--table", &church, &again]);
+    assert_eq!(folder.bytes("again.table"), folder.bytes("board.table"));
     succeeds(&["check", "--view", &folder.path("archive.table")]);
     for table in ["church.table", "museum.table"] {
         fails(&["check", "--view", &folder.path(table)], 1, "refused 13");

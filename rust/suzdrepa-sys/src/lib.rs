@@ -14,7 +14,7 @@
 //!   whole elements; where the length is 0 the pointer is not used and may be
 //!   null,
 //! * `start`, `length`, `range`, `error`, `distance` and `given` each point to
-//!   one number, `constants` and `widths` to an array,
+//!   one number, `constants`, `widths` and `products` to an array,
 //! * every pointer is aligned as its type asks (null is aligned),
 //! * what the call writes (`*mut`) overlaps nothing else that it is given.
 //!
@@ -46,18 +46,25 @@ pub const SUZ_MAX_SIDE: usize = 4096;
 pub const SUZ_MAX_INTEGER_BITS: u8 = 12;
 pub const SUZ_MAX_FRACTION_BITS: u8 = 20;
 pub const SUZ_MAX_CONSTANT_BITS: u8 = 24;
+pub const SUZ_MAX_PRODUCT_BITS: u8 = 44;
 
 // The bytes of a width table before its widths, and the widths of a level.
 pub const SUZ_TABLE_HEAD: usize = 20;
 pub const SUZ_TABLE_LEVEL: usize = 36;
 
-// How many numbers the constants and the widths of a table have, all levels.
+// The bytes of tag 5 before its numbers, and the numbers of a level.
+pub const SUZ_TABLE_PRODUCT_HEAD: usize = 3;
+pub const SUZ_TABLE_PRODUCT_LEVEL: usize = 12;
+
+// How many numbers the constants, the widths and the product widths of a table
+// have, all levels.
 pub const SUZ_TABLE_CONSTANTS: usize = 6;
 pub const SUZ_TABLE_WIDTHS: usize = SUZ_TABLE_LEVEL * SUZ_MAX_LEVELS as usize;
+pub const SUZ_TABLE_PRODUCTS: usize = SUZ_TABLE_PRODUCT_LEVEL * SUZ_MAX_LEVELS as usize;
 
 // The bytes of a scan's state, and the lines that a call is lent to hold and
 // for output.
-pub const SUZ_SCAN_LENGTH: usize = 60;
+pub const SUZ_SCAN_LENGTH: usize = 75;
 pub const SUZ_SCAN_HELD_LINES: usize = 7;
 pub const SUZ_SCAN_OUT_LINES: usize = 4;
 
@@ -69,7 +76,7 @@ extern "C" {
     pub fn suz_table_form(table: *const u8, table_len: usize) -> u32;
 
     /// Where the value of a tag stands in the table's bytes: 2 for the tag,
-    /// then 1 to 5.
+    /// then 1 to 5, then 2 for tag 5 where the table has none.
     pub fn suz_table_value(
         table: *const u8,
         table_len: usize,
@@ -113,12 +120,36 @@ extern "C" {
         out_len: usize,
     ) -> u32;
 
-    /// The table of these parts: 4, 9.
+    /// A new table with other bits of one product: 1 to 5, 4, 9.
+    pub fn suz_table_change_product(
+        table: *const u8,
+        table_len: usize,
+        level: u8,
+        pass: u8,
+        product: u8,
+        bits: u8,
+        out: *mut u8,
+        out_len: usize,
+    ) -> u32;
+
+    /// The table of these parts, without tag 5: 4, 9.
     pub fn suz_table_write(
         depth: u8,
         levels: u8,
         constants: *const [u8; SUZ_TABLE_CONSTANTS],
         widths: *const [u8; SUZ_TABLE_WIDTHS],
+        out: *mut u8,
+        out_len: usize,
+    ) -> u32;
+
+    /// The table of these parts, with tag 5 unless `has_products` is 0: 4, 9.
+    pub fn suz_table_write_products(
+        depth: u8,
+        levels: u8,
+        constants: *const [u8; SUZ_TABLE_CONSTANTS],
+        widths: *const [u8; SUZ_TABLE_WIDTHS],
+        has_products: u8,
+        products: *const [u8; SUZ_TABLE_PRODUCTS],
         out: *mut u8,
         out_len: usize,
     ) -> u32;

@@ -136,10 +136,23 @@ fn the_same_limits() {
             "SUZ_MAX_CONSTANT_BITS",
             usize::from(suzdrepa_sys::SUZ_MAX_CONSTANT_BITS),
         ),
+        (
+            "SUZ_MAX_PRODUCT_BITS",
+            usize::from(suzdrepa_sys::SUZ_MAX_PRODUCT_BITS),
+        ),
         ("SUZ_TABLE_HEAD", suzdrepa_sys::SUZ_TABLE_HEAD),
         ("SUZ_TABLE_LEVEL", suzdrepa_sys::SUZ_TABLE_LEVEL),
+        (
+            "SUZ_TABLE_PRODUCT_HEAD",
+            suzdrepa_sys::SUZ_TABLE_PRODUCT_HEAD,
+        ),
+        (
+            "SUZ_TABLE_PRODUCT_LEVEL",
+            suzdrepa_sys::SUZ_TABLE_PRODUCT_LEVEL,
+        ),
         ("SUZ_TABLE_CONSTANTS", suzdrepa_sys::SUZ_TABLE_CONSTANTS),
         ("SUZ_TABLE_WIDTHS", suzdrepa_sys::SUZ_TABLE_WIDTHS),
+        ("SUZ_TABLE_PRODUCTS", suzdrepa_sys::SUZ_TABLE_PRODUCTS),
         ("SUZ_SCAN_LENGTH", suzdrepa_sys::SUZ_SCAN_LENGTH),
         ("SUZ_SCAN_HELD_LINES", suzdrepa_sys::SUZ_SCAN_HELD_LINES),
         ("SUZ_SCAN_OUT_LINES", suzdrepa_sys::SUZ_SCAN_OUT_LINES),
@@ -147,4 +160,5 @@ fn the_same_limits() {
     let compiled = compiled.map(|(name, value)| (name.to_owned(), value as u64));
     assert_eq!(declared, BTreeMap::from(compiled));
     assert_eq!(declared["SUZ_TABLE_WIDTHS"], 180);
+    assert_eq!(declared["SUZ_TABLE_PRODUCTS"], 60);
 }

@@ -14,7 +14,8 @@
 //! * **width tables**: built, read, judged, changed, written ([`WidthTable`]),
 //!   or as plain bytes ([`check_table`], [`table_view`], [`view_distance`],
 //!   [`table_bound`], [`table_form`], [`table_value`], [`write_table`],
-//!   [`change_width`], [`change_constant`]).
+//!   [`write_table_with_products`], [`change_width`], [`change_constant`],
+//!   [`change_product`]).
 //!
 //! Under a table that [`check_table`] accepts, no picture of its depth and of
 //! admitted size drives a value out of its width, and every coefficient stands
@@ -83,6 +84,35 @@
 //! # Ok::<(), suzdrepa::Refusal>(())
 //! ```
 //!
+//! # Product widths
+//!
+//! Each step of the lifting adds to a value a product: its constant times the
+//! sum of two neighbours. A table may say to how many fractional bits each
+//! product is cut, downwards, before it is added, as hardware with narrow
+//! multipliers does; a table that says nothing of products cuts none. The cuts
+//! count in the error of their steps, so that an accepted table promises the
+//! same either way:
+//!
+//! ```
+//! use suzdrepa::{Refusal, Width, WidthTable};
+//!
+//! let table = WidthTable::kept_and_others(8, 1, 24, Width::new(12, 8), Width::new(12, 20))?;
+//! let pixels: Vec<u16> = (0..64).map(|i| i * i % 251).collect();
+//! let plane = suzdrepa::forward97_to_vec(table.as_bytes(), &pixels, 8, 8)?;
+//!
+//! // No product has more than 44 bits: nothing is cut.
+//! let whole = table.with_products(|_| 44)?;
+//! assert_eq!(suzdrepa::forward97_to_vec(whole.as_bytes(), &pixels, 8, 8)?, plane);
+//! // Other coefficients, but each less than two steps from the exact one.
+//! let cut = table.with_products(|_| 13)?;
+//! cut.check()?;
+//! assert_ne!(suzdrepa::forward97_to_vec(cut.as_bytes(), &pixels, 8, 8)?, plane);
+//! // Too rough for steps of 2^-8.
+//! let rough = table.with_products(|_| 12)?;
+//! assert_eq!(rough.check().unwrap_err().number(), 7);
+//! # Ok::<(), Refusal>(())
+//! ```
+//!
 //! # Strips that come line by line
 //!
 //! A [`Scan`] takes the lines of a strip one by one, however many they are, with
@@ -137,8 +167,9 @@ pub use place::{Bound, Node, Pass, Place, Width};
 pub use refusal::Refusal;
 pub use scan::{Given, GivenLine, LineKind, Scan};
 pub use table::{
-    change_constant, change_constant_into, change_width, change_width_into, check_table,
-    table_bound, table_form, table_value, table_view, view_distance, write_table, WidthTable,
+    change_constant, change_constant_into, change_product, change_product_into, change_width,
+    change_width_into, check_table, table_bound, table_form, table_value, table_view,
+    view_distance, write_table, write_table_with_products, WidthTable,
 };
 
 use suzdrepa_sys as sys;
@@ -484,10 +515,16 @@ mod tests {
         assert_eq!(refusal.number(), 1);
         let refusal = change_constant(&[], Node::P1, 1).unwrap_err();
         assert_eq!(refusal.number(), 1);
+        assert_eq!(change_product(&[], place, 1).unwrap_err().number(), 1);
+        assert_eq!(table_value(&[], 5).unwrap_err().number(), 1);
+        assert_eq!(table_value(&[], 6).unwrap_err().number(), 2);
         let widths = &mut [Width::new(0, 0); WidthTable::MAX_NODES];
         widths[..18].fill(Width::new(1, 1));
         let refusal = write_table(8, 1, [1; 6], widths, &mut []).unwrap_err();
         assert_eq!(refusal.number(), 9);
+        let products = &[0; WidthTable::MAX_PRODUCTS];
+        let refusal = write_table_with_products(8, 1, [1; 6], widths, products, &mut []);
+        assert_eq!(refusal.unwrap_err().number(), 9);
         let refusal = forward53(8, 1, &[], 2, 2, &mut [], &mut []).unwrap_err();
         assert_eq!(refusal.number(), 9);
         let refusal = inverse53(8, 1, &[], 2, 2, &mut [], &mut []).unwrap_err();

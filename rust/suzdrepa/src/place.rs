@@ -67,6 +67,10 @@ impl Node {
     /// All nodes of a pass, in table order.
     pub const ALL: [Node; 6] = [Node::P1, Node::U1, Node::P2, Node::U2, Node::G1, Node::G2];
 
+    /// The steps of the lifting, in table order: those that add a product, which
+    /// a table may cut before the sum.
+    pub const STEPS: [Node; 4] = [Node::P1, Node::U1, Node::P2, Node::U2];
+
     /// 1 to 6.
     pub const fn number(self) -> u8 {
         self as u8
@@ -146,6 +150,26 @@ impl Place {
                 Node::ALL.into_iter().map(place)
             })
         })
+    }
+
+    /// Every step of the lifting of so many levels, in table order: the places
+    /// that have a product.
+    ///
+    /// ```
+    /// use suzdrepa::{Node, Pass, Place};
+    ///
+    /// let mut steps = Place::steps(2);
+    /// assert_eq!(steps.next(), Some(Place::new(1, Pass::Rows, Node::P1)));
+    /// assert_eq!(steps.last(), Some(Place::new(2, Pass::HighColumns, Node::U2)));
+    /// assert_eq!(Place::steps(2).count(), 24);
+    /// ```
+    pub fn steps(levels: u8) -> impl Iterator<Item = Place> {
+        Place::all(levels).filter(|place| place.is_step())
+    }
+
+    /// Whether the node is one of the [steps](Node::STEPS) of the lifting.
+    pub fn is_step(self) -> bool {
+        Node::STEPS.contains(&self.node)
     }
 
     /// Level, pass and node as the C interface has them.
@@ -288,6 +312,8 @@ mod tests {
         }
         assert_eq!(Place::from_numbers(1, 0, 1), None);
         assert_eq!(Place::from_numbers(1, 1, 7), None);
+        // A product has the number of its node.
+        assert_eq!(Node::STEPS.map(Node::number), [1, 2, 3, 4]);
     }
 
     #[test]

@@ -68,10 +68,10 @@ refusals! {
     /// );
     /// ```
     1 CutShort "the bytes end before a field's tag, length or announced value is whole";
-    2 WrongTag "the tag is not the next one due, or a caller names one outside 1 to 4";
+    2 WrongTag "the tag is not the next one due, or a caller names one outside 1 to 5 or one that the table lacks";
     3 WrongLength "the length is not that tag's";
     4 OutsideLimits "a number is outside its limits, or an unused level is not zero";
-    5 TrailingBytes "bytes follow the fourth field";
+    5 TrailingBytes "bytes follow the last field: any byte but 5 after the fourth, or any after the fifth";
     6 DoesNotFit(Place) "a node does not fit";
     7 ErrorTooLarge(Place) "a kept node's error is not below two steps";
     8 SideNotAdmitted "a side is 0 or above 4,096";

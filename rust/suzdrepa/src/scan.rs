@@ -283,24 +283,33 @@ mod tests {
     }
 
     /// Where each line stands, and what it has, as the plane of the strip.
+    fn makes_up_the_plane(table: &WidthTable, width: usize, height: usize) -> Vec<i32> {
+        let strip = strip(width, height);
+        let mut plane = vec![i32::MIN; width * height];
+        let mut order = Vec::new();
+        let taken = Scan::over(table.as_bytes(), &strip, |line| {
+            let row = line.row(height as u64) as usize;
+            plane[row * width..][..width].copy_from_slice(line.values);
+            order.push((line.number, line.kind == LineKind::High));
+        });
+        assert_eq!(taken, Ok(height as u64));
+        let whole = crate::forward97_to_vec(table.as_bytes(), &strip.concat(), width, height);
+        assert_eq!(whole.as_ref(), Ok(&plane));
+        let due: Vec<_> = (0..height as u64).map(|i| (i / 2, i % 2 == 1)).collect();
+        assert_eq!(order, due);
+        plane
+    }
+
     #[test]
     fn lines_make_up_the_plane() {
+        // The second table cuts every product before the sum.
+        let (plain, cut) = (table(1), table(1).with_products(|_| 7).unwrap());
+        let mut differ = 0;
         for (width, height) in (1..7).flat_map(|w| (1..12).map(move |h| (w, h))) {
-            let strip = strip(width, height);
-            let mut plane = vec![i32::MIN; width * height];
-            let mut order = Vec::new();
-            let taken = Scan::over(table(1).as_bytes(), &strip, |line| {
-                let row = line.row(height as u64) as usize;
-                plane[row * width..][..width].copy_from_slice(line.values);
-                order.push((line.number, line.kind == LineKind::High));
-            });
-            assert_eq!(taken, Ok(height as u64));
-            let whole =
-                crate::forward97_to_vec(table(1).as_bytes(), &strip.concat(), width, height);
-            assert_eq!(whole, Ok(plane));
-            let due: Vec<_> = (0..height as u64).map(|i| (i / 2, i % 2 == 1)).collect();
-            assert_eq!(order, due);
+            let [one, other] = [&plain, &cut].map(|t| makes_up_the_plane(t, width, height));
+            differ += usize::from(one != other);
         }
+        assert!(differ > 30, "{differ}");
     }
 
     #[test]
@@ -344,6 +353,11 @@ mod tests {
         assert_eq!(begin(&[]), Refusal::CutShort);
         assert_eq!(begin(table(2).as_bytes()), Refusal::OutOfTurn);
         assert_eq!(begin(&table(1).as_bytes()[..55]), Refusal::CutShort);
+        let cut = |levels, bits| table(levels).with_products(|_| bits).unwrap();
+        assert_eq!(begin(&cut(1, 9).as_bytes()[..57]), Refusal::CutShort);
+        assert_eq!(begin(cut(2, 9).as_bytes()), Refusal::OutOfTurn);
+        // Products so rough leave too large an error.
+        assert_eq!(begin(cut(1, 0).as_bytes()).number(), 7);
         let narrow = WidthTable::uniform(4, 1, 24, Width::new(2, 20)).unwrap();
         assert_eq!(begin(narrow.as_bytes()).number(), 6);
         let narrow = WidthTable::uniform(4, 2, 24, Width::new(2, 20)).unwrap();

@@ -25,8 +25,8 @@ pub fn check_table(table: &[u8]) -> Result<(), Refusal> {
 /// Fields are read one by one. In each, the first of these that applies is the
 /// answer: tag or length is not whole (1), the tag is not the one due (2), the
 /// length is not that tag's (3), the value is not whole (1), a number is
-/// outside its limits (4). After a right fourth field, bytes that follow it are
-/// refused 5.
+/// outside its limits (4). After a right fourth field the table may end; any
+/// byte there but 5 is refused 5, and so is what follows a right fifth field.
 pub fn table_form(table: &[u8]) -> Result<(), Refusal> {
     // SAFETY: pointer and length are those of a slice.
     Refusal::from_answer(unsafe { sys::suz_table_form(table.as_ptr(), table.len()) })
@@ -97,7 +97,9 @@ pub fn table_bound(table: &[u8], place: Place) -> Result<Bound, Refusal> {
 ///
 /// Tag 1 is the depth, 2 the levels, 3 the bits of the six constants, 4 the
 /// widths of all nodes (integer bits, then fractional bits, 18 nodes a
-/// level). Any other tag is refused 2; then the whole form is judged, 1 to 5.
+/// level), 5 the bits of the products (12 a level). Any other tag is refused 2;
+/// then the whole form is judged, 1 to 5; then tag 5 is refused 2 where the
+/// table has none.
 pub fn table_value(table: &[u8], tag: u8) -> Result<&[u8], Refusal> {
     let (mut start, mut length) = (0, 0);
     // SAFETY: pointer and length are those of a slice; start and length are
@@ -199,7 +201,59 @@ pub fn change_constant_into(
     })
 }
 
-/// Writes a width table from its parts to the start of `out`.
+/// A new width table with other bits for the product of a step.
+///
+/// Refused 1 to 5 where the bytes are malformed, then 4 where the table has no
+/// product widths, where it lacks the product (G1 and G2 have none) or where
+/// the bits are outside their limits. The new table is not judged.
+///
+/// ```
+/// use suzdrepa::{change_product, Node, Pass, Place, Refusal, Width, WidthTable};
+///
+/// let table = WidthTable::uniform(8, 1, 16, Width::new(12, 12))?;
+/// let second = Place::new(1, Pass::Rows, Node::U1);
+/// let refused = change_product(table.as_bytes(), second, 9);
+/// assert_eq!(refused, Err(Refusal::OutsideLimits));
+///
+/// let table = table.with_products(|_| 20)?;
+/// let rougher = change_product(table.as_bytes(), second, 9)?;
+/// assert_eq!(suzdrepa::table_value(&rougher, 5)?[..4], [20, 9, 20, 20]);
+/// # Ok::<(), Refusal>(())
+/// ```
+pub fn change_product(table: &[u8], place: Place, bits: u8) -> Result<Vec<u8>, Refusal> {
+    // A table is written as long as it was read.
+    let mut out = vec![0; table.len()];
+    change_product_into(table, place, bits, &mut out)?;
+    Ok(out)
+}
+
+/// As [`change_product`], but writes the new table to the start of `out`;
+/// refused 9 where `out` is shorter than the table.
+pub fn change_product_into(
+    table: &[u8],
+    place: Place,
+    bits: u8,
+    out: &mut [u8],
+) -> Result<(), Refusal> {
+    // A product has the number of its node.
+    let [level, pass, product] = place.numbers();
+    // SAFETY: pointers and lengths are those of slices; `out` is exclusive.
+    Refusal::from_answer(unsafe {
+        sys::suz_table_change_product(
+            table.as_ptr(),
+            table.len(),
+            level,
+            pass,
+            product,
+            bits,
+            out.as_mut_ptr(),
+            out.len(),
+        )
+    })
+}
+
+/// Writes a width table without product widths from its parts to the start of
+/// `out`.
 ///
 /// `widths` has every node of the maximum of levels in table order, as
 /// [`Place::all`] gives them; at levels that are not used both numbers are 0.
@@ -228,10 +282,6 @@ pub fn write_table(
     widths: &[Width; WidthTable::MAX_NODES],
     out: &mut [u8],
 ) -> Result<(), Refusal> {
-    let mut pairs = [0; sys::SUZ_TABLE_WIDTHS];
-    for (pair, width) in pairs.chunks_exact_mut(2).zip(widths) {
-        pair.copy_from_slice(&[width.integer_bits, width.fraction_bits]);
-    }
     // SAFETY: the arrays have the counts that the call reads; `out` is an
     // exclusive slice.
     Refusal::from_answer(unsafe {
@@ -239,14 +289,71 @@ pub fn write_table(
             depth,
             levels,
             &constant_bits,
-            &pairs,
+            &pairs(widths),
             out.as_mut_ptr(),
             out.len(),
         )
     })
 }
 
-// Where the values of the four fields start in the bytes of a table.
+/// As [`write_table`], of a table with product widths.
+///
+/// `products` has the bits of every product of the maximum of levels in table
+/// order, as [`Place::steps`] gives them; at levels that are not used they are
+/// 0. Refused as [`write_table`].
+///
+/// ```
+/// use suzdrepa::{write_table_with_products, Refusal, Width, WidthTable};
+///
+/// let mut widths = [Width::new(0, 0); WidthTable::MAX_NODES];
+/// let mut products = [0; WidthTable::MAX_PRODUCTS];
+/// // Two levels, 18 nodes and 12 products each.
+/// widths[..36].fill(Width::new(12, 12));
+/// products[..24].fill(15);
+/// let mut out = [0; WidthTable::length_with_products(2)];
+/// write_table_with_products(8, 2, [16; 6], &widths, &products, &mut out)?;
+/// let due = WidthTable::uniform(8, 2, 16, Width::new(12, 12))?.with_products(|_| 15)?;
+/// assert_eq!(out, due.as_bytes());
+///
+/// products[59] = 15;
+/// let refused = write_table_with_products(8, 2, [16; 6], &widths, &products, &mut out);
+/// assert_eq!(refused, Err(Refusal::OutsideLimits));
+/// # Ok::<(), Refusal>(())
+/// ```
+pub fn write_table_with_products(
+    depth: u8,
+    levels: u8,
+    constant_bits: [u8; sys::SUZ_TABLE_CONSTANTS],
+    widths: &[Width; WidthTable::MAX_NODES],
+    products: &[u8; WidthTable::MAX_PRODUCTS],
+    out: &mut [u8],
+) -> Result<(), Refusal> {
+    // SAFETY: the arrays have the counts that the call reads; `out` is an
+    // exclusive slice.
+    Refusal::from_answer(unsafe {
+        sys::suz_table_write_products(
+            depth,
+            levels,
+            &constant_bits,
+            &pairs(widths),
+            1,
+            products,
+            out.as_mut_ptr(),
+            out.len(),
+        )
+    })
+}
+
+/// The widths as the C interface has them.
+fn pairs(widths: &[Width; WidthTable::MAX_NODES]) -> [u8; sys::SUZ_TABLE_WIDTHS] {
+    let mut pairs = [0; sys::SUZ_TABLE_WIDTHS];
+    for (pair, width) in pairs.chunks_exact_mut(2).zip(widths) {
+        pair.copy_from_slice(&[width.integer_bits, width.fraction_bits]);
+    }
+    pairs
+}
+
+// Where the values of the first four fields start in the bytes of a table.
 const DEPTH_START: usize = 3;
 const LEVELS_START: usize = 7;
 const CONSTANTS_START: usize = 11;
@@ -256,6 +363,11 @@ const NODES_START: usize = sys::SUZ_TABLE_HEAD;
 const PASS_BYTES: usize = 2 * Node::ALL.len();
 const LEVEL_BYTES: usize = sys::SUZ_TABLE_LEVEL;
 const _: () = assert!(LEVEL_BYTES == PASS_BYTES * Pass::ALL.len());
+
+// Bytes of the products of a pass, and of a level: a product has one.
+const PASS_PRODUCTS: usize = Node::STEPS.len();
+const LEVEL_PRODUCTS: usize = sys::SUZ_TABLE_PRODUCT_LEVEL;
+const _: () = assert!(LEVEL_PRODUCTS == PASS_PRODUCTS * Pass::ALL.len());
 
 /// A width table of right form: every number is within its limits. Whether it
 /// is accepted is [`check`](WidthTable::check)'s to say.
@@ -293,13 +405,25 @@ impl WidthTable {
     pub const MAX_INTEGER_BITS: u8 = sys::SUZ_MAX_INTEGER_BITS;
     /// The maximum of a node's fractional bits; the minimum is 0.
     pub const MAX_FRACTION_BITS: u8 = sys::SUZ_MAX_FRACTION_BITS;
+    /// The maximum of a product's fractional bits; the minimum is 0. No product
+    /// has more, so that a width of so many bits cuts none.
+    pub const MAX_PRODUCT_BITS: u8 = sys::SUZ_MAX_PRODUCT_BITS;
 
     /// The nodes of a table with the maximum of levels.
     pub const MAX_NODES: usize = sys::SUZ_TABLE_WIDTHS / 2;
+    /// The products of a table with the maximum of levels.
+    pub const MAX_PRODUCTS: usize = sys::SUZ_TABLE_PRODUCTS;
 
-    /// The length in bytes of a table of so many levels.
+    /// The length in bytes of a table of so many levels without product widths.
     pub const fn length(levels: u8) -> usize {
         sys::SUZ_TABLE_HEAD + sys::SUZ_TABLE_LEVEL * levels as usize
+    }
+
+    /// The length in bytes of a table of so many levels with product widths. No
+    /// table is longer than `length_with_products(WidthTable::MAX_LEVELS)`.
+    pub const fn length_with_products(levels: u8) -> usize {
+        let products = sys::SUZ_TABLE_PRODUCT_LEVEL * levels as usize;
+        WidthTable::length(levels) + sys::SUZ_TABLE_PRODUCT_HEAD + products
     }
 
     /// Reads a table; refused 1 to 5, in the order of [`table_form`].
@@ -361,12 +485,41 @@ impl WidthTable {
         constant_bits: [u8; sys::SUZ_TABLE_CONSTANTS],
         width: impl FnMut(Place) -> Width,
     ) -> Result<WidthTable, Refusal> {
-        let mut widths = [Width::new(0, 0); WidthTable::MAX_NODES];
-        for (at, given) in widths.iter_mut().zip(Place::all(levels).map(width)) {
-            *at = given;
-        }
+        let widths = in_order(Place::all(levels).map(width), Width::new(0, 0));
         let mut bytes = vec![0; WidthTable::length(levels)];
         write_table(depth, levels, constant_bits, &widths, &mut bytes)?;
+        Ok(WidthTable { bytes })
+    }
+
+    /// As [`from_parts`](WidthTable::from_parts), with the bits that the product
+    /// of each step is cut to.
+    ///
+    /// ```
+    /// use suzdrepa::{Node, Pass, Place, Refusal, Width, WidthTable};
+    ///
+    /// let width = |_| Width::new(12, 12);
+    /// let product = |place: Place| 14 + place.level;
+    /// let table = WidthTable::from_parts_with_products(8, 3, [20; 6], width, product)?;
+    /// let third = Place::new(3, Pass::Rows, Node::P1);
+    /// assert_eq!(table.product_bits(third), Some(17));
+    ///
+    /// let wide = |_| 45;
+    /// let refused = WidthTable::from_parts_with_products(8, 3, [20; 6], width, wide);
+    /// assert_eq!(refused, Err(Refusal::OutsideLimits));
+    /// # Ok::<(), Refusal>(())
+    /// ```
+    pub fn from_parts_with_products(
+        depth: u8,
+        levels: u8,
+        constant_bits: [u8; sys::SUZ_TABLE_CONSTANTS],
+        width: impl FnMut(Place) -> Width,
+        product: impl FnMut(Place) -> u8,
+    ) -> Result<WidthTable, Refusal> {
+        let widths = in_order(Place::all(levels).map(width), Width::new(0, 0));
+        let products = in_order(Place::steps(levels).map(product), 0);
+        let mut bytes = vec![0; WidthTable::length_with_products(levels)];
+        let out = &mut bytes;
+        write_table_with_products(depth, levels, constant_bits, &widths, &products, out)?;
         Ok(WidthTable { bytes })
     }
 
@@ -402,6 +555,67 @@ impl WidthTable {
         let [level, pass, node] = place.numbers().map(|number| usize::from(number - 1));
         let at = NODES_START + LEVEL_BYTES * level + PASS_BYTES * pass + 2 * node;
         Some(Width::new(self.bytes[at], self.bytes[at + 1]))
+    }
+
+    /// Whether the table has product widths (tag 5). One that has none cuts no
+    /// product.
+    pub fn has_products(&self) -> bool {
+        self.bytes.len() > WidthTable::length(self.levels())
+    }
+
+    /// The fractional bits that the product of a step is cut to before the sum,
+    /// where it has more ([`full_product_bits`](WidthTable::full_product_bits));
+    /// `None` where the table has no product widths or lacks the product.
+    pub fn product_bits(&self, place: Place) -> Option<u8> {
+        if !self.has_products() || !self.has_step(place) {
+            return None;
+        }
+        let [level, pass, step] = place.numbers().map(|number| usize::from(number - 1));
+        let start = WidthTable::length(self.levels()) + sys::SUZ_TABLE_PRODUCT_HEAD;
+        Some(self.bytes[start + LEVEL_PRODUCTS * level + PASS_PRODUCTS * pass + step])
+    }
+
+    /// The fractional bits that the product of a step has before any cut: those
+    /// of its constant and those of the values that it multiplies. `None` where
+    /// the table lacks the product.
+    ///
+    /// ```
+    /// use suzdrepa::{Node, Pass, Place, Refusal, Width, WidthTable};
+    ///
+    /// // Pixels of 8 bits, constants of 16, nodes of 12.
+    /// let table = WidthTable::uniform(8, 2, 16, Width::new(12, 12))?;
+    /// let bits = |pass, node| table.full_product_bits(Place::new(1, pass, node));
+    /// assert_eq!(bits(Pass::Rows, Node::P1), Some(24));
+    /// assert_eq!(bits(Pass::Rows, Node::U1), Some(28));
+    /// assert_eq!(bits(Pass::LowColumns, Node::P1), Some(28));
+    /// assert_eq!(bits(Pass::Rows, Node::G1), None);
+    /// # Ok::<(), Refusal>(())
+    /// ```
+    pub fn full_product_bits(&self, place: Place) -> Option<u8> {
+        if !self.has_step(place) {
+            return None;
+        }
+        let Place { level, pass, node } = place;
+        let node_bits = |level, pass, node| {
+            let width = self.width(Place::new(level, pass, node))?;
+            Some(width.fraction_bits)
+        };
+        let multiplied = match (node, pass) {
+            (Node::U1, _) => node_bits(level, pass, Node::P1),
+            (Node::P2, _) => node_bits(level, pass, Node::U1),
+            (Node::U2, _) => node_bits(level, pass, Node::P2),
+            // P1 multiplies what enters the pass.
+            (_, Pass::LowColumns) => node_bits(level, Pass::Rows, Node::G1),
+            (_, Pass::HighColumns) => node_bits(level, Pass::Rows, Node::G2),
+            (_, Pass::Rows) if level == 1 => Some(self.depth()),
+            (_, Pass::Rows) => node_bits(level - 1, Pass::LowColumns, Node::G1),
+        };
+        Some(self.constant_bits(node) + multiplied?)
+    }
+
+    /// Whether the node is a step of one of the table's levels.
+    fn has_step(&self, place: Place) -> bool {
+        place.is_step() && (1..=self.levels()).contains(&place.level)
     }
 
     /// Every node of the table, in table order.
@@ -443,6 +657,56 @@ impl WidthTable {
     pub fn with_constant(&self, node: Node, bits: u8) -> Result<WidthTable, Refusal> {
         let bytes = change_constant(&self.bytes, node, bits)?;
         Ok(WidthTable { bytes })
+    }
+
+    /// A table with other bits for the product of a step; refused 4 where the
+    /// table has no product widths, where it lacks the product or where the bits
+    /// are outside their limits.
+    ///
+    /// ```
+    /// # use suzdrepa::{Node, Pass, Place, Refusal, Width, WidthTable};
+    /// let first = Place::new(1, Pass::Rows, Node::P1);
+    /// let table = WidthTable::uniform(8, 2, 16, Width::new(12, 12))?;
+    /// assert_eq!(table.with_product(first, 15), Err(Refusal::OutsideLimits));
+    /// let table = table.with_products(|_| 20)?.with_product(first, 15)?;
+    /// assert_eq!(table.product_bits(first), Some(15));
+    /// # Ok::<(), Refusal>(())
+    /// ```
+    pub fn with_product(&self, place: Place, bits: u8) -> Result<WidthTable, Refusal> {
+        let bytes = change_product(&self.bytes, place, bits)?;
+        Ok(WidthTable { bytes })
+    }
+
+    /// The table with these product widths, whether it had some or none; refused
+    /// 4 where one is outside its limits.
+    ///
+    /// ```
+    /// # use suzdrepa::{Node, Refusal, Width, WidthTable};
+    /// let (kept, others) = (Width::new(12, 4), Width::new(12, 20));
+    /// let table = WidthTable::kept_and_others(8, 1, 24, kept, others)?;
+    /// let cut = table.with_products(|_| 15)?;
+    /// assert_eq!((table.has_products(), cut.has_products()), (false, true));
+    /// // So many bits are enough: the error stays below two steps.
+    /// assert_eq!(cut.check(), Ok(()));
+    /// assert_eq!(cut.without_products(), table);
+    /// # Ok::<(), Refusal>(())
+    /// ```
+    pub fn with_products(&self, product: impl FnMut(Place) -> u8) -> Result<WidthTable, Refusal> {
+        let width = |place| self.width(place).unwrap_or(Width::new(0, 0));
+        WidthTable::from_parts_with_products(
+            self.depth(),
+            self.levels(),
+            Node::ALL.map(|node| self.constant_bits(node)),
+            width,
+            product,
+        )
+    }
+
+    /// The table without product widths; it cuts no product.
+    pub fn without_products(&self) -> WidthTable {
+        // The fifth field is the last.
+        let bytes = self.bytes[..WidthTable::length(self.levels())].to_vec();
+        WidthTable { bytes }
     }
 
     /// Judges the table, as [`check_table`] does: refused 6 or 7.
@@ -524,8 +788,17 @@ impl AsRef<[u8]> for WidthTable {
     }
 }
 
+/// Numbers in table order, and `none` at levels that are not used.
+fn in_order<T: Copy, const COUNT: usize>(given: impl Iterator<Item = T>, none: T) -> [T; COUNT] {
+    let mut numbers = [none; COUNT];
+    for (at, given) in numbers.iter_mut().zip(given) {
+        *at = given;
+    }
+    numbers
+}
+
 /// Depth, levels, the bits of the constants, and a line of widths for each
-/// pass.
+/// pass, with the bits of its products where the table has them.
 impl fmt::Display for WidthTable {
     fn fmt(&self, f: &mut fmt::Formatter<'_>) -> fmt::Result {
         writeln!(f, "depth {} bits, {} levels", self.depth(), self.levels())?;
@@ -539,6 +812,13 @@ impl fmt::Display for WidthTable {
             }
             if let Some(width) = self.width(place) {
                 write!(f, " {} {width}", place.node)?;
+            }
+            if place.node == Node::G2 && self.has_products() {
+                write!(f, ", products:")?;
+                for node in Node::STEPS {
+                    let bits = self.product_bits(Place { node, ..place });
+                    write!(f, " {node} {}", bits.unwrap_or(0))?;
+                }
             }
         }
         Ok(())
@@ -576,6 +856,209 @@ mod tests {
         assert_eq!(table(5).as_ref().len(), 200);
     }
 
+    /// Product widths that tell level, pass and step apart.
+    fn product(place: Place) -> u8 {
+        let [level, pass, step] = place.numbers();
+        7 * level + 2 * pass + step - 1
+    }
+
+    fn table_with_products(levels: u8) -> WidthTable {
+        table(levels).with_products(product).unwrap()
+    }
+
+    #[test]
+    fn round_trip_with_products() {
+        for levels in 1..=5 {
+            let (table, plain) = (table_with_products(levels), table(levels));
+            let bytes = table.to_bytes();
+            assert_eq!(bytes.len(), WidthTable::length_with_products(levels));
+            assert_eq!(bytes.len(), 23 + 48 * usize::from(levels));
+            assert_eq!(WidthTable::from_bytes(&bytes), Ok(table.clone()));
+            assert_eq!((plain.has_products(), table.has_products()), (false, true));
+            for place in table.places() {
+                let due = place.is_step().then(|| product(place));
+                assert_eq!(table.product_bits(place), due);
+                assert_eq!(plain.product_bits(place), None);
+                assert_eq!(table.width(place), plain.width(place));
+            }
+            assert_eq!(Place::steps(levels).count(), 12 * usize::from(levels));
+            assert_eq!(table.without_products(), plain);
+            assert_eq!(plain.without_products(), plain);
+            // With others in place of those that it had.
+            let other = table.with_products(|_| 9).unwrap();
+            assert_eq!(other, plain.with_products(|_| 9).unwrap());
+        }
+        assert_eq!(table_with_products(5).as_ref().len(), 263);
+        assert_eq!(Place::steps(5).count(), WidthTable::MAX_PRODUCTS);
+    }
+
+    /// The fifth field cut, of another length, with a number too large, and
+    /// followed by more; another byte than 5 in its place.
+    #[test]
+    fn wrong_forms_of_the_fifth_field() {
+        let bytes = table_with_products(2).to_bytes();
+        let start = WidthTable::length(2);
+        assert_eq!(bytes[start..][..3], [5, 0, 24]);
+        let form = |bytes: &[u8]| table_form(bytes).map_err(|refusal| refusal.number());
+        assert_eq!(form(&bytes[..start]), Ok(()));
+        for length in start + 1..bytes.len() {
+            assert_eq!(form(&bytes[..length]), Err(1));
+        }
+        assert_eq!(form(&bytes), Ok(()));
+        assert_eq!(form(&[&bytes[..], &[5]].concat()), Err(5));
+        let with = |at: usize, byte: u8| {
+            let mut bytes = bytes.clone();
+            bytes[at] = byte;
+            form(&bytes)
+        };
+        for byte in 0..=255 {
+            let due = if byte == 5 { Ok(()) } else { Err(5) };
+            assert_eq!(with(start, byte), due);
+            let due = if byte == 24 { Ok(()) } else { Err(3) };
+            assert_eq!(with(start + 2, byte), due);
+            let due = if byte <= 44 { Ok(()) } else { Err(4) };
+            assert_eq!(with(start + 3, byte), due);
+            assert_eq!(with(bytes.len() - 1, byte), due);
+        }
+        // Another byte is 5 at once, whatever follows it or does not.
+        assert_eq!(form(&[&bytes[..start], &[4]].concat()), Err(5));
+        // The length is judged before the value is looked for.
+        assert_eq!(form(&[&bytes[..start], &[5, 0, 25]].concat()), Err(3));
+    }
+
+    /// A tag that the table lacks is told after the whole form.
+    #[test]
+    fn naming_tag_5() {
+        let (plain, table) = (table(2), table_with_products(2));
+        let value = |bytes: &[u8], tag| {
+            let value = table_value(bytes, tag).map(<[u8]>::to_vec);
+            value.map_err(|refusal| refusal.number())
+        };
+        let due: Vec<u8> = Place::steps(2).map(product).collect();
+        assert_eq!(value(table.as_bytes(), 5), Ok(due));
+        assert_eq!(value(plain.as_bytes(), 5), Err(2));
+        assert_eq!(value(&[plain.as_bytes(), &[0]].concat(), 5), Err(5));
+        assert_eq!(value(&[plain.as_bytes(), &[0]].concat(), 6), Err(2));
+        assert_eq!(value(&plain.as_bytes()[..50], 5), Err(1));
+        assert_eq!(value(table.as_bytes(), 6), Err(2));
+        assert_eq!(value(table.as_bytes(), 0), Err(2));
+        for tag in 1..=4 {
+            assert_eq!(value(table.as_bytes(), tag), value(plain.as_bytes(), tag));
+        }
+    }
+
+    #[test]
+    fn one_product_is_changed() {
+        let old = table_with_products(3);
+        for at in Place::steps(3) {
+            let new = old.with_product(at, 44).unwrap();
+            for place in old.places() {
+                let due = match place == at {
+                    true => Some(44),
+                    false => old.product_bits(place),
+                };
+                assert_eq!(new.product_bits(place), due);
+                assert_eq!(new.width(place), old.width(place));
+            }
+            assert_eq!(new.with_product(at, product(at)), Ok(old.clone()));
+            let mut out = [7; WidthTable::length_with_products(3) + 1];
+            let done = change_product_into(old.as_bytes(), at, 44, &mut out);
+            assert_eq!(done, Ok(()));
+            assert_eq!(out, *[new.as_bytes(), &[7]].concat());
+            let short = &mut out[..new.as_bytes().len() - 1];
+            let refused = change_product_into(old.as_bytes(), at, 44, short);
+            assert_eq!(refused, Err(Refusal::SliceTooShort));
+        }
+        let refused = Err(Refusal::OutsideLimits);
+        let first = Place::new(1, Pass::Rows, Node::P1);
+        assert_eq!(old.with_product(first, 45), refused);
+        assert_eq!(old.with_product(first, 255), refused);
+        assert_eq!(old.with_product(Place { level: 4, ..first }, 0), refused);
+        assert_eq!(old.with_product(Place { level: 0, ..first }, 0), refused);
+        for node in [Node::G1, Node::G2] {
+            assert_eq!(old.with_product(Place { node, ..first }, 0), refused);
+            assert_eq!(old.product_bits(Place { node, ..first }), None);
+        }
+        assert_eq!(table(3).with_product(first, 0), refused);
+        assert_eq!(old.product_bits(Place { level: 4, ..first }), None);
+        assert_eq!(old.product_bits(Place { level: 0, ..first }), None);
+    }
+
+    /// Changes of other numbers leave product widths as they are.
+    #[test]
+    fn other_numbers_are_changed_beside_products() {
+        let (plain, table) = (table(3), table_with_products(3));
+        for at in table.places() {
+            let width = Width::new(7, 9);
+            let due = plain.with_width(at, width).unwrap();
+            let new = table.with_width(at, width).unwrap();
+            assert_eq!(new, due.with_products(product).unwrap());
+        }
+        for node in Node::ALL {
+            let due = plain.with_constant(node, 7).unwrap();
+            let new = table.with_constant(node, 7).unwrap();
+            assert_eq!(new, due.with_products(product).unwrap());
+        }
+    }
+
+    /// A table with fractional bits that all differ from their neighbours'. A
+    /// width of the product's full bits cuts nothing, and the engine finds no
+    /// more error there; one bit less is found at that node and not before.
+    #[test]
+    fn full_bits_of_a_product() {
+        let fine = |place: Place| {
+            let [_, pass, node] = place.numbers();
+            match place.is_kept(3) {
+                true => KEPT,
+                false => Width::new(12, 20 - (node + 2 * pass) % 6),
+            }
+        };
+        let constants = [24, 23, 22, 21, 24, 24];
+        let plain = WidthTable::from_parts(8, 3, constants, fine).unwrap();
+        plain.check().unwrap();
+        let full = |place| plain.full_product_bits(place).unwrap();
+        let table = plain.with_products(full).unwrap();
+        for place in plain.places() {
+            assert_eq!(table.bound(place), plain.bound(place));
+        }
+        for place in Place::steps(3) {
+            let cut = table.with_product(place, full(place) - 1).unwrap();
+            for other in plain.places().filter(|&other| other < place) {
+                assert_eq!(cut.bound(other), plain.bound(other));
+            }
+            assert!(cut.bound(place).unwrap().error > plain.bound(place).unwrap().error);
+            let whole = table.with_product(place, 44).unwrap();
+            assert_eq!(whole.bound(place), plain.bound(place));
+        }
+        let lacking = [
+            Place::new(4, Pass::Rows, Node::P1),
+            Place::new(0, Pass::Rows, Node::P1),
+            Place::new(1, Pass::Rows, Node::G2),
+        ];
+        assert_eq!(
+            lacking.map(|place| plain.full_product_bits(place)),
+            [None; 3]
+        );
+        // As many as there can be.
+        let widest = WidthTable::uniform(12, 5, 24, Width::new(12, 20)).unwrap();
+        let most = Place::steps(5).filter_map(|place| widest.full_product_bits(place));
+        assert_eq!(most.max(), Some(WidthTable::MAX_PRODUCT_BITS));
+    }
+
+    /// Two pixels of one row, worked by hand: with seven bits a product the high
+    /// value falls from above 0 to below it, by a cut towards minus infinity.
+    #[test]
+    fn a_product_is_cut_downwards_before_the_sum() {
+        let (kept, others) = (Width::new(12, 2), Width::new(12, 20));
+        let plain = WidthTable::kept_and_others(8, 1, 24, kept, others).unwrap();
+        let worked = |table: &WidthTable| crate::forward97_to_vec(table.as_bytes(), &[5, 7], 2, 1);
+        assert_eq!(worked(&plain), Ok(vec![-3, 0]));
+        for (bits, due) in [(44, [-3, 0]), (8, [-3, 0]), (7, [-3, -1])] {
+            let table = plain.with_products(|_| bits).unwrap();
+            assert_eq!(worked(&table), Ok(due.to_vec()));
+        }
+    }
+
     /// The bytes that the type reads by are those that the engine names.
     #[test]
     fn values_are_where_the_engine_has_them() {
@@ -593,6 +1076,17 @@ mod tests {
             .flat_map(|width| [width.integer_bits, width.fraction_bits])
             .collect();
         assert_eq!(value(4), widths);
+    }
+
+    #[test]
+    fn text_with_products() {
+        let table = table(1).with_products(|place| 20 + place.node.number());
+        let text = table.unwrap().to_string();
+        assert_eq!(text.lines().count(), 5);
+        let products = ", products: P1 21 U1 22 P2 23 U2 24";
+        let lines = text.lines().skip(2);
+        assert!(lines.clone().all(|line| line.ends_with(products)), "{text}");
+        assert_eq!(text.replace(products, ""), self::table(1).to_string());
     }
 
     #[test]

@@ -76,6 +76,34 @@ pub fn tight_table_of(levels: u8) -> WidthTable {
     table
 }
 
+/// The table with every product cut to so many fractional bits.
+pub fn with_products_of(table: &WidthTable, bits: u8) -> WidthTable {
+    table.with_products(|_| bits).expect("in limits")
+}
+
+/// The table with every product cut to the same fractional bits, as few as are
+/// accepted.
+pub fn evenly_cut(table: &WidthTable) -> WidthTable {
+    (0..=WidthTable::MAX_PRODUCT_BITS)
+        .map(|bits| with_products_of(table, bits))
+        .find(|table| table.check().is_ok())
+        .expect("the last one cuts nothing")
+}
+
+/// The table with its products cut evenly, then each by itself, the last one
+/// first, as far as is accepted.
+pub fn far_cut(table: &WidthTable) -> WidthTable {
+    let mut table = evenly_cut(table);
+    let steps: Vec<Place> = Place::steps(table.levels()).collect();
+    for &place in steps.iter().rev() {
+        table = (0..table.product_bits(place).expect("it has them"))
+            .map(|bits| table.with_product(place, bits).expect("in limits"))
+            .find(|next| next.check().is_ok())
+            .unwrap_or(table);
+    }
+    table
+}
+
 /// Steps as fine as a pixel's, kept nodes with as few integer bits as are
 /// accepted, all else as wide as it gets: a table whose planes can be viewed.
 pub fn view_table() -> WidthTable {

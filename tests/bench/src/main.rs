@@ -5,7 +5,8 @@
 //! the two programs run in turn, and must leave equal planes and pictures.
 
 use bench::inputs::{
-    picture, tight_table, view_table, wide_table, DEPTH, LEVELS, MIN_SIDE, VIEW_LEVELS,
+    far_cut, picture, tight_table, view_table, wide_table, with_products_of, DEPTH, LEVELS,
+    MIN_SIDE, VIEW_LEVELS,
 };
 use bench::plain::{self, Order};
 use std::process::ExitCode;
@@ -256,7 +257,15 @@ fn main() -> ExitCode {
     if sides.is_empty() {
         sides = vec![256, 512, 1024, 2048, 4096];
     }
-    let tables = [("tight table", tight_table()), ("wide table", wide_table())];
+    let tables = [
+        ("tight table", tight_table()),
+        ("wide table", wide_table()),
+        ("tight table, cut products", far_cut(&tight_table())),
+        (
+            "wide table, products of 15 bits",
+            with_products_of(&wide_table(), 15),
+        ),
+    ];
     let view_table = view_table();
     println!("Depth {DEPTH}, {LEVELS} levels where none are named, medians in milliseconds.");
     println!();
@@ -364,12 +373,31 @@ mod tests {
     /// The engine's way back: depth, levels, plane and sides.
     type Back = fn(u8, u8, &[i32], usize, usize) -> Result<Vec<u16>, Refusal>;
 
+    /// Product widths at random, as long as the table is accepted; half of them
+    /// near to where the judge draws the line.
+    fn cut_at_random(chance: &mut Chance, table: &WidthTable) -> WidthTable {
+        let mut table = match chance.one_in(2) {
+            true => with_products_of(table, 44),
+            false => far_cut(table),
+        };
+        let steps: Vec<Place> = Place::steps(table.levels()).collect();
+        for _ in 0..2 * steps.len() {
+            let bits = chance.within(0, 44) as u8;
+            let next = table.with_product(*chance.of(&steps), bits).unwrap();
+            table = Some(next)
+                .filter(|next| next.check().is_ok())
+                .unwrap_or(table);
+        }
+        table
+    }
+
     /// Under the tables of the benchmark, tight ones, and generous ones with
-    /// numbers changed for as long as they are accepted: every form of a stage
-    /// comes up.
+    /// numbers changed for as long as they are accepted, with and without product
+    /// widths: every form of a stage comes up.
     #[test]
     fn the_same_coefficients() {
         let mut chance = Chance::new(2);
+        let mut differ = 0;
         for round in 0..400 {
             let shape = shape(&mut chance);
             let mut table = match round % 4 {
@@ -401,12 +429,21 @@ mod tests {
                         .unwrap_or(table);
                 }
             }
+            let plain_table = table.clone();
+            if round % 8 > 3 {
+                table = cut_at_random(&mut chance, &table);
+            }
             // No pass of a single sample, whatever the number of levels.
             let (width, height) = (shape.width + 16, shape.height + 16);
             let count = width * height;
             let pixels = chance.picture(table.depth(), count);
             let table = table.as_bytes();
             let due = suzdrepa::forward97_to_vec(table, &pixels, width, height).unwrap();
+            if table.len() > plain_table.as_bytes().len() {
+                let plain_table = plain_table.as_bytes();
+                let uncut = suzdrepa::forward97_to_vec(plain_table, &pixels, width, height);
+                differ += usize::from(uncut.unwrap() != due);
+            }
             let (mut plane, mut work) = (chance.plane(count), chance.plane(count));
             assert!(plain::forward97(
                 table,
@@ -417,6 +454,8 @@ mod tests {
             ));
             assert_eq!((plane, work), (due, vec![0; count]));
         }
+        // Most of the 200 tables with product widths cut something.
+        assert!(differ > 150, "{differ}");
     }
 
     /// Under tables of every viewable depth and number of levels; a

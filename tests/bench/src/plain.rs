@@ -425,7 +425,8 @@ struct Bits {
 
 /// A stage: the own value, shifted, and a constant times the sum of two
 /// neighbours are added and cut once. Where the node has more bits than the
-/// product, or the own value more than both, the constant is shifted too.
+/// product, or the own value more than both, the constant is shifted too; where
+/// the product is cut before the sum, the product.
 #[derive(Clone, Copy)]
 struct Stage {
     constant: i64,
@@ -433,21 +434,36 @@ struct Stage {
     cut: u32,
     /// Whether the sum of two neighbours fits 31 bits.
     short: bool,
+    /// Bits that the product loses before the sum, and then gets back as zeros.
+    product_cut: u32,
+    product_shift: u32,
 }
 
+/// As many bits as no product has.
+const UNCUT: u8 = 44;
+
 impl Stage {
-    /// `own` and `f` are the fractional bits of the own value and of the node.
-    fn new(node: usize, constant_bits: u8, own: u8, multiplied: Bits, f: u8) -> Stage {
+    /// `own`, `f` and `fp` are the fractional bits of the own value, of the node
+    /// and of the product where it is cut.
+    fn new(node: usize, constant_bits: u8, own: u8, multiplied: Bits, f: u8, fp: u8) -> Stage {
         let (numerator, denominator) = CONSTANTS[node];
         let twice = (numerator << (constant_bits + 1)) + denominator;
         let nearest = twice.div_euclid(2 * denominator) as i64;
         let product = constant_bits + multiplied.fraction;
-        let full = product.max(own).max(f);
+        let left = product.min(fp);
+        let full = left.max(own).max(f);
+        let raise = full - left;
+        let (constant, product_shift) = match left == product {
+            true => (nearest << raise, 0),
+            false => (nearest, raise),
+        };
         Stage {
-            constant: nearest << (full - product),
+            constant,
             own_shift: u32::from(full - own),
             cut: u32::from(full - f),
             short: multiplied.integer + multiplied.fraction <= 30,
+            product_cut: u32::from(product - left),
+            product_shift: u32::from(product_shift),
         }
     }
 
@@ -460,6 +476,7 @@ impl Stage {
         let one = u64::from(c) << 31;
         match (self.short, self.constant < 0) {
             _ if self.cut > 31 || self.own_shift > 31 => self.run_any(sweep),
+            _ if self.product_cut > 0 => self.run_cut(sweep, c, one),
             (true, false) => self.run_raised(sweep, one, |a, b| times(c, raised(a + b))),
             (true, true) => self.run_raised(sweep, one, |a, b| times(c, raised(-(a + b)))),
             (false, false) => {
@@ -471,6 +488,34 @@ impl Stage {
                 self.run_raised(sweep, 2 * one, product);
             }
         }
+    }
+
+    /// The same with a product that is cut before the sum.
+    fn run_cut(self, sweep: impl Sweep<i32>, c: u32, one: u64) {
+        match (self.short, self.constant < 0) {
+            (true, false) => self.run_cut_raised(sweep, one, |a, b| times(c, raised(a + b))),
+            (true, true) => self.run_cut_raised(sweep, one, |a, b| times(c, raised(-(a + b)))),
+            (false, false) => {
+                let product = |a, b| times(c, raised(a)) + times(c, raised(b));
+                self.run_cut_raised(sweep, 2 * one, product);
+            }
+            (false, true) => {
+                let product = |a, b| 4 * one - times(c, raised(a)) - times(c, raised(b));
+                self.run_cut_raised(sweep, 2 * one, product);
+            }
+        }
+    }
+
+    /// `product` is too large by `more`, which is made a multiple of all that
+    /// the two cuts take away.
+    #[inline(always)]
+    fn run_cut_raised(self, sweep: impl Sweep<i32>, more: u64, product: impl Fn(i32, i32) -> u64) {
+        let (cut, shift) = (self.product_cut, self.product_shift);
+        let level = more.next_multiple_of(1 << (cut + self.cut.saturating_sub(shift)));
+        let pad = level - more;
+        self.run_raised(sweep, level >> cut << shift, |a, b| {
+            (product(a, b) + pad) >> cut << shift
+        });
     }
 
     /// `product` is too large by `more`. An own value with no bit below the
@@ -496,7 +541,8 @@ impl Stage {
     fn run_any(self, sweep: impl Sweep<i32>) {
         sweep.run(|own, a, b| {
             let sum = i64::from(a) + i64::from(b);
-            let total = (i64::from(own) << self.own_shift) + self.constant * sum;
+            let product = (self.constant * sum) >> self.product_cut << self.product_shift;
+            let total = (i64::from(own) << self.own_shift) + product;
             (total >> self.cut) as i32
         });
     }
@@ -560,8 +606,9 @@ impl<S: Sweep<i32>> Sweep<i32> for Scaled<S> {
 struct Lifting([Stage; 4], [Scale; 2]);
 
 impl Lifting {
-    /// `nodes` are the pairs of bytes of a pass: integer and fractional bits.
-    fn new(constant_bits: &[u8], input: Bits, nodes: &[u8]) -> Lifting {
+    /// `nodes` are the pairs of bytes of a pass: integer and fractional bits;
+    /// `products` the bits of its products.
+    fn new(constant_bits: &[u8], input: Bits, nodes: &[u8], products: [u8; 4]) -> Lifting {
         let bits = |node: usize| Bits {
             integer: nodes[2 * node],
             fraction: nodes[2 * node + 1],
@@ -573,6 +620,7 @@ impl Lifting {
                 own,
                 multiplied,
                 bits(node).fraction,
+                products.get(node).copied().unwrap_or(UNCUT),
             )
         };
         let stages = [
@@ -623,9 +671,15 @@ pub fn forward97(
             integer: nodes[at],
             fraction: nodes[at + 1],
         };
-        let row_pass = Lifting::new(constant_bits, input, &nodes[..12]);
-        let low_pass = Lifting::new(constant_bits, bits(8), &nodes[12..24]);
-        let high_pass = Lifting::new(constant_bits, bits(10), &nodes[24..]);
+        // Tag 5, where there is one.
+        let first = 20 + 36 * usize::from(levels) + 3 + 12 * level;
+        let products = |pass: usize| match table.get(first + 4 * pass..) {
+            Some(&[p1, u1, p2, u2, ..]) => [p1, u1, p2, u2],
+            _ => [UNCUT; 4],
+        };
+        let row_pass = Lifting::new(constant_bits, input, &nodes[..12], products(0));
+        let low_pass = Lifting::new(constant_bits, bits(8), &nodes[12..24], products(1));
+        let high_pass = Lifting::new(constant_bits, bits(10), &nodes[24..], products(2));
         match level {
             0 => first_rows(depth, pixels, width, plane, &row_pass),
             _ => rows(plane, width, (w, h), work, &row_pass),

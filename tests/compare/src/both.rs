@@ -2,8 +2,8 @@
 //! answers and memory are compared in whole.
 
 use reference::refusal::answer;
-use reference::table::WIDTHS;
-use reference::{calls, Place, Width};
+use reference::table::{PRODUCTS, WIDTHS};
+use reference::{calls, Place, Width, WidthTable};
 use suzdrepa_sys as sys;
 
 /// The answer that both gave.
@@ -171,6 +171,43 @@ pub fn table_change_constant(table: &[u8], node: u8, bits: u8, out: &[u8]) -> An
     due
 }
 
+/// `place` is level, pass and product, any numbers, and so are `bits`. `out` is
+/// lent memory before the call.
+pub fn table_change_product(table: &[u8], place: [u8; 3], bits: u8, out: &[u8]) -> Answer {
+    let [level, pass, product] = place;
+    let before = table.to_vec();
+    let (due, due_out) = lend(out, |out| {
+        calls::table_change_product(table, level, pass, product, bits, out)
+    });
+    let (bare, ours_out) = lend(out, |out| {
+        // SAFETY: pointers and lengths are those of slices.
+        unsafe {
+            sys::suz_table_change_product(
+                table.as_ptr(),
+                table.len(),
+                level,
+                pass,
+                product,
+                bits,
+                out.as_mut_ptr(),
+                out.len(),
+            )
+        }
+    });
+    assert_eq!(bare, answer(due), "engine left, reference right");
+    assert_eq!(ours_out, due_out, "out after a change");
+    assert_eq!(table, before, "the old table");
+    // The wrapper names a product by its node.
+    if let Some(place) = suzdrepa::Place::from_numbers(level, pass, product) {
+        let (ours, ours_out) = lend(out, |out| {
+            suzdrepa::change_product_into(table, place, bits, out)
+        });
+        assert_eq!(same(ours, due), due);
+        assert_eq!(ours_out, due_out, "out after a change");
+    }
+    due
+}
+
 /// The parts are any numbers. `out` is lent memory before the call.
 pub fn table_write(
     depth: u8,
@@ -210,6 +247,81 @@ pub fn table_write(
     assert_eq!(same(ours, due), due);
     assert_eq!(ours_out, due_out, "out after a table was written");
     due
+}
+
+/// The parts of a table with or without tag 5, any numbers; where
+/// `has_products` is 0 it has none.
+#[derive(Clone, Copy)]
+pub struct Parts {
+    pub depth: u8,
+    pub levels: u8,
+    pub constants: [u8; 6],
+    pub widths: [u8; WIDTHS],
+    pub has_products: u8,
+    pub products: [u8; PRODUCTS],
+}
+
+impl Parts {
+    /// Those of a table, sound or not.
+    pub fn of(table: &WidthTable) -> Parts {
+        Parts {
+            depth: table.depth,
+            levels: table.levels,
+            constants: table.constant_bits,
+            widths: table.parts(),
+            has_products: table.has_products.into(),
+            products: table.product_parts(),
+        }
+    }
+}
+
+/// `out` is lent memory before the call. Gives the answer and what it holds
+/// afterwards.
+pub fn table_write_products(parts: &Parts, out: &[u8]) -> (Answer, Vec<u8>) {
+    let Parts {
+        depth,
+        levels,
+        constants,
+        widths,
+        has_products,
+        products,
+    } = *parts;
+    let has = has_products != 0;
+    let (due, due_out) = lend(out, |out| {
+        calls::table_write_products(depth, levels, &constants, &widths, has, &products, out)
+    });
+    let lent = (constants, widths, products);
+    let (bare, ours_out) = lend(out, |out| {
+        // SAFETY: the arrays have the counts that the call reads; pointer and
+        // length are those of a slice.
+        unsafe {
+            sys::suz_table_write_products(
+                depth,
+                levels,
+                &lent.0,
+                &lent.1,
+                has_products,
+                &lent.2,
+                out.as_mut_ptr(),
+                out.len(),
+            )
+        }
+    });
+    assert_eq!(bare, answer(due), "engine left, reference right");
+    assert_eq!(ours_out, due_out, "out after a table was written");
+    assert_eq!(lent, (constants, widths, products), "the parts");
+    if has {
+        let mut nodes = [suzdrepa::Width::new(0, 0); WIDTHS / 2];
+        for (node, pair) in nodes.iter_mut().zip(widths.chunks(2)) {
+            *node = suzdrepa::Width::new(pair[0], pair[1]);
+        }
+        let (ours, ours_out) = lend(out, |out| {
+            suzdrepa::write_table_with_products(depth, levels, constants, &nodes, &products, out)
+        });
+        assert_eq!(same(ours, due), due);
+        assert_eq!(ours_out, due_out, "out after a table was written");
+    }
+    (due, due_out)
 }
 
 /// Lends a copy of `out` to a call; gives the answer and what the call left.

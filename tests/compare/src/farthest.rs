@@ -84,15 +84,25 @@ fn holes(chance: &mut Chance, shape: Shape) -> Vec<u16> {
     picture
 }
 
-/// Works so many tables, one to five levels in turn, and so many pictures
+/// Works so many tight tables, one to five levels in turn, and so many pictures
 /// under each; gives the largest distance. `None` where nothing was worked.
 pub fn farthest(seed: u64, tables: usize, pictures: usize) -> Option<Farthest> {
+    farthest_under(tight, seed, tables, pictures)
+}
+
+/// The same under tables of any kind: `draw` is given a depth and levels.
+pub fn farthest_under(
+    draw: fn(&mut Chance, u8, u8) -> WidthTable,
+    seed: u64,
+    tables: usize,
+    pictures: usize,
+) -> Option<Farthest> {
     let mut chance = Chance::new(seed);
     let mut farthest: Option<Farthest> = None;
     for number in 0..tables {
         let levels = 1 + (number % 5) as u8;
         let depth = chance.within(1, 12) as u8;
-        let table = tight(&mut chance, depth, levels);
+        let table = draw(&mut chance, depth, levels);
         let kept: Vec<Place> = table
             .places()
             .into_iter()

@@ -178,6 +178,80 @@ impl Filter {
     }
 }
 
+/// The scaling of a low value; a high one is divided by it.
+const ZETA: f64 = 1.149604398;
+
+/// The 9/7 transform in doubles, uncut.
+fn uncut(shape: Shape, picture: &[u16]) -> Vec<f64> {
+    let middle = f64::from(1u16 << (shape.depth - 1));
+    let value = |&p: &u16| (f64::from(p) - middle) / (2.0 * middle);
+    let mut plane: Vec<f64> = picture.iter().map(value).collect();
+    let mut line_at = |places: Vec<usize>| {
+        let mut line: Vec<f64> = places.iter().map(|&at| plane[at]).collect();
+        NINE_SEVEN.pass(&mut line, 3);
+        let lows = low_count(line.len());
+        for (i, value) in line.iter().enumerate() {
+            let (to, scale) = match i % 2 {
+                _ if line.len() == 1 => (0, 1.0),
+                0 => (i / 2, ZETA),
+                _ => (lows + i / 2, 1.0 / ZETA),
+            };
+            plane[places[to]] = value * scale;
+        }
+    };
+    for level in 1..=shape.levels {
+        let (width, height) = (side_at(shape.width, level), side_at(shape.height, level));
+        for y in 0..height {
+            line_at((0..width).map(|x| y * shape.width + x).collect());
+        }
+        for x in 0..width {
+            line_at((0..height).map(|y| y * shape.width + x).collect());
+        }
+    }
+    plane
+}
+
+/// The largest distance of a coefficient from the exact one, in its own steps,
+/// as far as doubles tell.
+fn distance(table: &WidthTable, shape: Shape, picture: &[u16]) -> f64 {
+    let (width, height) = (shape.width, shape.height);
+    let bytes = table.bytes().expect("it is sound");
+    let plane = suzdrepa::forward97_to_vec(&bytes, picture, width, height);
+    let plane = plane.expect("the table is accepted");
+    let exact = uncut(shape, picture);
+    let off = |i: usize| {
+        let node = kept_node(width, height, shape.levels, i % width, i / width);
+        let steps = f64::from(1u32 << table.width(node).fraction_bits);
+        (f64::from(plane[i]) - steps * exact[i]).abs()
+    };
+    (0..shape.count()).map(off).fold(0.0, f64::max)
+}
+
+/// A picture that takes some coefficient far from the exact one: any picture,
+/// and so many times some pixels of it set to other values, where that takes no
+/// coefficient nearer than the farthest one was.
+pub fn farther(
+    chance: &mut Chance,
+    table: &WidthTable,
+    shape: Shape,
+    mut picture: Vec<u16>,
+    tries: usize,
+) -> Vec<u16> {
+    let mut far = distance(table, shape, &picture);
+    for _ in 0..tries {
+        let mut other = picture.clone();
+        for _ in 0..chance.within(1, 3) {
+            let pixel = &mut other[chance.below(shape.count())];
+            *pixel = chance.below(1 << shape.depth) as u16;
+        }
+        let now = distance(table, shape, &other);
+        if now >= far {
+            (picture, far) = (other, now);
+        }
+    }
+    picture
+}
+
 #[derive(Clone, Copy, Debug)]
 pub struct Shape {
     pub depth: u8,
@@ -315,6 +389,8 @@ pub fn against(filter: &Filter, chance: &mut Chance, shape: Shape, place: Place)
 #[cfg(test)]
 mod tests {
     use super::*;
+    use crate::farthest::hold;
+    use crate::tables::tight_products;
     use reference::places::{earlier_side_admitted, side_admitted};
     use reference::{fixed97, fixed_inverse97, Width};
 
@@ -386,6 +462,30 @@ mod tests {
                 assert!(value(&other, at) <= value(&most, at) + 16);
             }
         }
+    }
+
+    /// What doubles tell of the distance is so, and the search makes it larger.
+    #[test]
+    fn the_search_takes_coefficients_farther() {
+        let mut chance = Chance::new(3);
+        let mut sums = [0.0; 2];
+        for levels in 1..=5u8 {
+            let table = tight_products(&mut chance, 6, levels);
+            for _ in 0..4 {
+                let shape = Shape::small(&mut chance, 6, levels, 4);
+                let drawn = chance.picture(6, shape.count());
+                let sought = farther(&mut chance, &table, shape, drawn.clone(), 40);
+                let [before, after] = [drawn, sought].map(|picture| {
+                    let steps = hold(&table, shape, &picture).steps;
+                    assert!((distance(&table, shape, &picture) - steps).abs() < 1e-6);
+                    steps
+                });
+                assert!(before <= after + 1e-6);
+                sums[0] += before;
+                sums[1] += after;
+            }
+        }
+        assert!(1.1 * sums[0] < sums[1], "{sums:?}");
     }
 
     /// The chosen value of the hostile picture is the largest among many.

@@ -3,7 +3,7 @@
 
 use crate::both::{lend, Answer};
 use reference::refusal::answer;
-use reference::rolling::{self, Past, HELD_LINES};
+use reference::rolling::{self, Past, HELD_LINES, TABLE};
 use suzdrepa_sys as sys;
 
 /// What the number of lines given holds before a call.
@@ -88,8 +88,8 @@ fn engine(next: Next, state: &[u8], held: &[i32], out: &[i32]) -> Left {
 }
 
 /// The width of the scan whose state this is, or what stands in its place.
-fn width_in(state: &[u8]) -> usize {
-    usize::from(u16::from_be_bytes([state[56], state[57]]))
+pub fn width_in(state: &[u8]) -> usize {
+    usize::from(u16::from_be_bytes([state[TABLE], state[TABLE + 1]]))
 }
 
 /// A scan that began, with its memory as it was left.

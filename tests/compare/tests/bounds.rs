@@ -1,7 +1,7 @@
 //! Range and error of single nodes, and the lent numbers they are written to.
 
 use compare::chance::Chance;
-use compare::tables::{any, damaged, generous, tight};
+use compare::tables::{accepted_products, any_form, damaged, generous, tight};
 use compare::{both, rounds};
 use reference::{precision, Place, Width, WidthTable};
 
@@ -44,7 +44,8 @@ fn every_node_of_many_tables() {
         let table = match round % 20 {
             0 => tight(&mut chance, depth, levels),
             1 => generous(depth, levels),
-            _ => any(&mut chance),
+            2 => accepted_products(&mut chance, depth, levels),
+            _ => any_form(&mut chance),
         };
         match every_node(&mut chance, &table) {
             None => accepted += 1,
@@ -144,7 +145,7 @@ fn damaged_bytes_and_any_places() {
     let mut seen = [0usize; 8];
     for _ in 0..rounds(60_000) {
         let table = match chance.below(3) {
-            0 => any(&mut chance),
+            0 => any_form(&mut chance),
             _ => generous(chance.within(1, 12) as u8, chance.within(1, 5) as u8),
         };
         let bytes = table.bytes().unwrap();

@@ -72,6 +72,18 @@ fn the_scan_runs() {
 }
 
 #[test]
+fn the_products_run() {
+    prints("products", &[
+        "a table with products of 13 bits: done",
+        "bytes 59 to 70 of 71",
+        "is it accepted: refused 7: a kept node's error is not below two steps (level 1, pass 2, node 5)",
+        "product widths of a table without tag 5: refused 2: the tag is not the next one due, or a caller names one outside 1 to 5 or one that the table lacks",
+        "one changed there: refused 4: a number is outside its limits, or an unused level is not zero",
+        "the coefficients differ by at most 1 of their steps",
+    ]);
+}
+
+#[test]
 fn the_macros_take_an_answer_apart() {
     let source = Path::new(env!("CARGO_TARGET_TMPDIR")).join("macros.c");
     std::fs::write(
@@ -82,8 +94,9 @@ fn the_macros_take_an_answer_apart() {
          {\n\
          uint32_t a = 0x06030507u;\n\
          uint8_t widths[SUZ_TABLE_WIDTHS];\n\
-         printf(\"%u %u %u %u %lu %lu\\n\", SUZ_NUMBER(a), SUZ_LEVEL(a), SUZ_PASS(a), SUZ_NODE(a),\n\
-         (unsigned long)SUZ_TABLE_LENGTH(2 + 3), (unsigned long)sizeof widths);\n\
+         printf(\"%u %u %u %u %lu %lu %lu\\n\", SUZ_NUMBER(a), SUZ_LEVEL(a), SUZ_PASS(a), SUZ_NODE(a),\n\
+         (unsigned long)SUZ_TABLE_LENGTH(2 + 3), (unsigned long)SUZ_TABLE_LENGTH_PRODUCTS(2 + 3),\n\
+         (unsigned long)sizeof widths);\n\
          for (uint32_t n = 0; n <= 255; n++) printf(\"%s\\n\", suz_refusal_text(n));\n\
          return 0;\n\
          }\n",
@@ -92,7 +105,7 @@ fn the_macros_take_an_answer_apart() {
     let output = Command::new(compile("macros", &source)).output().unwrap();
     let text = String::from_utf8(output.stdout).unwrap();
     let lines: Vec<&str> = text.lines().collect();
-    assert_eq!(lines[0], "7 5 3 6 200 180");
+    assert_eq!(lines[0], "7 5 3 6 200 263 180");
     assert_eq!(lines[1], "done");
     assert_eq!(lines[8], "a kept node's error is not below two steps");
     assert_eq!(lines[13], "a coefficient is outside its node's width");

@@ -3,10 +3,10 @@
 //! leaves its width.
 
 use compare::chance::Chance;
-use compare::farthest::{farthest, hold};
+use compare::farthest::{farthest, farthest_under, hold};
 use compare::hostile::{against, Shape, NINE_SEVEN};
 use compare::rounds;
-use compare::tables::{generous, tight};
+use compare::tables::{accepted_products, generous, tight, tight_products};
 
 /// The largest distance over tight tables, in steps.
 fn measure(seed: u64) -> f64 {
@@ -25,6 +25,14 @@ fn tight_tables() {
 fn more_tight_tables() {
     let largest = measure(62);
     assert!(largest > 0.5 && largest < 2.0);
+}
+
+/// Tables with a width for each product (document 02, job 7).
+#[test]
+fn tables_with_products() {
+    let found = farthest_under(accepted_products, 65, rounds(60), 20).unwrap();
+    println!("largest distance with products, seed 65: {found}");
+    assert!(found.steps > 0.5 && found.steps < 2.0);
 }
 
 #[test]
@@ -50,9 +58,12 @@ fn generous_tables_of_every_depth() {
 #[test]
 fn every_node_driven_to_its_ends() {
     let mut chance = Chance::new(64);
-    for levels in 1..=4u8 {
+    for (levels, products) in (1..=4u8).flat_map(|levels| [(levels, false), (levels, true)]) {
         let depth = chance.within(1, 12) as u8;
-        let table = tight(&mut chance, depth, levels);
+        let table = match products {
+            true => tight_products(&mut chance, depth, levels),
+            false => tight(&mut chance, depth, levels),
+        };
         let full = Shape::small_full(&mut chance, depth, levels, 8);
         let (column, row) = (Shape { width: 1, ..full }, Shape { height: 1, ..full });
         for place in table.places() {

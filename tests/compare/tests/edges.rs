@@ -5,7 +5,7 @@
 
 use compare::chance::Chance;
 use compare::rounds;
-use compare::tables::{generous, loose_viewable, narrow, tight, tight_viewable};
+use compare::tables::{accepted_products, generous, loose_viewable, narrow, tight, tight_viewable};
 use reference::fixed_inverse97::{pixel, Half, NODE_BITS};
 use reference::papers::{back53, back97, forward53, forward97};
 use reference::places::{kept_node, low_count};
@@ -151,15 +151,16 @@ fn hold53(depth: u8, size: Size, picture: &[u16]) {
 fn hold97(table: &WidthTable, size: Size, picture: &[u16]) -> Vec<i32> {
     let (width, height) = size;
     let [row, of_row_low, of_row_high] = &table.widths[0];
-    let pass = |line: &[i128], bits, widths| {
-        let [.., low, high] = forward97(line, bits, &table.constant_bits, widths);
+    let pass = |line: &[i128], bits, widths, number| {
+        let products = table.products_of(1, number);
+        let [.., low, high] = forward97(line, bits, &table.constant_bits, widths, products);
         [low, high].concat()
     };
     let mut due = entering(table.depth, picture);
-    rows(&mut due, width, |line| pass(line, table.depth, row));
+    rows(&mut due, width, |line| pass(line, table.depth, row, 1));
     columns(&mut due, width, |row_low, line| match row_low {
-        true => pass(line, row[4].fraction_bits, of_row_low),
-        false => pass(line, row[5].fraction_bits, of_row_high),
+        true => pass(line, row[4].fraction_bits, of_row_low, 2),
+        false => pass(line, row[5].fraction_bits, of_row_high, 3),
     });
     let bytes = table.bytes().unwrap();
     let plane = suzdrepa::forward97_to_vec(&bytes, picture, width, height).unwrap();
@@ -238,10 +239,11 @@ fn hold_views97(chance: &mut Chance, table: &WidthTable, size: Size) -> usize {
     planes.into_iter().map(grey).sum()
 }
 
-/// Accepted tables of one level.
+/// Accepted tables of one level, with tag 5 and without.
 fn accepted_tables(chance: &mut Chance, depth: u8) -> Vec<WidthTable> {
     let mut tables = vec![generous(depth, 1)];
     tables.extend((0..3).map(|_| tight(chance, depth, 1)));
+    tables.extend((0..2).map(|_| accepted_products(chance, depth, 1)));
     tables
 }
 

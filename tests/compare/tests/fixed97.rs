@@ -4,7 +4,7 @@ use compare::both::{self, Lent};
 use compare::chance::Chance;
 use compare::hostile::{against, Shape, NINE_SEVEN};
 use compare::rounds;
-use compare::tables::{any, damaged, generous, tight};
+use compare::tables::{accepted_products, any, any_form, damaged, generous, tight};
 use reference::{Place, WidthTable};
 
 /// Works a picture in lent memory with something past it.
@@ -34,9 +34,12 @@ fn some_place(chance: &mut Chance, levels: u8) -> Place {
 #[test]
 fn tight_tables_and_hostile_pictures() {
     let mut chance = Chance::new(51);
-    for _ in 0..rounds(150) {
+    for round in 0..rounds(150) {
         let (depth, levels) = (chance.within(1, 12) as u8, chance.within(1, 5) as u8);
-        let table = tight(&mut chance, depth, levels);
+        let table = match round % 3 {
+            0 => accepted_products(&mut chance, depth, levels),
+            _ => tight(&mut chance, depth, levels),
+        };
         for _ in 0..10 {
             let shape = Shape::small(&mut chance, depth, levels, 24);
             let place = some_place(&mut chance, levels);
@@ -160,8 +163,9 @@ fn every_refusal_in_its_order() {
     ];
     for _ in 0..rounds(60_000) {
         let (depth, levels) = (chance.within(1, 12) as u8, chance.within(1, 5) as u8);
-        let table = match chance.below(4) {
-            0 => any(&mut chance),
+        let table = match chance.below(5) {
+            0 => any_form(&mut chance),
+            1 => generous(depth, levels).with_products(44),
             _ => generous(depth, levels),
         };
         let mut bytes = table.bytes().unwrap();

@@ -21,7 +21,7 @@ const RED_ZONE: i64 = 128;
 
 /// The exported calls, and the stack in KiB that each stays within, its return
 /// address included, but not what `memcpy` and `memset` of the C library take.
-const CALLS: [(&str, i64); 17] = [
+const CALLS: [(&str, i64); 19] = [
     ("suz_forward53", 4),
     ("suz_forward97", 4),
     ("suz_inverse53", 260),
@@ -30,13 +30,15 @@ const CALLS: [(&str, i64); 17] = [
     ("suz_scan_end", 4),
     ("suz_scan_line", 20),
     ("suz_table_bound", 4),
-    ("suz_table_change", 2),
-    ("suz_table_change_constant", 2),
+    ("suz_table_change", 4),
+    ("suz_table_change_constant", 4),
+    ("suz_table_change_product", 4),
     ("suz_table_check", 4),
     ("suz_table_form", 1),
     ("suz_table_value", 1),
     ("suz_table_view", 4),
     ("suz_table_write", 1),
+    ("suz_table_write_products", 1),
     ("suz_view97", 80),
     ("suz_view_distance", 4),
 ];
@@ -305,11 +307,15 @@ fn every_call_stays_within_its_stack() {
     let disassembly = disassembly();
     let all = functions(&disassembly);
     let mut known = BTreeMap::new();
+    let mut over = Vec::new();
     for (name, most) in CALLS {
         let bytes = stack_of(name, &all, &mut known);
         println!("{name}: {bytes} bytes of stack");
-        assert!(bytes <= most * 1024, "{name}: {bytes}");
+        if bytes > most * 1024 {
+            over.push(name);
+        }
     }
+    assert_eq!(over, [""; 0]);
 }
 
 /// `suz_inverse53` without the fault, its middle left out, from the library in

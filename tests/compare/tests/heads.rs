@@ -1,9 +1,10 @@
 //! The order of refusals within a field (document 02, job 3): every head of
-//! every field, and every place where short inputs may end.
+//! every field, and every place where short inputs may end; since job 7 there
+//! may be a fifth one.
 
 use compare::both::{self, Answer, Lent};
 use compare::tables::generous;
-use reference::table::earlier_read;
+use reference::table::{earlier_form, earlier_read};
 use reference::{Width, WidthTable};
 use std::collections::BTreeSet;
 
@@ -21,8 +22,9 @@ struct Due {
 impl Due {
     fn new(table: &WidthTable, tag: u8) -> Due {
         let bytes = table.bytes().unwrap();
-        let start = [0, 4, 8, 17][usize::from(tag) - 1];
-        let size = [1, 1, 6, 36 * usize::from(table.levels)][usize::from(tag) - 1];
+        let levels = usize::from(table.levels);
+        let start = [0, 4, 8, 17, 20 + 36 * levels][usize::from(tag) - 1];
+        let size = [1, 1, 6, 36 * levels, 12 * levels][usize::from(tag) - 1];
         Due {
             before: bytes[..start].to_vec(),
             tag,
@@ -42,9 +44,18 @@ impl Due {
 
     /// What document 02 says of such a head: the answer before job 3, where
     /// it changed, and the answer. None where tag, length and value are right.
+    /// After the fourth field every byte was 5, and every one but 5 is still.
     fn says(&self, tag: u8, length: u16, there: usize) -> Option<(u8, u8)> {
         let cut = there < usize::from(length);
-        if tag != self.tag {
+        if self.tag == 5 {
+            let now = match (tag, usize::from(length) == self.value.len()) {
+                (5, true) if cut => 1,
+                (5, true) => return None,
+                (5, false) => 3,
+                _ => 5,
+            };
+            Some((5, now))
+        } else if tag != self.tag {
             Some((if cut { 1 } else { 2 }, 2))
         } else if usize::from(length) != self.value.len() {
             Some((if cut { 1 } else { 3 }, 3))
@@ -108,9 +119,49 @@ fn every_head_of_the_fourth_field() {
     every_head_of(4);
 }
 
-/// A head of fewer than three bytes is 1, whatever they are.
+/// The fifth field of every tag, with every length of a byte and some more; of
+/// tag 5 with every length.
+#[test]
+fn every_head_of_the_fifth_field() {
+    let due = Due::new(&generous(8, 1).with_products(30), 5);
+    let size = due.value.len();
+    let mut answers = [0; 6];
+    for there in [0, 1, size - 1, size, size + 1] {
+        for tag in 0..=255 {
+            let more = [256, 256 + size as u16, (size as u16) << 8, 65535];
+            let some: Vec<u16> = (0..=255).chain(more).collect();
+            let every: Vec<u16> = (0..=65535).collect();
+            for &length in if tag == 5 { &every } else { &some } {
+                let bytes = due.bytes(tag, length, there);
+                let now = number(both::table_form(&bytes));
+                let before = number(earlier_form(&bytes).map(|_| ()));
+                match due.says(tag, length, there) {
+                    Some(says) => assert_eq!((before, now), says, "{bytes:?}"),
+                    // The value, and after it nothing or something.
+                    None => assert_eq!((before, now), (5, 5 * (there - size) as u8)),
+                }
+                answers[usize::from(now)] += 1;
+            }
+        }
+    }
+    assert_eq!(answers, [1, 3, 0, 5 * 65535, 0, 5 * 255 * 260 + 1]);
+}
+
+/// A head of fewer than three bytes is 1, whatever they are. After the fourth
+/// field there may be none, and one begins with 5.
 #[test]
 fn every_head_that_is_cut_short() {
+    let four = generous(8, 1).bytes().unwrap();
+    assert_eq!(both::table_form(&four), Ok(()));
+    for first in 0..=255 {
+        let due = if first == 5 { 1 } else { 5 };
+        let bytes = [&four[..], &[first]].concat();
+        assert_eq!(number(both::table_form(&bytes)), due);
+        for second in 0..=255 {
+            let bytes = [&four[..], &[first, second]].concat();
+            assert_eq!(number(both::table_form(&bytes)), due);
+        }
+    }
     for tag in 1..=4 {
         let before = Due::new(&generous(8, 1), tag).before;
         let read = |more: &[u8]| {
@@ -152,6 +203,8 @@ fn every_call(bytes: &[u8]) -> Vec<Answer> {
         both::table_bound(bytes, [1, 1, 1], (5, 6)).0,
         both::table_change(bytes, [1, 1, 1], Width::new(12, 20), &out),
         both::table_change_constant(bytes, 1, 24, &out),
+        both::table_change_product(bytes, [1, 1, 1], 44, &out),
+        both::table_value(bytes, 5),
         both::table_view(bytes),
         both::view_distance(bytes, 5).0,
         both::forward97(bytes, 2, 2, forward).answer,
@@ -163,10 +216,10 @@ fn every_call(bytes: &[u8]) -> Vec<Answer> {
 /// the right one, with every number of bytes after them.
 #[test]
 fn every_cut_of_every_field() {
-    let mut seen = [[0usize; 5]; 5];
+    let mut seen = [[0usize; 6]; 6];
     for levels in [1, 2] {
-        for field in 1..=4 {
-            let due = Due::new(&generous(8, levels), field);
+        for field in 1..=5 {
+            let due = Due::new(&generous(8, levels).with_products(30), field);
             let size = due.value.len() as u16;
             let lengths = (0..=size + 2).chain([255, 256, 256 + size, size << 8, 65535]);
             for length in lengths {
@@ -176,21 +229,31 @@ fn every_cut_of_every_field() {
                         let before = number(earlier_read(&bytes).map(|_| ()));
                         let Some(says) = due.says(tag, length, there) else {
                             let now = number(both::table_form(&bytes));
-                            assert_eq!(before, now, "{bytes:?}");
+                            let whole = field == 5 && there == due.value.len();
+                            assert_eq!(if whole { 0 } else { before }, now, "{bytes:?}");
                             continue;
                         };
                         for answer in every_call(&bytes) {
                             assert_eq!((before, number(answer)), says, "{bytes:?}");
                         }
                         // A wrong name is 2, whatever the bytes.
-                        assert_eq!(number(both::table_value(&bytes, 5)), 2);
+                        assert_eq!(number(both::table_value(&bytes, 6)), 2);
                         seen[usize::from(before)][usize::from(says.1)] += 1;
                     }
                 }
             }
         }
     }
-    for (before, now) in [(1, 1), (1, 2), (1, 3), (2, 2), (3, 3)] {
-        assert!(seen[before][now] > 100, "{seen:?}");
+    for (before, now) in [
+        (1, 1),
+        (1, 2),
+        (1, 3),
+        (2, 2),
+        (3, 3),
+        (5, 1),
+        (5, 3),
+        (5, 5),
+    ] {
+        assert!(seen[before][now] > 30, "{seen:?}");
     }
 }

@@ -1,8 +1,9 @@
 //! The bare C interface: whole answers, and what the safe wrapper does not
 //! show.
 
+use compare::both::Parts;
 use compare::chance::Chance;
-use compare::tables::{any, damaged, generous, narrow};
+use compare::tables::{any, damaged, generous, narrow, some_products};
 use reference::refusal::answer;
 use reference::reversible53::{self, Order};
 use reference::{calls, Refusal, Width};
@@ -10,8 +11,9 @@ use std::ptr::{null, null_mut};
 use suzdrepa_sys::{
     suz_forward53, suz_forward97, suz_inverse53, suz_inverse53_rows_first, suz_scan_begin,
     suz_scan_end, suz_scan_line, suz_table_bound, suz_table_change, suz_table_change_constant,
-    suz_table_check, suz_table_form, suz_table_value, suz_table_view, suz_table_write, suz_view97,
-    suz_view_distance, SUZ_SCAN_LENGTH, SUZ_TABLE_CONSTANTS, SUZ_TABLE_WIDTHS,
+    suz_table_change_product, suz_table_check, suz_table_form, suz_table_value, suz_table_view,
+    suz_table_write, suz_table_write_products, suz_view97, suz_view_distance, SUZ_SCAN_LENGTH,
+    SUZ_TABLE_CONSTANTS, SUZ_TABLE_PRODUCTS, SUZ_TABLE_WIDTHS,
 };
 
 fn some_table(chance: &mut Chance) -> Vec<u8> {
@@ -21,7 +23,7 @@ fn some_table(chance: &mut Chance) -> Vec<u8> {
         2 => generous(depth, levels),
         _ => narrow(depth, levels),
     };
-    let bytes = table.bytes().unwrap();
+    let bytes = some_products(chance, table).bytes().unwrap();
     match chance.below(3) {
         0 => damaged(chance, &bytes),
         _ => bytes,
@@ -101,7 +103,7 @@ fn change_answers_in_whole() {
     let mut chance = Chance::new(23);
     for _ in 0..10_000 {
         let table = some_table(&mut chance);
-        let mut out = vec![0u8; chance.within(0, 210)];
+        let mut out = vec![0u8; chance.within(0, 280)];
         let mut due_out = out.clone();
         let [level, pass, node] = [6, 4, 7].map(|max| chance.within(0, max) as u8);
         let [integer_bits, fraction_bits] = [13, 21].map(|max| chance.within(0, max) as u8);
@@ -123,7 +125,73 @@ fn change_answers_in_whole() {
         let due = calls::table_change(&table, level, pass, node, width, &mut due_out);
         assert_eq!(ours, answer(due));
         assert_eq!(out, due_out);
+
+        let bits = chance.within(0, 46) as u8;
+        // SAFETY: as above.
+        let ours = unsafe {
+            suz_table_change_product(
+                table.as_ptr(),
+                table.len(),
+                level,
+                pass,
+                node,
+                bits,
+                out.as_mut_ptr(),
+                out.len(),
+            )
+        };
+        let due = calls::table_change_product(&table, level, pass, node, bits, &mut due_out);
+        assert_eq!(ours, answer(due));
+        assert_eq!(out, due_out);
     }
+}
+
+/// Whatever says that there is a tag 5, and any numbers.
+#[test]
+fn write_answers_in_whole() {
+    let mut chance = Chance::new(26);
+    let mut seen = std::collections::BTreeSet::new();
+    for _ in 0..20_000 {
+        let table = any(&mut chance);
+        let mut parts = Parts::of(&some_products(&mut chance, table));
+        if chance.one_in(3) {
+            parts.has_products = chance.byte();
+        }
+        if chance.one_in(3) {
+            let at = chance.below(parts.products.len());
+            parts.products[at] = chance.within(0, 46) as u8;
+        }
+        let mut out = vec![0u8; chance.within(0, 280)];
+        let mut due_out = out.clone();
+        // SAFETY: the arrays have the counts that the call reads; pointer and
+        // length are those of a vector.
+        let ours = unsafe {
+            suz_table_write_products(
+                parts.depth,
+                parts.levels,
+                &parts.constants,
+                &parts.widths,
+                parts.has_products,
+                &parts.products,
+                out.as_mut_ptr(),
+                out.len(),
+            )
+        };
+        let due = calls::table_write_products(
+            parts.depth,
+            parts.levels,
+            &parts.constants,
+            &parts.widths,
+            parts.has_products != 0,
+            &parts.products,
+            &mut due_out,
+        );
+        assert_eq!(ours, answer(due));
+        assert_eq!(out, due_out);
+        seen.insert((parts.has_products != 0, ours));
+    }
+    let due = [false, true].map(|has| [0, 4, 9].map(|number| (has, number)));
+    assert_eq!(Vec::from_iter(seen), due.concat());
 }
 
 /// A way back of the C interface, and of the reference.
@@ -321,13 +389,19 @@ fn transform_answers_in_whole() {
 /// Header and declarations allow a null pointer where a length is 0.
 #[test]
 fn null_pointers_of_length_0() {
-    let table = narrow(8, 1).bytes().unwrap();
+    for table in [narrow(8, 1), narrow(8, 1).with_products(44)] {
+        null_pointers(&table.bytes().unwrap(), table.has_products);
+    }
+}
+
+fn null_pointers(table: &[u8], has_products: bool) {
     let (at, len) = (table.as_ptr(), table.len());
     let (mut start, mut length, mut range, mut error) = (5, 6, 7, 8);
     let (mut distance, mut given) = (9, 10);
     let mut state = [0; SUZ_SCAN_LENGTH];
     let state_at = state.as_mut_ptr();
     let (constants, widths) = ([24; SUZ_TABLE_CONSTANTS], [0; SUZ_TABLE_WIDTHS]);
+    let products = [0; SUZ_TABLE_PRODUCTS];
     // SAFETY: what is null has length 0; the rest are a vector's and its own.
     unsafe {
         assert_eq!(suz_table_check(null(), 0), 1);
@@ -343,7 +417,22 @@ fn null_pointers_of_length_0() {
         assert_eq!(suz_table_change(at, len, 9, 1, 1, 9, 9, null_mut(), 0), 4);
         assert_eq!(suz_table_change_constant(null(), 0, 1, 9, null_mut(), 0), 1);
         assert_eq!(suz_table_change_constant(at, len, 1, 9, null_mut(), 0), 9);
+        let change = suz_table_change_product;
+        assert_eq!(change(null(), 0, 1, 1, 1, 9, null_mut(), 0), 1);
+        let due = if has_products { 9 } else { 4 };
+        assert_eq!(change(at, len, 1, 1, 1, 9, null_mut(), 0), due);
+        assert_eq!(change(at, len, 1, 1, 5, 9, null_mut(), 0), 4);
         assert_eq!(suz_table_write(8, 1, &constants, &widths, null_mut(), 0), 4);
+        let write = |widths, has, products| {
+            let out = null_mut();
+            suz_table_write_products(8, 1, &constants, widths, has, products, out, 0)
+        };
+        let right: [u8; SUZ_TABLE_WIDTHS] = narrow(8, 1).parts();
+        for has in [0, 1, 255] {
+            assert_eq!(write(&widths, has, &products), 4);
+            assert_eq!(write(&right, has, &products), 9);
+            assert_eq!(write(&right, has, &[44; SUZ_TABLE_PRODUCTS]), 4);
+        }
         for (w, h, due) in [
             (0, 0, 8),
             (0, 1, 8),

@@ -3,9 +3,11 @@
 use compare::chance::Chance;
 use compare::hostile::{against, Shape, NINE_SEVEN};
 use compare::rounds;
-use compare::scan::{begin, foreign, Next, Scan};
-use compare::tables::{any, damaged, generous, narrow, tight, uneven};
-use reference::rolling::{self, HELD_LINES, OUT_LINES, STATE};
+use compare::scan::{begin, foreign, width_in, Next, Scan};
+use compare::tables::{
+    accepted_products, any_form, damaged, generous, narrow, some_products, tight, uneven,
+};
+use reference::rolling::{self, HELD_LINES, OUT_LINES, STATE, TABLE};
 use reference::{exact97, fixed97, Place, WidthTable};
 use std::collections::BTreeMap;
 
@@ -24,12 +26,14 @@ impl Counts {
     }
 }
 
-/// An accepted table of one level: tight, uneven, or with room.
+/// An accepted table of one level: tight, uneven, or with room, with tag 5 or
+/// without.
 fn table(chance: &mut Chance, depth: u8) -> WidthTable {
-    match chance.below(5) {
+    match chance.below(8) {
         0 => generous(depth, 1),
         1 => narrow(depth, 1),
         2 => uneven(chance, depth, 1),
+        3 | 4 => accepted_products(chance, depth, 1),
         _ => tight(chance, depth, 1),
     }
 }
@@ -339,7 +343,10 @@ fn a_hundred_thousand_lines() {
     let mut chance = Chance::new(114);
     let mut counts = Counts::default();
     for height in [100_000, 100_001] {
-        let table = tight(&mut chance, 8, 1);
+        let table = match height % 2 {
+            0 => tight(&mut chance, 8, 1),
+            _ => accepted_products(&mut chance, 8, 1),
+        };
         let picture = chance.picture(8, 3 * height);
         let lines: Vec<_> = picture.chunks(3).map(<[u16]>::to_vec).collect();
         scan(&mut chance, &table, &lines, 1, &mut counts);
@@ -365,7 +372,10 @@ fn near_the_exact_transform() {
     let mut largest = 0f64;
     for height in (1..20).chain([1, 1, 4097, 4500]) {
         let (depth, width) = (chance.within(1, 12) as u8, chance.within(1, 5));
-        let table = tight(&mut chance, depth, 1);
+        let table = match height % 3 {
+            0 => accepted_products(&mut chance, depth, 1),
+            _ => tight(&mut chance, depth, 1),
+        };
         let lines = strip(&mut chance, depth, width, height);
         let mut scan = begun(&mut chance, &table);
         scan.held = chance.plane(HELD_LINES * width);
@@ -428,11 +438,14 @@ fn beginnings_with_every_refusal() {
     for _ in 0..rounds(40_000) {
         let (depth, levels) = (chance.within(1, 12) as u8, chance.within(1, 5) as u8);
         let mut table = match chance.below(6) {
-            0 => any(&mut chance),
+            0 => any_form(&mut chance),
             1 => generous(depth, levels),
             2 => narrow(depth, 1),
             _ => generous(depth, 1),
         };
+        if chance.one_in(3) {
+            table = some_products(&mut chance, table);
+        }
         if chance.one_in(2) {
             let place = *chance.of(&table.places());
             let width = table.width_mut(place);
@@ -491,7 +504,7 @@ fn after(chance: &mut Chance, table: &WidthTable, width: usize, taken: usize) ->
 /// A line and an end for a state that may be no scan's, with memory enough for
 /// the width that stands in it, or now and then too little. Gives the answers.
 fn ask(chance: &mut Chance, state: &[u8], depth: u8) -> [u8; 2] {
-    let stands = usize::from(u16::from_be_bytes([state[56], state[57]]));
+    let stands = width_in(state);
     let width = match stands {
         1..=4096 => stands,
         _ => chance.within(1, 6),
@@ -551,6 +564,17 @@ fn states_with_one_byte_changed() {
     assert_eq!(seen[10][1], 0);
 }
 
+/// A generous table as it stands in a state: zeros past one without tag 5.
+fn table_in_state(chance: &mut Chance, depth: u8) -> Vec<u8> {
+    let mut table = generous(depth, 1);
+    if chance.one_in(2) {
+        table = table.with_products(chance.within(30, 44) as u8);
+    }
+    let mut bytes = table.bytes().unwrap();
+    bytes.resize(TABLE, 0);
+    bytes
+}
+
 /// Bytes by chance, and a true table with any end.
 #[test]
 fn states_that_no_scan_left() {
@@ -563,11 +587,11 @@ fn states_that_no_scan_left() {
             random[usize::from(number)] += 1;
         }
         let depth = chance.within(1, 12) as u8;
-        state[..56].copy_from_slice(&generous(depth, 1).bytes().unwrap());
+        state[..TABLE].copy_from_slice(&table_in_state(&mut chance, depth));
         let width = *chance.of(&[0u16, 0, 1, 2, 3, 4, 255, 256, 4096, 4097, u16::MAX]);
-        state[56..58].copy_from_slice(&width.to_be_bytes());
-        state[58] = chance.below(9) as u8;
-        state[59] = *chance.of(&[0, 0, 0, 1, 2, 255]);
+        state[TABLE..TABLE + 2].copy_from_slice(&width.to_be_bytes());
+        state[TABLE + 2] = chance.below(9) as u8;
+        state[TABLE + 3] = *chance.of(&[0, 0, 0, 1, 2, 255]);
         for number in ask(&mut chance, &state, depth) {
             ends[usize::from(number)] += 1;
         }
@@ -587,7 +611,7 @@ fn every_refusal_in_its_order() {
     let widths = [0, 1, 2, 3, 4, 5, 4096, 4097, 1 << 32, 1 << 61, usize::MAX];
     for _ in 0..rounds(40_000) {
         let depth = chance.within(1, 12) as u8;
-        let mut state = generous(depth, 1).bytes().unwrap();
+        let mut state = table_in_state(&mut chance, depth);
         let stands = chance.within(1, 5);
         state.extend(match chance.below(4) {
             0 => [0, 0, 0, 0],
@@ -646,6 +670,7 @@ fn held_lines_that_no_scan_left() {
         let table = match round % 4 {
             0 => tight(&mut chance, depth, 1),
             1 => uneven(&mut chance, depth, 1),
+            2 => generous(depth, 1).with_products(chance.within(30, 44) as u8),
             _ => generous(depth, 1),
         };
         let (width, taken) = (chance.within(1, 9), chance.below(8));

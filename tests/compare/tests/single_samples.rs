@@ -6,8 +6,8 @@ use compare::chance::Chance;
 use compare::hostile::{against, least_full_side, Shape, NINE_SEVEN};
 use compare::scan::{Next, Scan};
 use compare::tables::{
-    any, coarse_lows, deepest_viewed, generous, loose_viewable, narrow, tight, tight_viewable,
-    uneven,
+    accepted_products, any, coarse_lows, deepest_viewed, generous, loose_viewable, narrow, tight,
+    tight_viewable, uneven,
 };
 use compare::{program, rounds};
 use reference::places::kept_node;
@@ -62,13 +62,15 @@ fn shape(depth: u8, levels: u8, width: usize, height: usize) -> Shape {
 }
 
 /// Accepted tables: as wide as they get, uneven ones and tight ones, so that
-/// G1 has more bits than what enters it, as many, and fewer.
+/// G1 has more bits than what enters it, as many, and fewer; one of them with
+/// tag 5.
 fn accepted_tables(chance: &mut Chance, depth: u8, levels: u8) -> Vec<WidthTable> {
     let mut tables = vec![generous(depth, levels)];
     for _ in 0..rounds(1) {
         tables.push(uneven(chance, depth, levels));
         tables.push(tight(chance, depth, levels));
         tables.push(coarse_lows(chance, depth, levels));
+        tables.push(accepted_products(chance, depth, levels));
     }
     tables
 }
@@ -744,10 +746,11 @@ fn rolling_scans() {
         }
         for round in 0..rounds(8) {
             let depth = chance.within(1, 12) as u8;
-            let table = match round % 4 {
+            let table = match round % 5 {
                 0 => narrow(depth, 1),
                 1 => uneven(&mut chance, depth, 1),
                 2 => coarse_lows(&mut chance, depth, 1),
+                3 => accepted_products(&mut chance, depth, 1),
                 _ => tight(&mut chance, depth, 1),
             };
             let picture = chance.picture(depth, width * height);
@@ -779,7 +782,13 @@ fn one_line(table: &WidthTable, pixels: &[u16]) -> Vec<i32> {
     let middle = 1i128 << (table.depth - 1);
     let line: Vec<i128> = pixels.iter().map(|&p| i128::from(p) - middle).collect();
     let [row, of_low, of_high] = &table.widths[0];
-    let [.., lows, highs] = fixed97::pass(&line, table.depth, &table.constant_bits, row);
+    let [.., lows, highs] = fixed97::pass(
+        &line,
+        table.depth,
+        &table.constant_bits,
+        row,
+        table.products_of(1, 1),
+    );
     let column = |values: &[i128], node: usize, to: &[Width; 6]| -> Vec<i128> {
         let (bits, f) = (row[node].fraction_bits, to[4].fraction_bits);
         values.iter().map(|&v| cut(v, bits, f)).collect()

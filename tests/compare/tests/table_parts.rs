@@ -1,7 +1,7 @@
 //! Tables from their parts, and constants changed.
 
 use compare::chance::Chance;
-use compare::tables::{any, damaged, generous};
+use compare::tables::{any, any_form, damaged, drawn_products, generous};
 use compare::{both, rounds};
 use reference::table::WIDTHS;
 use reference::{Width, WidthTable};
@@ -30,18 +30,20 @@ const LONG: [u8; 200] = [0xA5; 200];
 
 #[test]
 fn every_constant_change_of_a_small_table() {
-    let bytes = generous(8, 2).bytes().unwrap();
-    let out = vec![0xA5; bytes.len() + 3];
-    let mut done = 0;
-    for node in 0..=255 {
-        for bits in 0..=255 {
-            let answer = number(both::table_change_constant(&bytes, node, bits, &out));
-            let right = (1..=6).contains(&node) && (1..=24).contains(&bits);
-            assert_eq!(answer, if right { 0 } else { 4 });
-            done += usize::from(right);
+    for table in [generous(8, 2), generous(8, 2).with_products(30)] {
+        let bytes = table.bytes().unwrap();
+        let out = vec![0xA5; bytes.len() + 3];
+        let mut done = 0;
+        for node in 0..=255 {
+            for bits in 0..=255 {
+                let answer = number(both::table_change_constant(&bytes, node, bits, &out));
+                let right = (1..=6).contains(&node) && (1..=24).contains(&bits);
+                assert_eq!(answer, if right { 0 } else { 4 });
+                done += usize::from(right);
+            }
         }
+        assert_eq!(done, 6 * 24);
     }
-    assert_eq!(done, 6 * 24);
 }
 
 #[test]
@@ -49,7 +51,7 @@ fn constant_changes_of_any_bytes_into_any_memory() {
     let mut chance = Chance::new(91);
     let mut seen = [0usize; 10];
     for _ in 0..rounds(30_000) {
-        let mut bytes = any(&mut chance).bytes().unwrap();
+        let mut bytes = any_form(&mut chance).bytes().unwrap();
         if chance.one_in(3) {
             bytes = damaged(&mut chance, &bytes);
         }
@@ -91,7 +93,7 @@ fn the_order_of_refusals() {
 fn constants_changed_and_changed_back() {
     let mut chance = Chance::new(92);
     for _ in 0..rounds(500) {
-        let table = any(&mut chance);
+        let table = any_form(&mut chance);
         let bytes = table.bytes().unwrap();
         for (old, node) in table.constant_bits.into_iter().zip(suzdrepa::Node::ALL) {
             let bits = chance.within(1, 24) as u8;
@@ -235,6 +237,25 @@ fn written_tables_are_read_again() {
         let value = suzdrepa::table_value(ours.as_bytes(), 4).unwrap();
         assert_eq!(value, &table.parts()[..value.len()]);
         // And as text.
+        let text = roll::text::write(&ours);
+        assert_eq!(roll::text::read(text.as_bytes()), Ok(ours));
+        // The same with tag 5.
+        let table = drawn_products(&mut chance, table.clone());
+        let product = |place: suzdrepa::Place| {
+            let [level, pass, node] = place.numbers();
+            table.product(reference::Place { level, pass, node })
+        };
+        let ours = suzdrepa::WidthTable::from_parts_with_products(
+            depth,
+            levels,
+            table.constant_bits,
+            width,
+            product,
+        )
+        .unwrap();
+        assert_eq!(Ok(ours.to_bytes()), table.bytes());
+        let value = suzdrepa::table_value(ours.as_bytes(), 5).unwrap();
+        assert_eq!(value, &table.product_parts()[..value.len()]);
         let text = roll::text::write(&ours);
         assert_eq!(roll::text::read(text.as_bytes()), Ok(ours));
     }

@@ -1,7 +1,7 @@
 //! Width tables: form, verdict, value of a tag, change.
 
 use compare::chance::Chance;
-use compare::tables::{any, damaged, generous, tight};
+use compare::tables::{accepted_products, any_form, damaged, drawn_products, generous, tight};
 use compare::{both, rounds};
 use reference::{precision, Place, Width, WidthTable};
 
@@ -21,13 +21,15 @@ fn all_reads(bytes: &[u8]) -> u8 {
     let form = number(both::table_form(bytes));
     let verdict = number(both::table_check(bytes));
     assert_eq!(if verdict > 5 { 0 } else { verdict }, form);
-    for tag in [0, 1, 2, 3, 4, 5, 255] {
+    let lacks_products = WidthTable::read(bytes).is_ok_and(|table| !table.has_products);
+    for tag in [0, 1, 2, 3, 4, 5, 6, 255] {
         let named = number(both::table_value(bytes, tag));
-        assert_eq!(
-            named,
-            if (1..=4).contains(&tag) { form } else { 2 },
-            "tag {tag}"
-        );
+        let due = match tag {
+            1..=4 => form,
+            5 if !lacks_products => form,
+            _ => 2,
+        };
+        assert_eq!(named, due, "tag {tag}");
     }
     verdict
 }
@@ -80,6 +82,17 @@ fn every_byte_of_a_table_set_to_every_value() {
         for number in [0, 2, 3, 4, 6, 7] {
             assert!(seen[number] > 0, "{seen:?}");
         }
+        // The same with tag 5: another byte than its tag is 5.
+        let whole = generous(8, levels).with_products(30).bytes().unwrap();
+        let mut seen = [0usize; 8];
+        for at in 0..whole.len() {
+            for byte in 0..=255 {
+                let mut bytes = whole.clone();
+                bytes[at] = byte;
+                seen[number(both::table_check(&bytes)) as usize] += 1;
+            }
+        }
+        assert_eq!((seen[1], seen[5]), (0, 255));
     }
 }
 
@@ -97,28 +110,37 @@ fn every_length_of_a_table() {
             bytes.push(byte);
             assert_eq!(all_reads(&bytes), 5);
         }
+        // With tag 5 a table may end after the fourth field, or after the fifth.
+        let mut bytes = generous(8, levels).with_products(30).bytes().unwrap();
+        assert_eq!(bytes.len(), 23 + 48 * levels as usize);
+        for length in 0..=bytes.len() {
+            let due = [whole, bytes.len()].contains(&length);
+            assert_eq!(all_reads(&bytes[..length]), if due { 0 } else { 1 });
+        }
+        for byte in [5, 0, 1, 255] {
+            bytes.push(byte);
+            assert_eq!(all_reads(&bytes), 5);
+        }
     }
 }
 
 #[test]
 fn every_tag_that_a_caller_may_name() {
     let bytes = generous(12, 3).bytes().unwrap();
+    let with_products = generous(12, 3).with_products(30).bytes().unwrap();
     let mut long = bytes.clone();
     long.push(4);
     for tag in 0..=255 {
-        let known = (1..=4).contains(&tag);
-        assert_eq!(
-            number(both::table_value(&bytes, tag)),
-            if known { 0 } else { 2 }
-        );
-        assert_eq!(
-            number(both::table_value(&long, tag)),
-            if known { 5 } else { 2 }
-        );
-        assert_eq!(
-            number(both::table_value(&[], tag)),
-            if known { 1 } else { 2 }
-        );
+        let known = (1..=5).contains(&tag);
+        for (bytes, due) in [
+            (&bytes[..], if tag == 5 { 2 } else { 0 }),
+            (&with_products, 0),
+            (&long, 5),
+            (&[], 1),
+        ] {
+            let answer = number(both::table_value(bytes, tag));
+            assert_eq!(answer, if known { due } else { 2 }, "tag {tag}");
+        }
     }
 }
 
@@ -128,8 +150,9 @@ fn damaged_tables() {
     let mut seen = [0usize; 8];
     for _ in 0..rounds(60_000) {
         let levels = chance.within(1, 5) as u8;
-        let table = match chance.below(3) {
-            0 => any(&mut chance),
+        let table = match chance.below(4) {
+            0 => any_form(&mut chance),
+            1 => generous(chance.within(1, 12) as u8, levels).with_products(44),
             _ => generous(chance.within(1, 12) as u8, levels),
         };
         let bytes = damaged(&mut chance, &table.bytes().unwrap());
@@ -142,7 +165,7 @@ fn damaged_tables() {
 fn verdicts_of_any_numbers() {
     let mut chance = Chance::new(12);
     for _ in 0..rounds(40_000) {
-        let bytes = any(&mut chance).bytes().unwrap();
+        let bytes = any_form(&mut chance).bytes().unwrap();
         let number = all_reads(&bytes);
         assert!(number == 0 || number == 6 || number == 7);
     }
@@ -154,12 +177,17 @@ fn verdicts_of_any_numbers() {
 fn verdicts_beside_tight_tables() {
     let mut chance = Chance::new(13);
     let mut seen = [0usize; 8];
-    for _ in 0..rounds(60) {
+    for round in 0..rounds(60) {
         let (depth, levels) = (chance.within(1, 12) as u8, chance.within(1, 5) as u8);
-        let table = tight(&mut chance, depth, levels);
+        let table = match round % 3 {
+            0 => accepted_products(&mut chance, depth, levels),
+            _ => tight(&mut chance, depth, levels),
+        };
         let bytes = table.bytes().unwrap();
         assert_eq!(all_reads(&bytes), 0);
-        for at in (11..17).chain(20..bytes.len()) {
+        // All numbers but depth and levels, and not the head of tag 5.
+        let fifth = 20 + 36 * usize::from(levels);
+        for at in (11..17).chain(20..fifth).chain(fifth + 3..bytes.len()) {
             for by in [1, 255] {
                 let mut beside = bytes.clone();
                 beside[at] = beside[at].wrapping_add(by);
@@ -278,7 +306,15 @@ fn every_node_can_be_the_refused_one() {
 
 #[test]
 fn every_change_of_a_small_table() {
-    let bytes = generous(8, 2).bytes().unwrap();
+    let mut chance = Chance::new(16);
+    let with_products = drawn_products(&mut chance, generous(8, 2));
+    for table in [generous(8, 2), with_products] {
+        every_change_of(&table);
+    }
+}
+
+fn every_change_of(table: &WidthTable) {
+    let bytes = table.bytes().unwrap();
     let out = vec![0xA5; bytes.len() + 3];
     let mut done = 0;
     for level in (0..=7).chain([255]) {
@@ -303,7 +339,7 @@ fn changes_of_any_bytes_into_any_memory() {
     let mut chance = Chance::new(14);
     let mut seen = [0usize; 10];
     for _ in 0..rounds(30_000) {
-        let mut bytes = any(&mut chance).bytes().unwrap();
+        let mut bytes = any_form(&mut chance).bytes().unwrap();
         if chance.one_in(3) {
             bytes = damaged(&mut chance, &bytes);
         }
@@ -346,7 +382,7 @@ fn the_allocating_change_gives_the_same_table() {
 fn the_type_of_the_wrapper() {
     let mut chance = Chance::new(15);
     for _ in 0..rounds(3000) {
-        let table = any(&mut chance);
+        let table = any_form(&mut chance);
         let bytes = table.bytes().unwrap();
         let ours = suzdrepa::WidthTable::from_bytes(&bytes).unwrap();
         assert_eq!((ours.depth(), ours.levels()), (table.depth, table.levels));

@@ -2,7 +2,7 @@
 //! the named tag's value, and nothing where that is refused.
 
 use compare::chance::Chance;
-use compare::tables::{any, damaged, generous};
+use compare::tables::{any_form, damaged, generous};
 use compare::{program, rounds};
 use reference::tag_value::tag_value;
 
@@ -20,22 +20,28 @@ fn every_value_of_right_tables() {
     for number in 0..rounds(50) {
         let table = match number {
             0..5 => generous(8, number as u8 + 1),
-            _ => any(&mut chance),
+            5..10 => generous(8, number as u8 - 4).with_products(30),
+            _ => any_form(&mut chance),
         };
         let bytes = table.bytes().unwrap();
         assert_eq!(same(1, &bytes), [table.depth]);
         assert_eq!(same(2, &bytes), [table.levels]);
         assert_eq!(same(3, &bytes), table.constant_bits);
-        assert_eq!(same(4, &bytes), bytes[20..]);
+        let fifth = 20 + 36 * usize::from(table.levels);
+        assert_eq!(same(4, &bytes), bytes[20..fifth]);
+        let due = if table.has_products { fifth + 3 } else { fifth };
+        assert_eq!(same(5, &bytes), bytes[due..]);
     }
 }
 
 #[test]
 fn every_tag() {
-    let bytes = generous(12, 5).bytes().unwrap();
-    for tag in 0..=255 {
-        let written = !same(tag, &bytes).is_empty();
-        assert_eq!(written, (1..=4).contains(&tag));
+    for (table, last) in [(generous(12, 5), 4), (generous(12, 5).with_products(30), 5)] {
+        let bytes = table.bytes().unwrap();
+        for tag in 0..=255 {
+            let written = !same(tag, &bytes).is_empty();
+            assert_eq!(written, (1..=last).contains(&tag));
+        }
     }
 }
 
@@ -56,6 +62,20 @@ fn every_length() {
         }
         // Two tables, one after the other.
         assert_eq!(same(1, &bytes.repeat(2)), []);
+        // With tag 5: every length but that of the first four fields.
+        let with_products = generous(8, levels).with_products(30).bytes().unwrap();
+        for length in 0..with_products.len() {
+            let four = length == bytes.len();
+            let due = if four { vec![24; 6] } else { vec![] };
+            assert_eq!(same(3, &with_products[..length]), due);
+            assert_eq!(same(5, &with_products[..length]), []);
+        }
+        for more in [1, 2, 3, 12, 15, 5000] {
+            let long = [&with_products[..], &vec![5; more]].concat();
+            for tag in 1..=5 {
+                assert_eq!(same(tag, &long), []);
+            }
+        }
     }
 }
 
@@ -63,9 +83,10 @@ fn every_length() {
 /// it is given.
 #[test]
 fn fields_longer_than_any_table() {
-    let bytes = generous(8, 2).bytes().unwrap();
-    for (start, value) in [(0, 1), (4, 1), (8, 6), (17, 72)] {
-        for length in [0, 1, 6, 36, 72, 180, 181, 199, 200, 201, 500, 65535u16] {
+    let bytes = generous(8, 2).with_products(30).bytes().unwrap();
+    for (start, value) in [(0, 1), (4, 1), (8, 6), (17, 72), (92, 24)] {
+        let lengths = [0, 1, 6, 12, 24, 36, 60, 72, 180, 181, 199, 200, 201];
+        for length in lengths.into_iter().chain([262, 263, 264, 500, 65535u16]) {
             let mut long = bytes.clone();
             long[start + 1..start + 3].copy_from_slice(&length.to_be_bytes());
             long.extend(vec![0; usize::from(length)]);
@@ -81,9 +102,9 @@ fn damaged_tables() {
     let mut chance = Chance::new(82);
     let (mut written, mut nothing) = (0, 0);
     for _ in 0..rounds(1500) {
-        let table = any(&mut chance);
+        let table = any_form(&mut chance);
         let bytes = damaged(&mut chance, &table.bytes().unwrap());
-        let tag = chance.within(0, 5) as u8;
+        let tag = chance.within(0, 6) as u8;
         match same(tag, &bytes).is_empty() {
             true => nothing += 1,
             false => written += 1,
@@ -98,6 +119,6 @@ fn any_bytes() {
     for _ in 0..rounds(200) {
         let length = chance.below(300);
         let bytes: Vec<u8> = (0..length).map(|_| chance.within(0, 6) as u8).collect();
-        same(chance.within(1, 4) as u8, &bytes);
+        same(chance.within(1, 5) as u8, &bytes);
     }
 }

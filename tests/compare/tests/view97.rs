@@ -5,7 +5,8 @@ use compare::chance::Chance;
 use compare::hostile::{least_full_side, Shape, NINE_SEVEN};
 use compare::rounds;
 use compare::tables::{
-    any, damaged, deepest_viewed, generous, loose_viewable, narrow, tight, tight_viewable,
+    any, damaged, deepest_viewed, generous, loose_viewable, narrow, some_products, tight,
+    tight_viewable, tight_viewable_products,
 };
 use reference::places::kept_node;
 use reference::{viewing, Refusal, Width, WidthTable};
@@ -56,9 +57,10 @@ fn depth_and_levels(chance: &mut Chance) -> (u8, u8) {
 }
 
 fn viewable_table(chance: &mut Chance, depth: u8, levels: u8) -> WidthTable {
-    match chance.below(3) {
+    match chance.below(4) {
         0 => narrow(depth, levels),
         1 => loose_viewable(chance, depth, levels),
+        2 => tight_viewable_products(chance, depth, levels),
         _ => tight_viewable(chance, depth, levels),
     }
 }
@@ -376,7 +378,7 @@ fn questions_of_many_tables() {
             4 => narrow(depth, levels),
             _ => any(&mut chance),
         };
-        let mut bytes = table.bytes().unwrap();
+        let mut bytes = some_products(&mut chance, table).bytes().unwrap();
         if chance.one_in(3) {
             bytes = damaged(&mut chance, &bytes);
         }

@@ -4,7 +4,9 @@
 use compare::chance::Chance;
 use compare::hostile::{against, Shape, NINE_SEVEN};
 use compare::rounds;
-use compare::tables::{deepest_viewed, loose_viewable, narrow, tight_viewable};
+use compare::tables::{
+    deepest_viewed, loose_viewable, narrow, tight_viewable, tight_viewable_products,
+};
 use reference::exact_inverse97::inverse;
 use reference::fixed_inverse97::{pixel, undo, NODE_BITS};
 use reference::{viewing, WidthTable};
@@ -48,9 +50,10 @@ fn hold(table: &WidthTable, shape: Shape, stored: &[i32]) -> (Vec<i128>, f64) {
 }
 
 fn viewable_table(chance: &mut Chance, depth: u8, levels: u8) -> WidthTable {
-    match chance.below(3) {
+    match chance.below(4) {
         0 => narrow(depth, levels),
         1 => loose_viewable(chance, depth, levels),
+        2 => tight_viewable_products(chance, depth, levels),
         _ => tight_viewable(chance, depth, levels),
     }
 }

@@ -7,7 +7,7 @@ use crate::places::{kept_node, side_admitted};
 use crate::precision::{bound_of, verdict};
 use crate::refusal::{Place, Refusal};
 use crate::reversible53::Order;
-use crate::table::{value_of_tag, Width, WidthTable, WIDTHS};
+use crate::table::{value_of_tag, Width, WidthTable, PRODUCTS, WIDTHS};
 use crate::{fixed97, fixed_inverse97, reversible53, viewing};
 use std::ops::Range;
 
@@ -36,7 +36,8 @@ pub fn table_bound(
     Ok(())
 }
 
-/// Where the value of a tag stands: 2 for the name, then 1 to 5.
+/// Where the value of a tag stands: 2 for the name, then 1 to 5, then 2 for tag
+/// 5 where there is none.
 pub fn table_value(table: &[u8], tag: u8) -> Result<Range<usize>, Refusal> {
     value_of_tag(table, tag)
 }
@@ -69,7 +70,22 @@ pub fn table_change_constant(
     new.write(out)
 }
 
-/// Writes the table of these parts: 4, 9.
+/// Changes the bits of one product and writes the new table: 1 to 5 of the
+/// bytes, 4 of the change, 9.
+pub fn table_change_product(
+    table: &[u8],
+    level: u8,
+    pass: u8,
+    product: u8,
+    bits: u8,
+    out: &mut [u8],
+) -> Result<(), Refusal> {
+    let (new, done) = WidthTable::read(table)?.product_changed(level, pass, product, bits);
+    done?;
+    new.write(out)
+}
+
+/// Writes the table of these parts, without tag 5: 4, 9.
 pub fn table_write(
     depth: u8,
     levels: u8,
@@ -78,6 +94,21 @@ pub fn table_write(
     out: &mut [u8],
 ) -> Result<(), Refusal> {
     WidthTable::of_parts(depth, levels, *constants, widths).write(out)
+}
+
+/// Writes the table of these parts, with or without tag 5: 4, 9.
+pub fn table_write_products(
+    depth: u8,
+    levels: u8,
+    constants: &[u8; 6],
+    widths: &[u8; WIDTHS],
+    has_products: bool,
+    products: &[u8; PRODUCTS],
+    out: &mut [u8],
+) -> Result<(), Refusal> {
+    WidthTable::of_parts(depth, levels, *constants, widths)
+        .and_products(has_products, products)
+        .write(out)
 }
 
 /// 9/7 forward: 1 to 5 of the bytes, then 6 and 7, 8, 9, 10.
@@ -543,6 +574,59 @@ mod tests {
         let mut refused = generous(12, 5);
         refused[20] = 2;
         assert_eq!(ask(&refused), 6);
+    }
+
+    #[test]
+    fn order_of_a_product_change() {
+        let table = WidthTable::read(&generous(8, 2)).unwrap();
+        let bytes = table.with_products(44).bytes().unwrap();
+        let mut out = vec![9; bytes.len() + 1];
+        let change = |table: &[u8], product, bits, out: &mut [u8]| {
+            number(table_change_product(table, 2, 3, product, bits, out))
+        };
+        assert_eq!(change(&bytes[..10], 9, 99, &mut out[..0]), 1);
+        assert_eq!(change(&[&bytes[..], &[0]].concat(), 9, 99, &mut []), 5);
+        assert_eq!(change(&bytes, 5, 44, &mut out[..0]), 4);
+        assert_eq!(change(&bytes, 4, 45, &mut out[..0]), 4);
+        assert_eq!(change(&generous(8, 2), 4, 44, &mut out[..0]), 4);
+        assert_eq!(change(&bytes, 4, 0, &mut out[..118]), 9);
+        assert!(out.iter().all(|&b| b == 9));
+        table_change_product(&bytes, 2, 3, 4, 0, &mut out).unwrap();
+        assert_eq!(out[..118], bytes[..118]);
+        assert_eq!(out[118..], [0, 9]);
+        // A table that is only changed is not judged.
+        assert_eq!(table_form(&out[..119]), Ok(()));
+        assert_eq!(number(table_check(&out[..119])), 7);
+    }
+
+    #[test]
+    fn order_of_writing_products() {
+        let table = WidthTable::read(&generous(8, 2)).unwrap();
+        let widths = table.parts();
+        let mut products = [0; PRODUCTS];
+        products[..24].fill(44);
+        let write = |has: bool, products: &[u8; PRODUCTS], length: usize| {
+            let mut out = vec![9; length];
+            let written = table_write_products(8, 2, &[24; 6], &widths, has, products, &mut out);
+            match written {
+                Ok(()) => out,
+                Err(refusal) => {
+                    assert!(out.iter().all(|&b| b == 9));
+                    vec![refusal.number]
+                }
+            }
+        };
+        let due = table.clone().with_products(44).bytes().unwrap();
+        assert_eq!(write(true, &products, 120), [&due[..], &[9]].concat());
+        assert_eq!(write(true, &products, 118), [9]);
+        assert_eq!(write(false, &products, 0), [4]);
+        assert_eq!(write(false, &[0; PRODUCTS], 92), table.bytes().unwrap());
+        assert_eq!(write(false, &[0; PRODUCTS], 91), [9]);
+        for (at, bits) in [(24, 1), (59, 44), (0, 45), (23, 255)] {
+            let mut wrong = products;
+            wrong[at] = bits;
+            assert_eq!(write(true, &wrong, 0), [4]);
+        }
     }
 
     #[test]

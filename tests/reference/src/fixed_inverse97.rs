@@ -2,7 +2,7 @@
 //! and the pixels shown (document 02, job 1).
 
 use crate::constants::{Ratio, ALPHA, BETA, DELTA, GAMMA, ONE_OVER_ZETA, ZETA};
-use crate::fixed97::{scale, stage, Fixed};
+use crate::fixed97::{scale, stage, Factor, Fixed};
 use crate::places::{low_count, side_at};
 use crate::refusal::Place;
 use crate::table::WidthTable;
@@ -52,7 +52,7 @@ pub fn pass(low: Half, high: Half) -> [Vec<i128>; 6] {
     let g1 = scale(low.values, low.bits, constant(ONE_OVER_ZETA), NODE_BITS);
     let g2 = scale(high.values, high.bits, constant(ZETA), NODE_BITS);
     let undone = |own: &[i128], others: &[i128], exact: Ratio, beside: &dyn Fn(usize) -> _| {
-        let by = minus(exact);
+        let by = Factor::uncut(minus(exact));
         stage(own, NODE_BITS, others, NODE_BITS, by, NODE_BITS, beside)
     };
     let u2 = undone(&g1, &g2, DELTA, &highs_beside);
@@ -184,7 +184,7 @@ mod tests {
             let line: Vec<i128> = (0..n as i128)
                 .map(|i| (i * i * 977) % 4096 - 2048)
                 .collect();
-            let nodes = fixed97::pass(&line, 12, &[24; 6], &widths);
+            let nodes = fixed97::pass(&line, 12, &[24; 6], &widths, None);
             let [.., even, odd] = pass(half(&nodes[4], 20), half(&nodes[5], 20));
             for (i, &sample) in line.iter().enumerate() {
                 let back = if i % 2 == 0 { even[i / 2] } else { odd[i / 2] };
@@ -198,7 +198,7 @@ mod tests {
         let widths = |f| [Width::new(12, f); 6];
         for (bits, f) in [(1, 0), (8, 8), (12, 5), (3, 20)] {
             for sample in -9..9 {
-                let nodes = fixed97::pass(&[sample], bits, &[24; 6], &widths(f));
+                let nodes = fixed97::pass(&[sample], bits, &[24; 6], &widths(f), None);
                 let [g1, g2, u2, p2, even, odd] = pass(half(&nodes[4], f), half(&nodes[5], f));
                 assert!([g1, g2, u2, p2, odd].iter().all(Vec::is_empty));
                 assert_eq!(even, [nodes[4][0] << (20 - f)]);

@@ -6,7 +6,8 @@
 //! fractions are exact. Nothing here is made for speed.
 //!
 //! * [`refusal`]: the numbers 1 to 14
-//! * [`table`]: width tables (document 01: books) and their bytes
+//! * [`table`]: width tables (document 01: books), with a width for each product
+//!   or without (document 02, job 7), and their bytes
 //! * [`constants`], [`gains`], [`precision`]: the precision analysis and its
 //!   verdict (document 01: the judge)
 //! * [`fixed97`], [`exact97`]: the 9/7 transform in fixed point and in fractions

@@ -9,10 +9,10 @@
 //! has no neighbour: lines are of two values and more.
 
 use crate::constants::{Ratio, ALPHA, BETA, DELTA, GAMMA, ONE_OVER_ZETA, ZETA};
-use crate::fixed97::{cut, scale, Fixed};
+use crate::fixed97::{cut, scale, Factor, Fixed};
 use crate::fixed_inverse97::{Half, CONSTANT_BITS, NODE_BITS};
 use crate::places::low_count;
-use crate::table::Width;
+use crate::table::{Products, Width};
 
 /// One 5/3 pass forward over a line of at least two values, source document
 /// 004: low values, then high values. X(i) is what enters at place i of the
@@ -95,17 +95,27 @@ fn in_turn(lows: &[i128], highs: &[i128]) -> Vec<i128> {
 /// One 9/7 pass forward over a line of at least two values, source document
 /// 003, with the meaning of [`crate::fixed97::pass`]: what each node holds, P1
 /// to G2. The names are the paper's, the superscript written after the letter.
+/// The paper cuts no product; where `products` are given, what is multiplied by
+/// a constant in its equations is cut first (document 02, job 7).
 pub fn forward97(
     line: &[i128],
     bits: u8,
     constant_bits: &[u8; 6],
     widths: &[Width; 6],
+    products: Products,
 ) -> [Vec<i128>; 6] {
     let [alpha, beta, gamma, delta, zeta, one_over_zeta] = {
         let exact = [ALPHA, BETA, GAMMA, DELTA, ZETA, ONE_OVER_ZETA];
         std::array::from_fn(|node| rounded(exact[node], constant_bits[node]))
     };
     let f = widths.map(|width| width.fraction_bits);
+    let [alpha, beta, gamma, delta] = {
+        let constants = [alpha, beta, gamma, delta];
+        std::array::from_fn(|node| Factor {
+            constant: constants[node],
+            product_bits: products.map(|bits| bits[node]),
+        })
+    };
     let x = apart(line);
     let (x_even, x_odd) = x.split_at(low_count(line.len()));
 
@@ -124,7 +134,7 @@ pub fn forward97(
 pub fn back97(low: Half, high: Half) -> [Vec<i128>; 6] {
     const F: u8 = NODE_BITS;
     let by = |exact: Ratio| rounded(exact, CONSTANT_BITS);
-    let away = |exact: Ratio| times(-1, by(exact));
+    let away = |exact: Ratio| Factor::uncut(times(-1, by(exact)));
 
     let a2 = scale(low.values, low.bits, by(ONE_OVER_ZETA), F);
     let d2 = scale(high.values, high.bits, by(ZETA), F);
@@ -142,15 +152,15 @@ pub fn back97(low: Half, high: Half) -> [Vec<i128>; 6] {
 ///   d2_i = gamma (a1_i + a1_{i+1}) + d1_i;
 /// * equation 4, for 512 samples: d1_255 = 2 alpha x_510 + x_511,
 ///   d2_255 = 2 gamma a1_255 + d1_255.
-fn predict(d: Half, a: Half, c: Fixed, f: u8) -> Vec<i128> {
+fn predict(d: Half, a: Half, c: Factor, f: u8) -> Vec<i128> {
     let last = a.values.len() + d.values.len() - 1;
     let high = |i: usize| {
         if 2 * i + 1 == last {
             // Equation 4: 2 c a_i + d_i
-            cut(d.at(i), times(2, c), a.at(i), f)
+            cut(d.at(i), c.doubled().times(a.at(i)), f)
         } else {
             // Equation 2: c (a_i + a_{i+1}) + d_i
-            cut(d.at(i), c, a.sum(i, i + 1), f)
+            cut(d.at(i), c.times(a.sum(i, i + 1)), f)
         }
     };
     (0..d.values.len()).map(high).collect()
@@ -162,19 +172,19 @@ fn predict(d: Half, a: Half, c: Fixed, f: u8) -> Vec<i128> {
 /// * equation 2: a1_i = beta (d1_i + d1_{i-1}) + x_{2i},
 ///   a2_i = delta (d2_i + d2_{i-1}) + a1_i;
 /// * equation 3: a1_0 = 2 beta d1_0 + x_0, a2_0 = 2 delta d2_0 + a1_0.
-fn update(a: Half, d: Half, c: Fixed, f: u8) -> Vec<i128> {
+fn update(a: Half, d: Half, c: Factor, f: u8) -> Vec<i128> {
     let last = a.values.len() + d.values.len() - 1;
     let low = |i: usize| {
         if i == 0 {
             // Equation 3: 2 c d_0 + a_0
-            cut(a.at(0), times(2, c), d.at(0), f)
+            cut(a.at(0), c.doubled().times(d.at(0)), f)
         } else if 2 * i == last {
             // The paper has even lengths alone; ours, in the style of
             // equation 3, for the last low of an odd one: 2 c d_{i-1} + a_i
-            cut(a.at(i), times(2, c), d.at(i - 1), f)
+            cut(a.at(i), c.doubled().times(d.at(i - 1)), f)
         } else {
             // Equation 2: c (d_i + d_{i-1}) + a_i
-            cut(a.at(i), c, d.sum(i, i - 1), f)
+            cut(a.at(i), c.times(d.sum(i, i - 1)), f)
         }
     };
     (0..a.values.len()).map(low).collect()
@@ -190,6 +200,16 @@ fn rounded(exact: Ratio, bits: u8) -> Fixed {
 fn times(count: i128, Fixed { value, bits }: Fixed) -> Fixed {
     let value = count * value;
     Fixed { value, bits }
+}
+
+impl Factor {
+    /// With twice the constant.
+    fn doubled(self) -> Factor {
+        Factor {
+            constant: times(2, self.constant),
+            ..self
+        }
+    }
 }
 
 fn half(values: &[i128], bits: u8) -> Half<'_> {
@@ -336,8 +356,26 @@ mod tests {
         // P2 by 4: 2 (-15/4) + 9 = 3/2, cut to 1.
         // U2 by 3: 2 (1/2) 1 - 15/4 = -11/4, cut to -6/2.
         // G1: 9/8 (-3) = -27/8, cut to -7/2. G2: 7/8, cut to 1/2.
-        let nodes = forward97(&[-5, 4], 1, &FEW, &coarse());
+        let nodes = forward97(&[-5, 4], 1, &FEW, &coarse(), None);
         assert_eq!(nodes, [9, -15, 1, -6, -7, 1].map(|v| vec![v]));
+    }
+
+    /// Each product cut before its sum.
+    #[test]
+    fn the_9_7_of_two_with_products_by_hand() {
+        // x_0 = -5/2, x_1 = 5/2.
+        // P1 by 4: 2 (-3/2) (-5/2) = 15/2, cut to 7; 7 + 5/2 = 19/2.
+        // U1 by 3: 2 (-1/16) 19/2 = -19/16, cut to -3/2; -3/2 - 5/2 = -4.
+        // P2 by 4: 2 (-4) = -8, which one bit holds; -8 + 19/2 = 3/2.
+        // U2 by 3: 2 (1/2) 3/2 = 3/2, cut to 1; 1 - 4 = -3.
+        // G1: 9/8 (-3) = -27/8, cut to -7/2. G2: 7/8 3/2 = 21/16, cut to 2/2.
+        let widths = [1, 2, 1, 1, 1, 1].map(|f| Width::new(12, f));
+        let nodes = forward97(&[-5, 5], 1, &FEW, &widths, Some([0, 1, 1, 0]));
+        assert_eq!(nodes, [19, -16, 3, -6, -7, 2].map(|v| vec![v]));
+        // Uncut: 10, -15/4, 5/2, -5/4 cut to -3/2, -27/16 cut to -4/2, 35/16
+        // cut to 4/2.
+        let nodes = forward97(&[-5, 5], 1, &FEW, &widths, None);
+        assert_eq!(nodes, [20, -15, 5, -3, -4, 4].map(|v| vec![v]));
     }
 
     #[test]
@@ -351,7 +389,7 @@ mod tests {
         // 2 (1/2) 2 + 3/4 = 11/4, cut to 5/2.
         // G1: 9/8 (-3/2) = -27/16, cut to -4/2; 9/8 (5/2) = 45/16, cut to 5/2.
         // G2: 7/8 2 = 7/4, cut to 3/2.
-        let nodes = forward97(&[-5, 8, 3], 1, &FEW, &coarse());
+        let nodes = forward97(&[-5, 8, 3], 1, &FEW, &coarse(), None);
         let due = [
             vec![5],
             vec![-13, 3],
@@ -404,10 +442,17 @@ mod tests {
         for n in 2..=4 {
             for line in every_line(n, -4, 3) {
                 for constant_bits in 1..=3 {
-                    for f in 0..=2 {
+                    for (f, products) in [
+                        (0, None),
+                        (1, None),
+                        (2, None),
+                        (0, Some([0; 4])),
+                        (2, Some([0, 1, 2, 3])),
+                        (3, Some([3, 2, 1, 0])),
+                    ] {
                         let (constants, widths) = ([constant_bits; 6], [Width::new(12, f); 6]);
-                        let nodes = forward97(&line, 2, &constants, &widths);
-                        let due = fixed97::pass(&line, 2, &constants, &widths);
+                        let nodes = forward97(&line, 2, &constants, &widths, products);
+                        let due = fixed97::pass(&line, 2, &constants, &widths, products);
                         assert_eq!(nodes, due, "{line:?}");
                     }
                 }
@@ -425,9 +470,12 @@ mod tests {
                     let bits = drawn.within(0, 20);
                     let constants = [0; 6].map(|_| drawn.within(1, 24));
                     let widths = [0; 6].map(|_| Width::new(12, drawn.within(0, 20)));
-                    let nodes = forward97(&line, bits, &constants, &widths);
-                    let due = fixed97::pass(&line, bits, &constants, &widths);
-                    assert_eq!(nodes, due, "{line:?} {bits} {constants:?} {widths:?}");
+                    let some = [0; 4].map(|_| drawn.within(0, 44));
+                    for products in [None, Some(some)] {
+                        let nodes = forward97(&line, bits, &constants, &widths, products);
+                        let due = fixed97::pass(&line, bits, &constants, &widths, products);
+                        assert_eq!(nodes, due, "{line:?} {bits} {constants:?} {widths:?}");
+                    }
                 }
             }
         }
@@ -457,7 +505,7 @@ mod tests {
         let widths = [Width::new(12, 20); 6];
         for n in 2..=40 {
             let line = drawn.line(n, 11);
-            let [.., lows, highs] = forward97(&line, 12, &[24; 6], &widths);
+            let [.., lows, highs] = forward97(&line, 12, &[24; 6], &widths, None);
             let [.., even, odd] = back97(half(&lows, 20), half(&highs, 20));
             for (back, sample) in in_turn(&even, &odd).into_iter().zip(&line) {
                 assert!((back - (sample << 8)).abs() < 64, "{line:?}");
@@ -484,10 +532,10 @@ mod tests {
         }
         // Alpha of 2 bits is -6/4, twice that -3; twice alpha would be -13/4.
         assert_eq!(twice(ALPHA).rounded(2), -13);
-        let nodes = forward97(&[4, 0], 0, &[2; 6], &[Width::new(12, 0); 6]);
+        let nodes = forward97(&[4, 0], 0, &[2; 6], &[Width::new(12, 0); 6], None);
         assert_eq!(nodes[0], [-12]);
         // Alpha of 24 bits: 16 of its doubles, in 2^-20.
-        let nodes = forward97(&[16, 0], 0, &[24; 6], &[Width::new(12, 20); 6]);
+        let nodes = forward97(&[16, 0], 0, &[24; 6], &[Width::new(12, 20); 6], None);
         assert_eq!(nodes[0], [-53_221_836]);
     }
 }

@@ -3,7 +3,7 @@
 
 use crate::gains::gains;
 use crate::refusal::{Place, Refusal};
-use crate::table::{Width, WidthTable};
+use crate::table::{Products, Width, WidthTable};
 
 /// Range and error of a value, in whole numbers of 2^-32.
 #[derive(Clone, Copy, Debug, PartialEq, Eq)]
@@ -30,8 +30,14 @@ pub(crate) fn step(fraction_bits: u8) -> u128 {
     ONE >> fraction_bits
 }
 
+/// 2^-fp, rounded up to a whole number of 2^-32: what a product loses that is
+/// cut to fp bits (document 02, job 7).
+pub fn product_loss(product_bits: u8) -> u128 {
+    ONE.div_ceil(1 << product_bits)
+}
+
 /// The rule by which a pass gets its bounds: of what enters, with its bits.
-type PassRule = fn(Bound, u8, &[u8; 6], &[Width; 6]) -> [Bound; 6];
+type PassRule = fn(Bound, u8, &[u8; 6], &[Width; 6], Products) -> [Bound; 6];
 
 /// Bounds of the six nodes of one pass.
 pub fn pass_bounds(
@@ -39,8 +45,9 @@ pub fn pass_bounds(
     input_bits: u8,
     constant_bits: &[u8; 6],
     widths: &[Width; 6],
+    products: Products,
 ) -> [Bound; 6] {
-    let mut bounds = earlier_pass_bounds(input, input_bits, constant_bits, widths);
+    let mut bounds = earlier_pass_bounds(input, input_bits, constant_bits, widths, products);
     let g1 = &mut bounds[4];
     g1.error = (g1.error).max(single_error(input, input_bits, widths[4].fraction_bits));
     bounds
@@ -56,12 +63,13 @@ pub fn single_error(input: Bound, input_bits: u8, f: u8) -> u128 {
 }
 
 /// Bounds of the six nodes of one pass by the rule before job 6, when no pass
-/// had a single sample.
+/// had a single sample; without `products` by the rule before job 7 too.
 pub fn earlier_pass_bounds(
     input: Bound,
     input_bits: u8,
     constant_bits: &[u8; 6],
     widths: &[Width; 6],
+    products: Products,
 ) -> [Bound; 6] {
     let gains = gains();
     let f = |node: usize| widths[node].fraction_bits;
@@ -80,8 +88,17 @@ pub fn earlier_pass_bounds(
         };
         let constant = constant_bits[node];
         let constant_error_bits = if node < 4 { constant } else { constant + 1 };
-        let full = (constant + multiplied_bits).max(other_bits.unwrap_or(0));
         own[node] = halved(multiplied.range + multiplied.error, constant_error_bits);
+        // Of P and U the product may be cut before the sum. Its loss joins the
+        // stage's own error, and its bits count in the full precision.
+        let mut product_bits = constant + multiplied_bits;
+        if let Some(&bits) = products.as_ref().and_then(|products| products.get(node)) {
+            if bits < product_bits {
+                own[node] += product_loss(bits);
+                product_bits = bits;
+            }
+        }
+        let full = product_bits.max(other_bits.unwrap_or(0));
         if f(node) < full {
             own[node] += step(f(node));
         }
@@ -133,6 +150,7 @@ fn bounds_by(table: &WidthTable, rule: PassRule) -> Vec<(Place, Bound)> {
                 input_bits,
                 &table.constant_bits,
                 &widths[pass as usize - 1],
+                table.products_of(level, pass),
             );
             for (node, bound) in (1u8..).zip(nodes) {
                 all.push((Place { level, pass, node }, bound));
@@ -320,15 +338,18 @@ mod tests {
             for constants in [1, 2, 24].map(|bits| [bits; 6]) {
                 for (range, error) in inputs {
                     let input = Bound { range, error };
-                    let old = earlier_pass_bounds(input, input_bits, &constants, &widths);
-                    let new = pass_bounds(input, input_bits, &constants, &widths);
-                    assert_eq!(old, new);
-                    assert!(single_error(input, input_bits, g1) < old[4].error);
-                    passes += 1;
+                    // No product cut, some cut, all cut hard.
+                    for products in [None, Some([20, 2, 30, 9]), Some([0; 4])] {
+                        let [old, new] = [earlier_pass_bounds, pass_bounds]
+                            .map(|rule| rule(input, input_bits, &constants, &widths, products));
+                        assert_eq!(old, new);
+                        assert!(single_error(input, input_bits, g1) < old[4].error);
+                        passes += 1;
+                    }
                 }
             }
         }
-        assert_eq!(passes, 6usize.pow(6) * 12);
+        assert_eq!(passes, 6usize.pow(6) * 36);
     }
 
     /// Numbers from a fixed seed.
@@ -361,6 +382,15 @@ mod tests {
                     *table.width_mut(place) = Width::new(integer_bits, self.within(0, 20));
                 }
             }
+            // Every other one has tag 5.
+            if self.within(0, 1) == 1 {
+                table = table.with_products(44);
+                for place in table.product_places() {
+                    if self.within(1, share) == 1 {
+                        *table.product_mut(place) = self.within(0, 44);
+                    }
+                }
+            }
             table
         }
     }
@@ -378,6 +408,89 @@ mod tests {
             seen[now.map_or_else(|refusal| usize::from(refusal.number), |()| 0)] += 1;
         }
         assert!([0, 6, 7].iter().all(|&n| seen[n] > 500), "{seen:?}");
+    }
+
+    #[test]
+    fn losses_of_products() {
+        assert_eq!(product_loss(0), 1 << 32);
+        assert_eq!(product_loss(1), 1 << 31);
+        assert_eq!(product_loss(31), 2);
+        for bits in 32..=44 {
+            assert_eq!(product_loss(bits), 1);
+        }
+    }
+
+    /// B = 8, F = 24, all nodes (12, 20): P1 multiplies 8 bits, its product has
+    /// 32; U1 multiplies 20 bits, its product has 44.
+    #[test]
+    fn own_errors_with_products_by_hand() {
+        let own = |node: u8, product_bits: u8, f: u8| {
+            let mut table = generous(8, 1).with_products(44);
+            *table.product_mut(place(1, 1, node)) = product_bits;
+            table.width_mut(place(1, 1, node)).fraction_bits = f;
+            let all = bounds(&table);
+            match node {
+                1 => all[0].1.error,
+                // What P1 leaves in U1, and its own error.
+                _ => all[1].1.error - (4224 * 6_945u128).div_ceil(65_536),
+            }
+        };
+        // P1: the constant's part is 2^31 / 2^24.
+        assert_eq!(own(1, 44, 20), 128 + 4096);
+        assert_eq!(own(1, 33, 20), 128 + 4096);
+        assert_eq!(own(1, 32, 20), 128 + 4096);
+        assert_eq!(own(1, 31, 20), 128 + 2 + 4096);
+        assert_eq!(own(1, 21, 20), 128 + 2048 + 4096);
+        // From 20 bits on f is not below the full precision, which is fp.
+        assert_eq!(own(1, 20, 20), 128 + 4096);
+        assert_eq!(own(1, 19, 20), 128 + 8192);
+        // The other operand has 8 bits.
+        assert_eq!(own(1, 3, 20), 128 + (1 << 29));
+        assert_eq!(own(1, 3, 8), 128 + (1 << 29));
+        assert_eq!(own(1, 3, 7), 128 + (1 << 29) + (1 << 25));
+        assert_eq!(own(1, 0, 0), 128 + (1 << 32) + (1 << 32));
+        // U1: the constant's part is 535; above 32 bits the loss is one unit.
+        assert_eq!(own(2, 44, 20), 535 + 4096);
+        assert_eq!(own(2, 43, 20), 535 + 1 + 4096);
+        assert_eq!(own(2, 33, 20), 535 + 1 + 4096);
+        assert_eq!(own(2, 32, 20), 535 + 1 + 4096);
+        assert_eq!(own(2, 31, 20), 535 + 2 + 4096);
+        assert_eq!(own(2, 20, 20), 535 + 4096);
+        assert_eq!(own(2, 0, 20), 535 + (1 << 32));
+    }
+
+    /// Products that are not cut change no bound: with 44 bits none is, nor with
+    /// the bits that it has. One bit less makes no error smaller, and the same
+    /// only where the loss takes the place of the node's own step.
+    #[test]
+    fn bounds_where_no_product_is_cut() {
+        let mut drawn = Drawn(7);
+        let (mut same, mut larger) = (0, 0);
+        for _ in 0..2000 {
+            let table = drawn.table().without_products();
+            let due = bounds(&table);
+            assert_eq!(bounds(&table.clone().with_products(44)), due);
+            let mut just = table.clone().with_products(44);
+            for place in table.product_places() {
+                *just.product_mut(place) = table.uncut_product_bits(place);
+            }
+            assert_eq!(bounds(&just), due);
+            let places = just.product_places();
+            let at = places[usize::from(drawn.within(0, 3))];
+            *just.product_mut(at) -= 1;
+            let error = |all: &[(Place, Bound)]| {
+                let bound = all.iter().find(|(place, _)| *place == at);
+                bound.expect("the table has the node").1.error
+            };
+            if just.width(at).fraction_bits == just.product(at) {
+                assert!(error(&bounds(&just)) >= error(&due));
+                same += 1;
+            } else {
+                assert!(error(&bounds(&just)) > error(&due));
+                larger += 1;
+            }
+        }
+        assert!(same > 10 && larger > 1000, "{same} {larger}");
     }
 
     #[test]

@@ -14,8 +14,9 @@ use crate::precision::verdict;
 use crate::refusal::Refusal;
 use crate::table::WidthTable;
 
-/// Bytes of a scan's state.
-pub const STATE: usize = 60;
+/// Bytes of a scan's state: a table, the width in two bytes, how many lines were
+/// taken, and whether it has ended.
+pub const STATE: usize = TABLE + 4;
 
 /// Lines that a line or an end is lent to hold.
 pub const HELD_LINES: usize = 7;
@@ -26,8 +27,12 @@ pub const OUT_LINES: usize = 4;
 /// Levels of a scan's table.
 const LEVELS: u8 = 1;
 
-/// Bytes of a table of one level, with which a state starts.
-const TABLE: usize = 56;
+/// The first bytes of a state, as many as a table of one level has with tag 5.
+/// Of a table without it they are zeros past its end.
+pub const TABLE: usize = 71;
+
+/// Bytes of a table of one level without tag 5.
+const TABLE_WITHOUT_PRODUCTS: usize = 56;
 
 /// The one-level transform of a strip, line by line.
 #[derive(Clone, Debug, PartialEq, Eq)]
@@ -62,8 +67,13 @@ pub fn strip(table: &WidthTable, lines: &[Vec<u16>]) -> Strip {
 fn along_row(table: &WidthTable, pixels: &[u16]) -> Vec<i128> {
     let middle = 1i128 << (table.depth - 1);
     let line: Vec<i128> = pixels.iter().map(|&p| i128::from(p) - middle).collect();
-    let widths = &table.widths[0][0];
-    let [_, _, _, _, low, high] = fixed97::pass(&line, table.depth, &table.constant_bits, widths);
+    let [.., low, high] = fixed97::pass(
+        &line,
+        table.depth,
+        &table.constant_bits,
+        &table.widths[0][0],
+        table.products_of(LEVELS, 1),
+    );
     [low, high].concat()
 }
 
@@ -77,12 +87,17 @@ fn down_columns(table: &WidthTable, rows: &[Vec<i128>]) -> Strip {
     };
     for x in 0..width {
         let column: Vec<i128> = rows.iter().map(|row| row[x]).collect();
-        let (entering, widths) = match x < low_count(width) {
-            true => (along[4], of_low),
-            false => (along[5], of_high),
+        let (entering, pass, widths) = match x < low_count(width) {
+            true => (along[4], 2, of_low),
+            false => (along[5], 3, of_high),
         };
-        let bits = entering.fraction_bits;
-        let [_, _, _, _, low, high] = fixed97::pass(&column, bits, &table.constant_bits, widths);
+        let [.., low, high] = fixed97::pass(
+            &column,
+            entering.fraction_bits,
+            &table.constant_bits,
+            widths,
+            table.products_of(LEVELS, pass),
+        );
         for (line, value) in strip.lows.iter_mut().zip(low) {
             line.push(value);
         }
@@ -173,7 +188,7 @@ impl State {
     /// What the bytes say, where they are the state of a scan that began.
     pub fn read(bytes: &[u8]) -> Option<State> {
         let (table, rest) = bytes.split_at(TABLE);
-        let table = WidthTable::read(table).ok()?;
+        let table = table_at_start(table)?;
         if table.levels != LEVELS || verdict(&table).is_err() {
             return None;
         }
@@ -198,6 +213,7 @@ impl State {
 
     pub fn bytes(&self) -> Vec<u8> {
         let mut bytes = self.table.bytes().expect("it is accepted");
+        bytes.resize(TABLE, 0);
         let width = u16::try_from(self.width).expect("an admitted side is small");
         bytes.extend(width.to_be_bytes());
         bytes.extend([self.taken.byte(), u8::from(self.ended)]);
@@ -211,6 +227,17 @@ impl State {
         let state = state.filter(|state| !state.ended);
         state.ok_or(Refusal::plain(14))
     }
+}
+
+/// The table in the first bytes of a state; one without tag 5 is followed by
+/// zeros.
+fn table_at_start(bytes: &[u8]) -> Option<WidthTable> {
+    let (without, past) = bytes.split_at(TABLE_WITHOUT_PRODUCTS);
+    let bytes = match past.iter().all(|&b| b == 0) {
+        true => without,
+        false => bytes,
+    };
+    WidthTable::read(bytes).ok()
 }
 
 /// What a line answers to a state: 9 of the state, 14, 8, 9, 10; where it is
@@ -382,6 +409,16 @@ mod tests {
         uneven
     }
 
+    /// The same with other bits for every product.
+    fn uneven_products(depth: u8) -> WidthTable {
+        let mut uneven = uneven(depth).with_products(0);
+        for (place, bits) in uneven.product_places().into_iter().zip(16..) {
+            *uneven.product_mut(place) = bits;
+        }
+        verdict(&uneven).unwrap();
+        uneven
+    }
+
     fn pictures(depth: u8, width: usize, height: usize) -> Vec<Vec<u16>> {
         let pixel = |i: usize| ((i * i * 7 + i / 3 + 11 * (i % 5)) % (1 << depth)) as u16;
         let line = |y: usize| (0..width).map(|x| pixel(y * width + x)).collect();
@@ -470,7 +507,7 @@ mod tests {
         let due = [row[0] >> 1, row[1] >> 19].map(|v| v as i32);
         assert_eq!(scanned(&table, &[vec![5, 14]]).concat(), [due]);
         // Two lines of one pixel: -2/8 and 3/8 down the column of row-low.
-        let [.., low, high] = fixed97::pass(&[-2, 3], 3, &[24; 6], &table.widths[0][1]);
+        let [.., low, high] = fixed97::pass(&[-2, 3], 3, &[24; 6], &table.widths[0][1], None);
         let due = [low, high].map(|v| vec![v[0] as i32]);
         let given = scanned(&table, &[vec![5], vec![14]]);
         assert_eq!(given, [vec![], vec![], due.to_vec()]);
@@ -480,7 +517,7 @@ mod tests {
     /// transform of a picture gives.
     #[test]
     fn the_strip_comes_out() {
-        for table in [table(1), table(12), uneven(8)] {
+        for table in [table(1), table(12), uneven(8), uneven_products(8)] {
             for (width, height) in (1..8).flat_map(|w| (1..14).map(move |h| (w, h))) {
                 let lines = pictures(table.depth, width, height);
                 let given: Vec<Vec<i32>> = scanned(&table, &lines).concat();
@@ -532,7 +569,9 @@ mod tests {
         let bytes = table(8).bytes().unwrap();
         let mut state = vec![9; STATE + 2];
         scan_begin(&bytes, &mut state).unwrap();
-        assert_eq!(state, [&bytes[..], &[0, 0, 0, 0, 9, 9]].concat());
+        let between = [0; TABLE - TABLE_WITHOUT_PRODUCTS];
+        let due = [&bytes[..], &between, &[0, 0, 0, 0, 9, 9]].concat();
+        assert_eq!(state, due);
         let (mut past, mut out, mut given) = (Past::default(), vec![0; 4 * 300], 0);
         let line = vec![1; 300];
         for due in [1, 2, 3, 4, 5, 6, 5, 6, 5] {
@@ -544,12 +583,18 @@ mod tests {
             assert_eq!(state[TABLE..], [1, 44, due, 0, 9, 9]);
         }
         scan_end(&mut past, &mut state, 7 * 300, &mut out, &mut given).unwrap();
-        assert_eq!(state, [&bytes[..], &[1, 44, 5, 1, 9, 9]].concat());
+        let due = [&bytes[..], &between, &[1, 44, 5, 1, 9, 9]].concat();
+        assert_eq!(state, due);
+        // A table with tag 5 has no zeros after it.
+        let bytes = table(8).with_products(30).bytes().unwrap();
+        scan_begin(&bytes, &mut state).unwrap();
+        assert_eq!(state, [&bytes[..], &[0, 0, 0, 0, 9, 9]].concat());
     }
 
     #[test]
     fn bytes_that_are_no_state() {
-        let bytes = table(8).bytes().unwrap();
+        let mut bytes = table(8).bytes().unwrap();
+        bytes.resize(TABLE, 0);
         let is_one = |end: [u8; 4]| State::read(&[&bytes[..], &end].concat()).is_some();
         for taken in 1..=6 {
             for ended in 0..=1 {
@@ -565,6 +610,19 @@ mod tests {
         refused[20] = 2;
         assert_eq!(State::read(&[&refused[..], &[0; 4]].concat()), None);
         assert_eq!(State::read(&[0; STATE]), None);
+        // What stands between a table without tag 5 and the end is zero.
+        for at in TABLE_WITHOUT_PRODUCTS..TABLE {
+            for byte in [1, 5, 255] {
+                let mut state = [&bytes[..], &[0; 4]].concat();
+                state[at] = byte;
+                assert_eq!(State::read(&state), None);
+            }
+        }
+        let with_products = table(8).with_products(30).bytes().unwrap();
+        assert!(State::read(&[&with_products[..], &[0; 4]].concat()).is_some());
+        let mut above = with_products.clone();
+        above[TABLE - 1] = 45;
+        assert_eq!(State::read(&[&above[..], &[0; 4]].concat()), None);
     }
 
     #[test]
@@ -575,7 +633,11 @@ mod tests {
             let (state, past) = state.split_at(length);
             assert_eq!(past, [9]);
             let left = match answer {
-                0 => [table, &[0; 4]].concat(),
+                0 => {
+                    let mut left = table.to_vec();
+                    left.resize(STATE, 0);
+                    left
+                }
                 9 => vec![9; length],
                 _ if length < STATE => vec![9; length],
                 _ => vec![0; STATE],
@@ -588,8 +650,14 @@ mod tests {
             let uniform = WidthTable::uniform(8, levels, 24, Width::new(2, 20));
             uniform.bytes().unwrap()
         };
-        for length in [0, 59, 60, 61, 70] {
-            assert_eq!(begin(&right, length), if length < STATE { 9 } else { 0 });
+        let with_products = table(8).with_products(30).bytes().unwrap();
+        for length in [0, 59, 60, 71, 74, 75, 76, 85] {
+            let due = if length < STATE { 9 } else { 0 };
+            assert_eq!(begin(&right, length), due);
+            assert_eq!(begin(&with_products, length), due);
+            assert_eq!(begin(&with_products[..70], length), 1);
+            assert_eq!(begin(&with_products[..57], length), 1);
+            assert_eq!(begin(&[&with_products[..], &[5]].concat(), length), 5);
             assert_eq!(begin(&right[..55], length), 1);
             assert_eq!(begin(&[&right[..], &[0]].concat(), length), 5);
             // 14 comes before 6.
@@ -604,21 +672,21 @@ mod tests {
         let mut state = vec![0; STATE];
         scan_begin(&table(1).bytes().unwrap(), &mut state).unwrap();
         let fresh = state.clone();
-        state[57] = 3;
-        state[58] = 1;
+        state[TABLE + 1] = 3;
+        state[TABLE + 2] = 1;
         let one = state.clone();
-        state[58] = 2;
+        state[TABLE + 2] = 2;
         let two = state.clone();
-        state[59] = 1;
+        state[TABLE + 3] = 1;
         let ended = state;
         let line = |state: &[u8], pixels: &[u16], width, held, out| {
             number(line_answer(state, pixels, width, held, out))
         };
         let end = |state: &[u8], held, out| number(end_answer(state, held, out));
         for none in [&[0; STATE][..], &ended] {
-            assert_eq!(line(&none[..59], &[2], 0, 0, 0), 9);
+            assert_eq!(line(&none[..STATE - 1], &[2], 0, 0, 0), 9);
             assert_eq!(line(none, &[2], 0, 0, 0), 14);
-            assert_eq!(end(&none[..59], 0, 0), 9);
+            assert_eq!(end(&none[..STATE - 1], 0, 0), 9);
             assert_eq!(end(none, 0, 0), 14);
         }
         for width in [0, 4097, usize::MAX] {
@@ -636,13 +704,16 @@ mod tests {
             assert_eq!(line(state, &[2, 0, 0], 3, 21, 11), 9);
             assert_eq!(line(state, &[0, 0, 2], 3, 21, 12), 10);
             assert_eq!(line(state, &[0, 0, 1, 2], 3, 21, 12), 0);
-            assert_eq!(line(&state[..59], &[2], 9, 0, 0), 9);
+            assert_eq!(line(&state[..STATE - 1], &[2], 9, 0, 0), 9);
         }
         assert_eq!(line(&one, &[1; 9], 4, 99, 99), 14);
         assert_eq!(end(&fresh, 0, 0), 14);
         for state in [&one, &two] {
             assert_eq!((end(state, 20, 12), end(state, 21, 11)), (9, 9));
-            assert_eq!((end(state, 21, 12), end(&state[..59], 21, 12)), (0, 9));
+            assert_eq!(
+                (end(state, 21, 12), end(&state[..STATE - 1], 21, 12)),
+                (0, 9)
+            );
         }
     }
 }

@@ -30,6 +30,11 @@ mod tests {
         assert_eq!(tag_value(&input(4)), [12, 2].repeat(18));
         assert_eq!(tag_value(&input(0)), []);
         assert_eq!(tag_value(&input(5)), []);
+        let with_products = table.clone().with_products(31).bytes().unwrap();
+        let input_with = |tag| [&[tag], &with_products[..]].concat();
+        assert_eq!(tag_value(&input_with(4)), [12, 2].repeat(18));
+        assert_eq!(tag_value(&input_with(5)), [31; 12]);
+        assert_eq!(tag_value(&input_with(6)), []);
         assert_eq!(tag_value(&[]), []);
         assert_eq!(tag_value(&[1]), []);
         assert_eq!(tag_value(&input(1)[..56]), []);

@@ -10,11 +10,15 @@
 //! the 5/3 rows first, later ones columns first. The copy that a build makes
 //! must be the plain program's of its order, and each build takes its own back.
 //! A last row of the 5/3 takes back a copy worked rows first by both.
+//!
+//! Tables with product widths are worked where both builds know them.
 
 use bench::inputs::{
-    picture, tight_table, view_table, wide_table, DEPTH, LEVELS, MIN_SIDE, VIEW_LEVELS,
+    far_cut, picture, tight_table, view_table, wide_table, with_products_of, DEPTH, LEVELS,
+    MIN_SIDE, VIEW_LEVELS,
 };
 use bench::plain::{self, Order};
+use bench::turns;
 use std::ffi::{c_char, c_int, c_void, CStr, CString};
 use std::path::Path;
 use std::process::{Command, ExitCode};
@@ -86,6 +90,8 @@ struct Build {
     inverse53_rows_first: Option<Inverse53>,
     forward97: Forward97,
     view97: View97,
+    /// Whether it knows product widths.
+    products: bool,
 }
 
 impl Build {
@@ -127,6 +133,7 @@ impl Build {
                     .map(|found| std::mem::transmute::<*mut c_void, Inverse53>(found)),
                 forward97: std::mem::transmute::<*mut c_void, Forward97>(symbol(c"suz_forward97")?),
                 view97: std::mem::transmute::<*mut c_void, View97>(symbol(c"suz_view97")?),
+                products: found(c"suz_table_change_product").is_some(),
             })
         }
     }
@@ -214,40 +221,27 @@ type Call<'a> = &'a dyn Fn(usize, &Build, &mut Lent) -> u32;
 /// Times pairs of calls and prints what AFTER takes of BEFORE's time. What the
 /// two leave must be the same, where it is said to be `alike`.
 fn row(name: &str, alike: bool, builds: &[Build; 2], lent: &mut Lent, call: Call) {
-    // A few seconds a row.
-    let pairs = (120_000_000 / (lent.side * lent.side)).clamp(60, 1000);
-    let mut ratios = Vec::with_capacity(pairs);
-    // The first pair warms the caches and is not counted.
-    for pair in 0..=pairs {
-        let mut times = [0.0; 2];
-        let mut left = [(Vec::new(), Vec::new()), (Vec::new(), Vec::new())];
-        for turn in 0..2 {
-            let which = (pair + turn) % 2;
-            lent.plane.fill(-1);
-            lent.back.fill(u16::MAX);
-            lent.work.fill(1);
-            lent.view_work.fill(1);
-            let start = Instant::now();
-            let answer = call(which, &builds[which], lent);
-            times[which] = start.elapsed().as_secs_f64();
-            assert_eq!(answer, 0);
-            if pair == 0 {
-                left[which] = (lent.plane.clone(), lent.back.clone());
-            }
+    let side = lent.side;
+    let mut left = [(Vec::new(), Vec::new()), (Vec::new(), Vec::new())];
+    let pairs = turns::time(turns::pairs_for(side), |pair, which| {
+        lent.plane.fill(-1);
+        lent.back.fill(u16::MAX);
+        lent.work.fill(1);
+        lent.view_work.fill(1);
+        let start = Instant::now();
+        let answer = call(which, &builds[which], lent);
+        let time = start.elapsed().as_secs_f64();
+        assert_eq!(answer, 0);
+        if pair == 0 {
+            left[which] = (lent.plane.clone(), lent.back.clone());
         }
-        assert!(!alike || left[0] == left[1], "the two builds differ");
-        if pair > 0 {
-            ratios.push(times[1] / times[0]);
-        }
-    }
-    ratios.sort_by(f64::total_cmp);
-    let at = |part: usize| ratios[ratios.len() * part / 4];
+        time
+    });
+    assert!(!alike || left[0] == left[1], "the two builds differ");
     println!(
-        "| {name} | {side} x {side} | {pairs} | {:.2} ({:.2}, {:.2}) |",
-        at(2),
-        at(1),
-        at(3),
-        side = lent.side
+        "| {name} | {side} x {side} | {} | {} |",
+        pairs.count(),
+        pairs.in_words()
     );
 }
 
@@ -312,8 +306,19 @@ fn measure(side: usize, builds: &[Build; 2]) {
             n,
         )
     };
-    for (name, table) in [("tight", tight_table()), ("wide", wide_table())] {
-        let name = format!("9/7 forward, {name} table");
+    for (name, table) in [
+        ("tight table", tight_table()),
+        ("wide table", wide_table()),
+        ("tight table, cut products", far_cut(&tight_table())),
+        (
+            "wide table, products of 15 bits",
+            with_products_of(&wide_table(), 15),
+        ),
+    ] {
+        if table.has_products() && !builds.iter().all(|build| build.products) {
+            continue;
+        }
+        let name = format!("9/7 forward, {name}");
         row(&name, true, builds, &mut lent, &|_, build, m| {
             forward97(&table, build, m)
         });

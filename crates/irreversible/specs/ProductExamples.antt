@@ -1,4 +1,4 @@
--- Worked numbers with widths of Tables.cut 1 (document 02, job 7), by computation.
+-- Worked numbers with widths of products (document 02, job 7), by computation.
 use Prim.Native.Nat.{ℕ}
 use mathlib.Core.Path.{_≡_, refl}
 use mathlib.Core.List.{List, [], _∷_}

@@ -13,6 +13,8 @@ use Rattle.stages.specs.Stages.{forward, made, uncut}
 use Rattle.stages.specs.Gains.{samples, node, held, sumTo, inputAnswer, nodeAnswer, sumFrom, exactGain, gain}
 use Rattle.reversible.specs.Reversible.{predict, update, high, low, reversibleLong, reversiblePass}
 use Rattle.stages.specs.Fixed.{step, cut, cutProduct, nearest}
+use Rattle.width_table.specs.Nodes.{P1}
+use Rattle.irreversible.specs.Fixed.{valueAt, atP1}
 use Rattle.listing.specs.Listing.{copyText}
 use Rattle.listing.specs.Cases.{document}
 
@@ -20,9 +22,9 @@ use Rattle.listing.specs.Cases.{document}
 abbrev pub pass : List ℤ → List ℤ
 pass l = tabulate (length l) (reversiblePass (length l) (λ i. getD l i (pos 0)))
 
--- P1 with B = 1 and F = 1: own pixel, then neighbours, as integers, and the node's f
-abbrev pub firstStage : ℤ → ℤ → ℤ → ℕ → ℤ
-firstStage own x y f = step uncut alpha 1 1 1 f own x y
+-- Node P1 of the lifting with B = 1 and F = 1, the nodes' f: own pixel, then neighbours, as integers. They are a line of three samples.
+abbrev pub nodeP1 : ℤ → ℤ → ℤ → ℕ → ℤ
+nodeP1 own x y f = valueAt (λ n. 1) (λ n. uncut) 1 (λ n. f) 3 (λ i. getD (x ∷ own ∷ y ∷ []) i (pos 0)) P1 0
 
 pub record Table : Type 0 where
   -- 0 0 gives 0 | 0; 1 3 gives 2 | 2; -1 0 gives 0 | 1; 0 -3 gives -1 | -3; 3 0 -2 gives 3 -2 | 0; 0 0 0 1 gives 0 0 | 0 1
@@ -32,11 +34,11 @@ pub record Table : Type 0 where
   -- alpha becomes -3/2
   pub alpha-one : nearest alpha 1 ≡ negsuc 2
   -- -1; -1, 0 with f 0 gives 0
-  pub stage-0 : firstStage (negsuc 0) (negsuc 0) (pos 0) 0 ≡ pos 0
+  pub stage-0 : nodeP1 (negsuc 0) (negsuc 0) (pos 0) 0 ≡ pos 0
   -- with f 2 gives 1
-  pub stage-2 : firstStage (negsuc 0) (negsuc 0) (pos 0) 2 ≡ pos 1
+  pub stage-2 : nodeP1 (negsuc 0) (negsuc 0) (pos 0) 2 ≡ pos 1
   -- -1; 0, 0 with f 0 gives -1
-  pub stage-down : firstStage (negsuc 0) (pos 0) (pos 0) 0 ≡ negsuc 0
+  pub stage-down : nodeP1 (negsuc 0) (pos 0) (pos 0) 0 ≡ negsuc 0
   -- the listing of 3 1, 2 2, 5 7 4 4: "53 3 1 2 2", "2 1", "-2 -2" (document 02, job 4)
   pub listing : copyText (3 ∷ 1 ∷ 0 ∷ 2 ∷ 0 ∷ 2 ∷ 0 ∷ 5 ∷ 0 ∷ 7 ∷ 0 ∷ 4 ∷ 0 ∷ 4 ∷ [])
       ≡ 53 ∷ 51 ∷ 32 ∷ 51 ∷ 32 ∷ 49 ∷ 32 ∷ 50 ∷ 32 ∷ 50 ∷ 10 ∷ 50 ∷ 32 ∷ 49 ∷ 10 ∷ 45 ∷ 50 ∷ 32 ∷ 45 ∷ 50 ∷ 10 ∷ []
@@ -44,5 +46,5 @@ pub record Table : Type 0 where
   pub gains : gain forward S.high 1 samples ∷ gain forward S.low 2 (node 0) ∷ gain forward S.low 5 (node 3) ∷ [] ≡ 273434 ∷ 6945 ∷ 75341 ∷ []
 
 pub table : Table
-unfolding reversiblePass reversibleLong fromOne low high onHighs onLows lowAfter highBefore highAfter lowsFirst predict update tabulate step cutProduct cut nearest gain exactGain sumFrom sumTo inputAnswer nodeAnswer held made wholesOf upDiv lift _⊕_ _⊗_ whole magnitude
+unfolding reversiblePass reversibleLong fromOne low high onHighs onLows lowAfter highBefore highAfter lowsFirst predict update tabulate atP1 step cutProduct cut nearest gain exactGain sumFrom sumTo inputAnswer nodeAnswer held made wholesOf upDiv lift _⊕_ _⊗_ whole magnitude
 table = record { passes = refl; alpha-one = refl; stage-0 = refl; stage-2 = refl; stage-down = refl; listing = document; gains = refl }

@@ -40,7 +40,8 @@ clear-requires : tie.Need-clear-requires
 clear-requires c κs =
     let t = c .before .before .before in
     let a = t .before .before .before .before .before .before .before .args in
-    omega (arith, tile t, length-append (t .transform .last .1 .1 .1 .0) (drop (a .w * a .h) (a .work .now)))
+    let r = room (a .table) (a .w) (a .h) (a .pixels .now) (a .plane .now) (a .work .now) (done (t .before .before .before)) in
+    omega (arith, r .second, tile t, length-append (t .transform .last .1 .1 .1 .0) (drop (a .w * a .h) (a .work .now)))
 
 returns : tie.Need-returns
 returns c =

@@ -3,12 +3,11 @@
 use crate::container::{self, Kind, Order, Plane};
 use crate::pgm::{Picture, Rows};
 use crate::progress::Progress;
-use crate::whole::Unfinished;
+use crate::whole::{self, Existing, Unfinished};
 use crate::{counted, png, sample, show, suggest, text, Failure};
 use std::ffi::{OsStr, OsString};
 use std::fs::File;
 use std::io::{BufRead, BufReader, Write};
-use std::os::unix::fs::MetadataExt;
 use std::path::Path;
 use suzdrepa::{Bound, GivenLine, Node, Pass, Place, Refusal, Scan, Width, WidthTable, MAX_SIDE};
 
@@ -56,6 +55,8 @@ roll - works scanned pictures of punched rolls
                                         earlier one (rows first)
   roll picture PLANE OUT.png            coefficients drawn where they stand
   roll sample DIR                       a drawn roll and some tables to try
+  roll COMMAND --no-clobber ..          as COMMAND, but a file that it would
+                                        replace stays, and that is a failure
   roll --help
 
 TABLE is a width table as bytes: 20 + 36 * levels, or 23 + 48 * levels with
@@ -97,9 +98,14 @@ up to 9, 4 up to 7, 5 up to 5 bits; there `suggest --view` gives one.
 `scan` holds a few lines and no more, however high the strip is, so that it may
 come from a pipe while the paper moves. OUT is the file that `forward97` writes,
 where that takes the strip. Rows are written where they stand, not in order: OUT
-is a file and no pipe. It has its name once it is whole (OUT.part-N before);
-where something fails, what had that name stays. Planes higher than 4096 are
-kept, but not viewed or drawn.
+is a file and no pipe. Planes higher than 4096 are kept, but not viewed or
+drawn.
+
+A file is written beside OUT (as OUT.part-..) and has its name once it is whole
+and on the disk. Where that fails, as on a full disk, or a signal ends `roll`,
+what had the name stays and nothing else is left. What is no file, such as a
+pipe or /dev/null, is written straight through. With --no-clobber any name that
+is taken is refused.
 
 No command writes over a file that it reads: OUT is another file.
 
@@ -171,10 +177,20 @@ fn command(arguments: &[OsString], out: &mut dyn Write) -> Result<(), Failure> {
             "--table goes with `suggest --products` alone".into(),
         ));
     }
+    if options.no_clobber && ["check", "show", "text"].contains(&name) {
+        return Err(Failure::Usage(format!(
+            "--no-clobber goes with a command that writes a file, not with `{name}`"
+        )));
+    }
+    let existing = match options.no_clobber {
+        true => Existing::Kept,
+        false => Existing::Replaced,
+    };
+    let target = |name| Target { name, existing };
     match (name, files) {
         ("suggest", to) if options.table.is_some() && to.len() < 2 => {
             let from = options.table.unwrap_or_default();
-            suggest_products(view, from, to.first().copied(), out)
+            suggest_products(view, from, to.first().map(|to| target(to)), out)
         }
         ("suggest", _) if options.table.is_some() => Err(Failure::Usage(
             "`suggest --table TABLE` takes OUT and no more: depth and levels are the table's"
@@ -184,10 +200,11 @@ fn command(arguments: &[OsString], out: &mut dyn Write) -> Result<(), Failure> {
         ("check", [table]) => check(table, out),
         ("show", [table]) => show_table(table, out),
         ("suggest", [depth, levels, to @ ..]) if to.len() < 2 => {
-            suggest_table(view, products, depth, levels, to.first().copied(), out)
+            let to = to.first().map(|to| target(to));
+            suggest_table(view, products, depth, levels, to, out)
         }
         ("text", [table]) => show_text(table, out),
-        ("table", [from, to]) => make_table(from, to, out),
+        ("table", [from, to]) => make_table(from, target(to), out),
         ("change", [table, level, pass, node, integer_bits, fraction_bits, to]) => {
             let place = Place {
                 level: word("LEVEL", level, text::level)?,
@@ -198,12 +215,12 @@ fn command(arguments: &[OsString], out: &mut dyn Write) -> Result<(), Failure> {
                 integer_bits: word("IB", integer_bits, text::integer_bits)?,
                 fraction_bits: word("f", fraction_bits, text::fraction_bits)?,
             };
-            change_width(table, place, width, to, out)
+            change_width(table, place, width, target(to), out)
         }
         ("constant", [table, node, bits, to]) => {
             let node = word("NODE", node, text::node)?;
             let bits = word("F", bits, |word| text::constant_bits(node, word))?;
-            change_constant(table, node, bits, to, out)
+            change_constant(table, node, bits, target(to), out)
         }
         ("product", [table, level, pass, step, bits, to]) => {
             let place = Place {
@@ -212,17 +229,17 @@ fn command(arguments: &[OsString], out: &mut dyn Write) -> Result<(), Failure> {
                 node: word("STEP", step, text::step)?,
             };
             let bits = word("fp", bits, text::product_bits)?;
-            change_product(table, place, bits, to, out)
+            change_product(table, place, bits, target(to), out)
         }
-        ("forward97", [table, from, to]) => forward97(table, from, to, out),
-        ("scan", [table, from, to]) => scan(table, from, to, out),
-        ("view", [from, to]) => view97(None, from, to, out),
-        ("view", [table, from, to]) => view97(Some(table), from, to, out),
-        ("difference", [one, other, to]) => difference(one, other, to, out),
-        ("copy", [from, to]) => copy(options.levels, from, to, out),
-        ("restore", [from, to]) => restore(from, to, out),
-        ("picture", [from, to]) => picture(from, to, out),
-        ("sample", [folder]) => write_sample(folder, out),
+        ("forward97", [table, from, to]) => forward97(table, from, target(to), out),
+        ("scan", [table, from, to]) => scan(table, from, target(to), out),
+        ("view", [from, to]) => view97(None, from, target(to), out),
+        ("view", [table, from, to]) => view97(Some(table), from, target(to), out),
+        ("difference", [one, other, to]) => difference(one, other, target(to), out),
+        ("copy", [from, to]) => copy(options.levels, from, target(to), out),
+        ("restore", [from, to]) => restore(from, target(to), out),
+        ("picture", [from, to]) => picture(from, target(to), out),
+        ("sample", [folder]) => write_sample(folder, existing, out),
         (
             "check" | "show" | "suggest" | "text" | "table" | "change" | "constant" | "product"
             | "forward97" | "scan" | "view" | "difference" | "copy" | "restore" | "picture"
@@ -242,6 +259,7 @@ struct Options<'a> {
     view: bool,
     products: bool,
     table: Option<&'a OsStr>,
+    no_clobber: bool,
 }
 
 /// Takes the options out of the arguments; after `--` there are none. What
@@ -260,6 +278,8 @@ fn sort(arguments: &[OsString]) -> Result<(Options<'_>, Vec<&OsStr>), Failure> {
             options.view = true;
         } else if text == "--products" {
             options.products = true;
+        } else if text == "--no-clobber" {
+            options.no_clobber = true;
         } else if text == "--table" {
             let table = rest
                 .next()
@@ -322,23 +342,33 @@ fn same_file(one: &OsStr, other: &OsStr) -> bool {
     let (Ok(one), Ok(other)) = (std::fs::metadata(one), std::fs::metadata(other)) else {
         return false;
     };
-    one.is_file() && other.is_file() && (one.dev(), one.ino()) == (other.dev(), other.ino())
+    one.is_file() && other.is_file() && whole::same_file(&one, &other)
 }
 
-/// Refuses to write over a file that is read.
-fn apart(inputs: &[&OsStr], to: &OsStr) -> Result<(), Failure> {
-    match inputs.iter().find(|from| same_file(from, to)) {
-        None => Ok(()),
-        Some(from) => Err(Failure::Usage(format!(
-            "OUT ({}) is the file that is read ({}): name another",
-            shown(to),
-            shown(from)
-        ))),
+/// What a command writes.
+#[derive(Clone, Copy)]
+struct Target<'a> {
+    name: &'a OsStr,
+    existing: Existing,
+}
+
+impl Target<'_> {
+    /// Refuses to write over a file that is read, or over one that is to be
+    /// kept: before any work is done.
+    fn ready(self, inputs: &[&OsStr]) -> Result<(), Failure> {
+        if let Some(from) = inputs.iter().find(|from| same_file(from, self.name)) {
+            return Err(Failure::Usage(format!(
+                "OUT ({}) is the file that is read ({}): name another",
+                shown(self.name),
+                shown(from)
+            )));
+        }
+        whole::not_taken(self.name, self.existing).map_err(failed(self.name))
     }
-}
 
-fn write(path: &OsStr, bytes: &[u8]) -> Result<(), Failure> {
-    std::fs::write(path, bytes).map_err(failed(path))
+    fn write(self, bytes: &[u8]) -> Result<(), Failure> {
+        whole::write(self.name, bytes, self.existing).map_err(failed(self.name))
+    }
 }
 
 fn not_understood(path: &OsStr) -> impl Fn(String) -> Failure + '_ {
@@ -436,11 +466,14 @@ fn suggest_table(
     products: bool,
     depth: &OsStr,
     levels: &OsStr,
-    to: Option<&OsStr>,
+    to: Option<Target>,
     out: &mut dyn Write,
 ) -> Result<(), Failure> {
     let depth = word("DEPTH", depth, text::depth)?;
     let levels = word("LEVELS", levels, text::levels)?;
+    if let Some(to) = to {
+        to.ready(&[])?;
+    }
     let progress = Progress::new();
     let suggested = match view {
         true => suggest::suggest_viewable(depth, levels, &progress),
@@ -464,11 +497,11 @@ fn suggest_table(
 fn suggest_products(
     view: bool,
     from: &OsStr,
-    to: Option<&OsStr>,
+    to: Option<Target>,
     out: &mut dyn Write,
 ) -> Result<(), Failure> {
     if let Some(to) = to {
-        apart(&[from], to)?;
+        to.ready(&[from])?;
     }
     let table = WidthTable::from_bytes(&read(from)?).map_err(refused(from))?;
     let suggested = suggest::least_products(&table, &Progress::new()).map_err(refused(from))?;
@@ -484,7 +517,7 @@ fn suggest_products(
 fn tell_suggested(
     table: &WidthTable,
     view: bool,
-    to: Option<&OsStr>,
+    to: Option<Target>,
     out: &mut dyn Write,
 ) -> Result<(), Failure> {
     let (depth, levels) = (table.depth(), table.levels());
@@ -501,8 +534,8 @@ fn tell_suggested(
             tell(out, &show::text(table))?;
             viewed.map_or(Ok(()), |far| tell(out, &format!("viewable: {far}\n")))
         }
-        Some(path) => {
-            write(path, table.as_bytes())?;
+        Some(to) => {
+            to.write(table.as_bytes())?;
             let widths = table.places().filter_map(|place| table.width(place));
             let bits = average(widths.map(|width| width.integer_bits + width.fraction_bits));
             let steps = || Place::steps(levels);
@@ -518,7 +551,7 @@ fn tell_suggested(
                 out,
                 &format!(
                     "{}: {}, {bits:.1} bits a node on average{products}{}\n",
-                    shown(path),
+                    shown(to.name),
                     show::bits_and_levels(depth, levels),
                     viewed.map_or(String::new(), |far| format!("; viewable: {far}"))
                 ),
@@ -539,8 +572,8 @@ fn show_text(path: &OsStr, out: &mut dyn Write) -> Result<(), Failure> {
     tell(out, &text::write(&table))
 }
 
-fn make_table(from: &OsStr, to: &OsStr, out: &mut dyn Write) -> Result<(), Failure> {
-    apart(&[from], to)?;
+fn make_table(from: &OsStr, to: Target, out: &mut dyn Write) -> Result<(), Failure> {
+    to.ready(&[from])?;
     let table = text::read(&read(from)?)
         .map_err(|fault| Failure::File(format!("{}: {fault}", shown(from))))?;
     write_table(&table, to, out)
@@ -550,10 +583,10 @@ fn change_width(
     from: &OsStr,
     place: Place,
     width: Width,
-    to: &OsStr,
+    to: Target,
     out: &mut dyn Write,
 ) -> Result<(), Failure> {
-    apart(&[from], to)?;
+    to.ready(&[from])?;
     let table = WidthTable::from_bytes(&read(from)?).map_err(refused(from))?;
     let new = table
         .with_width(place, width)
@@ -565,10 +598,10 @@ fn change_constant(
     from: &OsStr,
     node: Node,
     bits: u8,
-    to: &OsStr,
+    to: Target,
     out: &mut dyn Write,
 ) -> Result<(), Failure> {
-    apart(&[from], to)?;
+    to.ready(&[from])?;
     let table = WidthTable::from_bytes(&read(from)?).map_err(refused(from))?;
     // The bits are within their limits, so nothing is refused.
     let new = table.with_constant(node, bits).map_err(refused(from))?;
@@ -579,10 +612,10 @@ fn change_product(
     from: &OsStr,
     place: Place,
     bits: u8,
-    to: &OsStr,
+    to: Target,
     out: &mut dyn Write,
 ) -> Result<(), Failure> {
-    apart(&[from], to)?;
+    to.ready(&[from])?;
     let table = WidthTable::from_bytes(&read(from)?).map_err(refused(from))?;
     let new = table
         .with_product(place, bits)
@@ -618,13 +651,13 @@ fn level_refused<'a>(
 }
 
 /// Writes a table that need not be accepted, and tells whether it is.
-fn write_table(table: &WidthTable, to: &OsStr, out: &mut dyn Write) -> Result<(), Failure> {
-    write(to, table.as_bytes())?;
+fn write_table(table: &WidthTable, to: Target, out: &mut dyn Write) -> Result<(), Failure> {
+    to.write(table.as_bytes())?;
     tell(
         out,
         &format!(
             "{}: written, {}, {}\n",
-            shown(to),
+            shown(to.name),
             show::bits_and_levels(table.depth(), table.levels()),
             verdict(table)
         ),
@@ -634,10 +667,10 @@ fn write_table(table: &WidthTable, to: &OsStr, out: &mut dyn Write) -> Result<()
 fn forward97(
     table_path: &OsStr,
     from: &OsStr,
-    to: &OsStr,
+    to: Target,
     out: &mut dyn Write,
 ) -> Result<(), Failure> {
-    apart(&[table_path, from], to)?;
+    to.ready(&[table_path, from])?;
     let table = WidthTable::from_bytes(&read(table_path)?).map_err(refused(table_path))?;
     table.check().map_err(refused(table_path))?;
     let picture = Picture::read(&read(from)?).map_err(not_understood(from))?;
@@ -655,13 +688,13 @@ fn forward97(
         values,
     };
     progress.tell("writing");
-    write(to, &plane.write())?;
+    to.write(&plane.write())?;
     drop(progress);
     tell(
         out,
         &format!(
             "{}: 9/7 coefficients, {} x {}, {}\n",
-            shown(to),
+            shown(to.name),
             plane.width,
             plane.height,
             counted(plane.levels, "level")
@@ -672,15 +705,20 @@ fn forward97(
 /// What stands for standard input among the arguments.
 const STANDARD_INPUT: &str = "-";
 
-fn scan(table_path: &OsStr, from: &OsStr, to: &OsStr, out: &mut dyn Write) -> Result<(), Failure> {
-    if to == STANDARD_INPUT {
+fn scan(table_path: &OsStr, from: &OsStr, to: Target, out: &mut dyn Write) -> Result<(), Failure> {
+    if to.name == STANDARD_INPUT {
         return Err(Failure::Usage(
             "OUT of `scan` is a file: rows are written where they stand, not in order".into(),
         ));
     }
     let piped = from == STANDARD_INPUT;
-    let inputs = [table_path, from];
-    apart(if piped { &inputs[..1] } else { &inputs }, to)?;
+    // Standard input may be a file, too.
+    let read_from = if piped {
+        OsStr::new("/dev/stdin")
+    } else {
+        from
+    };
+    to.ready(&[table_path, read_from])?;
     let table = WidthTable::from_bytes(&read(table_path)?).map_err(refused(table_path))?;
     let (depth, levels) = (table.depth(), counted(table.levels(), "level"));
     let mut scan = Scan::begin(table.as_bytes()).map_err(out_of_turn(
@@ -705,12 +743,17 @@ fn scan(table_path: &OsStr, from: &OsStr, to: &OsStr, out: &mut dyn Write) -> Re
         return Err(refused(name)(Refusal::SideNotAdmitted));
     }
     let head = container::head(&Kind::Fixed(table), depth, 1, width, height);
-    let file = Unfinished::create(to).map_err(failed(to))?;
-    file.write_at(0, &head).map_err(failed(to))?;
+    let file = Unfinished::create(to.name, to.existing)
+        .map_err(failed(to.name))?
+        .ok_or_else(|| {
+            let why = "no file: rows are written where they stand, not in order";
+            Failure::File(format!("{}: {why}", shown(to.name)))
+        })?;
+    file.write_at(0, &head).map_err(failed(to.name))?;
     let put = |line: GivenLine| {
         let place = head.len() as u64 + 4 * width as u64 * line.row(height as u64);
         let bytes: Vec<u8> = container::coefficients(line.values).collect();
-        file.write_at(place, &bytes).map_err(failed(to))
+        file.write_at(place, &bytes).map_err(failed(to.name))
     };
     let progress = Progress::new();
     while let Some(pixels) = rows.next_row().map_err(not_understood(name))? {
@@ -733,13 +776,13 @@ fn scan(table_path: &OsStr, from: &OsStr, to: &OsStr, out: &mut dyn Write) -> Re
     for line in given {
         put(line)?;
     }
-    file.finish().map_err(failed(to))?;
+    file.finish().map_err(failed(to.name))?;
     drop(progress);
     tell(
         out,
         &format!(
             "{}: 9/7 coefficients, {width} x {height}, {levels}\n",
-            shown(to)
+            shown(to.name)
         ),
     )
 }
@@ -755,11 +798,11 @@ fn out_of_turn<'a>(path: &'a OsStr, what: &'a str) -> impl Fn(Refusal) -> Failur
 fn view97(
     named: Option<&OsStr>,
     from: &OsStr,
-    to: &OsStr,
+    to: Target,
     out: &mut dyn Write,
 ) -> Result<(), Failure> {
     let inputs: Vec<&OsStr> = named.into_iter().chain([from]).collect();
-    apart(&inputs, to)?;
+    to.ready(&inputs)?;
     let plane = Plane::read(&read(from)?).map_err(not_understood(from))?;
     let Kind::Fixed(table) = &plane.kind else {
         return Err(Failure::File(format!(
@@ -791,21 +834,21 @@ fn view97(
         pixels,
     };
     progress.tell("writing");
-    write(to, &picture.write())?;
+    to.write(&picture.write())?;
     drop(progress);
     tell(
         out,
         &format!(
             "{}: {}; if `forward97` stored it, {}\n",
-            shown(to),
+            shown(to.name),
             picture.shape(),
             far(distance, plane.depth)
         ),
     )
 }
 
-fn difference(one: &OsStr, other: &OsStr, to: &OsStr, out: &mut dyn Write) -> Result<(), Failure> {
-    apart(&[one, other], to)?;
+fn difference(one: &OsStr, other: &OsStr, to: Target, out: &mut dyn Write) -> Result<(), Failure> {
+    to.ready(&[one, other])?;
     let [first, second] = [one, other].map(|path| {
         let picture = Picture::read(&read(path)?);
         picture.map_err(not_understood(path))
@@ -822,13 +865,13 @@ fn difference(one: &OsStr, other: &OsStr, to: &OsStr, out: &mut dyn Write) -> Re
         )));
     }
     let (changed, most) = first.difference(&second);
-    write(to, &changed.write())?;
+    to.write(&changed.write())?;
     let moved = changed.pixels.iter().filter(|&&pixel| pixel > 0).count();
     tell(
         out,
         &format!(
             "{}: at most {}, {moved} of {} pixels differ\n",
-            shown(to),
+            shown(to.name),
             counted(most, "grey"),
             changed.pixels.len()
         ),
@@ -849,8 +892,8 @@ fn usual_levels(width: usize, height: usize) -> u8 {
         .unwrap_or(1)
 }
 
-fn copy(levels: Option<u8>, from: &OsStr, to: &OsStr, out: &mut dyn Write) -> Result<(), Failure> {
-    apart(&[from], to)?;
+fn copy(levels: Option<u8>, from: &OsStr, to: Target, out: &mut dyn Write) -> Result<(), Failure> {
+    to.ready(&[from])?;
     let picture = Picture::read(&read(from)?).map_err(not_understood(from))?;
     let (width, height) = (picture.width, picture.height);
     let levels = levels.unwrap_or_else(|| usual_levels(width, height));
@@ -867,20 +910,20 @@ fn copy(levels: Option<u8>, from: &OsStr, to: &OsStr, out: &mut dyn Write) -> Re
         values,
     };
     progress.tell("writing");
-    write(to, &plane.write())?;
+    to.write(&plane.write())?;
     drop(progress);
     tell(
         out,
         &format!(
             "{}: exact copy (columns first), {width} x {height}, {}\n",
-            shown(to),
+            shown(to.name),
             show::bits_and_levels(picture.depth, levels)
         ),
     )
 }
 
-fn restore(from: &OsStr, to: &OsStr, out: &mut dyn Write) -> Result<(), Failure> {
-    apart(&[from], to)?;
+fn restore(from: &OsStr, to: Target, out: &mut dyn Write) -> Result<(), Failure> {
+    to.ready(&[from])?;
     let plane = Plane::read(&read(from)?).map_err(not_understood(from))?;
     let Kind::ExactCopy(order) = plane.kind else {
         return Err(Failure::File(format!(
@@ -897,13 +940,13 @@ fn restore(from: &OsStr, to: &OsStr, out: &mut dyn Write) -> Result<(), Failure>
         pixels: taken_back(&plane, order).map_err(copy_refused(from, order))?,
     };
     progress.tell("writing");
-    write(to, &picture.write())?;
+    to.write(&picture.write())?;
     drop(progress);
     tell(
         out,
         &format!(
             "{}: {}, from {}\n",
-            shown(to),
+            shown(to.name),
             picture.shape(),
             copy_in_words(order)
         ),
@@ -982,8 +1025,8 @@ fn greys(plane: &Plane) -> Vec<u8> {
         .collect()
 }
 
-fn picture(from: &OsStr, to: &OsStr, out: &mut dyn Write) -> Result<(), Failure> {
-    apart(&[from], to)?;
+fn picture(from: &OsStr, to: Target, out: &mut dyn Write) -> Result<(), Failure> {
+    to.ready(&[from])?;
     let plane = Plane::read(&read(from)?).map_err(not_understood(from))?;
     let drawn = (1..=WidthTable::MAX_LEVELS).contains(&plane.levels)
         && [plane.width, plane.height]
@@ -1000,22 +1043,29 @@ fn picture(from: &OsStr, to: &OsStr, out: &mut dyn Write) -> Result<(), Failure>
     }
     let progress = Progress::new();
     progress.tell(&format!("drawing {} x {}", plane.width, plane.height));
-    write(to, &png::grey(plane.width, plane.height, &greys(&plane)))?;
+    to.write(&png::grey(plane.width, plane.height, &greys(&plane)))?;
     drop(progress);
     tell(
         out,
-        &format!("{}: {} x {}\n", shown(to), plane.width, plane.height),
+        &format!("{}: {} x {}\n", shown(to.name), plane.width, plane.height),
     )
 }
 
-fn write_sample(folder: &OsStr, out: &mut dyn Write) -> Result<(), Failure> {
+fn write_sample(folder: &OsStr, existing: Existing, out: &mut dyn Write) -> Result<(), Failure> {
     std::fs::create_dir_all(folder).map_err(failed(folder))?;
     let files =
         sample::files(&Progress::new()).map_err(|refusal| Failure::Refused(refusal.to_string()))?;
-    for (name, bytes) in files {
-        let path = Path::new(folder).join(name);
-        write(path.as_os_str(), &bytes)?;
-        tell(out, &format!("{}: {} bytes\n", path.display(), bytes.len()))?;
+    let files = files.map(|(name, bytes)| (Path::new(folder).join(name), bytes));
+    let targets = files.each_ref().map(|(path, bytes)| {
+        let name = path.as_os_str();
+        (Target { name, existing }, bytes)
+    });
+    for (to, _) in targets {
+        to.ready(&[])?;
+    }
+    for (to, bytes) in targets {
+        to.write(bytes)?;
+        tell(out, &format!("{}: {} bytes\n", shown(to.name), bytes.len()))?;
     }
     Ok(())
 }

@@ -1,8 +1,8 @@
 //! The tool `roll`: width tables, 9/7 coefficients and exact 5/3 copies of
 //! scanned roll pictures, from the command line.
 //!
-//! Exit status: 0 done, 1 refused by the engine, 2 a wrong command line or a
-//! file that cannot be read, written or understood.
+//! Exit status: 0 done, 1 refused by the engine, 2 a wrong command line, files
+//! that do not go together, or one that cannot be read, written or understood.
 
 pub mod container;
 pub mod pgm;
@@ -11,6 +11,7 @@ pub mod progress;
 pub mod sample;
 pub mod show;
 pub mod suggest;
+pub mod system;
 pub mod text;
 
 mod command;
@@ -32,7 +33,8 @@ fn counted(number: impl Into<u64>, what: &str) -> String {
 pub enum Failure {
     /// The engine refused; the text names file and refusal.
     Refused(String),
-    /// A file cannot be read, written or understood.
+    /// A file cannot be read, written or understood, or does not go with
+    /// another.
     File(String),
     /// The command line is wrong.
     Usage(String),

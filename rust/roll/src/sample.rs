@@ -6,7 +6,7 @@ use crate::suggest::{least_products, moved, suggest, suggest_viewable};
 use suzdrepa::{Node, Pass, Place, Refusal, Width, WidthTable};
 
 /// The files of the sample, by name.
-pub fn files(progress: &Progress) -> Result<Vec<(&'static str, Vec<u8>)>, Refusal> {
+pub fn files(progress: &Progress) -> Result<[(&'static str, Vec<u8>); 7], Refusal> {
     // Generous: widths as they come, and steps finer than a pixel's.
     let church = WidthTable::kept_and_others(8, 3, 24, Width::new(12, 10), Width::new(12, 20))?;
     let museum = suggest(8, 5, progress)?;
@@ -23,7 +23,7 @@ pub fn files(progress: &Progress) -> Result<Vec<(&'static str, Vec<u8>)>, Refusa
     for node in [Node::P1, Node::U1, Node::P2, Node::U2] {
         rough = rough.with_width(Place::new(1, Pass::Rows, node), Width::new(12, 6))?;
     }
-    Ok(vec![
+    Ok([
         ("roll.pgm", roll(640, 512).write()),
         ("church.table", church.to_bytes()),
         ("museum.table", museum.to_bytes()),

@@ -110,8 +110,10 @@ is taken is refused.
 No command writes over a file that it reads: OUT is another file.
 
 Pictures are PGM files (P5) with a largest value up to 4095; the depth is the
-bits of the largest value. `restore` and `view` write 2^depth - 1 as largest
-value. `difference` draws no difference black and the largest white.
+bits of the largest value: the least B for which it is below 2^B, so 8 for 255
+and for 200. A picture and the table that it is worked under have one depth, or
+they are refused. `restore` and `view` write 2^depth - 1 as largest value.
+`difference` draws no difference black and the largest white.
 
 Exact copies have the order of JPEG 2000 Part 1: each level works the columns,
 then the rows. Copies made earlier were worked rows first; `restore` knows them
@@ -129,8 +131,8 @@ follows; then the coefficients, 32-bit signed, low byte first, row by row. A
 9/7 coefficient v means v / 2^f with the fractional bits f of its node.
 
 Exit status: 0 done, 1 refused (number and reason are told), 2 a wrong command
-line (a number outside its limits is one) or a file that cannot be read,
-written or understood.
+line (a number outside its limits is one), files that do not go together, or one
+that cannot be read, written or understood.
 ";
 
 /// Runs the tool and gives its exit status.
@@ -664,6 +666,26 @@ fn write_table(table: &WidthTable, to: Target, out: &mut dyn Write) -> Result<()
     )
 }
 
+/// Refuses a picture of another depth than the table's, whatever its pixels are:
+/// their greys would count for more or less than was scanned.
+fn of_one_depth(
+    picture: &OsStr,
+    depth: u8,
+    table_path: &OsStr,
+    table: &WidthTable,
+) -> Result<(), Failure> {
+    if depth == table.depth() {
+        return Ok(());
+    }
+    Err(Failure::File(format!(
+        "{}: a picture of {}, by its largest value; {} is a table for {}",
+        shown(picture),
+        counted(depth, "bit"),
+        shown(table_path),
+        counted(table.depth(), "bit")
+    )))
+}
+
 fn forward97(
     table_path: &OsStr,
     from: &OsStr,
@@ -674,6 +696,7 @@ fn forward97(
     let table = WidthTable::from_bytes(&read(table_path)?).map_err(refused(table_path))?;
     table.check().map_err(refused(table_path))?;
     let picture = Picture::read(&read(from)?).map_err(not_understood(from))?;
+    of_one_depth(from, picture.depth, table_path, &table)?;
     let progress = Progress::new();
     progress.tell(&format!("working {} x {}", picture.width, picture.height));
     let (width, height) = (picture.width, picture.height);
@@ -737,6 +760,7 @@ fn scan(table_path: &OsStr, from: &OsStr, to: Target, out: &mut dyn Write) -> Re
         }
     };
     let mut rows = Rows::new(strip).map_err(not_understood(name))?;
+    of_one_depth(name, rows.depth(), table_path, &table)?;
     let (width, height) = (rows.width(), rows.height());
     // A row that no scan takes is not read, however long it is said to be.
     if !(1..=MAX_SIDE).contains(&width) {

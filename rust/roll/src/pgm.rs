@@ -105,6 +105,11 @@ impl Head {
         })
     }
 
+    /// The depth: the bits of the largest value.
+    fn depth(&self) -> u8 {
+        bits(self.largest)
+    }
+
     /// The bytes of so many pixels.
     fn bytes_of(&self, pixels: usize) -> Option<usize> {
         pixels.checked_mul(if self.largest > 255 { 2 } else { 1 })
@@ -161,6 +166,11 @@ impl<R: BufRead> Rows<R> {
         self.head.height
     }
 
+    /// Bits of a pixel, 1 to 12.
+    pub fn depth(&self) -> u8 {
+        self.head.depth()
+    }
+
     /// The pixels of the next row, nothing after the last. A row that is not
     /// whole is named, and so is what follows the last one.
     pub fn next_row(&mut self) -> Result<Option<Vec<u16>>, String> {
@@ -208,7 +218,7 @@ impl Picture {
         Ok(Picture {
             width: head.width,
             height: head.height,
-            depth: bits(head.largest),
+            depth: head.depth(),
             pixels: head.pixels(body, 0)?,
         })
     }

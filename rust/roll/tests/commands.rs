@@ -932,16 +932,59 @@ fn refused_pictures() {
         fails(&["copy", "--levels", "5", &picture, "x"], 1, refused);
         fails(&["forward97", &table, &picture, "x"], 1, refused);
     }
-    for (width, height) in [(9, 9), (1, 9), (1, 1)] {
-        // Pixels of 257, for which the table's eight bits are too few.
-        let mut light = format!("P5\n{width} {height}\n4095\n").into_bytes();
-        light.extend(vec![1; 2 * width * height]);
-        let picture = folder.file("p.pgm", &light);
-        fails(
-            &["forward97", &table, &picture, "x"],
-            1,
-            "refused 10: a pixel is 2^B or more",
-        );
+}
+
+/// A picture of another depth than the table's is not worked, however dark its
+/// pixels are; both depths are told, and nothing is written.
+#[test]
+fn depths_that_differ() {
+    let folder = Folder::new("depths");
+    let (table, out) = (folder.path("t.table"), folder.path("out"));
+    // The largest value, the bits that it takes, and a table's depth.
+    for (largest, bits, depth) in [
+        (15, "4", "8"),
+        (127, "7", "8"),
+        (256, "9", "8"),
+        (4095, "12", "8"),
+        (255, "8", "12"),
+        (2047, "11", "12"),
+        (1, "1", "2"),
+        (3, "2", "1"),
+    ] {
+        succeeds(&["suggest", depth, "1", &table]);
+        let light = pgm(5, 7, largest);
+        let head = light.len() - 35 * if largest > 255 { 2 } else { 1 };
+        let mut dark = light.clone();
+        dark[head..].fill(0);
+        for whole in [light, dark] {
+            let picture = folder.file("p.pgm", &whole);
+            let (taken, due) = (counted(bits, "bit"), counted(depth, "bit"));
+            let what =
+                format!("a picture of {taken}, by its largest value; {table} is a table for {due}");
+            let told = format!("{picture}: {what}\n");
+            fails(&["forward97", &table, &picture, &out], 2, &told);
+            fails(&["scan", &table, &picture, &out], 2, &told);
+            let (status, given, err) = piped(&["scan", &table, "-", &out], &whole);
+            assert_eq!((status, given), (Some(2), String::new()));
+            assert_eq!(err, format!("roll: standard input: {what}\n"));
+            // A copy has the picture's depth.
+            let copied = succeeds(&["copy", &picture, &folder.path("copy")]);
+            assert!(copied.contains(&format!(", {taken}, ")), "{copied}");
+        }
+    }
+    assert_eq!(parts(&folder), [""; 0]);
+    assert!(!std::path::Path::new(&out).exists());
+    // A largest value that is no 2^B - 1 has the least B that it is below 2^B of.
+    for (largest, depth) in [(128, "8"), (200, "8"), (255, "8"), (2, "2"), (2048, "12")] {
+        succeeds(&["suggest", "--view", depth, "1", &table]);
+        let picture = folder.file("p.pgm", &pgm(5, 7, largest));
+        succeeds(&["forward97", &table, &picture, &out]);
+        let scanned = folder.path("scanned");
+        succeeds(&["scan", &table, &picture, &scanned]);
+        assert_eq!(folder.bytes("scanned"), folder.bytes("out"));
+        let viewed = folder.path("viewed.pgm");
+        succeeds(&["view", &out, &viewed]);
+        succeeds(&["difference", &picture, &viewed, &folder.path("changed.pgm")]);
     }
 }
 
@@ -1126,10 +1169,9 @@ fn scans_that_fail() {
     let whole = pgm(5, 7, 255);
     let head = whole.len() - 35;
     let picture = folder.file("p.pgm", &whole);
-    let mut light = b"P5\n5 7\n511\n".to_vec();
-    light.extend([0; 2 * 35]);
-    // The high byte of the first pixel of row 4.
-    light[11 + 2 * 5 * 4] = 1;
+    // The first pixel of row 4 is above the largest value.
+    let mut light = pgm(5, 7, 254);
+    light[head + 5 * 4] = 255;
     let with = |bytes: &[u8], status: u8, text: &str| {
         let damaged = folder.file("damaged.pgm", bytes);
         fails(
@@ -1163,7 +1205,8 @@ fn scans_that_fail() {
             2,
             "directory",
         );
-        with(&light, 1, "refused 10: a pixel is 2^B or more (row 4)");
+        let above = "pixel 0 in row 4 of the PGM is above its largest value 254";
+        with(&light, 2, above);
         let sides = "refused 8: a side is 0 or above 4,096";
         for (width, height) in [(0, 0), (0, 7), (4097, 1), (4097, 2)] {
             with(&pgm(width, height, 255), 1, sides);
@@ -1237,22 +1280,22 @@ fn scans_of_damaged_pictures() {
         folder.path("plane"),
         folder.path("out"),
     );
-    succeeds(&["suggest", "7", "1", &table]);
-    // Pixels of seven bits, though the head allows eight.
-    let mut whole = pgm(6, 5, 127);
-    whole[7..10].copy_from_slice(b"255");
+    succeeds(&["suggest", "8", "1", &table]);
+    let whole = pgm(6, 5, 200);
     let mut seen = [0usize; 3];
     for _ in 0..1000 {
         let mut bytes = whole.clone();
         for _ in 0..=below(2) {
             let at = below(bytes.len());
-            match below(5) {
+            match below(6) {
                 0 => {
                     bytes.remove(at);
                 }
                 1 => bytes.insert(at, below(256) as u8),
-                2 => bytes[at.min(11)] = b"0123456789 \n#P"[below(14)],
-                3 => bytes.truncate(at),
+                // Mostly a side of 0.
+                2 => bytes[[3, 5][below(2)].min(at)] = b'0',
+                3 => bytes[at.min(11)] = b"0123456789 \n#P"[below(14)],
+                4 => bytes.truncate(at),
                 _ => bytes[at] = below(256) as u8,
             }
             if bytes.is_empty() {

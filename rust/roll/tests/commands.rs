@@ -1,64 +1,12 @@
 //! The tool from its arguments to its exit status.
 
-use std::ffi::OsString;
+mod shared;
+
+use shared::{fails, parts, pgm, roll, succeeds, Folder};
 use std::io::Write;
 use std::os::unix::fs::PermissionsExt;
-use std::path::PathBuf;
 use std::process::{Command, Stdio};
 use suzdrepa::{Width, WidthTable};
-
-/// A folder of its own for each test.
-struct Folder(PathBuf);
-
-impl Folder {
-    fn new(name: &str) -> Folder {
-        let path = PathBuf::from(env!("CARGO_TARGET_TMPDIR")).join(name);
-        // What a run before left, if there was one.
-        let _ = std::fs::remove_dir_all(&path);
-        std::fs::create_dir_all(&path).unwrap();
-        Folder(path)
-    }
-
-    fn file(&self, name: &str, bytes: &[u8]) -> String {
-        std::fs::write(self.0.join(name), bytes).unwrap();
-        self.path(name)
-    }
-
-    fn path(&self, name: &str) -> String {
-        self.0.join(name).to_str().unwrap().to_owned()
-    }
-
-    fn bytes(&self, name: &str) -> Vec<u8> {
-        std::fs::read(self.0.join(name)).unwrap()
-    }
-}
-
-/// Exit status, standard output and standard error.
-fn roll(arguments: &[&str]) -> (u8, String, String) {
-    let arguments: Vec<OsString> = arguments.iter().map(OsString::from).collect();
-    let (mut out, mut err) = (Vec::new(), Vec::new());
-    let status = roll::run(&arguments, &mut out, &mut err);
-    (
-        status,
-        String::from_utf8(out).unwrap(),
-        String::from_utf8(err).unwrap(),
-    )
-}
-
-/// A refused or failed call says so on standard error alone.
-fn fails(arguments: &[&str], status: u8, text: &str) {
-    let (given, out, err) = roll(arguments);
-    assert_eq!(given, status, "{arguments:?}: {err}");
-    assert!(err.starts_with("roll: ") && err.ends_with('\n'), "{err}");
-    assert!(err.contains(text), "{err} / {text}");
-    assert_eq!(out, "");
-}
-
-fn succeeds(arguments: &[&str]) -> String {
-    let (status, out, err) = roll(arguments);
-    assert_eq!((status, err.as_str()), (0, ""), "{arguments:?}");
-    out
-}
 
 #[test]
 fn help() {
@@ -739,19 +687,6 @@ fn line_ends_of_other_systems() {
     }
 }
 
-/// A picture with some pattern.
-fn pgm(width: usize, height: usize, largest: u32) -> Vec<u8> {
-    let mut bytes = format!("P5\n{width} {height}\n{largest}\n").into_bytes();
-    for i in 0..(width * height) as u32 {
-        let pixel = (i * i * 7 + i / 3) % (largest + 1);
-        if largest > 255 {
-            bytes.push((pixel >> 8) as u8);
-        }
-        bytes.push(pixel as u8);
-    }
-    bytes
-}
-
 #[test]
 fn copies_come_back() {
     let folder = Folder::new("copies");
@@ -1058,15 +993,6 @@ fn piped(arguments: &[&str], input: &[u8]) -> (Option<i32>, String, String) {
         String::from_utf8(output.stdout).unwrap(),
         String::from_utf8(output.stderr).unwrap(),
     )
-}
-
-/// The names in a folder that a scan left half-way.
-fn parts(folder: &Folder) -> Vec<OsString> {
-    std::fs::read_dir(&folder.0)
-        .unwrap()
-        .map(|entry| entry.unwrap().file_name())
-        .filter(|name| name.to_string_lossy().contains(".part"))
-        .collect()
 }
 
 /// From a file and from a pipe, to a new file and over an old one.

@@ -102,18 +102,18 @@ is a file and no pipe. Planes higher than 4096 are kept, but not viewed or
 drawn.
 
 A file is written beside OUT (as OUT.part-..) and has its name once it is whole
-and on the disk. Where that fails, as on a full disk, or a signal ends `roll`,
-what had the name stays and nothing else is left. What is no file, such as a
-pipe or /dev/null, is written straight through. With --no-clobber any name that
-is taken is refused.
+and on the disk. Where that fails, as on a full disk, or SIGINT, SIGTERM or
+SIGHUP ends `roll`, what had the name stays and nothing else is left. What is no
+file, such as a pipe or /dev/null, is written straight through. With
+--no-clobber no name that is taken, by whatever it is, is written to.
 
 No command writes over a file that it reads: OUT is another file.
 
 Pictures are PGM files (P5) with a largest value up to 4095; the depth is the
 bits of the largest value: the least B for which it is below 2^B, so 8 for 255
-and for 200. A picture and the table that it is worked under have one depth, or
-they are refused. `restore` and `view` write 2^depth - 1 as largest value.
-`difference` draws no difference black and the largest white.
+and for 200. A picture of another depth than the table's is not worked.
+`restore` and `view` write 2^depth - 1 as largest value. `difference` draws no
+difference black and the largest white.
 
 Exact copies have the order of JPEG 2000 Part 1: each level works the columns,
 then the rows. Copies made earlier were worked rows first; `restore` knows them

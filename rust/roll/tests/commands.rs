@@ -38,6 +38,7 @@ fn help() {
     assert!(help.contains("roll suggest [--view] [--products] DEPTH LEVELS [OUT]"));
     assert!(help.contains("roll suggest [--view] --products --table TABLE [OUT]"));
     assert!(help.contains("roll product TABLE LEVEL PASS STEP fp OUT"));
+    assert!(help.contains("roll COMMAND --no-clobber .."));
     assert!(help.lines().all(|line| line.len() <= 80), "{help}");
     assert_eq!(succeeds(&["-h"]), help);
     assert_eq!(succeeds(&["help"]), help);

@@ -69,7 +69,7 @@ pub fn pgm(width: usize, height: usize, largest: u32) -> Vec<u8> {
     bytes
 }
 
-/// The names in a folder that a scan left half-way.
+/// The names in a folder of files that are not whole.
 pub fn parts(folder: &Folder) -> Vec<OsString> {
     std::fs::read_dir(&folder.0)
         .unwrap()

@@ -1,5 +1,6 @@
--- The 5/3 calls, in either order of rows and columns: there and back (`there-and-back`), back and there (`back-and-there`),
--- and when the way back is done, and when it is refused 11 (`done-exactly`, `eleven-exactly`).
+-- The claims of the 5/3 calls, proved, in either order of rows and columns: what a done call made or gave (`makes-copy`, `gives-picture`),
+-- there and back (`there-and-back`), back and there (`back-and-there`), and when the way back is done, and when it is refused 11
+-- (`done-exactly`, `eleven-exactly`).
 use Prim.Native.Nat.{ℕ, _+_, _*_, _-_, _^_, _<_, _≤_}
 use mathlib.Core.Bool.{Bool, true, false, _&&_}
 use mathlib.Core.List.{List, [], map}
@@ -8,6 +9,7 @@ use mathlib.Core.Path.{_≡_, refl, sym, _∙_, ap, subst}
 use native.Mathlib.Omega.{arith}
 use lib.Dec.{T, ltb}
 use lib.ListN.{length, getD, take, drop, List·getD-append}
+use lib.Seq.{getD-take, length-take-le}
 use lib.IntN.{ℤ, pos, natAbs, _+ℤ_, _-ℤ_}
 use Rattle.numbers.specs.Tests.{every}
 use Rattle.numbers.specs.Lists.{over}
@@ -20,7 +22,8 @@ use Rattle.pictures.specs.Pictures.{pixelsRight, sample, planeOf}
 use Rattle.pictures.specs.PictureLaws.{Room, sized, sized-then, sized-done, sized-right, pixels-done, pixel-below, over-take, over-length}
 use Rattle.reversible.specs.Reversible.{Order, forward, back}
 use Rattle.reversible.specs.ReversibleLaws.{take-add, forward-agrees}
-use Rattle.reversible.specs.PictureLaws.{Picture, planeIn, goes-back, found-picture, found-plane, pixel-is, has-picture}
+use Rattle.reversible.specs.Claims.{PixelsOf, copyOf, Copied, MakesCopy, ThereAndBack, GivesPicture, BackAndThere, ElevenExactly, DoneExactly}
+use Rattle.reversible.specs.PictureLaws.{goes-back, found-picture, found-plane, pixel-is, has-picture}
 use Rattle.reversible.specs.Calls.{limited, forwardAnswer, forwardPlane, pixelsBack, isPixel, hasPicture, backAllowed, backAnswer, backPixels}
 
 -- ---- there and back
@@ -45,7 +48,7 @@ forward-done B L w h pixels plane work e =
       right = pixels-done B w h pixels (b .1);
     }
 
-module _ (order : Order) (B L w h : ℕ) (pixels : List ℕ) (plane work : List ℤ) (e : forwardAnswer B L w h pixels plane work ≡ passed) (pixels' : List ℕ) (work' : List ℤ) (rp : w * h ≤ length pixels') (rw' : w * h ≤ length work') where
+module _ (order : Order) (B L w h : ℕ) (pixels : List ℕ) (plane work : List ℤ) (e : forwardAnswer B L w h pixels plane work ≡ passed) where
   abbrev made : List ℤ
   made = forwardPlane order B L w h pixels plane work
 
@@ -55,18 +58,18 @@ module _ (order : Order) (B L w h : ℕ) (pixels : List ℕ) (plane work : List 
   some-w : 1 ≤ w
   some-w = facts .room .wide .0
 
-  is-over : made ≡ over (planeIn order B L w h pixels) plane
+  is-over : made ≡ over (copyOf order B L w h pixels) plane
   unfolding forwardPlane
-  is-over = answered-done (over (planeIn order B L w h pixels) plane) plane e
+  is-over = answered-done (over (copyOf order B L w h pixels) plane) plane e
 
-  long : length (planeIn order B L w h pixels) ≡ w * h
+  long : length (copyOf order B L w h pixels) ≡ w * h
   long = rows-length w h some-w (forward order L w h (sample pixels B w))
 
   room-made : w * h ≤ length made
-  room-made = subst (λ (l : List ℤ). w * h ≤ length l) (sym is-over) (omega (arith, long, over-length (planeIn order B L w h pixels) plane))
+  room-made = subst (λ (l : List ℤ). w * h ≤ length l) (sym is-over) (omega (arith, long, over-length (copyOf order B L w h pixels) plane))
 
-  front : planeIn order B L w h pixels ≡ take (w * h) made
-  front = sym (ap (take (w * h)) is-over ∙ over-take (w * h) (planeIn order B L w h pixels) plane long)
+  front : copyOf order B L w h pixels ≡ take (w * h) made
+  front = sym (ap (take (w * h)) is-over ∙ over-take (w * h) (copyOf order B L w h pixels) plane long)
 
   value : (r c : ℕ) → r < h → c < w → back order L w h (planeOf w made) r c +ℤ pos (2 ^ (B - 1)) ≡ pos (getD pixels (r * w + c) 0)
   unfolding sample
@@ -89,17 +92,34 @@ module _ (order : Order) (B L w h : ℕ) (pixels : List ℕ) (plane work : List 
       ∙ rows-same w h some-w _ (λ r c. getD pixels (r * w + c) 0) (λ r c i j. ap natAbs (value r c i j))
       ∙ rows-take w h some-w pixels 0 (facts .room .first)
 
-  pub goes-back-done : backAnswer order B L w h made pixels' work' ≡ passed
-  unfolding backAnswer backAllowed
-  goes-back-done =
-      let f = facts in
-      then-right (backAllowed B L w h made pixels' work') _ (allowed B L w h (length pixels') (length made) (length work') (f .limits) (record { wide = f .room .wide; tall = f .room .tall; first = rp; second = room-made; third = rw' }))
-      ∙ asks-right (hasPicture order B L w h made) _ _ has
+  read-picture : PixelsOf B w h (take (w * h) pixels)
+  read-picture = record { long = length-take-le (w * h) pixels (facts .room .first); right = facts .right }
 
-  -- the exact copy goes back to the same picture
-  pub there-and-back : backPixels order B L w h made pixels' work' ≡ over (take (w * h) pixels) pixels'
-  unfolding backPixels
-  there-and-back = answered-done (over (map natAbs (pixelsBack order B L w h made)) pixels') pixels' goes-back-done ∙ ap (λ (l : List ℕ). over l pixels') same-pixels
+  read-copy : copyOf order B L w h (take (w * h) pixels) ≡ take (w * h) made
+  unfolding sample
+  read-copy =
+      rows-same w h some-w _ _ (forward-agrees order L w h (sample (take (w * h) pixels) B w) (sample pixels B w)
+      (λ r c i j. ap (λ (n : ℕ). pos n -ℤ pos (2 ^ (B - 1))) (getD-take (w * h) pixels (r * w + c) 0 (place-in w h some-w r c i j))))
+      ∙ front
+
+  module _ (shown : List ℕ) (area : List ℤ) (rs : w * h ≤ length shown) (ra : w * h ≤ length area) where
+    goes-back-done : backAnswer order B L w h made shown area ≡ passed
+    unfolding backAnswer backAllowed
+    goes-back-done =
+        let f = facts in
+        then-right (backAllowed B L w h made shown area) _ (allowed B L w h (length shown) (length made) (length area) (f .limits) (record { wide = f .room .wide; tall = f .room .tall; first = rs; second = room-made; third = ra }))
+        ∙ asks-right (hasPicture order B L w h made) _ _ has
+
+    goes-back-same : backPixels order B L w h made shown area ≡ over (take (w * h) pixels) shown
+    unfolding backPixels
+    goes-back-same = answered-done (over (map natAbs (pixelsBack order B L w h made)) shown) shown goes-back-done ∙ ap (λ (l : List ℕ). over l shown) same-pixels
+
+pub makes-copy : MakesCopy
+makes-copy order B L w h pixels plane work e = (read-picture order B L w h pixels plane work e, read-copy order B L w h pixels plane work e)
+
+pub there-and-back : ThereAndBack
+there-and-back order B L w h pixels plane work e shown area rs ra =
+    (goes-back-done order B L w h pixels plane work e shown area rs ra, goes-back-same order B L w h pixels plane work e shown area rs ra)
 
 -- ---- back and there
 
@@ -119,7 +139,7 @@ back-done order B L w h plane pixels work e =
       right = asks-done (hasPicture order B L w h plane) _ _ (a .1) .0;
     }
 
-module _ (order : Order) (B L w h : ℕ) (plane : List ℤ) (pixels : List ℕ) (work : List ℤ) (e : backAnswer order B L w h plane pixels work ≡ passed) (plane' work' : List ℤ) (rp : w * h ≤ length plane') (rw' : w * h ≤ length work') where
+module _ (order : Order) (B L w h : ℕ) (plane : List ℤ) (pixels : List ℕ) (work : List ℤ) (e : backAnswer order B L w h plane pixels work ≡ passed) where
   abbrev picture : List ℕ
   picture = backPixels order B L w h plane pixels work
 
@@ -132,7 +152,7 @@ module _ (order : Order) (B L w h : ℕ) (plane : List ℤ) (pixels : List ℕ) 
   abbrev came : List ℕ
   came = map natAbs (pixelsBack order B L w h plane)
 
-  right-came : Picture B w h came
+  right-came : PixelsOf B w h came
   right-came = found-picture order B L w h big-w plane (known .room .second) (known .right)
 
   over-came : picture ≡ over came pixels
@@ -151,33 +171,41 @@ module _ (order : Order) (B L w h : ℕ) (plane : List ℤ) (pixels : List ℕ) 
       ap (λ (l : List ℕ). pos (getD l (r * w + c) 0) -ℤ pos (2 ^ (B - 1))) over-came
       ∙ ap (λ (n : ℕ). pos n -ℤ pos (2 ^ (B - 1))) (List·getD-append came (drop (length came) pixels) 0 (r * w + c) (subst (λ (n : ℕ). r * w + c < n) (sym (right-came .long)) (place-in w h big-w r c i j)))
 
-  same-plane : planeIn order B L w h picture ≡ take (w * h) plane
+  same-plane : copyOf order B L w h picture ≡ take (w * h) plane
   same-plane =
       rows-same w h big-w (forward order L w h (sample picture B w)) (forward order L w h (sample came B w)) (forward-agrees order L w h (sample picture B w) (sample came B w) same-samples)
       ∙ found-plane order B L w h big-w plane (known .room .second) (known .right)
 
-  pub comes-forward-done : forwardAnswer B L w h picture plane' work' ≡ passed
-  unfolding forwardAnswer pixelsRight
-  comes-forward-done =
-      let k = known in
-      let a = then-done (limited B L) _ (allowed B L w h (length picture) (length plane') (length work') (k .limits) (record { wide = k .room .wide; tall = k .room .tall; first = room-picture; second = rp; third = rw' })) in
-      then-right (limited B L) _ (a .0)
-      ∙ sized-then w h (length picture) (length plane') (length work') _
-      ∙ then-right (sized w h (length picture) (length plane') (length work')) _ (a .1)
-      ∙ asks-right (every (λ p. ltb p (2 ^ B)) (take (w * h) picture)) _ _ (subst (λ (l : List ℕ). T (every (λ p. ltb p (2 ^ B)) l)) (sym front-came) (right-came .right))
+  given-picture : PixelsOf B w h (take (w * h) picture) × (copyOf order B L w h (take (w * h) picture) ≡ take (w * h) plane)
+  given-picture =
+      subst (λ (l : List ℕ). PixelsOf B w h l × (copyOf order B L w h l ≡ take (w * h) plane)) (sym front-came)
+      (right-came, found-plane order B L w h big-w plane (known .room .second) (known .right))
 
-  -- a plane that goes back comes out the same when worked forward
-  pub back-and-there : forwardPlane order B L w h picture plane' work' ≡ over (take (w * h) plane) plane'
-  unfolding forwardPlane
-  back-and-there = answered-done (over (planeIn order B L w h picture) plane') plane' comes-forward-done ∙ ap (λ (l : List ℤ). over l plane') same-plane
+  module _ (out area : List ℤ) (ro : w * h ≤ length out) (ra : w * h ≤ length area) where
+    comes-forward-done : forwardAnswer B L w h picture out area ≡ passed
+    unfolding forwardAnswer pixelsRight
+    comes-forward-done =
+        let k = known in
+        let a = then-done (limited B L) _ (allowed B L w h (length picture) (length out) (length area) (k .limits) (record { wide = k .room .wide; tall = k .room .tall; first = room-picture; second = ro; third = ra })) in
+        then-right (limited B L) _ (a .0)
+        ∙ sized-then w h (length picture) (length out) (length area) _
+        ∙ then-right (sized w h (length picture) (length out) (length area)) _ (a .1)
+        ∙ asks-right (every (λ p. ltb p (2 ^ B)) (take (w * h) picture)) _ _ (subst (λ (l : List ℕ). T (every (λ p. ltb p (2 ^ B)) l)) (sym front-came) (right-came .right))
+
+    comes-forward-same : forwardPlane order B L w h picture out area ≡ over (take (w * h) plane) out
+    unfolding forwardPlane
+    comes-forward-same = answered-done (over (copyOf order B L w h picture) out) out comes-forward-done ∙ ap (λ (l : List ℤ). over l out) same-plane
+
+pub gives-picture : GivesPicture
+gives-picture = given-picture
+
+pub back-and-there : BackAndThere
+back-and-there order B L w h plane pixels work e out area ro ra =
+    (comes-forward-done order B L w h plane pixels work e out area ro ra, comes-forward-same order B L w h plane pixels work e out area ro ra)
 
 -- ---- 11, where 4, 8 and 9 do not apply
 
 module _ (order : Order) (B L w h : ℕ) (plane : List ℤ) (pixels : List ℕ) (work : List ℤ) (e : backAllowed B L w h plane pixels work ≡ passed) where
-  -- a picture of that depth and size whose transform, in that order, is the plane
-  abbrev pub Copied : Type 0
-  Copied = (picture : List ℕ) × Picture B w h picture × (planeIn order B L w h picture ≡ take (w * h) plane)
-
   -- the answer goes by the last rule alone
   by-picture : backAnswer order B L w h plane pixels work ≡ asks (hasPicture order B L w h plane) 11 passed
   unfolding backAnswer
@@ -187,17 +215,17 @@ module _ (order : Order) (B L w h : ℕ) (plane : List ℤ) (pixels : List ℕ) 
   unfolding backAllowed
   room-back = sized-done w h (length pixels) (length plane) (length work) (then-done (limited B L) _ e .1)
 
-  exactly : T (hasPicture order B L w h plane) ↔ Copied
+  exactly : T (hasPicture order B L w h plane) ↔ Copied order B L w h plane
   exactly = has-picture order B L w h (room-back .wide .0) plane (room-back .second)
 
-  pub done-exactly : (backAnswer order B L w h plane pixels work ≡ passed) ↔ Copied
-  done-exactly = (
+  done-by-picture : (backAnswer order B L w h plane pixels work ≡ passed) ↔ Copied order B L w h plane
+  done-by-picture = (
     λ d. exactly .0 (asks-done (hasPicture order B L w h plane) (11, []) passed (sym by-picture ∙ d) .0),
     λ c. by-picture ∙ asks-right (hasPicture order B L w h plane) (11, []) passed (exactly .1 c),
   )
 
-  pub eleven-exactly : (backAnswer order B L w h plane pixels work ≡ refused (11, [])) ↔ (Copied → ⊥)
-  eleven-exactly = (
+  eleven-by-picture : (backAnswer order B L w h plane pixels work ≡ refused (11, [])) ↔ (Copied order B L w h plane → ⊥)
+  eleven-by-picture = (
     λ d c. subst T (asks-refused (hasPicture order B L w h plane) (11, []) (11, []) tt (sym by-picture ∙ d)) (exactly .1 c),
     λ none. by-picture ∙ asks-wrong (hasPicture order B L w h plane) (11, []) passed (wrong (hasPicture order B L w h plane) (λ t. none (exactly .0 t))),
   )
@@ -205,3 +233,9 @@ module _ (order : Order) (B L w h : ℕ) (plane : List ℤ) (pixels : List ℕ) 
       wrong : (t : Bool) → (T t → ⊥) → t ≡ false
       wrong true f = absurd (f tt)
       wrong false f = refl
+
+pub done-exactly : DoneExactly
+done-exactly = done-by-picture
+
+pub eleven-exactly : ElevenExactly
+eleven-exactly = eleven-by-picture

@@ -47,7 +47,7 @@ pixelsBack order B L w h plane = rowByRow w h (λ r c. back order L w h (planeOf
 abbrev pub isPixel : ℕ → ℤ → Bool
 isPixel B z = leZ (pos 0) z && ltZ z (pos (2 ^ B))
 
--- The plane is the transform, in that order, of a picture of that depth and size (PictureLaws: exactly then).
+-- The way back of that order gives a pixel, 0 to 2^B - 1, at every place (has-picture of PictureLaws: exactly then a picture has the plane).
 unfoldable pub hasPicture : Order → ℕ → ℕ → ℕ → ℕ → List ℤ → Bool
 hasPicture order B L w h plane = every (isPixel B) (pixelsBack order B L w h plane)
 

@@ -2,12 +2,13 @@
 --   Reversible       the transform of a plane, and its way back, in either order of rows and columns
 --   Cases            the same by cases, ends apart from the middle (source document 004, equations 1, 2 and 4 to 6)
 --   Calls            the forward call and the back call: the answer, and each lent slice afterwards
+--   Claims           what holds of exact copies: return, uniqueness, and when the way back is done or refused 11
 -- Proved of them:
 --   CaseLaws         pass-is, back-is: the 5/3 by cases is the 5/3
 --   ReversibleLaws   forward-back, back-forward: each undoes the other, in either order
---   PictureLaws      has-picture: refusal 11 comes exactly where no picture has the plane in that order
---   CallLaws         there-and-back, back-and-there; done-exactly, eleven-exactly
---   OneToOne         same-picture: two pictures with the same plane are one
+--   PictureLaws      has-picture: the way back gives pixels exactly where a picture has the plane in that order
+--   CallLaws         the claims: makes-copy, there-and-back; gives-picture, back-and-there; done-exactly, eleven-exactly
+--   OneToOne         the claim one-picture: two pictures with one transform are equal
 --   TwoOrders        worked copies: the two orders are two
 --   Unchanged        sides that were admitted before job 6
 -- For the proofs of the code:
@@ -24,6 +25,7 @@
 pub mod Reversible
 pub mod Cases
 pub mod Calls
+pub mod Claims
 pub mod Orders
 pub mod CaseLaws
 pub mod ReversibleLaws

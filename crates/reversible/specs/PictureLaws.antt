@@ -18,15 +18,7 @@ use Rattle.lines.specs.PlaneLaws.{Agree}
 use Rattle.reversible.specs.ReversibleLaws.{take-add, add-take, forward-back, back-forward, forward-agrees, back-agrees}
 use Rattle.lines.specs.RowLaws.{place-in, rows-length, rows-at, rows-same, rows-take, every-at, every-row, every-row-at}
 use Rattle.reversible.specs.Calls.{pixelsBack, isPixel, hasPicture}
-
--- a picture of depth B with w * h pixels
-pub record Picture (B w h : ℕ) (pixels : List ℕ) : Type 0 where
-  pub long : length pixels ≡ w * h
-  pub right : T (every (λ p. ltb p (2 ^ B)) pixels)
-
--- its 5/3 plane in an order, row by row
-abbrev pub planeIn : Order → ℕ → ℕ → ℕ → ℕ → List ℕ → List ℤ
-planeIn order B L w h pixels = rowByRow w h (forward order L w h (sample pixels B w))
+use Rattle.reversible.specs.Claims.{PixelsOf, copyOf, Copied}
 
 every-map : {A C : Type 0} (k : A → C) (f : A → Bool) (g : C → Bool) → ((a : A) → T (f a) → T (g (k a))) → (l : List A) → T (every f l) → T (every g (map k l))
 unfolding every
@@ -59,7 +51,7 @@ module _ (order : Order) (B L w h : ℕ) (some-w : 1 ≤ w) (plane : List ℤ) (
           ∙ ap (λ (l : List ℤ). getD l (r * w + c) (pos 0)) (sym e)
           ∙ rows-at w h some-w (forward order L w h s) (pos 0) r c i j
 
-  pub picture-found : (pixels : List ℕ) → Picture B w h pixels → planeIn order B L w h pixels ≡ take (w * h) plane → T (hasPicture order B L w h plane)
+  pub picture-found : (pixels : List ℕ) → PixelsOf B w h pixels → copyOf order B L w h pixels ≡ take (w * h) plane → T (hasPicture order B L w h plane)
   unfolding hasPicture pixelsBack sample
   picture-found pixels pic e =
       every-row w h some-w (isPixel B) (λ r c. back order L w h (planeOf w plane) r c +ℤ pos (2 ^ (B - 1))) at
@@ -76,7 +68,7 @@ module _ (order : Order) (B L w h : ℕ) (some-w : 1 ≤ w) (plane : List ℤ) (
   found = map natAbs (pixelsBack order B L w h plane)
 
   module _ (t : T (hasPicture order B L w h plane)) where
-    pub found-picture : Picture B w h found
+    pub found-picture : PixelsOf B w h found
     unfolding hasPicture pixelsBack
     found-picture = record {
       long = length-map (pixelsBack order B L w h plane) natAbs ∙ rows-length w h some-w (λ r c. back order L w h (planeOf w plane) r c +ℤ pos (2 ^ (B - 1)));
@@ -91,12 +83,12 @@ module _ (order : Order) (B L w h : ℕ) (some-w : 1 ≤ w) (plane : List ℤ) (
         let b : pos (getD found (r * w + c) 0) ≡ v r c = ap pos a ∙ pixel-pos B (v r c) (every-row-at w h some-w (isPixel B) v t r c i j) in
         ap (λ (z : ℤ). z -ℤ pos (2 ^ (B - 1))) b ∙ add-take (back order L w h (planeOf w plane) r c) (pos (2 ^ (B - 1)))
 
-    pub found-plane : planeIn order B L w h found ≡ take (w * h) plane
+    pub found-plane : copyOf order B L w h found ≡ take (w * h) plane
     found-plane =
         rows-same w h some-w (forward order L w h (sample found B w)) (planeOf w plane)
         (λ r c i j. forward-agrees order L w h (sample found B w) (back order L w h (planeOf w plane)) sampled r c i j ∙ ap (λ (p : Plane ℤ). p r c) (back-forward order L w h (planeOf w plane)))
         ∙ rows-take w h some-w plane (pos 0) room
 
-  -- 11 is refused exactly where no picture has the plane in that order
-  pub has-picture : T (hasPicture order B L w h plane) ↔ ((pixels : List ℕ) × Picture B w h pixels × (planeIn order B L w h pixels ≡ take (w * h) plane))
+  -- the way back gives a pixel at every place exactly where a picture has the plane in that order
+  pub has-picture : T (hasPicture order B L w h plane) ↔ Copied order B L w h plane
   has-picture = (λ t. (found, found-picture t, found-plane t), λ s. picture-found (s .0) (s .1) (s .2))

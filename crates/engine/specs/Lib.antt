@@ -1,7 +1,8 @@
 -- The C interface.
 --   Answers      the calls: answers as numbers, and each lent slice afterwards
 --   Promises     what an answer of 0 promises, at the bytes: demand 3, viewing
---   Zero         an answer of 0 says that the call was done
+--   ReversiblePromises what the numbers of the 5/3 calls promise
+--   Zero         an answer of 0 says that the call was done; 11 of a 5/3 call back, that it is refused 11
 --   EarlierOrder what document 02, job 3, changed of each call
 --   WithoutProducts what each call does with a table without tag 5 (document 02, job 7): what it did
 --   AnswerLaws   what the answers of the calls below say of them
@@ -11,6 +12,7 @@
 pub mod Answers
 pub mod Zero
 pub mod Promises
+pub mod ReversiblePromises
 pub mod AnswerLaws
 pub mod EarlierOrder
 pub mod WithoutProducts

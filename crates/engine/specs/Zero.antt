@@ -1,6 +1,7 @@
--- The answer 0 says that the call was done: every refusal has a number from 1 on.
-use Prim.Native.Nat.{ℕ, _+_, _*_, _-_, _^_, _≤_}
-use mathlib.Core.Bool.{Bool, _&&_, _||_, not}
+-- The answer 0 says that the call was done: every refusal has a number from 1 on. The answer 11 of a 5/3 call back says that its last rule
+-- refused: those before it have lower numbers.
+use Prim.Native.Nat.{ℕ, _+_, _*_, _-_, _^_, _<_, _≤_}
+use mathlib.Core.Bool.{Bool, true, false, _&&_, _||_, not}
 use mathlib.Core.List.{List, [], _∷_}
 use mathlib.Core.Path.{_≡_, refl, sym, _∙_, ap}
 use native.Mathlib.Omega.{arith}
@@ -12,13 +13,15 @@ use Rattle.refusals.specs.Answers.{Answer, done, refused, passed, asks, _then_,
 use Rattle.refusals.specs.AnswerLaws.{FromOne, done-from-one, asks-from-one, then-from-one, code-zero}
 use Rattle.width_table.specs.declared.WidthTable.{WidthTable}
 use Rattle.width_table.specs.Nodes.{TableNode, bookOrder}
-use Rattle.width_table.specs.Table.{formRight, integerBits, fractionBits}
+use Rattle.width_table.specs.Table.{depthRight, levelsRight, formRight, integerBits, fractionBits}
 use Rattle.width_table.specs.Fields.{Field, headBytes, fields}
 use Rattle.width_table.specs.Bytes.{announced, headed, field, formBy, levelsIn, hasFifth, form, tableIn}
 use Rattle.pictures.specs.Pictures.{sideRight, sided, holds, pixelsRight}
 use Rattle.stages.specs.Rule.{Bound}
 use Rattle.precision.specs.Bounds.{boundOf}
 use Rattle.precision.specs.Verdict.{fits, belowTwoSteps, keptAt, placeNumbers, judgedBy, judged, firstRefusal, verdict}
+use Rattle.reversible.specs.Reversible.{Order}
+use Rattle.reversible.specs.Calls.{limited, forwardAnswer, hasPicture, backAllowed, backAnswer}
 use Rattle.irreversible.specs.Calls.{fixedAnswer}
 use Rattle.lines.specs.Planes.{rowByRow}
 use Rattle.pictures.specs.Pictures.{planeOf}
@@ -71,15 +74,19 @@ pub checked-zero : (bytes : List ℕ) → code (checked bytes) ≡ 0 → checked
 unfolding checked
 checked-zero bytes = code-zero (checked bytes) (then-from-one (form bytes) (verdict (tableIn bytes)) (form-from-one bytes) (verdict-from-one (tableIn bytes)))
 
+sided-from-one : (w h : ℕ) → FromOne (sided w h)
+unfolding sided
+sided-from-one w h = last-from-one (sideRight w && sideRight h) 8 (omega arith)
+
 holds-from-one : (n k : ℕ) → FromOne (holds n k)
 unfolding holds
 holds-from-one n k = last-from-one (leb n k) 9 (omega arith)
 
 fixed-from-one : (t : WidthTable) (w h : ℕ) (pixels : List ℕ) (plane work : List ℤ) → FromOne (fixedAnswer t w h pixels plane work)
-unfolding fixedAnswer sided pixelsRight
+unfolding fixedAnswer pixelsRight
 fixed-from-one t w h pixels plane work =
     then-from-one (verdict t) _ (verdict-from-one t)
-    (then-from-one (sided w h) _ (last-from-one (sideRight w && sideRight h) 8 (omega arith))
+    (then-from-one (sided w h) _ (sided-from-one w h)
     (then-from-one (holds (w * h) (length pixels)) _ (holds-from-one _ _)
     (then-from-one (holds (w * h) (length plane)) _ (holds-from-one _ _)
     (then-from-one (holds (w * h) (length work)) _ (holds-from-one _ _)
@@ -102,10 +109,10 @@ unfolding viewChecked
 view-checked-zero bytes = code-zero (viewChecked bytes) (then-from-one (form bytes) (viewVerdict (tableIn bytes)) (form-from-one bytes) (view-verdict-from-one (tableIn bytes)))
 
 view-from-one : (t : WidthTable) (w h : ℕ) (plane : List ℤ) (pixels : List ℕ) (work : List ℤ) → FromOne (viewAnswer t w h plane pixels work)
-unfolding viewAnswer sided coefficientsRight
+unfolding viewAnswer coefficientsRight
 view-from-one t w h plane pixels work =
     then-from-one (viewVerdict t) _ (view-verdict-from-one t)
-    (then-from-one (sided w h) _ (last-from-one (sideRight w && sideRight h) 8 (omega arith))
+    (then-from-one (sided w h) _ (sided-from-one w h)
     (then-from-one (holds (w * h) (length pixels)) _ (holds-from-one _ _)
     (then-from-one (holds (w * h) (length plane)) _ (holds-from-one _ _)
     (then-from-one (holds (w * h) (length work)) _ (holds-from-one _ _)
@@ -116,6 +123,64 @@ unfolding viewAnswer97
 view-zero97 bytes w h plane pixels work =
     code-zero (viewAnswer97 bytes w h plane pixels work)
     (then-from-one (form bytes) (viewAnswer (tableIn bytes) w h plane pixels work) (form-from-one bytes) (view-from-one (tableIn bytes) w h plane pixels work))
+
+-- ---- 5/3
+
+limited-from-one : (B L : ℕ) → FromOne (limited B L)
+limited-from-one B L = last-from-one (depthRight B && levelsRight L) 4 (omega arith)
+
+pub zero53 : (B L w h : ℕ) (pixels : List ℕ) (plane work : List ℤ) → code (forwardAnswer B L w h pixels plane work) ≡ 0 → forwardAnswer B L w h pixels plane work ≡ passed
+unfolding forwardAnswer pixelsRight
+zero53 B L w h pixels plane work =
+    code-zero (forwardAnswer B L w h pixels plane work)
+    (then-from-one (limited B L) _ (limited-from-one B L)
+    (then-from-one (sided w h) _ (sided-from-one w h)
+    (then-from-one (holds (w * h) (length pixels)) _ (holds-from-one _ _)
+    (then-from-one (holds (w * h) (length plane)) _ (holds-from-one _ _)
+    (then-from-one (holds (w * h) (length work)) _ (holds-from-one _ _)
+    (last-from-one (every (λ p. ltb p (2 ^ B)) (take (w * h) pixels)) 10 (omega arith)))))))
+
+-- the number of an answer is at most m
+rule-at-most : (t : Bool) (n m : ℕ) → n ≤ m → code (asks {A = Unit} t n passed) ≤ m
+rule-at-most true n m h = omega arith
+rule-at-most false n m h = omega arith
+
+then-at-most : (a b : Answer Unit) (m : ℕ) → code a ≤ m → code b ≤ m → code (a then b) ≤ m
+then-at-most (done tt) b m h k = k
+then-at-most (refused r) b m h k = h
+
+-- a rule after others that have lower numbers: its number says that they hold and that it refused
+last-refused : (a : Answer Unit) (t : Bool) (n : ℕ) → code a < n → code (a then asks t n passed) ≡ n → (a ≡ passed) × (a then asks t n passed ≡ refused (n, []))
+last-refused (done tt) true n h e = absurd (omega arith)
+last-refused (done tt) false n h e = (refl, refl)
+last-refused (refused r) t n h e = absurd (omega arith)
+
+module _ (order : Order) (B L w h : ℕ) (plane : List ℤ) (pixels : List ℕ) (work : List ℤ) where
+  pub back-zero53 : code (backAnswer order B L w h plane pixels work) ≡ 0 → backAnswer order B L w h plane pixels work ≡ passed
+  unfolding backAnswer backAllowed
+  back-zero53 =
+      code-zero (backAnswer order B L w h plane pixels work)
+      (then-from-one (backAllowed B L w h plane pixels work) _
+      (then-from-one (limited B L) _ (limited-from-one B L)
+      (then-from-one (sided w h) _ (sided-from-one w h)
+      (then-from-one (holds (w * h) (length pixels)) _ (holds-from-one _ _)
+      (then-from-one (holds (w * h) (length plane)) _ (holds-from-one _ _) (holds-from-one _ _)))))
+      (last-from-one (hasPicture order B L w h plane) 11 (omega arith)))
+
+  -- 4, 8 and 9 are at most 9
+  allowed-at-most : code (backAllowed B L w h plane pixels work) ≤ 9
+  unfolding backAllowed sided holds
+  allowed-at-most =
+      then-at-most (limited B L) _ 9 (rule-at-most (depthRight B && levelsRight L) 4 9 (omega arith))
+      (then-at-most (sided w h) _ 9 (rule-at-most (sideRight w && sideRight h) 8 9 (omega arith))
+      (then-at-most (holds (w * h) (length pixels)) _ 9 (rule-at-most (leb (w * h) (length pixels)) 9 9 (omega arith))
+      (then-at-most (holds (w * h) (length plane)) _ 9 (rule-at-most (leb (w * h) (length plane)) 9 9 (omega arith))
+      (rule-at-most (leb (w * h) (length work)) 9 9 (omega arith)))))
+
+  -- the number 11 says that 4, 8 and 9 do not apply and that the call is refused 11
+  pub back-eleven53 : code (backAnswer order B L w h plane pixels work) ≡ 11 → (backAllowed B L w h plane pixels work ≡ passed) × (backAnswer order B L w h plane pixels work ≡ refused (11, []))
+  unfolding backAnswer
+  back-eleven53 = last-refused (backAllowed B L w h plane pixels work) (hasPicture order B L w h plane) 11 (omega (arith, allowed-at-most))
 
 -- ---- a rolling scan
 

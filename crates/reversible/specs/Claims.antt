@@ -52,7 +52,7 @@ ThereAndBack =
 -- ---- back, then forward
 
 -- Where the way back is done, it gave a picture of that depth and size, and the plane is that picture's copy in the order of the call
--- ("demand 2 and refusal 11 go by the order of the call": document 02, job 4).
+-- ("Demand 2 and refusal 11 go by the order of the call": document 02, job 4).
 abbrev pub GivesPicture : Type 0
 GivesPicture =
     (order : Order) (B L w h : ℕ) (plane : List ℤ) (pixels : List ℕ) (work : List ℤ) → backAnswer order B L w h plane pixels work ≡ passed

@@ -8,6 +8,7 @@
 --   AnswerLaws   what the answers of the calls below say of them
 --   ScanAnswers  the calls of a rolling scan, whose scan is bytes of the caller
 --   ScanLaws     what the answers of the calls below say of them
+--   ScanHistory  histories of calls of a rolling scan, at the bytes
 --   ScanClaims   the claim over calls of a rolling scan, at the bytes
 pub mod Answers
 pub mod Zero
@@ -18,4 +19,5 @@ pub mod EarlierOrder
 pub mod WithoutProducts
 pub mod ScanAnswers
 pub mod ScanLaws
+pub mod ScanHistory
 pub mod ScanClaims

@@ -1,63 +1,126 @@
--- The claim over calls of a rolling scan in the C interface (document 02, jobs 5 and 6): from suz_scan_begin on, with state and held
--- memory handed on as left.
-use Prim.Native.Nat.{ℕ, suc, _*_, _<_, _≤_}
+-- The claim over calls of a rolling scan in the C interface (document 02, jobs 5 and 6): what holds after the calls of a history.
+use Prim.Native.Nat.{ℕ, suc, _+_, _*_, _-_, _^_, _<_, _≤_}
 use mathlib.Core.Bool.{true, false}
-use mathlib.Core.List.{List, [], _++_, append-nil}
+use mathlib.Core.List.{List, [], _∷_, _++_, append-nil}
+use mathlib.Core.Logic.{_↔_}
 use mathlib.Core.Path.{_≡_, refl, sym, _∙_, ap, subst}
 use native.Mathlib.Omega.{arith}
 use native.Mathlib.Decide.{decLt}
-use lib.Dec.{T}
-use lib.ListN.{length, getD, take, drop, drop-of-length-le}
-use lib.IntN.{ℤ}
+use lib.Dec.{T, leb, eqb}
+use lib.ListN.{length, getD, take, drop, replicate, length-replicate, take-append-drop, drop-of-length-le}
+use lib.IntN.{ℤ, pos}
 use Rattle.numbers.specs.Lists.{over}
-use Rattle.refusals.specs.Answers.{Reason, Answer, done, refused, passed, code, answered}
-use Rattle.refusals.specs.AnswerLaws.{then-done, then-right, then-refused, gives-done, answered-done}
+use Rattle.refusals.specs.Answers.{Reason, Answer, done, refused, passed, asks, _then_, code, answered}
+use Rattle.refusals.specs.AnswerLaws.{then-done, then-right, then-refused, then-assoc, gives-done, answered-done, answered-refused}
 use Rattle.width_table.specs.declared.WidthTable.{WidthTable}
-use Rattle.width_table.specs.Bytes.{form, tableIn}
+use Rattle.width_table.specs.Fields.{Field, headBytes, fields}
+use Rattle.width_table.specs.Bytes.{announced, headed, field, formBy, levelsIn, hasFifth, form, tableIn}
 use Rattle.width_table.specs.FormLists.{Sized}
 use Rattle.width_table.specs.RoundTrip.{read-sized}
+use Rattle.pictures.specs.Pictures.{Admitted, sample}
+use Rattle.pictures.specs.PictureLaws.{over-take}
+use Rattle.precision.specs.Verdict.{verdict}
+use Rattle.irreversible.specs.Claims.{LevelInWidth}
 use Rattle.rolling.specs.declared.Scan.{Scan}
-use Rattle.rolling.specs.Calls.{beginAnswer, scanOf, lineAnswer, givenByLine, LineCall, endAnswer, givenByEnd, scanEnded, EndCall}
-use Rattle.rolling_claims.specs.Claims.{Calls, begun, line, line-refused, end, end-refused, Left, ready, firstLines}
+use Rattle.rolling.specs.Calls.{beginAnswer, scanOf, heldLines, outLines, lineAnswer, givenByLine, LineCall, endAnswer, givenByEnd, scanEnded, EndCall}
+use Rattle.rolling.specs.AnswerLaws.{other-levels, one-level}
+use Rattle.rolling_claims.specs.Claims.{HandedOn, Calls, begun, line, line-refused, end, end-refused, Left, ready, firstLines, LinesNear}
 use Rattle.rolling_claims.specs.History.{facts, table-kept}
-use Rattle.rolling_claims.specs.Possible.{foreign-refused}
-use Rattle.rolling_claims.specs.Theorems.{before-end, after-end, refused-keeps}
-use Rattle.scan_bytes.specs.ScanBytes.{scanLength, stateBytes, keepable, tableEnd, scanHeld, scanIn, stateWith, noScan}
+use Rattle.rolling_claims.specs.NotFourteen.{Other, done-other, asks-other, then-other, then-fourteen, verdict-other}
+use Rattle.rolling_claims.specs.Possible.{scanned, foreign-refused}
+use Rattle.rolling_claims.specs.Theorems.{before-end, after-end, refused-keeps, in-widths, near-before-end, near-after-end}
+use Rattle.scan_bytes.specs.ScanBytes.{scanLength, stateBytes, tableEnd, scanHeld, scanIn, stateWith, noScan}
 use Rattle.scan_bytes.specs.ByteLaws.{Keepable, kept-is, room, state-long, read-written, read-is, read-refused, read-formed, written-read, zeros-hold-none}
+use Rattle.engine.specs.Answers.{checked}
 use Rattle.engine.specs.ScanAnswers.{begins, scanBeginAnswer, scanBeginState, givenAfter, OnScan, OnBytes, LineOnBytes, EndOnBytes}
-use Rattle.engine.specs.ScanLaws.{begun-kept, line-kept, end-kept, roomy-long}
-use Rattle.engine.specs.Zero.{scan-begin-zero, line-from-one, end-from-one, gives-zero}
+use Rattle.engine.specs.ScanHistory.{StateHandedOn, HeldHandedOn, ByteCalls, c-begun, c-line, c-line-refused, c-end, c-end-refused, LeftState, ScannedBytes}
+use Rattle.engine.specs.ScanLaws.{begun-kept, roomy-long}
+use Rattle.engine.specs.Zero.{checked-zero, scan-begin-zero, line-from-one, end-from-one, gives-zero}
 
--- ---- histories
+-- ---- begin
 
--- The calls of one scan under a table's bytes, any of them refused: the state and the held memory as left, the number of lines accepted,
--- their pixels row by row, and all that was given out. A refused call may be lent other memory. The state has the width of the lines.
-pub data ByteCalls (bytes : List ℕ) : List ℕ → List ℤ → ℕ → List ℕ → List ℤ → Type 0 where
-  c-begun : (state : List ℕ) (held : List ℤ) → code (scanBeginAnswer bytes state) ≡ 0 → ByteCalls bytes (scanBeginState bytes state) held 0 [] []
-  c-line : {state state′ : List ℕ} {held held′ : List ℤ} {n : ℕ} {strip : List ℕ} {all : List ℤ} {pixels : List ℕ} {w : ℕ} {out out′ : List ℤ} {given given′ : ℕ}
-      → ByteCalls bytes state held n strip all → LineOnBytes state pixels w held out given 0 state′ held′ out′ given′
-      → ByteCalls bytes state′ held′ (suc n) (strip ++ take w pixels) (all ++ take (given′ * w) out′)
-  c-line-refused : {state state′ : List ℕ} {held : List ℤ} {n : ℕ} {strip : List ℕ} {all : List ℤ} {pixels : List ℕ} {w : ℕ} {other other′ out out′ : List ℤ} {given given′ r : ℕ}
-      → ByteCalls bytes state held n strip all → LineOnBytes state pixels w other out given r state′ other′ out′ given′ → ¬ (r ≡ 0)
-      → ByteCalls bytes state′ held n strip all
-  c-end : {state state′ : List ℕ} {held held′ : List ℤ} {n : ℕ} {strip : List ℕ} {all : List ℤ} {out out′ : List ℤ} {given given′ : ℕ}
-      → ByteCalls bytes state held n strip all → EndOnBytes state held out given 0 state′ held′ out′ given′
-      → ByteCalls bytes state′ held′ n strip (all ++ take (given′ * scanHeld state .width) out′)
-  c-end-refused : {state state′ : List ℕ} {held : List ℤ} {n : ℕ} {strip : List ℕ} {all : List ℤ} {other other′ out out′ : List ℤ} {given given′ r : ℕ}
-      → ByteCalls bytes state held n strip all → EndOnBytes state other out given r state′ other′ out′ given′ → ¬ (r ≡ 0)
-      → ByteCalls bytes state′ held n strip all
+module _ (bytes state : List ℕ) (zero : code (scanBeginAnswer bytes state) ≡ 0) where
+  begun-right : (form bytes ≡ passed) × (beginAnswer (tableIn bytes) ≡ passed)
+  unfolding scanBeginAnswer begins
+  begun-right = then-done (form bytes) _ (then-done (begins bytes) _ (scan-begin-zero bytes state zero) .0)
 
--- ---- they are histories of the scan that the state holds
+  -- the state where a scan began
+  begun-state : scanBeginState bytes state ≡ over (stateBytes (scanOf (tableIn bytes))) state
+  unfolding scanBeginState scanBeginAnswer
+  begun-state =
+      let s = scanOf (tableIn bytes) in
+      let a = then-done (begins bytes) _ (scan-begin-zero bytes state zero) in
+      ap (λ (l : List ℕ). stateWith l state) (answered-done {o = begins bytes} (stateBytes s) noScan (a .0)) ∙ sym (room (stateBytes s) state (roomy-long state (a .1)))
+
+headed-other : (tag len : ℕ) (bytes : List ℕ) → Other (headed tag len bytes)
+unfolding headed
+headed-other tag len bytes =
+    asks-other (leb headBytes (length bytes)) (1, []) _ (λ e. omega arith)
+    (asks-other (eqb (getD bytes 0 0) tag) (2, []) _ (λ e. omega arith)
+    (asks-other (eqb (announced bytes) len) (3, []) _ (λ e. omega arith)
+    (asks-other (leb (announced bytes) (length bytes - headBytes)) (1, []) _ (λ e. omega arith) done-other)))
+
+formed-other : (fs : List Field) (bytes : List ℕ) → Other (formBy fs bytes)
+unfolding formBy field
+formed-other [] bytes = asks-other (eqb (length bytes) 0) (5, []) _ (λ e. omega arith) done-other
+formed-other (f ∷ fs) bytes =
+    then-other (field f bytes) _
+    (then-other (headed (f .tag) (f .size) bytes) _ (headed-other (f .tag) (f .size) bytes) (asks-other (f .right (take (f .size) (drop headBytes bytes))) (4, []) _ (λ e. omega arith) done-other))
+    (formed-other fs (drop (headBytes + f .size) bytes))
+
+form-other : (bytes : List ℕ) → Other (form bytes)
+unfolding form
+form-other bytes = formed-other (fields (hasFifth bytes) (levelsIn bytes)) bytes
+
+-- suz_scan_begin answers 14 for a table of right form that is not of one level, and for no other.
+pub c-begin-fourteen : (bytes state : List ℕ) → (code (scanBeginAnswer bytes state) ≡ 14) ↔ ((form bytes ≡ passed) × ¬ (tableIn bytes .levels ≡ 1))
+unfolding scanBeginAnswer begins
+c-begin-fourteen bytes state =
+    let t = tableIn bytes in
+    let long = leb scanLength (length state) in
+    let last = asks long 9 passed in (
+      (λ e.
+          let a = then-fourteen (form bytes) (beginAnswer t then last) (form-other bytes) (ap (λ (o : Answer Unit). code o) (then-assoc (form bytes) (beginAnswer t) last) ∙ e) in
+          (a .0, λ one. then-other (verdict t) last (verdict-other t) (asks-other long (9, []) _ (λ e. omega arith) done-other) (ap (λ (o : Answer Unit). code (o then last)) (sym (one-level t one)) ∙ a .1))),
+      (λ q. ap (λ (o : Answer Unit). code o) (then-refused (begins bytes) last (14, []) (then-right (form bytes) (beginAnswer t) (q .0) ∙ other-levels t (q .1)))),
+    )
+
+-- ---- which bytes hold a scan
+
+module _ (bytes : List ℕ) (formed : form bytes ≡ passed) where
+  can-hold : {s : Scan} {held : List ℤ} {n : ℕ} {strip : List ℕ} {given : List ℤ} → Calls (tableIn bytes) s held n strip given → Keepable s
+  can-hold {s} {n = n} calls =
+      let f = facts (tableIn bytes) calls in
+      let narrow : Dec (n < 1) → s .width < 65536 = λ d. elim d [ yes i ↦ omega (arith, f .unset (omega arith)) | no i ↦ omega (arith, f .side (omega arith) .1) ] in
+      kept-is s (subst (λ (t : WidthTable). Sized t) (sym (table-kept (tableIn bytes) calls)) (read-sized bytes formed)) (begun-kept s (f .begun) (narrow (decLt n 1)))
+
+module _ (s : Scan) (k : Keepable s) (state : List ℕ) where
+  -- a state whose own bytes are the scan's holds it
+  own-reads : take scanLength state ≡ stateBytes s → scanIn state ≡ done s
+  own-reads own = subst (λ (l : List ℕ). scanIn l ≡ done s) (ap (λ (l : List ℕ). l ++ drop scanLength state) (sym own) ∙ take-append-drop scanLength state) (read-written s k (drop scanLength state))
+
+  -- and so they are once the scan was written
+  over-own : take scanLength (over (stateBytes s) state) ≡ stateBytes s
+  over-own = over-take scanLength (stateBytes s) state (state-long s k)
+
+-- ---- histories are those of the scan that the state holds
 
 pub record Kept (bytes state : List ℕ) (held : List ℤ) (n : ℕ) (strip : List ℕ) (all : List ℤ) : Type 0 where
   pub formed : form bytes ≡ passed
   pub scan : Scan
-  pub reads : scanIn state ≡ done scan
+  pub own : take scanLength state ≡ stateBytes scan
   pub calls : Calls (tableIn bytes) scan held n strip all
 
--- the scan's bytes over the front of the state are read back as the scan
-back : (bytes state : List ℕ) → form bytes ≡ passed → (s : Scan) → s .table ≡ tableIn bytes → keepable s ≡ true → scanIn (stateBytes s ++ drop (length (stateBytes s)) state) ≡ done s
-back bytes state formed s table can = read-written s (kept-is s (subst (λ (t : WidthTable). Sized t) (sym table) (read-sized bytes formed)) can) (drop (length (stateBytes s)) state)
+module _ {bytes state : List ℕ} {held : List ℤ} {n : ℕ} {strip : List ℕ} {all : List ℤ} (k : Kept bytes state held n strip all) where
+  -- it is read from the state, in whatever memory this is handed on
+  pub kept-reads : (now : List ℕ) → StateHandedOn state now → scanIn now ≡ done (k .scan)
+  kept-reads now same = own-reads (k .scan) (can-hold bytes (k .formed) (k .calls)) now (same ∙ k .own)
+
+  pub kept-held : scanHeld state ≡ k .scan
+  kept-held = read-is state (k .scan) (kept-reads state refl)
+
+  kept-lent : (lent : List ℤ) → HeldHandedOn state held lent → HandedOn (k .scan) held lent
+  kept-lent lent = subst (λ (s : Scan). HandedOn s held lent) kept-held
 
 -- a call that is refused says why
 is-refused : (o : Answer ℕ) {r : ℕ} → r ≡ code o → ¬ (r ≡ 0) → (P : Type 0) → ((why : Reason) → o ≡ refused why → P) → P
@@ -73,72 +136,53 @@ end-done s held out call e = gives-zero (endAnswer s held out) (length (givenByE
 
 module _ (bytes : List ℕ) where
   pub kept-calls : {state : List ℕ} {held : List ℤ} {n : ℕ} {strip : List ℕ} {all : List ℤ} → ByteCalls bytes state held n strip all → Kept bytes state held n strip all
-  unfolding scanBeginState scanBeginAnswer begins scanOf
-  kept-calls (c-begun state held e) =
-      let a = then-done (begins bytes) _ (scan-begin-zero bytes state e) in
-      let b = then-done (form bytes) (beginAnswer (tableIn bytes)) (a .0) in
+  kept-calls (c-begun state held zero) =
+      let (formed, passes) = begun-right bytes state zero in
       let s = scanOf (tableIn bytes) in
-      record {
-        formed = b .0;
-        scan = s;
-        reads = subst (λ (l : List ℕ). scanIn l ≡ done s) (room (stateBytes s) state (roomy-long state (a .1)) ∙ sym (ap (λ (l : List ℕ). stateWith l state) (answered-done {o = begins bytes} (stateBytes s) _ (a .0))))
-            (back bytes state (b .0) s refl (begun-kept s (b .1) (omega arith)));
-        calls = begun held (b .1);
-      }
-  kept-calls (c-line {state} {state′} {held} {held′} {n} {strip} {all} {pixels} {w} {out} {out′} {given} {given′} before call) =
+      record { formed = formed; scan = s; own = ap (take scanLength) (begun-state bytes state zero) ∙ over-own s (can-hold bytes formed (begun held passes)) state; calls = begun held passes }
+  kept-calls (c-line {state} {now} {state′} {held} {lent} {held′} {n} {strip} {all} {pixels} {w} {out} {out′} {given} {given′} before same again call) =
       let k = kept-calls before in
       let s = k .scan in
-      let on = call .on-scan s (k .reads) in
-      let m = length (givenByLine s pixels w held out) in
-      let e = line-done s pixels w held out (on .call) (on .answer-is) in
-      let there : LineCall s pixels w held out (done m) (on .after) held′ out′ = subst (λ (o : Answer ℕ). LineCall s pixels w held out o (on .after) held′ out′) e (on .call) in
-      let calls = line (k .calls) there in
+      let on = call .on-scan s (kept-reads k now same) in
+      let m = length (givenByLine s pixels w lent out) in
+      let e = line-done s pixels w lent out (on .call) (on .answer-is) in
+      let there : LineCall s pixels w lent out (done m) (on .after) held′ out′ = subst (λ (o : Answer ℕ). LineCall s pixels w lent out o (on .after) held′ out′) e (on .call) in
+      let calls = line (k .calls) (kept-lent k lent again) there in
       record {
         formed = k .formed;
         scan = on .after;
-        reads = subst (λ (l : List ℕ). scanIn l ≡ done (on .after)) (sym (on .state-is ∙ answered-done _ state e)) (back bytes state (k .formed) (on .after) (table-kept (tableIn bytes) calls) (line-kept s pixels w held out there m refl));
+        own = ap (take scanLength) (on .state-is ∙ answered-done _ now e) ∙ over-own (on .after) (can-hold bytes (k .formed) calls) now;
         calls = subst (λ (g : ℕ). Calls (tableIn bytes) (on .after) held′ (suc n) (strip ++ take w pixels) (all ++ take (g * w) out′)) (sym (on .given-is ∙ ap (λ (o : Answer ℕ). givenAfter o given) e)) calls;
       }
-  kept-calls (c-line-refused {state} {state′} {held} {n} {strip} {all} {pixels} {w} {other} {other′} {out} {out′} before call not) =
+  kept-calls (c-line-refused {state} {now} {state′} {held} {n} {strip} {all} {pixels} {w} {other} {other′} {out} {out′} before same call not) =
       let k = kept-calls before in
-      let on = call .on-scan (k .scan) (k .reads) in
+      let on = call .on-scan (k .scan) (kept-reads k now same) in
       is-refused (on .answer) (on .answer-is) not _ (λ why e.
       let there = subst (λ (o : Answer ℕ). LineCall (k .scan) pixels w other out o (on .after) other′ out′) e (on .call) in
-      let same = refused-keeps (k .scan) other out why (on .after) other′ out′ .0 pixels w there .0 in
-      record {
-        formed = k .formed;
-        scan = on .after;
-        reads = subst (λ (l : List ℕ). scanIn l ≡ done (on .after)) (sym (on .state-is ∙ ap (λ (o : Answer ℕ). answered o (stateBytes (on .after) ++ drop (length (stateBytes (on .after))) state) state) e)) (k .reads ∙ ap done (sym same));
-        calls = line-refused (k .calls) there;
-      })
-  kept-calls (c-end {state} {state′} {held} {held′} {n} {strip} {all} {out} {out′} {given} {given′} before call) =
+      let stays = refused-keeps (k .scan) other out why (on .after) other′ out′ .0 pixels w there .0 in
+      record { formed = k .formed; scan = on .after; own = ap (take scanLength) (on .state-is ∙ answered-refused _ now e) ∙ same ∙ k .own ∙ ap stateBytes (sym stays); calls = line-refused (k .calls) there })
+  kept-calls (c-end {state} {now} {state′} {held} {lent} {held′} {n} {strip} {all} {out} {out′} {given} {given′} before same again call) =
       let k = kept-calls before in
       let s = k .scan in
-      let on = call .on-scan s (k .reads) in
-      let m = length (givenByEnd s held out) in
-      let e = end-done s held out (on .call) (on .answer-is) in
-      let there : EndCall s held out (done m) (on .after) held′ out′ = subst (λ (o : Answer ℕ). EndCall s held out o (on .after) held′ out′) e (on .call) in
-      let calls = end (k .calls) there in
-      let width : s .width ≡ scanHeld state .width = ap (λ (s : Scan). s .width) (sym (read-is state s (k .reads))) in
+      let on = call .on-scan s (kept-reads k now same) in
+      let m = length (givenByEnd s lent out) in
+      let e = end-done s lent out (on .call) (on .answer-is) in
+      let there : EndCall s lent out (done m) (on .after) held′ out′ = subst (λ (o : Answer ℕ). EndCall s lent out o (on .after) held′ out′) e (on .call) in
+      let calls = end (k .calls) (kept-lent k lent again) there in
       record {
         formed = k .formed;
         scan = on .after;
-        reads = subst (λ (l : List ℕ). scanIn l ≡ done (on .after)) (sym (on .state-is ∙ answered-done _ state e)) (back bytes state (k .formed) (on .after) (table-kept (tableIn bytes) calls) (end-kept s held out there m refl));
+        own = ap (take scanLength) (on .state-is ∙ answered-done _ now e) ∙ over-own (on .after) (can-hold bytes (k .formed) calls) now;
         calls = subst (λ (g : ℕ). Calls (tableIn bytes) (on .after) held′ n strip (all ++ take (g * scanHeld state .width) out′)) (sym (on .given-is ∙ ap (λ (o : Answer ℕ). givenAfter o given) e))
-            (subst (λ (w : ℕ). Calls (tableIn bytes) (on .after) held′ n strip (all ++ take (m * w) out′)) width calls);
+            (subst (λ (a : Scan). Calls (tableIn bytes) (on .after) held′ n strip (all ++ take (m * a .width) out′)) (sym (kept-held k)) calls);
       }
-  kept-calls (c-end-refused {state} {state′} {held} {n} {strip} {all} {other} {other′} {out} {out′} before call not) =
+  kept-calls (c-end-refused {state} {now} {state′} {held} {n} {strip} {all} {other} {other′} {out} {out′} before same call not) =
       let k = kept-calls before in
-      let on = call .on-scan (k .scan) (k .reads) in
+      let on = call .on-scan (k .scan) (kept-reads k now same) in
       is-refused (on .answer) (on .answer-is) not _ (λ why e.
       let there = subst (λ (o : Answer ℕ). EndCall (k .scan) other out o (on .after) other′ out′) e (on .call) in
-      let same = refused-keeps (k .scan) other out why (on .after) other′ out′ .1 there .0 in
-      record {
-        formed = k .formed;
-        scan = on .after;
-        reads = subst (λ (l : List ℕ). scanIn l ≡ done (on .after)) (sym (on .state-is ∙ ap (λ (o : Answer ℕ). answered o (stateBytes (on .after) ++ drop (length (stateBytes (on .after))) state) state) e)) (k .reads ∙ ap done (sym same));
-        calls = end-refused (k .calls) there;
-      })
+      let stays = refused-keeps (k .scan) other out why (on .after) other′ out′ .1 there .0 in
+      record { formed = k .formed; scan = on .after; own = ap (take scanLength) (on .state-is ∙ answered-refused _ now e) ∙ same ∙ k .own ∙ ap stateBytes (sym stays); calls = end-refused (k .calls) there })
 
 -- ---- claims
 
@@ -146,92 +190,117 @@ module _ (bytes state : List ℕ) (held : List ℤ) (n : ℕ) (strip : List ℕ)
   abbrev kept : Kept bytes state held n strip all
   kept = kept-calls bytes calls
 
+  abbrev t : WidthTable
+  t = tableIn bytes
+
+  -- what holds of the scan holds of what the state holds
+  of-scan : (P : Scan → Type 0) → P (kept .scan) → P (scanHeld state)
+  of-scan P = subst P (sym (kept-held kept))
+
   -- Before the end, what came out is each line that is ready, and it is the transform's whatever lines follow.
-  pub c-before-end : scanHeld state .ended ≡ false → (more : List ℕ) (h : ℕ) → n ≤ h → all ≡ firstLines (tableIn bytes) (strip ++ more) (scanHeld state .width) h (ready n)
+  pub c-before-end : scanHeld state .ended ≡ false → (more : List ℕ) (h : ℕ) → n ≤ h → all ≡ firstLines t (strip ++ more) (scanHeld state .width) h (ready n)
   c-before-end =
-      subst (λ (s : Scan). s .ended ≡ false → (more : List ℕ) (h : ℕ) → n ≤ h → all ≡ firstLines (tableIn bytes) (strip ++ more) (s .width) h (ready n)) (sym (read-is state (kept .scan) (kept .reads)))
-      (before-end (tableIn bytes) (kept .scan) held n strip all (kept .calls))
+      of-scan (λ s. s .ended ≡ false → (more : List ℕ) (h : ℕ) → n ≤ h → all ≡ firstLines t (strip ++ more) (s .width) h (ready n))
+      (before-end t (kept .scan) held n strip all (kept .calls))
 
   -- After the end, what came out is the whole transform of the strip of the lines accepted.
-  pub c-after-end : scanHeld state .ended ≡ true → (1 ≤ n) × (all ≡ firstLines (tableIn bytes) strip (scanHeld state .width) n n)
-  c-after-end =
-      subst (λ (s : Scan). s .ended ≡ true → (1 ≤ n) × (all ≡ firstLines (tableIn bytes) strip (s .width) n n)) (sym (read-is state (kept .scan) (kept .reads)))
-      (after-end (tableIn bytes) (kept .scan) held n strip all (kept .calls))
+  pub c-after-end : scanHeld state .ended ≡ true → (1 ≤ n) × (all ≡ firstLines t strip (scanHeld state .width) n n)
+  c-after-end = of-scan (λ s. s .ended ≡ true → (1 ≤ n) × (all ≡ firstLines t strip (s .width) n n)) (after-end t (kept .scan) held n strip all (kept .calls))
 
   -- So it is once an end is accepted: what came out before and what the end gives are the whole transform.
-  pub c-whole : {state′ : List ℕ} {held′ out out′ : List ℤ} {given given′ : ℕ} → EndOnBytes state held out given 0 state′ held′ out′ given′
-      → (1 ≤ n) × (all ++ take (given′ * scanHeld state .width) out′ ≡ firstLines (tableIn bytes) strip (scanHeld state .width) n n)
+  pub c-whole : {now state′ : List ℕ} {lent held′ out out′ : List ℤ} {given given′ : ℕ} → StateHandedOn state now → HeldHandedOn state held lent → EndOnBytes now lent out given 0 state′ held′ out′ given′
+      → (1 ≤ n) × (all ++ take (given′ * scanHeld state .width) out′ ≡ firstLines t strip (scanHeld state .width) n n)
   unfolding scanEnded
-  c-whole {state′} {held′} {out} {out′} {given} {given′} call =
+  c-whole {now} {state′} {lent} {held′} {out} {out′} {given} {given′} same again call =
       let s = kept .scan in
-      let on = call .on-scan s (kept .reads) in
-      let m = length (givenByEnd s held out) in
-      let e = end-done s held out (on .call) (on .answer-is) in
-      let there : EndCall s held out (done m) (on .after) held′ out′ = subst (λ (o : Answer ℕ). EndCall s held out o (on .after) held′ out′) e (on .call) in
-      let ended : on .after ≡ scanEnded s held out = there .scan-is ∙ answered-done (scanEnded s held out) s (gives-done (endAnswer s held out) m (sym (there .answer-is)) .0) in
-      let whole : ℕ → Scan → Scan → Type 0 = λ g a b. (1 ≤ n) × (all ++ take (g * a .width) out′ ≡ firstLines (tableIn bytes) strip (b .width) n n) in
+      let on = call .on-scan s (kept-reads kept now same) in
+      let m = length (givenByEnd s lent out) in
+      let e = end-done s lent out (on .call) (on .answer-is) in
+      let there : EndCall s lent out (done m) (on .after) held′ out′ = subst (λ (o : Answer ℕ). EndCall s lent out o (on .after) held′ out′) e (on .call) in
+      let ended : on .after ≡ scanEnded s lent out = there .scan-is ∙ answered-done (scanEnded s lent out) s (gives-done (endAnswer s lent out) m (sym (there .answer-is)) .0) in
+      let whole : ℕ → Scan → Scan → Type 0 = λ g a b. (1 ≤ n) × (all ++ take (g * a .width) out′ ≡ firstLines t strip (b .width) n n) in
       subst (λ (g : ℕ). whole g (scanHeld state) (scanHeld state)) (sym (on .given-is ∙ ap (λ (o : Answer ℕ). givenAfter o given) e))
-      (subst (λ (a : Scan). whole m a a) (sym (read-is state s (kept .reads)))
-      (subst (λ (b : Scan). whole m s b) ended (after-end (tableIn bytes) (on .after) held′ n strip _ (end (kept .calls) there) (ap (λ (s : Scan). s .ended) ended))))
+      (of-scan (λ a. whole m a a)
+      (subst (λ (b : Scan). whole m s b) ended (after-end t (on .after) held′ n strip _ (end (kept .calls) (kept-lent kept lent again) there) (ap (λ (s : Scan). s .ended) ended))))
 
--- ---- which states calls leave
+  -- Demand 3 of all that came out: before the end, whatever lines of the table's depth follow,
+  pub c-near-before-end : scanHeld state .ended ≡ false → (more : List ℕ) → ((k : ℕ) → getD more k 0 < 2 ^ t .depth) → (h : ℕ) → n ≤ h → LinesNear t (strip ++ more) (scanHeld state .width) h (ready n) all
+  c-near-before-end =
+      of-scan (λ s. s .ended ≡ false → (more : List ℕ) → ((k : ℕ) → getD more k 0 < 2 ^ t .depth) → (h : ℕ) → n ≤ h → LinesNear t (strip ++ more) (s .width) h (ready n) all)
+      (near-before-end t (kept .scan) held n strip all (kept .calls))
 
--- a state that calls left
-pub record LeftState (state : List ℕ) : Type 0 where
-  pub table : List ℕ
-  pub held : List ℤ
-  pub lines : ℕ
-  pub strip : List ℕ
-  pub all : List ℤ
-  pub calls : ByteCalls table state held lines strip all
+  -- and after it.
+  pub c-near-after-end : scanHeld state .ended ≡ true → LinesNear t strip (scanHeld state .width) n n all
+  c-near-after-end = of-scan (λ s. s .ended ≡ true → LinesNear t strip (s .width) n n all) (near-after-end t (kept .scan) held n strip all (kept .calls))
 
--- one scan's bytes over another's
-over-state : (s s′ : Scan) → Keepable s → Keepable s′ → over (stateBytes s′) (stateBytes s) ≡ stateBytes s′
-over-state s s′ k k′ = ap (λ (l : List ℕ). stateBytes s′ ++ l) (drop-of-length-le (stateBytes s) {i = length (stateBytes s′)} (omega (arith, state-long s k, state-long s′ k′))) ∙ append-nil (stateBytes s′)
+  -- No value on the way leaves its width.
+  pub c-in-widths : 1 ≤ n → LevelInWidth t 1 (scanHeld state .width) n (sample strip (t .depth) (scanHeld state .width))
+  c-in-widths = of-scan (λ s. 1 ≤ n → LevelInWidth t 1 (s .width) n (sample strip (t .depth) (s .width))) (in-widths t (kept .scan) held n strip all (kept .calls))
+
+-- ---- there are such histories
+
+-- one scan's bytes over as many others
+over-state : (s : Scan) → Keepable s → (state : List ℕ) → length state ≡ scanLength → over (stateBytes s) state ≡ stateBytes s
+over-state s k state long = ap (λ (l : List ℕ). stateBytes s ++ l) (drop-of-length-le state {i = length (stateBytes s)} (omega (arith, state-long s k, long))) ∙ append-nil (stateBytes s)
+
+holds-it : (s : Scan) → Keepable s → scanIn (stateBytes s) ≡ done s
+holds-it s k = subst (λ (l : List ℕ). scanIn l ≡ done s) (append-nil (stateBytes s)) (read-written s k [])
+
+-- what holds of a call on a scan holds of the call on its bytes
+on-its-bytes : (Call : Scan → Answer ℕ → Scan → List ℤ → List ℤ → Type 0) (s s′ : Scan) (held out held′ out′ : List ℤ) (m : ℕ) → Keepable s → Keepable s′ → Call s (done m) s′ held′ out′
+    → OnBytes Call (stateBytes s) held out 0 0 (stateBytes s′) held′ out′ m
+on-its-bytes Call s s′ held out held′ out′ m k k′ call = record {
+  no-scan = λ why e. absurd (subst T (ap (λ (o : Answer Scan). answered o true false) (sym (holds-it s k) ∙ e)) tt);
+  on-scan = λ r e.
+      subst (λ (a : Scan). OnScan (Call a) (stateBytes s) 0 0 (stateBytes s′) held′ out′ m) (gives-done passed s (sym (holds-it s k) ∙ e) .1)
+      (record { answer = done m; after = s′; call = call; answer-is = refl; state-is = sym (over-state s′ k′ (stateBytes s) (state-long s k)); given-is = refl });
+}
 
 module _ (bytes : List ℕ) (formed : form bytes ≡ passed) where
-  can-hold : {s : Scan} {held : List ℤ} {n : ℕ} {strip : List ℕ} {given : List ℤ} → Calls (tableIn bytes) s held n strip given → Keepable s
-  can-hold {s} {n = n} calls =
-      let f = facts (tableIn bytes) calls in
-      let narrow : Dec (n < 1) → s .width < 65536 = λ d. elim d [ yes i ↦ omega (arith, f .unset (omega arith)) | no i ↦ omega (arith, f .side (omega arith) .1) ] in
-      kept-is s (subst (λ (t : WidthTable). Sized t) (sym (table-kept (tableIn bytes) calls)) (read-sized bytes formed)) (begun-kept s (f .begun) (narrow (decLt n 1)))
+  lent-again : (s : Scan) → Keepable s → (held lent : List ℤ) → HandedOn s held lent → HeldHandedOn (stateBytes s) held lent
+  lent-again s k held lent = subst (λ (a : Scan). HandedOn a held lent) (sym (read-is (stateBytes s) s (holds-it s k)))
 
-  holds-it : (s : Scan) → Keepable s → scanIn (stateBytes s) ≡ done s
-  holds-it s k = subst (λ (l : List ℕ). scanIn l ≡ done s) (append-nil (stateBytes s)) (read-written s k [])
-
-  -- what holds of a call on a scan holds of the call on its bytes
-  on-its-bytes : (Call : Scan → Answer ℕ → Scan → List ℤ → List ℤ → Type 0) (s s′ : Scan) (held out held′ out′ : List ℤ) (m : ℕ) → Keepable s → Keepable s′ → Call s (done m) s′ held′ out′
-      → OnBytes Call (stateBytes s) held out 0 0 (stateBytes s′) held′ out′ m
-  on-its-bytes Call s s′ held out held′ out′ m k k′ call = record {
-    no-scan = λ why e. absurd (subst T (ap (λ (o : Answer Scan). answered o true false) (sym (holds-it s k) ∙ e)) tt);
-    on-scan = λ r e.
-        subst (λ (a : Scan). OnScan (Call a) (stateBytes s) 0 0 (stateBytes s′) held′ out′ m) (gives-done passed s (sym (holds-it s k) ∙ e) .1)
-        (record { answer = done m; after = s′; call = call; answer-is = refl; state-is = sym (over-state s s′ k k′); given-is = refl });
-  }
-
-  -- calls of a scan are calls on its bytes; refused ones can be left out
-  as-bytes : {s : Scan} {held : List ℤ} {n : ℕ} {strip : List ℕ} {given : List ℤ} → Calls (tableIn bytes) s held n strip given → ByteCalls bytes (stateBytes s) held n strip given
-  unfolding scanBeginState scanBeginAnswer begins
-  as-bytes (begun held e) =
+  -- Each history of a scan is one of its bytes in the same memory. (Refused calls, which change nothing, are left out.)
+  pub calls-on-bytes : {s : Scan} {held : List ℤ} {n : ℕ} {strip : List ℕ} {given : List ℤ} → Calls (tableIn bytes) s held n strip given → ByteCalls bytes (stateBytes s) held n strip given
+  unfolding scanBeginAnswer begins
+  calls-on-bytes (begun held e) =
       let s = scanOf (tableIn bytes) in
-      let k = can-hold (begun held e) in
-      let begin : begins bytes ≡ passed = then-right (form bytes) _ formed ∙ e in
-      subst (λ (l : List ℕ). ByteCalls bytes l held 0 [] [])
-      (ap (λ (l : List ℕ). stateWith l noScan) (answered-done {o = begins bytes} (stateBytes s) noScan begin)
-      ∙ sym (room (stateBytes s) noScan (omega arith))
-      ∙ ap (λ (l : List ℕ). stateBytes s ++ l) (drop-of-length-le noScan {i = length (stateBytes s)} (omega (arith, state-long s k)))
-      ∙ append-nil (stateBytes s))
-      (c-begun noScan held (ap (λ (o : Answer Unit). code o) (then-right (begins bytes) _ begin)))
-  as-bytes (line {s} {s′} {held} {held′} {n} {strip} {given} {pixels} {w} {m} {out} {out′} before call) =
-      c-line (as-bytes before) (on-its-bytes (λ s. LineCall s pixels w held out) s s′ held out held′ out′ m (can-hold before) (can-hold (line before call)) call)
-  as-bytes (line-refused {s} {s′} {held} {n} {strip} {given} {pixels} {w} {other} {other′} {out} {out′} {r} before call) =
-      subst (λ (s : Scan). ByteCalls bytes (stateBytes s) held n strip given) (sym (refused-keeps s other out r s′ other′ out′ .0 pixels w call .0)) (as-bytes before)
-  as-bytes (end {s} {s′} {held} {held′} {n} {strip} {given} {m} {out} {out′} before call) =
-      let k = can-hold before in
+      let zero : code (scanBeginAnswer bytes noScan) ≡ 0 = ap (λ (o : Answer Unit). code o) (then-right (begins bytes) _ (then-right (form bytes) _ formed ∙ e)) in
+      subst (λ (l : List ℕ). ByteCalls bytes l held 0 [] []) (begun-state bytes noScan zero ∙ over-state s (can-hold bytes formed (begun held e)) noScan refl) (c-begun noScan held zero)
+  calls-on-bytes (line {s} {s′} {held} {lent} {held′} {n} {strip} {given} {pixels} {w} {m} {out} {out′} before same call) =
+      let k = can-hold bytes formed before in
+      c-line (calls-on-bytes before) refl (lent-again s k held lent same) (on-its-bytes (λ s. LineCall s pixels w lent out) s s′ lent out held′ out′ m k (can-hold bytes formed (line before same call)) call)
+  calls-on-bytes (line-refused {s} {s′} {held} {n} {strip} {given} {pixels} {w} {other} {other′} {out} {out′} {r} before call) =
+      subst (λ (s : Scan). ByteCalls bytes (stateBytes s) held n strip given) (sym (refused-keeps s other out r s′ other′ out′ .0 pixels w call .0)) (calls-on-bytes before)
+  calls-on-bytes (end {s} {s′} {held} {lent} {held′} {n} {strip} {given} {m} {out} {out′} before same call) =
+      let k = can-hold bytes formed before in
       subst (λ (a : Scan). ByteCalls bytes (stateBytes s′) held′ n strip (given ++ take (m * a .width) out′)) (read-is (stateBytes s) s (holds-it s k))
-      (c-end (as-bytes before) (on-its-bytes (λ s. EndCall s held out) s s′ held out held′ out′ m k (can-hold (end before call)) call))
-  as-bytes (end-refused {s} {s′} {held} {n} {strip} {given} {other} {other′} {out} {out′} {r} before call) =
-      subst (λ (s : Scan). ByteCalls bytes (stateBytes s) held n strip given) (sym (refused-keeps s other out r s′ other′ out′ .1 call .0)) (as-bytes before)
+      (c-end (calls-on-bytes before) refl (lent-again s k held lent same) (on-its-bytes (λ s. EndCall s lent out) s s′ lent out held′ out′ m k (can-hold bytes formed (end before same call)) call))
+  calls-on-bytes (end-refused {s} {s′} {held} {n} {strip} {given} {other} {other′} {out} {out′} {r} before call) =
+      subst (λ (s : Scan). ByteCalls bytes (stateBytes s) held n strip given) (sym (refused-keeps s other out r s′ other′ out′ .1 call .0)) (calls-on-bytes before)
+
+-- Under the bytes of every accepted table of one level, every strip of at least one line of admitted width and of the table's depth can be
+-- scanned to its end.
+pub c-scanned : (bytes : List ℕ) → code (checked bytes) ≡ 0 → tableIn bytes .levels ≡ 1
+    → (w n : ℕ) → Admitted w → 1 ≤ n → (strip : List ℕ) → length strip ≡ n * w → ((k : ℕ) → getD strip k 0 < 2 ^ tableIn bytes .depth)
+    → ScannedBytes bytes n strip
+unfolding checked
+c-scanned bytes zero one w n side some strip size below =
+    let t = tableIn bytes in
+    let (formed, accepted) = then-done (form bytes) (verdict t) (checked-zero bytes zero) in
+    let held = replicate (heldLines * w) (pos 0) in
+    let out = replicate (outLines * w) (pos 0) in
+    let r = scanned t (one-level t one ∙ accepted) w n side some held out (omega (arith, length-replicate (heldLines * w) (pos 0))) (omega (arith, length-replicate (outLines * w) (pos 0))) strip size below in
+    let k = can-hold bytes formed (r .calls) in
+    record {
+      state = stateBytes (r .scan);
+      held = r .held;
+      all = r .given;
+      calls = calls-on-bytes bytes formed (r .calls);
+      ended = ap (λ (s : Scan). s .ended) (read-is (stateBytes (r .scan)) (r .scan) (holds-it (r .scan) k)) ∙ r .ended;
+    }
+
+-- ---- which states calls leave
 
 -- A state of enough bytes that no calls left is answered 14, whatever is lent with it.
 module _ (state : List ℕ) (below : (k : ℕ) → k < length state → getD state k 0 < 256) (long : scanLength ≤ length state) (foreign : ¬ (LeftState (take scanLength state))) where
@@ -241,7 +310,7 @@ module _ (state : List ℕ) (below : (k : ℕ) → k < length state → getD sta
       let formed = read-formed state s e in
       let same : s .table ≡ tableIn table = ap (λ (s : Scan). s .table) (sym (read-is state s e)) in
       let calls = subst (λ (t : WidthTable). Calls t s (l .held) (l .lines) (l .strip) (l .given)) same (l .calls) in
-      foreign (subst LeftState (written-read state below s e) (record { table = table; held = l .held; lines = l .lines; strip = l .strip; all = l .given; calls = as-bytes table formed calls }))
+      foreign (subst LeftState (written-read state below s e) (record { table = table; held = l .held; lines = l .lines; strip = l .strip; all = l .given; calls = calls-on-bytes table formed calls }))
 
   answered-14 : (Call : Scan → Answer ℕ → Scan → List ℤ → List ℤ → Type 0) (held out : List ℤ) {given r : ℕ} {state′ : List ℕ} {held′ out′ : List ℤ} {given′ : ℕ}
       → ((s : Scan) (o : Answer ℕ) (s′ : Scan) → ¬ (Left s) → Call s o s′ held′ out′ → o ≡ refused (14, []))
@@ -266,4 +335,4 @@ module _ (state : List ℕ) (below : (k : ℕ) → k < length state → getD sta
 pub zeros-foreign : ¬ (LeftState noScan)
 zeros-foreign l =
     let none : scanIn noScan ≡ refused (14, []) = subst (λ (state : List ℕ). scanIn state ≡ refused (14, [])) (append-nil noScan) (zeros-hold-none []) in
-    absurd (subst T (ap (λ (o : Answer Scan). answered o true false) (sym (kept-calls (l .table) (l .calls) .reads) ∙ none)) tt)
+    absurd (subst T (ap (λ (o : Answer Scan). answered o true false) (sym (kept-reads (kept-calls (l .table) (l .calls)) noScan refl) ∙ none)) tt)

@@ -57,10 +57,10 @@ module _ (t : WidthTable) (p : Pass) (h : ℕ) (x : ℕ → ℤ) where
   abbrev pub valU2 : ℕ → ℤ
   valU2 = atU2 (constantBits t) (productOf t 1 p) (inputBits t 1 p) (fractionBits t 1 p) h x
 
-  abbrev valG1 : ℕ → ℤ
+  abbrev pub valG1 : ℕ → ℤ
   valG1 = atG1 (constantBits t) (productOf t 1 p) (inputBits t 1 p) (fractionBits t 1 p) h x
 
-  abbrev valG2 : ℕ → ℤ
+  abbrev pub valG2 : ℕ → ℤ
   valG2 = atG2 (constantBits t) (productOf t 1 p) (inputBits t 1 p) (fractionBits t 1 p) h x
 
   -- what the column's pass leaves
@@ -75,10 +75,10 @@ module _ (t : WidthTable) (p : Pass) (h : ℕ) (x : ℕ → ℤ) where
   unfolding fixedLine fixedPass fixedLong
   pass-long two k = one-long (cut (inputBits t 1 p) (fractionBits t 1 p G1)) (fixedLong (constantBits t) (productOf t 1 p) (inputBits t 1 p) (fractionBits t 1 p)) h x k (record { least = two })
 
-  low-turn : (i : ℕ) → 2 ≤ h → 2 * i < h → lineValue (2 * i) ≡ valG1 i
+  pub low-turn : (i : ℕ) → 2 ≤ h → 2 * i < h → lineValue (2 * i) ≡ valG1 i
   low-turn i two room = even-place valPass (λ i. valPass (lows h + i)) i ∙ pass-long two i ∙ first-low h valG1 valG2 i (omega arith)
 
-  high-turn : (i : ℕ) → 2 ≤ h → lineValue (2 * i + 1) ≡ valG2 i
+  pub high-turn : (i : ℕ) → 2 ≤ h → lineValue (2 * i + 1) ≡ valG2 i
   high-turn i two = odd-place valPass (λ i. valPass (lows h + i)) i ∙ pass-long two (lows h + i) ∙ first-high h valG1 valG2 i
 
   -- a single line
@@ -138,14 +138,14 @@ module _ (t : WidthTable) (w h c : ℕ) (x : ℕ → ℤ) where
     even-many : (m n : ℕ) → n ≡ 2 * m + 6 → Contains c held (x (2 * suc (suc m))) (x (2 * suc (suc m) + 1)) (V1 (suc m)) (W1 (suc m)) (V2 m) → Holding held n EvenMany
 
   -- the same lines hold the same
-  pub holding-same : (a b : Held) (n : ℕ) (k : Taken) → c < w → SameHeld w a b → Holding b n k → Holding a n k
+  pub holding-same : (a b : Held) (n : ℕ) (k : Taken) → c < w → (1 ≤ n → SameHeld w a b) → Holding b n k → Holding a n k
   holding-same a b n k i s zero-lines = zero-lines
-  holding-same a b n k i s (one-line d) = one-line (contains-same w c a b i s d)
-  holding-same a b n k i s (two-lines d) = two-lines (contains-same w c a b i s d)
-  holding-same a b n k i s (three-lines d) = three-lines (contains-same w c a b i s d)
-  holding-same a b n k i s (four-lines d) = four-lines (contains-same w c a b i s d)
-  holding-same a b n k i s (odd-many m n′ q d) = odd-many m n′ q (contains-same w c a b i s d)
-  holding-same a b n k i s (even-many m n′ q d) = even-many m n′ q (contains-same w c a b i s d)
+  holding-same a b n k i s (one-line d) = one-line (contains-same w c a b i (s (omega arith)) d)
+  holding-same a b n k i s (two-lines d) = two-lines (contains-same w c a b i (s (omega arith)) d)
+  holding-same a b n k i s (three-lines d) = three-lines (contains-same w c a b i (s (omega arith)) d)
+  holding-same a b n k i s (four-lines d) = four-lines (contains-same w c a b i (s (omega arith)) d)
+  holding-same a b n k i s (odd-many m n′ q d) = odd-many m n′ q (contains-same w c a b i (s (omega arith)) d)
+  holding-same a b n k i s (even-many m n′ q d) = even-many m n′ q (contains-same w c a b i (s (omega arith)) d)
 
   -- ---- what a low line makes ready
 

@@ -1,23 +1,23 @@
 -- What a call says that is accepted, and what holds after any calls of a scan, by induction over them (`facts`).
-use Prim.Native.Nat.{ℕ, zero, suc, _+_, _*_, _-_, _/_, _%_, _^_, _<_, _≤_}
+use Prim.Native.Nat.{ℕ, zero, suc, _+_, _*_, _-_, _^_, _<_, _≤_}
 use mathlib.Core.Bool.{Bool, true, false, not, _&&_, _||_}
 use mathlib.Core.List.{List, [], _++_, append-assoc, append-nil}
 use mathlib.Core.Path.{_≡_, refl, sym, _∙_, ap, subst}
 use native.Mathlib.Omega.{arith}
-use native.Mathlib.Nat.{mul-comm}
+use native.Mathlib.Nat.{mul-comm, mul-le-mul-right}
 use native.Mathlib.Decide.{decLt}
 use lib.Dec.{T, eqb, eqb→eq, eqb-refl}
-use lib.ListN.{length, getD, take, length-append, List·getD-append, List·getD-eq-default}
+use lib.ListN.{length, getD, take, length-append, List·getD-append}
 use lib.Seq.{getD-append-add, getD-take, length-take-le}
 use lib.Pow.{pow-pos}
-use lib.IntN.{ℤ}
+use lib.IntN.{ℤ, pos}
 use Rattle.numbers.specs.Tests.{both, and-intro}
 use Rattle.refusals.specs.Answers.{Reason, Answer, done, refused, passed, answered}
 use Rattle.refusals.specs.AnswerLaws.{asks-done, asks-right, then-done, then-right, gives-done, gives-refused, answered-done, answered-refused}
-use Rattle.lines.specs.Planes.{Plane, tabulate, rowByRow}
+use Rattle.lines.specs.Planes.{rowByRow}
 use Rattle.lines.specs.RowLaws.{rows-length}
 use Rattle.width_table.specs.declared.WidthTable.{WidthTable}
-use Rattle.pictures.specs.Pictures.{sideRight, Admitted, holds}
+use Rattle.pictures.specs.Pictures.{sideRight, Admitted, holds, planeOf}
 use Rattle.pictures.specs.PictureLaws.{side-is, side-right, holds-done, holds-right, pixels-done, pixels-right, pixel-below, over-take}
 use Rattle.irreversible.specs.Claims.{Strip}
 use Rattle.irreversible.specs.Transforms.{fixedPlane}
@@ -28,9 +28,9 @@ use Rattle.rolling.specs.Schedule.{Line, Held, next, anyTaken, evenTaken, stack
 use Rattle.rolling.specs.Calls.{SameHeld, Sound, beginAnswer, scanOf, goesOn, heldLines, outLines, heldIn, outAfter, lineAnswer, workedRow, givenByLine, scanAfter, LineCall, endAnswer, givenByEnd, scanEnded, EndCall}
 use Rattle.rolling.specs.AnswerLaws.{of-unless, as-test, begun-one, begun-accepted, width-is, goes, on-running}
 use Rattle.rolling.specs.Small.{row-five, column-five}
-use Rattle.rolling_claims.specs.Claims.{Calls, begun, line, line-refused, end, end-refused, ready, inTurn, firstLines}
+use Rattle.rolling_claims.specs.Claims.{HandedOn, Calls, begun, line, line-refused, end, end-refused, ready, inTurn, firstLines}
 use Rattle.rolling_claims.specs.Column.{Holding, zero-lines, holding-same, holding-next, line-due, end-due, SoundAt, holding-sound}
-use Rattle.rolling_claims.specs.Turns.{rows-join, rowsOf, row-is, turn-is}
+use Rattle.rolling_claims.specs.Turns.{no-rows, rows-join, rowsOf, row-is, turn-is}
 
 -- ---- how many lines
 
@@ -124,6 +124,18 @@ true-false p q = absurd (subst T (sym q ∙ p) tt)
 unless : (a b : Bool) → (T a → T b) → T (not a || b)
 unless true b f = f tt
 unless false b f = tt
+
+-- ---- memory that is handed on
+
+-- lines that hold the same, value by value
+held-same : (w : ℕ) (left lent : List ℤ) → take (heldLines * w) lent ≡ take (heldLines * w) left → SameHeld w (heldIn w lent) (heldIn w left)
+unfolding heldIn
+held-same w left lent same = record { low = at-line 0 (omega arith); high = at-line 1 (omega arith); p1 = at-line 2 (omega arith); u1 = at-line 3 (omega arith); p2 = at-line 4 (omega arith) }
+  where
+    at-line : (r : ℕ) → r < 5 → (c : ℕ) → c < w → planeOf w lent r c ≡ planeOf w left r c
+    at-line r i c j =
+        let in-lines : r * w + c < heldLines * w = omega (arith, mul-le-mul-right w i) in
+        sym (getD-take (heldLines * w) lent (r * w + c) (pos 0) in-lines) ∙ ap (λ (l : List ℤ). getD l (r * w + c) (pos 0)) same ∙ getD-take (heldLines * w) left (r * w + c) (pos 0) in-lines
 
 -- ---- a line that is accepted, and an end
 
@@ -245,16 +257,37 @@ size-more strip pixels n w size long = length-append strip (take w pixels) ∙ m
     more-size : (a b n w : ℕ) → a ≡ n * w → b ≡ w → a + b ≡ suc n * w
     more-size a b n w p q = omega arith
 
+-- What holds of the held memory as left holds of whatever memory it is handed on in.
+pub lent-facts : (s : Scan) (held lent : List ℤ) (n : ℕ) (strip : List ℕ) (given : List ℤ) → Facts s held n strip given → HandedOn s held lent → Facts s lent n strip given
+lent-facts s held lent n strip given f same = record {
+  begun = f .begun;
+  count = f .count;
+  side = f .side;
+  unset = f .unset;
+  size = f .size;
+  below = f .below;
+  before-end = λ e w fits more h room.
+      let r = f .before-end e w fits more h room in
+      let again : 1 ≤ n → SameHeld w (heldIn w lent) (heldIn w held) = λ some. subst (λ (v : ℕ). SameHeld v (heldIn v lent) (heldIn v held)) (sym (fits some)) (held-same (s .width) held lent same) in
+      record { holding = λ c i. holding-same (s .table) w h c (λ r. rowsOf (s .table) (strip ++ more) w r c) (heldIn w lent) (heldIn w held) n (s .taken) i again (r .holding c i); given-is = r .given-is };
+  after-end = f .after-end;
+}
+
 -- ---- what is held is sound
 
 module _ (s : Scan) (held : List ℤ) (n : ℕ) (strip : List ℕ) (given : List ℤ) (f : Facts s held n strip given) where
-  -- the lines accepted, and any number of lines of zeros after them
-  pub strip-now : (h : ℕ) → 1 ≤ n → 1 ≤ h → Strip (s .table) strip (s .width) h
-  strip-now h some tall = record { width = f .side some .0; height = tall; depth = λ k i. go k (decLt k (n * s .width)) }
+  -- the lines accepted, and any that follow; past their pixels there are zeros
+  pub strip-more : (more : List ℕ) → ((k : ℕ) → getD more k 0 < 2 ^ s .table .depth) → (h : ℕ) → 1 ≤ n → 1 ≤ h → Strip (s .table) (strip ++ more) (s .width) h
+  strip-more more below h some tall = record { width = f .side some .0; height = tall; depth = λ k i. go k (decLt k (length strip)) }
     where
-      go : (k : ℕ) → Dec (k < n * s .width) → getD strip k 0 < 2 ^ s .table .depth
-      go k (yes j) = f .below k j
-      go k (no j) = subst (λ (a : ℕ). a < 2 ^ s .table .depth) (sym (List·getD-eq-default strip 0 (omega (arith, f .size)))) (pow-pos (s .table .depth))
+      go : (k : ℕ) → Dec (k < length strip) → getD (strip ++ more) k 0 < 2 ^ s .table .depth
+      go k (yes j) = subst (λ (a : ℕ). a < 2 ^ s .table .depth) (sym (List·getD-append strip more 0 k j)) (f .below k (subst (λ (m : ℕ). k < m) (f .size) j))
+      go k (no j) =
+          let e : length strip + (k - length strip) ≡ k = omega arith in
+          subst (λ (a : ℕ). a < 2 ^ s .table .depth) (sym (ap (λ (m : ℕ). getD (strip ++ more) m 0) (sym e) ∙ getD-append-add strip more (k - length strip) 0)) (below (k - length strip))
+
+  pub strip-now : (h : ℕ) → 1 ≤ n → 1 ≤ h → Strip (s .table) strip (s .width) h
+  strip-now h some tall = subst (λ (all : List ℕ). Strip (s .table) all (s .width) h) (append-nil strip) (strip-more [] (λ k. pow-pos (s .table .depth)) h some tall)
 
   module _ (running : s .ended ≡ false) (some : 1 ≤ n) where
     sound-at : (c : ℕ) → c < s .width → SoundAt (s .table) (s .width) (suc n) c (λ r. rowsOf (s .table) strip (s .width) r c) (heldIn (s .width) held)
@@ -302,7 +335,7 @@ module _ (s : Scan) (held : List ℤ) (n : ℕ) (strip : List ℕ) (given : List
         let count = line-count t w (heldIn w held) row n (s .taken) (f .count) in
         let few = ready-few (suc n) in
         record {
-          holding = λ c i. holding-same t w h c (λ r. rowsOf t all w r c) (heldIn w held′) (heldAfter t w (s .taken) (heldIn w held) row) (suc n) (next (s .taken)) i same
+          holding = λ c i. holding-same t w h c (λ r. rowsOf t all w r c) (heldIn w held′) (heldAfter t w (s .taken) (heldIn w held) row) (suc n) (next (s .taken)) i (λ some. same)
               (holding-next t w h c (λ r. rowsOf t all w r c) (heldIn w held) row n (s .taken) (r .holding c i) room (row-now c i));
           given-is =
               ap (λ (l : List ℤ). l ++ rowByRow w (length gives) (stacked gives)) (r .given-is)
@@ -332,7 +365,7 @@ module _ (s : Scan) (held : List ℤ) (n : ℕ) (strip : List ℕ) (given : List
     ends : EndRight s held out
     ends = end-right s held out e
 
-    pub line-in : 1 ≤ n
+    line-in : 1 ≤ n
     line-in = some-count (f .count) (ends .some)
 
     rest : List Line
@@ -373,7 +406,7 @@ front w m lines out out′ some e o =
     ∙ over-take (m * w) (rowByRow w (length lines) (stacked lines)) out (rows-length w (length lines) some (stacked lines) ∙ mul-comm w (length lines) ∙ ap (λ (k : ℕ). k * w) (sym e))
 
 begun-facts : (t : WidthTable) (held : List ℤ) → beginAnswer t ≡ passed → Facts (scanOf t) held 0 [] []
-unfolding scanOf rowByRow tabulate
+unfolding scanOf
 begun-facts t held e = record {
   begun = e;
   count = no-line;
@@ -381,15 +414,9 @@ begun-facts t held e = record {
   unset = λ i. refl;
   size = refl;
   below = λ k i. absurd (omega arith);
-  before-end = λ r w same more h room. record { holding = λ c i. zero-lines; given-is = none w (inTurn h (fixedPlane t ([] ++ more) w h)) };
+  before-end = λ r w same more h room. record { holding = λ c i. zero-lines; given-is = no-rows w (inTurn h (fixedPlane t ([] ++ more) w h)) };
   after-end = λ r. true-false (answered-done {o = beginAnswer t} false true e) r;
 }
-  where
-    none : (w : ℕ) (p : Plane ℤ) → [] ≡ rowByRow w 0 p
-    none w p = ap (λ (n : ℕ). tabulate n (λ k. p (k / w) (k % w))) (nothing w)
-      where
-        nothing : (w : ℕ) → 0 ≡ w * 0
-        nothing w = omega arith
 
 module _ (s : Scan) (held : List ℤ) (n : ℕ) (strip : List ℕ) (given : List ℤ) (f : Facts s held n strip given) where
   after-line : (pixels : List ℕ) (w m : ℕ) (out : List ℤ) (s′ : Scan) (held′ out′ : List ℤ) → LineCall s pixels w held out (done m) s′ held′ out′
@@ -424,9 +451,9 @@ end-same-scan s other out r s′ other′ out′ call = sym (call .scan-is ∙ a
 
 pub facts : (t : WidthTable) {s : Scan} {held : List ℤ} {n : ℕ} {strip : List ℕ} {given : List ℤ} → Calls t s held n strip given → Facts s held n strip given
 facts t (begun held e) = begun-facts t held e
-facts t (line {s = s} {held = held} {n = n} {strip = strip} {given = given} c call) = after-line s held n strip given (facts t c) _ _ _ _ _ _ _ call
+facts t (line {s = s} {held = held} {lent = lent} {n = n} {strip = strip} {given = given} c same call) = after-line s lent n strip given (lent-facts s held lent n strip given (facts t c) same) _ _ _ _ _ _ _ call
 facts t (line-refused {s = s} {held = held} {n = n} {strip = strip} {given = given} c call) = subst (λ (s : Scan). Facts s held n strip given) (line-same-scan s _ _ _ _ _ _ _ _ call) (facts t c)
-facts t (end {s = s} {held = held} {n = n} {strip = strip} {given = given} c call) = after-end-call s held n strip given (facts t c) _ _ _ _ _ call
+facts t (end {s = s} {held = held} {lent = lent} {n = n} {strip = strip} {given = given} c same call) = after-end-call s lent n strip given (lent-facts s held lent n strip given (facts t c) same) _ _ _ _ _ call
 facts t (end-refused {s = s} {held = held} {n = n} {strip = strip} {given = given} c call) = subst (λ (s : Scan). Facts s held n strip given) (end-same-scan s _ _ _ _ _ _ call) (facts t c)
 
 -- either way the scan has the same table
@@ -438,9 +465,9 @@ kept (refused r) a b e = refl
 pub table-kept : (t : WidthTable) {s : Scan} {held : List ℤ} {n : ℕ} {strip : List ℕ} {given : List ℤ} → Calls t s held n strip given → s .table ≡ t
 unfolding scanOf scanAfter scanEnded
 table-kept t (begun held e) = refl
-table-kept t (line {s = s} {held = held} {pixels = pixels} {w = w} {out = out} c call) =
-    ap (λ (s : Scan). s .table) (call .scan-is) ∙ kept (lineAnswer s pixels w held out) (scanAfter s pixels w held out) s refl ∙ table-kept t c
+table-kept t (line {s = s} {lent = lent} {pixels = pixels} {w = w} {out = out} c same call) =
+    ap (λ (s : Scan). s .table) (call .scan-is) ∙ kept (lineAnswer s pixels w lent out) (scanAfter s pixels w lent out) s refl ∙ table-kept t c
 table-kept t (line-refused {s = s} c call) = ap (λ (s : Scan). s .table) (sym (line-same-scan s _ _ _ _ _ _ _ _ call)) ∙ table-kept t c
-table-kept t (end {s = s} {held = held} {out = out} c call) =
-    ap (λ (s : Scan). s .table) (call .scan-is) ∙ kept (endAnswer s held out) (scanEnded s held out) s refl ∙ table-kept t c
+table-kept t (end {s = s} {lent = lent} {out = out} c same call) =
+    ap (λ (s : Scan). s .table) (call .scan-is) ∙ kept (endAnswer s lent out) (scanEnded s lent out) s refl ∙ table-kept t c
 table-kept t (end-refused {s = s} c call) = ap (λ (s : Scan). s .table) (sym (end-same-scan s _ _ _ _ _ _ call)) ∙ table-kept t c

@@ -3,13 +3,13 @@
 -- And each scan that goes on was left by some calls (`left`), so that any other is answered 14 (`foreign-refused`).
 use Prim.Native.Nat.{ℕ, zero, suc, _+_, _*_, _-_, _^_, _<_, _≤_}
 use mathlib.Core.Bool.{Bool, true, false, not}
-use mathlib.Core.List.{List, [], _∷_, _++_}
+use mathlib.Core.List.{List, [], _∷_, _++_, append-assoc, append-nil}
 use mathlib.Core.Path.{_≡_, refl, sym, _∙_, ap, subst}
 use native.Mathlib.Omega.{arith}
 use native.Mathlib.Nat.{mul-le-mul-right}
 use lib.Dec.{T}
-use lib.ListN.{length, getD, take, drop, replicate, length-replicate, getD-replicate, List·getD-append}
-use lib.Seq.{drop-append-add, drop-drop, length-front, length-take-le}
+use lib.ListN.{length, getD, take, drop, replicate, length-drop, length-replicate, take-append-drop, getD-replicate, List·getD-append}
+use lib.Seq.{getD-drop, drop-append-add, drop-drop, length-front, length-take-le}
 use lib.Pow.{pow-pos}
 use lib.IntN.{ℤ, pos}
 use Rattle.numbers.specs.Lists.{over}
@@ -152,9 +152,9 @@ module _ (s : Scan) (held out : List ℤ) where
 -- ---- calls go on
 
 -- a line of w pixels for a table
-pub record LineFor (t : WidthTable) (w : ℕ) (pixels : List ℕ) : Type 0 where
-  pub long : w ≤ length pixels
-  pub below : (k : ℕ) → k < w → getD pixels k 0 < 2 ^ t .depth
+record LineFor (t : WidthTable) (w : ℕ) (pixels : List ℕ) : Type 0 where
+  long : w ≤ length pixels
+  below : (k : ℕ) → k < w → getD pixels k 0 < 2 ^ t .depth
 
 -- n lines of w pixels accepted, k as far as it matters, and the scan goes on
 record Going (t : WidthTable) (w n : ℕ) (k : Taken) (strip : List ℕ) : Type 0 where
@@ -174,11 +174,6 @@ pub record Scanned (t : WidthTable) (n : ℕ) (strip : List ℕ) : Type 0 where
   pub given : List ℤ
   pub calls : Calls t scan held n strip given
   pub ended : scan .ended ≡ true
-
--- the strip of lines
-abbrev pub stripOf : ℕ → List ℕ → List (List ℕ) → List ℕ
-stripOf w strip [] = strip
-stripOf w strip (pixels ∷ lines) = stripOf w (strip ++ take w pixels) lines
 
 module _ (t : WidthTable) (w : ℕ) (side : Admitted w) (out : List ℤ) (room : outLines * w ≤ length out) where
   line-on : {n : ℕ} {k : Taken} {strip : List ℕ} → Going t w n k strip → (pixels : List ℕ) → LineFor t w pixels → Going t w (suc n) (next k) (strip ++ take w pixels)
@@ -202,7 +197,7 @@ module _ (t : WidthTable) (w : ℕ) (side : Admitted w) (out : List ℤ) (room :
         scan = scanAfter s pixels w held out;
         held = lineHeld s pixels w held out passed;
         given = _;
-        calls = line (g .calls) call;
+        calls = line (g .calls) refl call;
         taken = ap next (g .taken);
         running = g .running;
         width = λ i. refl;
@@ -224,19 +219,23 @@ module _ (t : WidthTable) (w : ℕ) (side : Admitted w) (out : List ℤ) (room :
       }) in
       let m = length (givenByEnd s held out) in
       let call = subst (λ (o : Answer Unit). EndCall s held out (o then done m) (answered o (scanEnded s held out) s) held (endOut s held out o)) e (end-possible s held out) in
-      record { scan = scanEnded s held out; held = held; given = _; calls = end (g .calls) call; ended = refl }
+      record { scan = scanEnded s held out; held = held; given = _; calls = end (g .calls) refl call; ended = refl }
 
-  lines-on : (lines : List (List ℕ)) → ((k : ℕ) → k < length lines → LineFor t w (getD lines k [])) → {n : ℕ} {k : Taken} {strip : List ℕ} → Going t w n k strip → 1 ≤ n + length lines → Scanned t (n + length lines) (stripOf w strip lines)
-  lines-on [] each {n} {k} {strip} g some = subst (λ (m : ℕ). Scanned t m strip) (none n) (end-on g (omega arith))
+  -- n lines more, and then the end
+  strip-on : (n : ℕ) (rest : List ℕ) → length rest ≡ n * w → ((k : ℕ) → getD rest k 0 < 2 ^ t .depth) → {m : ℕ} {k : Taken} {strip : List ℕ} → Going t w m k strip → 1 ≤ m + n → Scanned t (m + n) (strip ++ rest)
+  strip-on zero [] size below {m} {k} {strip} g some = subst (λ (l : List ℕ). Scanned t (m + 0) l) (sym (append-nil strip)) (subst (λ (j : ℕ). Scanned t j strip) (none m) (end-on g (omega arith)))
     where
-      none : (n : ℕ) → n ≡ n + 0
-      none n = omega arith
-  lines-on (pixels ∷ lines) each {n} {k} {strip} g some =
-      subst (λ (m : ℕ). Scanned t m (stripOf w (strip ++ take w pixels) lines)) (more n (length lines))
-      (lines-on lines (λ k i. each (suc k) (omega arith)) (line-on g pixels (each 0 (omega arith))) (omega arith))
+      none : (m : ℕ) → m ≡ m + 0
+      none m = omega arith
+  strip-on zero (a ∷ rest) size below g some = absurd (omega arith)
+  strip-on (suc n) rest size below {m} {k} {strip} g some =
+      subst (λ (l : List ℕ). Scanned t (m + suc n) l) (append-assoc strip (take w rest) (drop w rest) ∙ ap (λ (l : List ℕ). strip ++ l) (take-append-drop w rest))
+      (subst (λ (j : ℕ). Scanned t j ((strip ++ take w rest) ++ drop w rest)) (more m n)
+      (strip-on n (drop w rest) (length-drop w rest ∙ omega (arith, size)) (λ k. subst (λ (a : ℕ). a < 2 ^ t .depth) (sym (getD-drop w rest k 0)) (below (w + k)))
+      (line-on g rest (record { long = omega (arith, size); below = λ k i. below k })) (omega arith)))
     where
-      more : (n k : ℕ) → suc n + k ≡ n + suc k
-      more n k = omega arith
+      more : (m n : ℕ) → suc m + n ≡ m + suc n
+      more m n = omega arith
 
 module _ (t : WidthTable) (e : beginAnswer t ≡ passed) where
   -- a scan that has begun
@@ -253,11 +252,14 @@ module _ (t : WidthTable) (e : beginAnswer t ≡ passed) where
     room = room;
   }
 
-  -- Every strip of at least one line of admitted width can be scanned, in whatever memory is lent.
-  pub scanned : (w : ℕ) → Admitted w → (held out : List ℤ) → heldLines * w ≤ length held → outLines * w ≤ length out
-      → (lines : List (List ℕ)) → 1 ≤ length lines → ((k : ℕ) → k < length lines → LineFor t w (getD lines k []))
-      → Scanned t (0 + length lines) (stripOf w [] lines)
-  scanned w side held out held-room out-room lines some each = lines-on t w side out out-room lines each (going-first w held held-room) (omega arith)
+  -- Every strip of at least one line of admitted width and of the table's depth can be scanned, in whatever memory is lent.
+  pub scanned : (w n : ℕ) → Admitted w → 1 ≤ n → (held out : List ℤ) → heldLines * w ≤ length held → outLines * w ≤ length out
+      → (strip : List ℕ) → length strip ≡ n * w → ((k : ℕ) → getD strip k 0 < 2 ^ t .depth)
+      → Scanned t n strip
+  scanned w n side some held out held-room out-room strip size below = subst (λ (m : ℕ). Scanned t m strip) (first n) (strip-on t w side out out-room n strip size below (going-first w held held-room) (omega arith))
+    where
+      first : (n : ℕ) → 0 + n ≡ n
+      first n = omega arith
 
 -- and there are tables with which a scan begins
 pub usual-begins : beginAnswer (usual 1) ≡ passed
@@ -271,32 +273,22 @@ cut-begins = cut-accepted .0
 
 -- the smallest strip, and one of two lines
 pub one-scanned : Scanned (usual 1) 1 (10 ∷ [])
-one-scanned =
-    scanned (usual 1) usual-begins 1 (omega arith, omega arith) (replicate 7 (pos 0)) (replicate 4 (pos 0)) (omega arith) (omega arith)
-    ((10 ∷ []) ∷ []) (omega arith) each
+one-scanned = scanned (usual 1) usual-begins 1 1 (omega arith, omega arith) (omega arith) (replicate 7 (pos 0)) (replicate 4 (pos 0)) (omega arith) (omega arith) (10 ∷ []) refl below
   where
-    one-below : (k : ℕ) → k < 1 → getD (10 ∷ []) k 0 < 256
-    one-below zero h = omega arith
-    one-below (suc k) h = absurd (omega arith)
-
-    each : (k : ℕ) → k < 1 → LineFor (usual 1) 1 (getD ((10 ∷ []) ∷ []) k [])
-    each zero i = record { long = omega arith; below = one-below }
-    each (suc k) i = absurd (omega arith)
+    below : (k : ℕ) → getD (10 ∷ []) k 0 < 256
+    below zero = omega arith
+    below (suc k) = omega arith
 
 pub two-scanned : Scanned (usual 1) 2 (10 ∷ 200 ∷ 7 ∷ 255 ∷ [])
 two-scanned =
-    scanned (usual 1) usual-begins 2 (omega arith, omega arith) (replicate 14 (pos 0)) (replicate 8 (pos 0)) (omega arith) (omega arith)
-    ((10 ∷ 200 ∷ []) ∷ (7 ∷ 255 ∷ []) ∷ []) (omega arith) each
+    scanned (usual 1) usual-begins 2 2 (omega arith, omega arith) (omega arith) (replicate 14 (pos 0)) (replicate 8 (pos 0)) (omega arith) (omega arith) (10 ∷ 200 ∷ 7 ∷ 255 ∷ []) refl below
   where
-    two-below : (a b : ℕ) → a < 256 → b < 256 → (k : ℕ) → k < 2 → getD (a ∷ b ∷ []) k 0 < 256
-    two-below a b i j zero h = i
-    two-below a b i j (suc zero) h = j
-    two-below a b i j (suc (suc k)) h = absurd (omega arith)
-
-    each : (k : ℕ) → k < 2 → LineFor (usual 1) 2 (getD ((10 ∷ 200 ∷ []) ∷ (7 ∷ 255 ∷ []) ∷ []) k [])
-    each zero i = record { long = omega arith; below = two-below 10 200 (omega arith) (omega arith) }
-    each (suc zero) i = record { long = omega arith; below = two-below 7 255 (omega arith) (omega arith) }
-    each (suc (suc k)) i = absurd (omega arith)
+    below : (k : ℕ) → getD (10 ∷ 200 ∷ 7 ∷ 255 ∷ []) k 0 < 256
+    below zero = omega arith
+    below (suc zero) = omega arith
+    below (suc (suc zero)) = omega arith
+    below (suc (suc (suc zero))) = omega arith
+    below (suc (suc (suc (suc k)))) = omega arith
 
 -- ---- which scans calls can leave
 

@@ -5,27 +5,30 @@ use mathlib.Core.List.{List, [], _++_}
 use mathlib.Core.Logic.{_↔_, _⊎_, inl, inr, ⊎-elim}
 use mathlib.Core.Path.{_≡_, refl, sym, _∙_, ap, subst}
 use native.Mathlib.Omega.{arith}
-use lib.Dec.{T, ltb, leb, eqb, ltb→lt, lt→ltb, eqb→eq, eqb-refl}
-use lib.ListN.{length, take}
+use native.Mathlib.Decide.{decLt}
+use lib.Dec.{T, ltb, eqb, ltb→lt, lt→ltb, eqb→eq, eqb-refl}
+use lib.ListN.{length, getD}
 use lib.IntN.{ℤ}
-use Rattle.numbers.specs.Tests.{both, and-intro, every}
-use Rattle.refusals.specs.Answers.{Reason, Answer, done, refused, asks, _then_}
+use Rattle.numbers.specs.Tests.{both, and-intro}
+use Rattle.refusals.specs.Answers.{Answer, refused, code}
 use Rattle.refusals.specs.AnswerLaws.{asks-wrong, gives-done, gives-refused, answered-done, answered-refused}
 use Rattle.lines.specs.Lines.{highBefore, interleaved}
 use Rattle.lines.specs.LineLaws.{even-place, odd-place, by-parity}
 use Rattle.lines.specs.Planes.{levels, side}
 use Rattle.width_table.specs.declared.WidthTable.{WidthTable}
-use Rattle.pictures.specs.Pictures.{sample, sideRight, holds, pixelsRight}
-use Rattle.exact.specs.Picture.{exactPlane}
+use Rattle.pictures.specs.Pictures.{sample, sideRight, holds}
 use Rattle.irreversible.specs.Transforms.{fixedAfter, fixedPlane}
-use Rattle.irreversible.specs.Claims.{LevelInWidth, Near, bitsPlane}
-use Rattle.irreversible.specs.Demand3.{two-steps-strip, widths-strip}
+use Rattle.irreversible.specs.Claims.{LevelInWidth}
+use Rattle.irreversible.specs.Demand3.{widths-strip}
 use Rattle.rolling.specs.declared.Scan.{Scan}
 use Rattle.rolling.specs.Schedule.{anyTaken}
 use Rattle.rolling.specs.Calls.{Sound, goesOn, heldLines, outLines, heldIn, lineAnswer, workedRow, givenByLine, scanAfter, endAnswer, givenByEnd, scanEnded}
-use Rattle.rolling_claims.specs.Claims.{readyP1, readyU1, readyP2, readyU2, lineReady, ready, ReadyLines, firstLines, BeforeEnd, AfterEnd, Counts, OneWidth, Fourteen, RefusedKeeps, SoundLeft, InWidths, NearExact}
-use Rattle.rolling.specs.AnswerLaws.{begun-one, begun-accepted, on-running}
-use Rattle.rolling_claims.specs.History.{Facts, facts, table-kept, count-some, some-count, line-count, end-count, goes-on, line-right, line-in, strip-now, sound-now}
+use Rattle.rolling_claims.specs.Claims.{readyP1, readyU1, readyP2, readyU2, lineReady, ready, ReadyLines, inTurn, firstLines, BeforeEnd, AfterEnd, Counts, OneWidth, BeginFourteen, Fourteen, RefusedKeeps, SoundLeft, InWidths, LinesNear, NearBeforeEnd, NearAfterEnd}
+use Rattle.rolling.specs.AnswerLaws.{other-levels, one-level, begun-one, begun-accepted, on-running}
+use Rattle.rolling_claims.specs.Turns.{no-rows}
+use Rattle.rolling_claims.specs.History.{Facts, lent-facts, facts, table-kept, count-some, some-count, line-count, end-count, goes-on, line-right, end-right, strip-more, strip-now, sound-now}
+use Rattle.rolling_claims.specs.NearLaws.{lines-near}
+use Rattle.rolling_claims.specs.NotFourteen.{asks-other, then-other, asks-first, holds-other, pixels-other, verdict-other}
 
 -- ---- ready lines
 
@@ -81,12 +84,13 @@ after-end t s held h strip given calls e =
 pub counts : Counts
 unfolding givenByLine givenByEnd
 counts t s held n strip given calls = (
-  (λ pixels w m out s′ held′ out′ call.
-      let (passes, counted) = gives-done (lineAnswer s pixels w held out) (length (givenByLine s pixels w held out)) (sym (call .answer-is)) in
-      subst (λ (m : ℕ). (ready n + m ≡ ready (suc n)) × (m ≤ 4)) counted (line-count (s .table) w (heldIn w held) (workedRow s pixels w held out) n (s .taken) (facts t calls .count))),
-  (λ m out s′ held′ out′ call.
-      let (passes, counted) = gives-done (endAnswer s held out) (length (givenByEnd s held out)) (sym (call .answer-is)) in
-      subst (λ (m : ℕ). (ready n + m ≡ n) × (m ≤ 4)) counted (end-count (s .table) (s .width) (heldIn (s .width) held) n (s .taken) (facts t calls .count) (line-in s held n strip given (facts t calls) out held′ passes))),
+  (λ pixels w m lent out s′ lent′ out′ call.
+      let (passes, counted) = gives-done (lineAnswer s pixels w lent out) (length (givenByLine s pixels w lent out)) (sym (call .answer-is)) in
+      subst (λ (m : ℕ). (ready n + m ≡ ready (suc n)) × (m ≤ 4)) counted (line-count (s .table) w (heldIn w lent) (workedRow s pixels w lent out) n (s .taken) (facts t calls .count))),
+  (λ m lent out s′ lent′ out′ call.
+      let (passes, counted) = gives-done (endAnswer s lent out) (length (givenByEnd s lent out)) (sym (call .answer-is)) in
+      subst (λ (m : ℕ). (ready n + m ≡ n) × (m ≤ 4)) counted
+      (end-count (s .table) (s .width) (heldIn (s .width) lent) n (s .taken) (facts t calls .count) (some-count (facts t calls .count) (end-right s lent out passes .some)))),
 )
 
 -- ---- one width, and 14
@@ -95,37 +99,13 @@ pub one-width : OneWidth
 unfolding scanAfter
 one-width t s held n strip given calls = (
   facts t calls .size,
-  λ pixels w m out s′ held′ out′ call.
-      let (passes, counted) = gives-done (lineAnswer s pixels w held out) (length (givenByLine s pixels w held out)) (sym (call .answer-is)) in
-      (ap (λ (s : Scan). s .width) (call .scan-is ∙ answered-done (scanAfter s pixels w held out) s passes), λ i. line-right s pixels w held out passes .width (count-some (facts t calls .count) i)),
+  λ pixels w m lent out s′ lent′ out′ call.
+      let (passes, counted) = gives-done (lineAnswer s pixels w lent out) (length (givenByLine s pixels w lent out)) (sym (call .answer-is)) in
+      (ap (λ (s : Scan). s .width) (call .scan-is ∙ answered-done (scanAfter s pixels w lent out) s passes), λ i. line-right s pixels w lent out passes .width (count-some (facts t calls .count) i)),
 )
 
--- an answer that is not 14
-abbrev Other : Answer Unit → Type 0
-Other o = ¬ (o ≡ refused (14, []))
-
-asks-other : (b : Bool) (m : ℕ) (o : Answer Unit) → ¬ (m ≡ 14) → Other o → Other (asks b m o)
-asks-other true m o p q = q
-asks-other false m o p q = λ e. let z : _≡_ {A = Reason} (m, []) (14, []) = cc in p (ap (λ (r : Reason). r .0) z)
-
-then-other : (a b : Answer Unit) → Other a → Other b → Other (a then b)
-then-other (done u) b p q = q
-then-other (refused r) b p q = p
-
-asks-first : (b : Bool) (o : Answer Unit) → Other o → asks b 14 o ≡ refused (14, []) → b ≡ false
-asks-first true o q e = absurd (q e)
-asks-first false o q e = refl
-
-done-other : Other (done tt)
-done-other e = let z : _≡_ {A = ℕ} 0 1 = cc in omega arith
-
-holds-other : (n k : ℕ) → Other (holds n k)
-unfolding holds
-holds-other n k = asks-other (leb n k) 9 _ (λ e. omega arith) done-other
-
-pixels-other : (B w h : ℕ) (pixels : List ℕ) → Other (pixelsRight B w h pixels)
-unfolding pixelsRight
-pixels-other B w h pixels = asks-other (every (λ p. ltb p (2 ^ B)) (take (w * h) pixels)) 10 _ (λ e. omega arith) done-other
+pub begin-fourteen : BeginFourteen
+begin-fourteen t = ((λ e one. verdict-other t (ap (λ (o : Answer Unit). code o) (sym (one-level t one) ∙ e))), other-levels t)
 
 -- the test of a line, and of an end
 line-test : (ended low same : Bool) (n : ℕ) (W : Type 0) → (1 ≤ n → T low) → (T low → 1 ≤ n) → (T same → W) → (W → T same)
@@ -164,8 +144,8 @@ fourteen t s held n strip given calls = (on-line, on-end)
         let test = subst (λ (goes : Bool). ((goes && same) ≡ false) ↔ (T (s .ended) ⊎ ((1 ≤ n) × ¬ (w ≡ s .width)))) (sym (goes-is s held n strip given f))
         (line-test (s .ended) (anyTaken (s .taken)) (eqb w (s .width)) n (w ≡ s .width) (count-some (f .count)) (some-count (f .count)) (eqb→eq w (s .width)) (λ e. subst (λ (k : ℕ). T (eqb w k)) e (eqb-refl w))) in (
           (λ e. test .0 (asks-first (goesOn s && same) _
-              (asks-other (sideRight w) 8 _ (λ e. omega arith)
-              (then-other (holds w (length pixels)) _ (holds-other _ _) (then-other (holds (heldLines * w) (length other)) _ (holds-other _ _) (then-other (holds (outLines * w) (length out)) _ (holds-other _ _) (pixels-other (s .table .depth) w 1 pixels))))) e)),
+              (asks-other (sideRight w) (8, []) _ (λ e. omega arith)
+              (then-other (holds w (length pixels)) _ (holds-other _ _) (then-other (holds (heldLines * w) (length other)) _ (holds-other _ _) (then-other (holds (outLines * w) (length out)) _ (holds-other _ _) (pixels-other (s .table .depth) w 1 pixels))))) (ap (λ (o : Answer Unit). code o) e))),
           (λ q. asks-wrong (goesOn s && same) _ _ (test .1 q)),
         )
 
@@ -173,7 +153,7 @@ fourteen t s held n strip given calls = (on-line, on-end)
     on-end other out =
         let test = subst (λ (goes : Bool). ((goes && anyTaken (s .taken)) ≡ false) ↔ (T (s .ended) ⊎ (n ≡ 0))) (sym (goes-is s held n strip given f))
         (end-test (s .ended) (anyTaken (s .taken)) n (count-some (f .count)) (some-count (f .count))) in (
-          (λ e. test .0 (asks-first (goesOn s && anyTaken (s .taken)) _ (then-other (holds (heldLines * s .width) (length other)) _ (holds-other _ _) (holds-other _ _)) e)),
+          (λ e. test .0 (asks-first (goesOn s && anyTaken (s .taken)) _ (then-other (holds (heldLines * s .width) (length other)) _ (holds-other _ _) (holds-other _ _)) (ap (λ (o : Answer Unit). code o) e))),
           (λ q. asks-wrong (goesOn s && anyTaken (s .taken)) _ _ (test .1 q)),
         )
 
@@ -188,8 +168,9 @@ refused-keeps s held out r s′ held′ out′ = (
 )
 
 pub sound-left : SoundLeft
-sound-left t s held n strip given calls running some =
-    subst (λ (t : WidthTable). Sound t (s .width) (heldIn (s .width) held)) (table-kept t calls) (sound-now s held n strip given (facts t calls) running some)
+sound-left t s held n strip given calls running some lent same =
+    subst (λ (t : WidthTable). Sound t (s .width) (heldIn (s .width) lent)) (table-kept t calls)
+    (sound-now s lent n strip given (lent-facts s held lent n strip given (facts t calls) same) running some)
 
 -- ---- demand 3
 
@@ -200,8 +181,37 @@ in-widths t s held n strip given calls some =
     subst (λ (t : WidthTable). LevelInWidth t 1 (s .width) n (sample strip (t .depth) (s .width))) (table-kept t calls)
     (widths-strip (s .table) strip (s .width) n (begun-accepted (s .table) (f .begun)) (strip-now s held n strip given f n some some) 0 (omega (arith, begun-one (s .table) (f .begun))))
 
-pub near-exact : NearExact
-near-exact t s held n strip given calls some r c i j =
+-- where nothing came out, there is nothing to show
+none-near : (t : WidthTable) (strip : List ℕ) (w h k : ℕ) (given : List ℤ) → k ≡ 0 → given ≡ firstLines t strip w h k → LinesNear t strip w h k given
+none-near t strip w h k given none e = record {
+  size = ap (λ (l : List ℤ). length l) (e ∙ ap (firstLines t strip w h) none ∙ sym (no-rows w (inTurn h (fixedPlane t strip w h)))) ∙ nothing w ∙ ap (λ (m : ℕ). m * w) (sym none);
+  near = λ i c a b. absurd (omega arith);
+  in-width = λ i c a b. absurd (omega arith);
+}
+  where
+    nothing : (w : ℕ) → 0 ≡ 0 * w
+    nothing w = omega arith
+
+pub near-before-end : NearBeforeEnd
+near-before-end t s held n strip given calls e more below h room =
+    subst (λ (t : WidthTable). ((k : ℕ) → getD more k 0 < 2 ^ t .depth) → LinesNear t (strip ++ more) (s .width) h (ready n) given) (table-kept t calls) (λ below. go below (decLt n 1)) below
+  where
+    f : Facts s held n strip given
+    f = facts t calls
+
+    given-is : given ≡ firstLines (s .table) (strip ++ more) (s .width) h (ready n)
+    given-is = f .before-end e (s .width) (λ i. refl) more h room .given-is
+
+    go : ((k : ℕ) → getD more k 0 < 2 ^ s .table .depth) → Dec (n < 1) → LinesNear (s .table) (strip ++ more) (s .width) h (ready n) given
+    go below (yes none) = none-near (s .table) (strip ++ more) (s .width) h (ready n) given (omega arith) given-is
+    go below (no some) =
+        subst (LinesNear (s .table) (strip ++ more) (s .width) h (ready n)) (sym given-is)
+        (lines-near (s .table) (begun-one (s .table) (f .begun)) (begun-accepted (s .table) (f .begun)) (strip ++ more) (s .width) h (strip-more s held n strip given f more below h (omega arith) (omega arith)) (ready n) (omega arith))
+
+pub near-after-end : NearAfterEnd
+near-after-end t s held h strip given calls e =
     let f = facts t calls in
-    subst (λ (t : WidthTable). Near (fixedPlane t strip (s .width) n r c) (bitsPlane t (s .width) n r c) (exactPlane strip (t .depth) (t .levels) (s .width) n r c)) (table-kept t calls)
-    (two-steps-strip (s .table) strip (s .width) n (begun-accepted (s .table) (f .begun)) (strip-now s held n strip given f n some some) r c i j)
+    let (some, given-is) = f .after-end e in
+    subst (λ (t : WidthTable). LinesNear t strip (s .width) h h given) (table-kept t calls)
+    (subst (LinesNear (s .table) strip (s .width) h h) (sym given-is)
+    (lines-near (s .table) (begun-one (s .table) (f .begun)) (begun-accepted (s .table) (f .begun)) strip (s .width) h (strip-now s held h strip given f h some some) h (omega arith)))

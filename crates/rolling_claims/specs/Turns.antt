@@ -1,6 +1,6 @@
 -- The one-level transform of a strip, line by line in turn: each value is one of a column's pass. Lines one after the other in memory.
 use Prim.Native.Nat.{ℕ, zero, suc, _+_, _*_, _-_, _/_, _%_, _^_, _<_, _≤_}
-use mathlib.Core.List.{List, _∷_, _++_}
+use mathlib.Core.List.{List, [], _∷_, _++_}
 use mathlib.Core.Path.{_≡_, sym, _∙_, ap, ap₂, subst}
 use native.Mathlib.Omega.{arith}
 use native.Mathlib.Nat.{mul-add, mul-comm, mul-add-div-right, mul-add-mod-self-right}
@@ -36,6 +36,14 @@ module _ {A : Type 0} where
     where
       suc-plus : (m n : ℕ) → suc m + n ≡ suc (m + n)
       suc-plus m n = omega arith
+
+  -- no lines
+  pub no-rows : (w : ℕ) (p : Plane A) → [] ≡ rowByRow w 0 p
+  unfolding rowByRow tabulate
+  no-rows w p = ap (λ (n : ℕ). tabulate n (λ k. p (k / w) (k % w))) (nothing w)
+    where
+      nothing : (w : ℕ) → 0 ≡ w * 0
+      nothing w = omega arith
 
   -- b lines after a lines
   pub rows-join : (w a b : ℕ) → 1 ≤ w → (p q : Plane A) → ((r c : ℕ) → r < b → c < w → q r c ≡ p (a + r) c) → rowByRow w a p ++ rowByRow w b q ≡ rowByRow w (a + b) p

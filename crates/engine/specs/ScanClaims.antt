@@ -265,8 +265,9 @@ module _ (bytes : List ℕ) (formed : form bytes ≡ passed) where
   unfolding scanBeginAnswer begins
   calls-on-bytes (begun held e) =
       let s = scanOf (tableIn bytes) in
-      let zero : code (scanBeginAnswer bytes noScan) ≡ 0 = ap (λ (o : Answer Unit). code o) (then-right (begins bytes) _ (then-right (form bytes) _ formed ∙ e)) in
-      subst (λ (l : List ℕ). ByteCalls bytes l held 0 [] []) (begun-state bytes noScan zero ∙ over-state s (can-hold bytes formed (begun held e)) noScan refl) (c-begun noScan held zero)
+      let first : List ℕ = replicate scanLength 0 in
+      let zero : code (scanBeginAnswer bytes first) ≡ 0 = ap (λ (o : Answer Unit). code o) (then-right (begins bytes) _ (then-right (form bytes) _ formed ∙ e)) in
+      subst (λ (l : List ℕ). ByteCalls bytes l held 0 [] []) (begun-state bytes first zero ∙ over-state s (can-hold bytes formed (begun held e)) first refl) (c-begun first held zero)
   calls-on-bytes (line {s} {s′} {held} {lent} {held′} {n} {strip} {given} {pixels} {w} {m} {out} {out′} before same call) =
       let k = can-hold bytes formed before in
       c-line (calls-on-bytes before) refl (lent-again s k held lent same) (on-its-bytes (λ s. LineCall s pixels w lent out) s s′ lent out held′ out′ m k (can-hold bytes formed (line before same call)) call)
@@ -332,7 +333,8 @@ module _ (state : List ℕ) (below : (k : ℕ) → k < length state → getD sta
   c-foreign-end {held} {out} = answered-14 (λ s. EndCall s held out) held out (λ s o s′ none call. call .answer-is ∙ then-refused (endAnswer s held out) _ _ (foreign-refused s none .1 held out))
 
 -- There are such states: zeros, for one.
-pub zeros-foreign : ¬ (LeftState noScan)
+pub zeros-foreign : ¬ (LeftState (replicate scanLength 0))
 zeros-foreign l =
-    let none : scanIn noScan ≡ refused (14, []) = subst (λ (state : List ℕ). scanIn state ≡ refused (14, [])) (append-nil noScan) (zeros-hold-none []) in
-    absurd (subst T (ap (λ (o : Answer Scan). answered o true false) (sym (kept-reads (kept-calls (l .table) (l .calls)) noScan refl) ∙ none)) tt)
+    let zeros : List ℕ = replicate scanLength 0 in
+    let none : scanIn zeros ≡ refused (14, []) = subst (λ (state : List ℕ). scanIn state ≡ refused (14, [])) (append-nil zeros) (zeros-hold-none []) in
+    absurd (subst T (ap (λ (o : Answer Scan). answered o true false) (sym (kept-reads (kept-calls (l .table) (l .calls)) zeros refl) ∙ none)) tt)

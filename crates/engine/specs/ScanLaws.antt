@@ -14,7 +14,7 @@ use Rattle.width_table.specs.Bytes.{form, tableIn}
 use Rattle.precision.specs.Promise.{promise}
 use Rattle.rolling.specs.declared.Scan.{Scan}
 use Rattle.rolling.specs.Calls.{beginAnswer, scanOf, outLines, lineAnswer, givenByLine, scanAfter, LineCall, endAnswer, givenByEnd, scanEnded, EndCall}
-use Rattle.rolling.specs.AnswerLaws.{begun-one, begun-accepted, on-begun, on-side}
+use Rattle.rolling.specs.AnswerLaws.{begun-one, begun-accepted, on-side}
 use Rattle.rolling_claims.specs.History.{line-right, end-right}
 use Rattle.rolling_claims.specs.Possible.{line-few, end-few}
 use Rattle.scan_bytes.specs.ScanBytes.{scanLength, stateBytes, keepable, scanIn, stateWith, stateAfter, numbersAfter, noScan}
@@ -33,9 +33,6 @@ pub record Renews (s after : Scan) : Type 0 where
   pub table : after .table ≡ s .table
   pub narrow : after .width < 65536
 
-renews-kept : (s after : Scan) → Renews s after → beginAnswer (s .table) ≡ passed → keepable after ≡ true
-renews-kept s after r begun = begun-kept after (ap beginAnswer (r .table) ∙ begun) (r .narrow)
-
 module _ (s : Scan) (pixels : List ℕ) (w : ℕ) (held out : List ℤ) {o : Answer ℕ} {s′ : Scan} {held′ out′ : List ℤ} (call : LineCall s pixels w held out o s′ held′ out′) (m : ℕ) (e : o ≡ done m) where
   line-passes : (lineAnswer s pixels w held out ≡ passed) × (length (givenByLine s pixels w held out) ≡ m)
   line-passes = gives-done (lineAnswer s pixels w held out) (length (givenByLine s pixels w held out)) (sym (call .answer-is) ∙ e)
@@ -49,9 +46,6 @@ module _ (s : Scan) (pixels : List ℕ) (w : ℕ) (held out : List ℤ) {o : Ans
   line-renews =
       subst (Renews s) (sym (call .scan-is ∙ answered-done (scanAfter s pixels w held out) s (line-passes .0)))
       (record { table = refl; narrow = omega (arith, line-right s pixels w held out (line-passes .0) .side .1) })
-
-  pub line-kept : keepable s′ ≡ true
-  line-kept = renews-kept s s′ line-renews (on-begun s (line-right s pixels w held out (line-passes .0) .goes))
 
 module _ (s : Scan) (held out : List ℤ) {o : Answer ℕ} {s′ : Scan} {held′ out′ : List ℤ} (call : EndCall s held out o s′ held′ out′) (m : ℕ) (e : o ≡ done m) where
   end-passes : (endAnswer s held out ≡ passed) × (length (givenByEnd s held out) ≡ m)
@@ -67,9 +61,6 @@ module _ (s : Scan) (held out : List ℤ) {o : Answer ℕ} {s′ : Scan} {held�
       let right = end-right s held out (end-passes .0) in
       subst (Renews s) (sym (call .scan-is ∙ answered-done (scanEnded s held out) s (end-passes .0)))
       (record { table = refl; narrow = omega (arith, on-side s (right .goes) (right .some) .1) })
-
-  pub end-kept : keepable s′ ≡ true
-  end-kept = renews-kept s s′ end-renews (on-begun s (end-right s held out (end-passes .0) .goes))
 
 -- ---- begin
 

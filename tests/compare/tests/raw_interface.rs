@@ -466,6 +466,8 @@ fn null_pointers(table: &[u8], has_products: bool) {
         assert_eq!(suz_scan_end(none, 0, i, 0, i, 0, &mut given), 9);
         assert_eq!(suz_scan_end(state_at, length, i, 0, i, 0, &mut given), 14);
         assert_eq!(suz_scan_begin(at, len, state_at, length), 0);
+        // A beginning that is refused leaves the scan that began.
+        assert_eq!(suz_scan_begin(null(), 0, state_at, length), 1);
         assert_eq!(line(state_at, length, 4, &mut given), 9);
         assert_eq!(line(state_at, length, 1, &mut given), 9);
         assert_eq!(line(state_at, length, 0, &mut given), 8);

@@ -8,7 +8,7 @@ use compare::tables::{
     accepted_products, any_form, damaged, generous, narrow, some_products, tight, uneven,
 };
 use reference::rolling::{self, HELD_LINES, OUT_LINES, STATE, TABLE};
-use reference::{exact97, fixed97, Place, WidthTable};
+use reference::{exact97, fixed97, Place, Width, WidthTable};
 use std::collections::BTreeMap;
 
 /// What was run, for the documents.
@@ -464,23 +464,11 @@ fn beginnings_with_every_refusal() {
             _ => chance.within(STATE - 1, STATE + 9),
         };
         let state: Vec<u8> = (0..length).map(|_| chance.byte()).collect();
-        let (answer, mut left) = begin(&bytes, &state);
+        let (answer, left) = begin(&bytes, &state);
         let number = answer.map_or_else(|refusal| refusal.number, |()| 0);
         seen[usize::from(number)] += 1;
-        if number == 9 {
-            assert_eq!(left, state);
-        } else if number != 0 && length >= STATE {
-            // It counts as ended.
-            left.truncate(STATE);
-            assert_eq!(left, [0; STATE]);
-            let next = Next::Line {
-                pixels: &[0; 4],
-                width: 4,
-            };
-            for next in [next, Next::End] {
-                let (answer, _) = foreign(next, &left, &[5; 28], &[6; 16]);
-                assert_eq!(answer.unwrap_err().number, 14);
-            }
+        if number != 0 {
+            assert_eq!(left, state, "a refused beginning touches nothing");
         }
     }
     println!("begins by number: {seen:?}");
@@ -488,6 +476,78 @@ fn beginnings_with_every_refusal() {
         assert!(seen[number] > 100, "{seen:?}");
     }
     assert_eq!((seen[8], &seen[10..14]), (0, &[0; 4][..]));
+}
+
+/// For each refusal that a beginning has by its table, bytes with that one.
+fn refused_tables(depth: u8) -> [(u8, Vec<u8>); 8] {
+    let right = generous(depth, 1).bytes().unwrap();
+    let with = |at: usize, byte: u8| {
+        let mut bytes = right.clone();
+        bytes[at] = byte;
+        bytes
+    };
+    let (rough, full) = (Width::new(12, 0), Width::new(12, 20));
+    let bytes = |table: WidthTable| table.bytes().unwrap();
+    [
+        (1, right[..right.len() - 1].to_vec()),
+        // The first tag, its length and its number, the depth.
+        (2, with(0, 2)),
+        (3, with(2, 2)),
+        (4, with(3, 13)),
+        (5, [&right[..], &[0]].concat()),
+        (14, bytes(generous(depth, 2))),
+        (
+            6,
+            bytes(WidthTable::uniform(depth, 1, 24, Width::new(2, 20))),
+        ),
+        (
+            7,
+            bytes(WidthTable::kept_and_others(depth, 1, 24, full, rough)),
+        ),
+    ]
+}
+
+/// A beginning that is refused leaves the scan in its state, wherever it
+/// stands: that scan goes on, ends, and gives its lines.
+#[test]
+fn refused_beginnings_over_a_running_scan() {
+    let mut chance = Chance::new(123);
+    let mut seen = [0usize; 15];
+    let mut refuse = |table: &[u8], due: u8, state: &[u8]| {
+        let (answer, left) = begin(table, state);
+        assert_eq!(answer.unwrap_err().number, due);
+        assert_eq!(left, state, "after {due}");
+        seen[usize::from(due)] += 1;
+    };
+    for _ in 0..rounds(100) {
+        let depth = chance.within(1, 12) as u8;
+        let table = table(&mut chance, depth);
+        let refused = refused_tables(chance.within(1, 12) as u8);
+        let right = generous(depth, 1).bytes().unwrap();
+        let (width, height) = (chance.within(1, 12), chance.within(1, 12));
+        let lines = strip(&mut chance, depth, width, height);
+        let mut scan = begun(&mut chance, &table);
+        scan.held = chance.plane(HELD_LINES * width);
+        let mut given = Vec::new();
+        for taken in 0..=height {
+            for (due, table) in &refused {
+                refuse(table, *due, &scan.state);
+                refuse(table, *due, &scan.state[..chance.below(STATE)]);
+            }
+            refuse(&right, 9, &scan.state[..chance.below(STATE)]);
+            given.extend(take(&mut chance, &mut scan, lines.get(taken), width));
+        }
+        // Nor does one leave an ended scan that goes on.
+        for (due, table) in &refused {
+            refuse(table, *due, &scan.state);
+        }
+        after_the_end(&mut chance, &mut scan, &lines[0], &mut Counts::default());
+        same_as_the_whole(&table, &lines, &given);
+    }
+    println!("begins by number: {seen:?}");
+    for number in [1, 2, 3, 4, 5, 6, 7, 9, 14] {
+        assert!(seen[number] > rounds(100), "{seen:?}");
+    }
 }
 
 /// State and held lines of a scan of this width after so many lines.

@@ -311,31 +311,17 @@ impl Past {
     }
 }
 
-/// Begins a scan: 1 to 5 of the table, 14, 6 and 7, 9. Where the table is
-/// refused, what is left counts as a scan that ended, if there is room for one.
+/// Begins a scan: 1 to 5 of the table, 14, 6 and 7, 9. A refused beginning
+/// leaves the state as it was.
 pub fn scan_begin(table: &[u8], state: &mut [u8]) -> Result<(), Refusal> {
-    match beginning(table) {
-        Ok(begun) => {
-            lengths(STATE, &[state.len()])?;
-            state[..STATE].copy_from_slice(&begun.bytes());
-            Ok(())
-        }
-        Err(refusal) => {
-            if state.len() >= STATE {
-                state[..STATE].fill(0);
-            }
-            Err(refusal)
-        }
-    }
-}
-
-fn beginning(table: &[u8]) -> Result<State, Refusal> {
     let table = WidthTable::read(table)?;
     if table.levels != LEVELS {
         return Err(Refusal::plain(14));
     }
     verdict(&table)?;
-    Ok(State::begun(table))
+    lengths(STATE, &[state.len()])?;
+    state[..STATE].copy_from_slice(&State::begun(table).bytes());
+    Ok(())
 }
 
 /// Takes a line, as [`line_answer`] says; `held` is a length, since what the
@@ -632,17 +618,12 @@ mod tests {
             let answer = number(scan_begin(table, &mut state[..length]));
             let (state, past) = state.split_at(length);
             assert_eq!(past, [9]);
-            let left = match answer {
-                0 => {
-                    let mut left = table.to_vec();
-                    left.resize(STATE, 0);
-                    left
-                }
-                9 => vec![9; length],
-                _ if length < STATE => vec![9; length],
-                _ => vec![0; STATE],
-            };
-            assert!(state.starts_with(&left) && state[left.len()..].iter().all(|&b| b == 9));
+            let mut left = vec![9; length];
+            if answer == 0 {
+                left[..STATE].fill(0);
+                left[..table.len()].copy_from_slice(table);
+            }
+            assert_eq!(state, left);
             answer
         };
         let right = table(8).bytes().unwrap();

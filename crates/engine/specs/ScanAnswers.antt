@@ -11,7 +11,7 @@ use Rattle.refusals.specs.Answers.{Reason, Answer, done, refused, passed, asks,
 use Rattle.width_table.specs.Bytes.{form, tableIn}
 use Rattle.rolling.specs.declared.Scan.{Scan}
 use Rattle.rolling.specs.Calls.{beginAnswer, scanOf, LineCall, EndCall}
-use Rattle.scan_bytes.specs.ScanBytes.{scanLength, stateBytes, scanIn, stateWith, noScan}
+use Rattle.scan_bytes.specs.ScanBytes.{scanLength, stateBytes, scanIn}
 
 -- ---- begin
 
@@ -23,9 +23,9 @@ begins bytes = form bytes then beginAnswer (tableIn bytes)
 unfoldable pub scanBeginAnswer : List ℕ → List ℕ → Answer Unit
 scanBeginAnswer bytes state = begins bytes then asks (leb scanLength (length state)) 9 passed
 
--- the scan's bytes, or zeros where none begins, over the front of the state; a state too short for a scan stays
+-- the scan's bytes over the front of the state where it begins; a refusal leaves the state as it was
 unfoldable pub scanBeginState : List ℕ → List ℕ → List ℕ
-scanBeginState bytes state = stateWith (answered (begins bytes) (stateBytes (scanOf (tableIn bytes))) noScan) state
+scanBeginState bytes state = answered (scanBeginAnswer bytes state) (over (stateBytes (scanOf (tableIn bytes))) state) state
 
 -- ---- a line, and the end
 

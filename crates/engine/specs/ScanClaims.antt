@@ -29,12 +29,12 @@ use Rattle.rolling_claims.specs.History.{facts, table-kept}
 use Rattle.rolling_claims.specs.NotFourteen.{Other, done-other, asks-other, then-other, then-fourteen, verdict-other}
 use Rattle.rolling_claims.specs.Possible.{scanned, foreign-refused}
 use Rattle.rolling_claims.specs.Theorems.{before-end, after-end, refused-keeps, in-widths, near-before-end, near-after-end}
-use Rattle.scan_bytes.specs.ScanBytes.{scanLength, stateBytes, tableEnd, scanHeld, scanIn, stateWith, noScan}
-use Rattle.scan_bytes.specs.ByteLaws.{Keepable, kept-is, room, state-long, read-written, read-is, read-refused, read-formed, written-read, zeros-hold-none}
+use Rattle.scan_bytes.specs.ScanBytes.{scanLength, stateBytes, tableEnd, scanHeld, scanIn}
+use Rattle.scan_bytes.specs.ByteLaws.{Keepable, kept-is, state-long, read-written, read-is, read-refused, read-formed, written-read, zeros-hold-none}
 use Rattle.engine.specs.Answers.{checked}
 use Rattle.engine.specs.ScanAnswers.{begins, scanBeginAnswer, scanBeginState, givenAfter, OnScan, OnBytes, LineOnBytes, EndOnBytes}
 use Rattle.engine.specs.ScanHistory.{StateHandedOn, HeldHandedOn, ByteCalls, c-begun, c-line, c-line-refused, c-end, c-end-refused, LeftState, ScannedBytes}
-use Rattle.engine.specs.ScanLaws.{begun-kept, roomy-long}
+use Rattle.engine.specs.ScanLaws.{begun-kept}
 use Rattle.engine.specs.Zero.{checked-zero, scan-begin-zero, line-from-one, end-from-one, gives-zero}
 
 -- ---- begin
@@ -46,11 +46,8 @@ module _ (bytes state : List ℕ) (zero : code (scanBeginAnswer bytes state) ≡
 
   -- the state where a scan began
   begun-state : scanBeginState bytes state ≡ over (stateBytes (scanOf (tableIn bytes))) state
-  unfolding scanBeginState scanBeginAnswer
-  begun-state =
-      let s = scanOf (tableIn bytes) in
-      let a = then-done (begins bytes) _ (scan-begin-zero bytes state zero) in
-      ap (λ (l : List ℕ). stateWith l state) (answered-done {o = begins bytes} (stateBytes s) noScan (a .0)) ∙ sym (room (stateBytes s) state (roomy-long state (a .1)))
+  unfolding scanBeginState
+  begun-state = answered-done (over (stateBytes (scanOf (tableIn bytes))) state) state (scan-begin-zero bytes state zero)
 
 headed-other : (tag len : ℕ) (bytes : List ℕ) → Other (headed tag len bytes)
 unfolding headed

@@ -4,12 +4,13 @@ use mathlib.Core.Bool.{true}
 use mathlib.Core.List.{List, []}
 use mathlib.Core.Path.{_≡_, refl, sym, _∙_, ap, subst}
 use native.Mathlib.Omega.{arith}
-use lib.Dec.{leb, leb→le, le→leb}
+use native.Mathlib.Decide.{decLt}
+use lib.Dec.{leb, le→leb}
 use lib.ListN.{length}
 use lib.IntN.{ℤ}
 use Rattle.numbers.specs.Lists.{over}
 use Rattle.refusals.specs.Answers.{Reason, Answer, done, refused, passed, asks, _then_, answered, code}
-use Rattle.refusals.specs.AnswerLaws.{asks-done, asks-right, asks-wrong, gives-done, then-right, then-refused, answered-done}
+use Rattle.refusals.specs.AnswerLaws.{asks-right, asks-wrong, gives-done, then-right, then-refused, answered-done, answered-refused}
 use Rattle.width_table.specs.Bytes.{form, tableIn}
 use Rattle.precision.specs.Promise.{promise}
 use Rattle.rolling.specs.declared.Scan.{Scan}
@@ -17,8 +18,8 @@ use Rattle.rolling.specs.Calls.{beginAnswer, scanOf, outLines, lineAnswer, give
 use Rattle.rolling.specs.AnswerLaws.{begun-one, begun-accepted, on-side}
 use Rattle.rolling_claims.specs.History.{line-right, end-right}
 use Rattle.rolling_claims.specs.Possible.{line-few, end-few}
-use Rattle.scan_bytes.specs.ScanBytes.{scanLength, stateBytes, keepable, scanIn, stateWith, stateAfter, numbersAfter, noScan}
-use Rattle.scan_bytes.specs.ByteLaws.{can-keep, kept, renewed-written}
+use Rattle.scan_bytes.specs.ScanBytes.{scanLength, stateBytes, keepable, scanIn, stateAfter, numbersAfter}
+use Rattle.scan_bytes.specs.ByteLaws.{can-keep, no-room, kept, renewed-written}
 use borrow.Author.Tests.{lt-leb}
 use Rattle.engine.specs.ScanAnswers.{begins, scanBeginAnswer, scanBeginState, givenAfter, OnScan, OnBytes}
 
@@ -75,8 +76,13 @@ module _ (state : List ℕ) where
   pub is-roomy : scanLength ≤ length state → roomy ≡ passed
   is-roomy h = asks-right (leb scanLength (length state)) _ _ (le→leb scanLength (length state) h)
 
-  pub roomy-long : roomy ≡ passed → scanLength ≤ length state
-  roomy-long e = leb→le scanLength (length state) (asks-done (leb scanLength (length state)) _ _ e .0)
+  -- what is written where there is room
+  roomy-put : (s : Scan) → keepable s ≡ true → answered roomy (over (stateBytes s) state) state ≡ stateAfter s state
+  roomy-put s can = go (decLt (length state) scanLength)
+    where
+      go : Dec (length state < scanLength) → answered roomy (over (stateBytes s) state) state ≡ stateAfter s state
+      go (yes h) = answered-refused (over (stateBytes s) state) state (not-roomy h) ∙ no-room s state h
+      go (no h) = let long : scanLength ≤ length state = omega arith in answered-done (over (stateBytes s) state) state (is-roomy long) ∙ kept s state can long
 
 module _ (bytes state : List ℕ) where
   -- what the call gives
@@ -84,26 +90,26 @@ module _ (bytes state : List ℕ) where
     pub answers : scanBeginAnswer bytes state ≡ o
     pub leaves : l ≡ scanBeginState bytes state
 
-  abbrev written : Answer Unit → List ℕ
-  written o = stateWith (answered o (stateBytes (scanOf (tableIn bytes))) noScan) state
+  abbrev left : Answer Unit → List ℕ
+  left o = answered o (over (stateBytes (scanOf (tableIn bytes))) state) state
 
-  gives-scan : (o : Answer Unit) → begins bytes ≡ o → GivesScan (o then roomy state) (written o)
+  gives-scan : (o : Answer Unit) → begins bytes ≡ o → GivesScan (o then roomy state) (left (o then roomy state))
   unfolding scanBeginAnswer scanBeginState
-  gives-scan o e = record { answers = ap (λ (o : Answer Unit). o then roomy state) e; leaves = sym (ap written e) }
+  gives-scan o e = record { answers = ap (λ (o : Answer Unit). o then roomy state) e; leaves = sym (ap (λ (o : Answer Unit). left (o then roomy state)) e) }
 
-  pub begin-unread : (r : Reason) → form bytes ≡ refused r → GivesScan (refused r) (stateWith noScan state)
+  pub begin-unread : (r : Reason) → form bytes ≡ refused r → GivesScan (refused r) state
   unfolding begins
   begin-unread r e = gives-scan (refused r) (then-refused (form bytes) (beginAnswer (tableIn bytes)) r e)
 
   pub begin-read : form bytes ≡ passed → (o : Answer Unit) (s : Scan) → o ≡ beginAnswer (tableIn bytes) → s ≡ scanOf (tableIn bytes)
-      → GivesScan (o then roomy state) (answered o (stateAfter s state) (stateWith noScan state))
+      → GivesScan (o then roomy state) (answered o (stateAfter s state) state)
   unfolding begins scanOf
   begin-read e o s answer scan = go o answer (gives-scan o (then-right (form bytes) (beginAnswer (tableIn bytes)) e ∙ sym answer))
     where
-      go : (o : Answer Unit) → o ≡ beginAnswer (tableIn bytes) → GivesScan (o then roomy state) (written o) → GivesScan (o then roomy state) (answered o (stateAfter s state) (stateWith noScan state))
+      go : (o : Answer Unit) → o ≡ beginAnswer (tableIn bytes) → GivesScan (o then roomy state) (left (o then roomy state)) → GivesScan (o then roomy state) (answered o (stateAfter s state) state)
       go (done tt) q g =
           let can = begun-kept (scanOf (tableIn bytes)) (sym q) (omega arith) in
-          subst (λ (l : List ℕ). GivesScan (passed then roomy state) l) (kept (scanOf (tableIn bytes)) state can ∙ ap (λ (s : Scan). stateAfter s state) (sym scan)) g
+          subst (λ (l : List ℕ). GivesScan (passed then roomy state) l) (roomy-put state (scanOf (tableIn bytes)) can ∙ ap (λ (s : Scan). stateAfter s state) (sym scan)) g
       go (refused r) q g = g
 
 -- ---- a line, and the end

@@ -12,7 +12,7 @@ ghost use Rattle.reversible.specs.Calls.{forwardAnswer, forwardPlane, forwardWo
 ghost use Rattle.engine.specs.Answers.{checked, boundAnswered, rangeAfter, errorAfter, startAfter, lengthAfter, changeAnswer, changeOut, constantChangeAnswer, constantChangeOut, productChangeAnswer, productChangeOut, tableWith, tableFrom, answer97, plane97, work97, viewChecked, distanceAfter, viewAnswer97, viewPixels97, viewWork97};
 ghost use Rattle.rolling.specs.Calls.{outLines};
 ghost use Rattle.rolling.specs.Told.{toldGiven};
-ghost use Rattle.scan_bytes.specs.ScanBytes.{scanLength, stateWith, stateAfter, numbersAfter, noScan};
+ghost use Rattle.scan_bytes.specs.ScanBytes.{scanLength, stateAfter, numbersAfter};
 ghost use Rattle.engine.specs.ScanAnswers.{scanBeginAnswer, scanBeginState, givenAfter, LineOnBytes, EndOnBytes};
 use refusals::Outcome;
 use refusals::Refusal;
@@ -372,17 +372,14 @@ pub extern "C" fn suz_view97(
     }
 }
 
-// The state of a scan that begins: 9. One that is refused leaves zeros.
+// A scan that begins goes to the state: 9. A refusal leaves the state as it was.
 fn scan_begun(begun: Begun, state: &mut [u8]) -> u32
     ensures answer { λ r. ⌜ r ≡ code (told (begun .outcome) then asks (leb scanLength (length (now (state .entry)))) 9 passed) ⌝ }
-    ensures state { λ _. ⌜ now (state .exit) ≡ answered (told (begun .outcome)) (stateAfter (begun .scan) (now (state .entry))) (stateWith noScan (now (state .entry))) ⌝ }
+    ensures state { λ _. ⌜ now (state .exit) ≡ answered (told (begun .outcome)) (stateAfter (begun .scan) (now (state .entry))) (now (state .entry)) ⌝ }
 {
     let outcome = begun.outcome;
     match outcome {
-        Outcome::Refused(why) => {
-            scan_bytes::clear(state);
-            refusal_code(why)
-        }
+        Outcome::Refused(why) => refusal_code(why),
         Outcome::Done => {
             let scan = begun.scan;
             scan_bytes::write(scan, state);
@@ -403,10 +400,7 @@ pub extern "C" fn suz_scan_begin(table: &[u8], state: &mut [u8]) -> u32
     let read = WidthTable::read(table);
     let outcome = read.outcome;
     match outcome {
-        Outcome::Refused(why) => {
-            scan_bytes::clear(state);
-            refusal_code(why)
-        }
+        Outcome::Refused(why) => refusal_code(why),
         Outcome::Done => {
             let held = read.table;
             scan_begun(rolling::begin(held), state)

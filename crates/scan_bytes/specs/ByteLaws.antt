@@ -27,7 +27,7 @@ use Rattle.rolling.specs.declared.Taken.the-variants.{Zero, One, Two, Three, Fo
 use Rattle.rolling.specs.declared.Scan.{Scan}
 use Rattle.rolling.specs.AnswerLaws.{answered-passed}
 use borrow.Author.Tests.{lt-leb, le-ltb}
-use Rattle.scan_bytes.specs.ScanBytes.{tableRoom, scanLength, takenNumber, endedNumber, numbersOf, numberBytes, roomBytes, stateBytes, keepable, takenOf, tableEnd, scanHeld, scanRight, scanIn, stateWith, stateAfter, numbersAfter, noScan}
+use Rattle.scan_bytes.specs.ScanBytes.{tableRoom, scanLength, takenNumber, endedNumber, numbersOf, numberBytes, roomBytes, stateBytes, keepable, takenOf, tableEnd, scanHeld, scanRight, scanIn, stateAfter, numbersAfter}
 
 -- ---- what bytes can hold
 
@@ -262,23 +262,23 @@ module _ (bytes : List ℕ) where
 
 -- ---- the caller's bytes afterwards
 
-module _ (new old : List ℕ) where
-  pub no-room : length old < scanLength → old ≡ stateWith new old
-  unfolding stateWith
-  no-room h = sym (ap (λ (b : Bool). elim b [ true ↦ over new old | false ↦ old ]) (lt-leb scanLength (length old) h))
-
-  pub room : scanLength ≤ length old → over new old ≡ stateWith new old
-  unfolding stateWith
-  room h = sym (ap (λ (b : Bool). elim b [ true ↦ over new old | false ↦ old ]) (is-true (leb scanLength (length old)) (le→leb scanLength (length old) h)))
-
 module _ (s : Scan) (old : List ℕ) where
+  abbrev put : Bool → List ℕ
+  put b = elim b [ true ↦ over (stateBytes s) old | false ↦ old ]
+
   pub not-kept : keepable s ≡ false → old ≡ stateAfter s old
   unfolding stateAfter
-  not-kept e = sym (ap (λ (b : Bool). elim b [ true ↦ stateWith (stateBytes s) old | false ↦ old ]) e)
+  not-kept e = sym (ap put (left-false (keepable s) (leb scanLength (length old)) e))
 
-  pub kept : keepable s ≡ true → stateWith (stateBytes s) old ≡ stateAfter s old
+  pub no-room : length old < scanLength → old ≡ stateAfter s old
   unfolding stateAfter
-  kept e = sym (ap (λ (b : Bool). elim b [ true ↦ stateWith (stateBytes s) old | false ↦ old ]) e)
+  no-room h = sym (ap put (right-false (keepable s) (leb scanLength (length old)) (lt-leb scanLength (length old) h)))
+
+  pub kept : keepable s ≡ true → scanLength ≤ length old → over (stateBytes s) old ≡ stateAfter s old
+  unfolding stateAfter
+  kept e h =
+      let b = keepable s && leb scanLength (length old) in
+      sym (ap put (is-true b (and-intro (keepable s) (leb scanLength (length old)) (subst T (sym e) tt) (le→leb scanLength (length old) h))))
 
 -- four stores after the table's bytes
 module _ (w : ℕ) (k : Taken) (ended : Bool) (old : List ℕ) where
@@ -503,6 +503,8 @@ module _ (bytes : List ℕ) (below : (k : ℕ) → k < length bytes → getD byt
       ∙ sym (take-add tableRoom 4 bytes)
 
 -- zeros hold none
-pub zeros-hold-none : (more : List ℕ) → scanIn (noScan ++ more) ≡ refused (14, [])
+pub zeros-hold-none : (more : List ℕ) → scanIn (replicate scanLength 0 ++ more) ≡ refused (14, [])
 unfolding form formBy field headed
-zeros-hold-none more = not-tabled (noScan ++ more) (omega (arith, length-append noScan more)) (2, []) refl
+zeros-hold-none more =
+    let none : List ℕ = replicate scanLength 0 in
+    not-tabled (none ++ more) (omega (arith, length-append none more)) (2, []) refl

@@ -96,18 +96,10 @@ scanIn bytes = asks (leb scanLength (length bytes)) 9 (asks (scanRight bytes) 14
 
 -- ---- the caller's bytes afterwards
 
--- new bytes over the front of those that have room for a scan; fewer bytes stay
-unfoldable pub stateWith : List ℕ → List ℕ → List ℕ
-stateWith new old = elim (leb scanLength (length old)) [ true ↦ over new old | false ↦ old ]
-
--- a scan is written where bytes can hold it
+-- a scan that bytes can hold is written over the front of those that have room for one; others stay
 unfoldable pub stateAfter : Scan → List ℕ → List ℕ
-stateAfter s old = elim (keepable s) [ true ↦ stateWith (stateBytes s) old | false ↦ old ]
+stateAfter s old = elim (keepable s && leb scanLength (length old)) [ true ↦ over (stateBytes s) old | false ↦ old ]
 
 -- other numbers after a table's bytes, in bytes that have room for a scan, where two bytes hold the width
 unfoldable pub numbersAfter : ℕ → Taken → Bool → List ℕ → List ℕ
 numbersAfter w k ended old = elim (leb scanLength (length old) && ltb w 65536) [ true ↦ take tableRoom old ++ numbersOf w k ended ++ drop scanLength old | false ↦ old ]
-
--- zeros: no scan, so that each call of it is refused with 14
-abbrev pub noScan : List ℕ
-noScan = replicate scanLength 0

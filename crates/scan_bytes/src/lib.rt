@@ -7,7 +7,7 @@ ghost use Rattle.numbers.specs.Tests.{every};
 ghost use Rattle.numbers.specs.Lists.{over};
 ghost use Rattle.refusals.specs.Answers.{refused};
 ghost use Rattle.refusals.specs.Told.{toldRefusal};
-ghost use Rattle.scan_bytes.specs.ScanBytes.{tableRoom, scanLength, takenNumber, endedNumber, takenOf, keepable, heldWith, tableEnd, scanIn, stateWith, stateAfter, numbersAfter, noScan};
+ghost use Rattle.scan_bytes.specs.ScanBytes.{tableRoom, scanLength, takenNumber, endedNumber, takenOf, keepable, heldWith, tableEnd, scanIn, stateAfter, numbersAfter};
 ghost use Rattle.scan_bytes.specs.Told.{toldRead};
 use refusals::Outcome;
 use refusals::Refusal;
@@ -207,14 +207,4 @@ pub fn write(scan: Scan, state: &mut [u8])
     table.write(state);
     let taken = scan.taken;
     renew(scan.width, taken, scan.ended, state);
-}
-
-// Clears the bytes of a scan: no scan is left there.
-pub fn clear(state: &mut [u8])
-    ensures { λ _. ⌜ now (state .exit) ≡ stateWith noScan (now (state .entry)) ⌝ }
-{
-    if state.len() < SCAN_LENGTH {
-        return;
-    }
-    put_zeros(SCAN_LENGTH, state);
 }

@@ -10,12 +10,11 @@ use Rattle.engine.proofs.suz_scan_begin.Tie as tie
 
 returns : tie.Need-returns
 returns c =
-    let w = c .before .before .before in
-    let t = w .before .before .before in
+    let t = c .before .before in
     let v = t .before .before in
     let a = v .before .before .before .args in
     let g = begin-unread (a .table .now) (a .state .now) _ (sym (v .read .ensures .0) ∙ ap told (t .outcome .given .1)) in
-    (c .refusal-code .ensures ∙ sym (ap (λ (o : Answer Unit). code o) (g .answers)), w .clear .ensures ∙ g .leaves)
+    (c .refusal-code .ensures ∙ sym (ap (λ (o : Answer Unit). code o) (g .answers)), g .leaves)
 
 returns-2 : tie.Need-returns-2
 returns-2 c =
@@ -36,11 +35,9 @@ suz-scan-begin-spec =
     (λ c κs. search needs)
     (λ c. search needs)
     (λ c κs. search needs)
-    (λ c κs. search needs)
     (λ c. search needs)
     (λ c κs. search needs)
     (λ c κs. search needs)
-    (λ c. search needs)
     returns
     (λ c. search needs)
     returns-2)

@@ -3,8 +3,8 @@ use native.Mathlib.Omega.{arith}
 use lib.ListN.{length-map}
 use Rattle.width_table.specs.Bytes.{bytesAfter}
 use Rattle.width_table.specs.FormLists.{Sized}
-use Rattle.scan_bytes.specs.ScanBytes.{stateBytes, numbersAfter}
-use Rattle.scan_bytes.specs.ByteLaws.{Keepable, kept-is, no-room, room, not-kept, kept, all-written}
+use Rattle.scan_bytes.specs.ScanBytes.{numbersAfter}
+use Rattle.scan_bytes.specs.ByteLaws.{Keepable, kept-is, not-kept, no-room, kept, all-written}
 use borrow.Author.Needs.{needs}
 use Rattle.scan_bytes.proofs.write.Statement.{statement}
 use Rattle.scan_bytes.proofs.write.Tie as tie
@@ -23,10 +23,7 @@ returns : tie.Need-returns
 returns c = not-kept _ _ (sym (c .before .keepable .ensures) ∙ c .if1 .left)
 
 returns-2 : tie.Need-returns-2
-returns-2 c =
-    let i = c .before in
-    let a = i .before .before .before .args in
-    no-room (stateBytes (a .scan)) (a .state .now) (omega arith) ∙ kept (a .scan) (a .state .now) (sym (i .before .keepable .ensures) ∙ i .if1 .taken)
+returns-2 c = no-room _ _ (omega arith)
 
 -- the scan is one that bytes can hold
 can : (i : tie.Then1) → Keepable (i .before .before .before .args .scan)
@@ -42,8 +39,7 @@ returns-3 c =
     r .renew .ensures
     ∙ ap (numbersAfter (a .scan .width) (a .scan .taken) (a .scan .ended)) (w .write .ensures .1 ∙ ap (bytesAfter (a .scan .table)) (z .put-zeros .ensures))
     ∙ all-written (a .scan) (can i) (a .state .now) (omega arith)
-    ∙ room (stateBytes (a .scan)) (a .state .now) (omega arith)
-    ∙ kept (a .scan) (a .state .now) (sym (i .before .keepable .ensures) ∙ i .if1 .taken)
+    ∙ kept (a .scan) (a .state .now) (sym (i .before .keepable .ensures) ∙ i .if1 .taken) (omega arith)
 
 pub write-spec : {M : Type 1} → statement M
 write-spec =

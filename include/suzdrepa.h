@@ -206,9 +206,7 @@
  *
  *   done      state is written, for a line or an end also *given, the lines
  *             given, and held as far as it goes
- *   refused   nothing is touched; but a begin that is refused by another
- *             number than 9 leaves a state that counts as ended: zeros, where
- *             there is room for one
+ *   refused   nothing is touched
  *
  * A line or an end is refused 9 at once where the state is too short, and 14
  * where its bytes are not those of a scan that began and has not ended. A
@@ -450,7 +448,8 @@ uint32_t suz_view97(const uint8_t *table, size_t table_len,
  * Reads table, writes state.
  * 0: the state is that of a scan without a line.
  * Refused 1 to 5 of the table's bytes, then 14 where it has more levels than
- * one, 6 and 7, and 9 where the state is shorter than SUZ_SCAN_LENGTH.
+ * one, 6 and 7, and 9 where the state is shorter than SUZ_SCAN_LENGTH. Where
+ * refused, the state is untouched; a scan that it holds goes on.
  */
 uint32_t suz_scan_begin(const uint8_t *table, size_t table_len,
                         uint8_t *state, size_t state_len);

@@ -27,7 +27,7 @@ use Rattle.rolling.specs.declared.Taken.the-variants.{Zero, One, Two, Three, Fo
 use Rattle.rolling.specs.declared.Scan.{Scan}
 use Rattle.rolling.specs.AnswerLaws.{answered-passed}
 use borrow.Author.Tests.{lt-leb, le-ltb}
-use Rattle.scan_bytes.specs.ScanBytes.{tableRoom, scanLength, takenNumber, endedNumber, numbersOf, numberBytes, roomBytes, stateBytes, keepable, takenOf, tableEnd, scanHeld, scanRight, scanIn, stateAfter, numbersAfter}
+use Rattle.scan_bytes.specs.ScanBytes.{tableRoom, scanLength, takenNumber, endedNumber, numbersOf, numberBytes, roomBytes, stateBytes, keepable, takenOf, tableEnd, scanHeld, scanRight, scanIn, endedScan, scanRead, stateAfter, numbersAfter}
 
 -- ---- what bytes can hold
 
@@ -259,6 +259,15 @@ module _ (bytes : List ℕ) where
         (and-intro (tabled && padded && counted) marked
         (and-intro (tabled && padded) counted (and-intro tabled padded (subst T (sym (answered-done true false e)) tt) (subst T (sym z) tt)) (le→leb _ 6 h))
         (le→leb _ 1 k))
+
+  -- the scan that reading gives
+  pub scan-read : {s : Scan} → scanIn bytes ≡ done s → scanRead bytes ≡ scanHeld bytes
+  unfolding scanRead
+  scan-read e = answered-done (scanHeld bytes) endedScan e
+
+  pub ended-read : {r : Reason} → scanIn bytes ≡ refused r → scanRead bytes ≡ endedScan
+  unfolding scanRead
+  ended-read e = answered-refused (scanHeld bytes) endedScan e
 
 -- ---- the caller's bytes afterwards
 

@@ -11,7 +11,7 @@ use Rattle.refusals.specs.Answers.{Answer, done, asks, answered}
 use Rattle.width_table.specs.declared.WidthTable.{WidthTable}
 use Rattle.width_table.specs.Table.{formRight}
 use Rattle.width_table.specs.Fields.{productsTag, tableSize}
-use Rattle.width_table.specs.Bytes.{form, tableIn, tableBytes}
+use Rattle.width_table.specs.Bytes.{form, tableIn, emptyTable, tableBytes}
 use Rattle.rolling.specs.declared.Taken.{Taken}
 use Rattle.rolling.specs.declared.Taken.the-variants.{Zero, One, Two, Three, Four, OddMany, EvenMany}
 use Rattle.rolling.specs.declared.Scan.{Scan}
@@ -93,6 +93,19 @@ scanRight bytes =
 -- 9 for fewer bytes than a scan has, 14 for bytes that are not those of a scan
 unfoldable pub scanIn : List ℕ → Answer Scan
 scanIn bytes = asks (leb scanLength (length bytes)) 9 (asks (scanRight bytes) 14 (done (scanHeld bytes)))
+
+-- what comes back where there is no scan: an empty one that has ended
+abbrev pub endedScan : Scan
+endedScan = record {
+  table = emptyTable;
+  width = 0;
+  taken = Zero;
+  ended = true;
+}
+
+-- The scan that the call of reading gives; its answer is that of `scanIn`.
+unfoldable pub scanRead : List ℕ → Scan
+scanRead bytes = answered (scanIn bytes) (scanHeld bytes) endedScan
 
 -- ---- the caller's bytes afterwards
 

@@ -7,7 +7,7 @@ ghost use Rattle.numbers.specs.Tests.{every};
 ghost use Rattle.numbers.specs.Lists.{over};
 ghost use Rattle.refusals.specs.Answers.{refused};
 ghost use Rattle.refusals.specs.Told.{toldRefusal};
-ghost use Rattle.scan_bytes.specs.ScanBytes.{tableRoom, scanLength, takenNumber, endedNumber, takenOf, keepable, heldWith, tableEnd, scanIn, stateAfter, numbersAfter};
+ghost use Rattle.scan_bytes.specs.ScanBytes.{tableRoom, scanLength, takenNumber, endedNumber, takenOf, keepable, heldWith, tableEnd, scanIn, endedScan, scanRead, stateAfter, numbersAfter};
 ghost use Rattle.scan_bytes.specs.Told.{toldRead};
 use refusals::Outcome;
 use refusals::Refusal;
@@ -67,7 +67,8 @@ fn taken_of(number: u8) -> Taken
 
 // Bytes that hold no scan.
 fn not_read(why: Refusal) -> ScanRead
-    ensures { λ r. ⌜ toldRead r ≡ refused (toldRefusal why) ⌝ }
+    ensures answer { λ r. ⌜ toldRead r ≡ refused (toldRefusal why) ⌝ }
+    ensures scan { λ r. ⌜ r .scan ≡ endedScan ⌝ }
 {
     ScanRead {
         outcome: Outcome::Refused(why),
@@ -125,7 +126,8 @@ fn all_zeros(bytes: &[u8]) -> bool
 
 // The scan that bytes hold: 9, 14.
 pub fn read(state: &[u8]) -> ScanRead
-    ensures { λ r. ⌜ toldRead r ≡ scanIn (now (state .entry)) ⌝ }
+    ensures answer { λ r. ⌜ toldRead r ≡ scanIn (now (state .entry)) ⌝ }
+    ensures scan { λ r. ⌜ r .scan ≡ scanRead (now (state .entry)) ⌝ }
 {
     if state.len() < SCAN_LENGTH {
         return not_read(Refusal::SliceTooShort);

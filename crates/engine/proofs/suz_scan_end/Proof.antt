@@ -20,7 +20,7 @@ returns c =
     let v = t .before .before in
     let a = v .before .before .before .args in
     on-none (λ s. EndCall s (a .held .now) (a .out .now)) (a .state .now) (a .held .now) (a .out .now) (a .given .now) _ _
-    (sym (v .read .ensures) ∙ ap (λ (o : Outcome). told o then done (v .read .result .scan)) (t .outcome .given .1)) (c .refusal-code .ensures)
+    (sym (v .read .ensures .0) ∙ ap (λ (o : Outcome). told o then done (v .read .result .scan)) (t .outcome .given .1)) (c .refusal-code .ensures)
 
 returns-2 : tie.Need-returns-2
 returns-2 c =
@@ -30,7 +30,7 @@ returns-2 c =
     let v = t .before .before in
     let a = v .before .before .before .args in
     on-some (λ s. EndCall s (a .held .now) (a .out .now)) (a .state .now) (a .held .now) (a .out .now) (a .given .now) _ (v .read .result .scan)
-    (sym (v .read .ensures) ∙ ap (λ (o : Outcome). told o then done (v .read .result .scan)) (t .enum-told .given .1))
+    (sym (v .read .ensures .0) ∙ ap (λ (o : Outcome). told o then done (v .read .result .scan)) (t .enum-told .given .1))
     _ _ (l .end .ensures) (end-renews (v .read .result .scan) (a .held .now) (a .out .now) (l .end .ensures)) (w .scan-went .ensures .0) (w .scan-went .ensures .1 .0) (w .scan-went .ensures .1 .1)
 
 pub suz-scan-end-spec : {M : Type 1} → statement M

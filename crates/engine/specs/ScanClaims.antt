@@ -1,5 +1,5 @@
 -- The claim over calls of a rolling scan in the C interface (document 02, jobs 5 and 6): what holds after the calls of a history.
-use Prim.Native.Nat.{ℕ, suc, _+_, _*_, _-_, _^_, _<_, _≤_}
+use Prim.Native.Nat.{ℕ, zero, suc, _+_, _*_, _-_, _^_, _<_, _≤_}
 use mathlib.Core.Bool.{true, false}
 use mathlib.Core.List.{List, [], _∷_, _++_, append-nil}
 use mathlib.Core.Logic.{_↔_}
@@ -10,16 +10,21 @@ use lib.Dec.{T, leb, eqb}
 use lib.ListN.{length, getD, take, drop, replicate, length-replicate, take-append-drop, drop-of-length-le}
 use lib.IntN.{ℤ, pos}
 use Rattle.numbers.specs.Lists.{over}
+use Rattle.numbers.specs.Tests.{is-true}
 use Rattle.refusals.specs.Answers.{Reason, Answer, done, refused, passed, asks, _then_, code, answered}
 use Rattle.refusals.specs.AnswerLaws.{then-done, then-right, then-refused, then-assoc, gives-done, answered-done, answered-refused}
 use Rattle.width_table.specs.declared.WidthTable.{WidthTable}
+use Rattle.width_table.specs.Table.{formRight}
 use Rattle.width_table.specs.Fields.{Field, headBytes, fields}
-use Rattle.width_table.specs.Bytes.{announced, headed, field, formBy, levelsIn, hasFifth, form, tableIn}
+use Rattle.width_table.specs.Bytes.{announced, headed, field, formBy, levelsIn, hasFifth, form, tableIn, tableBytes}
 use Rattle.width_table.specs.FormLists.{Sized}
-use Rattle.width_table.specs.RoundTrip.{read-sized}
+use Rattle.width_table.specs.ReadLaws.{table-read}
+use Rattle.width_table.specs.RoundTrip.{read-sized, written-reads}
 use Rattle.pictures.specs.Pictures.{Admitted, sample}
 use Rattle.pictures.specs.PictureLaws.{over-take}
 use Rattle.precision.specs.Verdict.{verdict}
+use Rattle.precision.specs.Promise.{promise}
+use Rattle.precision.specs.Examples.{usual, usual-accepted}
 use Rattle.irreversible.specs.Claims.{LevelInWidth}
 use Rattle.rolling.specs.declared.Scan.{Scan}
 use Rattle.rolling.specs.Calls.{beginAnswer, scanOf, heldLines, outLines, lineAnswer, givenByLine, LineCall, endAnswer, givenByEnd, scanEnded, EndCall}
@@ -35,19 +40,20 @@ use Rattle.engine.specs.Answers.{checked}
 use Rattle.engine.specs.ScanAnswers.{begins, scanBeginAnswer, scanBeginState, givenAfter, OnScan, OnBytes, LineOnBytes, EndOnBytes}
 use Rattle.engine.specs.ScanHistory.{StateHandedOn, HeldHandedOn, ByteCalls, c-begun, c-line, c-line-refused, c-end, c-end-refused, LeftState, ScannedBytes}
 use Rattle.engine.specs.ScanLaws.{begun-kept}
+use Rattle.engine.specs.Promises.{accepted-checks}
 use Rattle.engine.specs.Zero.{checked-zero, scan-begin-zero, line-from-one, end-from-one, gives-zero}
 
 -- ---- begin
 
-module _ (bytes state : List ℕ) (zero : code (scanBeginAnswer bytes state) ≡ 0) where
+module _ (bytes state : List ℕ) (accepts : code (scanBeginAnswer bytes state) ≡ 0) where
   begun-right : (form bytes ≡ passed) × (beginAnswer (tableIn bytes) ≡ passed)
   unfolding scanBeginAnswer begins
-  begun-right = then-done (form bytes) _ (then-done (begins bytes) _ (scan-begin-zero bytes state zero) .0)
+  begun-right = then-done (form bytes) _ (then-done (begins bytes) _ (scan-begin-zero bytes state accepts) .0)
 
   -- the state where a scan began
   begun-state : scanBeginState bytes state ≡ over (stateBytes (scanOf (tableIn bytes))) state
   unfolding scanBeginState
-  begun-state = answered-done (over (stateBytes (scanOf (tableIn bytes))) state) state (scan-begin-zero bytes state zero)
+  begun-state = answered-done (over (stateBytes (scanOf (tableIn bytes))) state) state (scan-begin-zero bytes state accepts)
 
 headed-other : (tag len : ℕ) (bytes : List ℕ) → Other (headed tag len bytes)
 unfolding headed
@@ -133,10 +139,10 @@ end-done s held out call e = gives-zero (endAnswer s held out) (length (givenByE
 
 module _ (bytes : List ℕ) where
   pub kept-calls : {state : List ℕ} {held : List ℤ} {n : ℕ} {strip : List ℕ} {all : List ℤ} → ByteCalls bytes state held n strip all → Kept bytes state held n strip all
-  kept-calls (c-begun state held zero) =
-      let (formed, passes) = begun-right bytes state zero in
+  kept-calls (c-begun state held accepts) =
+      let (formed, passes) = begun-right bytes state accepts in
       let s = scanOf (tableIn bytes) in
-      record { formed = formed; scan = s; own = ap (take scanLength) (begun-state bytes state zero) ∙ over-own s (can-hold bytes formed (begun held passes)) state; calls = begun held passes }
+      record { formed = formed; scan = s; own = ap (take scanLength) (begun-state bytes state accepts) ∙ over-own s (can-hold bytes formed (begun held passes)) state; calls = begun held passes }
   kept-calls (c-line {state} {now} {state′} {held} {lent} {held′} {n} {strip} {all} {pixels} {w} {out} {out′} {given} {given′} before same again call) =
       let k = kept-calls before in
       let s = k .scan in
@@ -263,8 +269,8 @@ module _ (bytes : List ℕ) (formed : form bytes ≡ passed) where
   calls-on-bytes (begun held e) =
       let s = scanOf (tableIn bytes) in
       let first : List ℕ = replicate scanLength 0 in
-      let zero : code (scanBeginAnswer bytes first) ≡ 0 = ap (λ (o : Answer Unit). code o) (then-right (begins bytes) _ (then-right (form bytes) _ formed ∙ e)) in
-      subst (λ (l : List ℕ). ByteCalls bytes l held 0 [] []) (begun-state bytes first zero ∙ over-state s (can-hold bytes formed (begun held e)) first refl) (c-begun first held zero)
+      let accepts : code (scanBeginAnswer bytes first) ≡ 0 = ap (λ (o : Answer Unit). code o) (then-right (begins bytes) _ (then-right (form bytes) _ formed ∙ e)) in
+      subst (λ (l : List ℕ). ByteCalls bytes l held 0 [] []) (begun-state bytes first accepts ∙ over-state s (can-hold bytes formed (begun held e)) first refl) (c-begun first held accepts)
   calls-on-bytes (line {s} {s′} {held} {lent} {held′} {n} {strip} {given} {pixels} {w} {m} {out} {out′} before same call) =
       let k = can-hold bytes formed before in
       c-line (calls-on-bytes before) refl (lent-again s k held lent same) (on-its-bytes (λ s. LineCall s pixels w lent out) s s′ lent out held′ out′ m k (can-hold bytes formed (line before same call)) call)
@@ -283,9 +289,9 @@ pub c-scanned : (bytes : List ℕ) → code (checked bytes) ≡ 0 → tableIn by
     → (w n : ℕ) → Admitted w → 1 ≤ n → (strip : List ℕ) → length strip ≡ n * w → ((k : ℕ) → getD strip k 0 < 2 ^ tableIn bytes .depth)
     → ScannedBytes bytes n strip
 unfolding checked
-c-scanned bytes zero one w n side some strip size below =
+c-scanned bytes accepts one w n side some strip size below =
     let t = tableIn bytes in
-    let (formed, accepted) = then-done (form bytes) (verdict t) (checked-zero bytes zero) in
+    let (formed, accepted) = then-done (form bytes) (verdict t) (checked-zero bytes accepts) in
     let held = replicate (heldLines * w) (pos 0) in
     let out = replicate (outLines * w) (pos 0) in
     let r = scanned t (one-level t one ∙ accepted) w n side some held out (omega (arith, length-replicate (heldLines * w) (pos 0))) (omega (arith, length-replicate (outLines * w) (pos 0))) strip size below in
@@ -297,6 +303,21 @@ c-scanned bytes zero one w n side some strip size below =
       calls = calls-on-bytes bytes formed (r .calls);
       ended = ap (λ (s : Scan). s .ended) (read-is (stateBytes (r .scan)) (r .scan) (holds-it (r .scan) k)) ∙ r .ended;
     }
+
+-- There are such tables and strips: the usual one and a single pixel, for one.
+pub c-one-scanned : ScannedBytes (tableBytes (usual 1)) 1 (10 ∷ [])
+c-one-scanned =
+    let t = usual 1 in
+    let sized : Sized t = record { constants = refl; nodes = refl; products = refl } in
+    let ok = usual-accepted 1 (omega arith) (omega arith) in
+    let (formed, back) = written-reads t sized (is-true (formRight t) (promise t ok .form)) in
+    let same : t ≡ tableIn (tableBytes t) = sym (sym (table-read (tableBytes t) formed) ∙ back) in
+    c-scanned (tableBytes t) (accepted-checks t sized ok) (sym (ap (λ (t : WidthTable). t .levels) same)) 1 1 (omega arith, omega arith) (omega arith) (10 ∷ []) refl
+    (λ k. subst (λ (t : WidthTable). getD (10 ∷ []) k 0 < 2 ^ t .depth) same (below k))
+  where
+    below : (k : ℕ) → getD (10 ∷ []) k 0 < 256
+    below zero = omega arith
+    below (suc k) = omega arith
 
 -- ---- which states calls leave
 

@@ -16,7 +16,7 @@ use Rattle.lines.specs.Planes.{Plane, side, rows}
 use Rattle.width_table.specs.declared.WidthTable.{WidthTable}
 use Rattle.width_table.specs.Table.{constantBits, integerBits, fractionBits, inputBits}
 use Rattle.pictures.specs.Pictures.{Admitted}
-use Rattle.precision.specs.Products.{productOf}
+use Rattle.table_meaning.specs.Products.{productOf}
 use Rattle.precision.specs.Verdict.{Accepted}
 use Rattle.exact.specs.Picture.{exactPlane}
 use Rattle.irreversible.specs.Transforms.{fixedLine, fixedAfter, fixedPlane}

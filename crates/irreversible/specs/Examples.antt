@@ -7,7 +7,7 @@ use Rattle.lines.specs.Planes.{fromOne, rows, columns, within, side, rowsFirst,
 use Rattle.pictures.specs.Pictures.{sample}
 use Rattle.precision.specs.Examples.{usual}
 use Rattle.stages.specs.Fixed.{nearest, cut, cutProduct, step, scale}
-use Rattle.precision.specs.Products.{productOf}
+use Rattle.table_meaning.specs.Products.{productOf}
 use Rattle.irreversible.specs.Fixed.{atP1, atU1, atP2, atU2, atG1, atG2, fixedLong, fixedPass}
 use Rattle.irreversible.specs.Transforms.{fixedLine, fixedAfter, fixedPlane}
 

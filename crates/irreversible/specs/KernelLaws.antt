@@ -19,7 +19,7 @@ use Rattle.lifting.specs.Passes.{evens, odds}
 use Rattle.lifting.specs.Kernels.{worked, SameKernel, firstHighs, firstLows, secondHighs, secondLows}
 use Rattle.stages.specs.Stages.{Product}
 use Rattle.stages.specs.Fixed.{nearest, cut, step, scale}
-use Rattle.precision.specs.Products.{productOf}
+use Rattle.table_meaning.specs.Products.{productOf}
 use Rattle.irreversible.specs.Fixed.{atP1, atU1, atP2, atU2, atG1, atG2, fixedLong, fixedPass}
 use Rattle.irreversible.specs.Transforms.{fixedLine}
 use Rattle.irreversible.specs.StepLaws.{stepOf, factorOf, step-applied, scale-applied, singleOf, single-applied}

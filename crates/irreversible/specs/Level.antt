@@ -13,7 +13,7 @@ use Rattle.lines.specs.Planes.{Plane, rows, columns}
 use Rattle.width_table.specs.declared.WidthTable.{WidthTable}
 use Rattle.width_table.specs.Table.{maxFractionBits, constantBits, integerBits, fractionBits, inputBits}
 use Rattle.stages.specs.Rule.{Bound}
-use Rattle.precision.specs.Products.{productOf}
+use Rattle.table_meaning.specs.Products.{productOf}
 use Rattle.precision.specs.Bounds.{boundAt, rowBound, passBound}
 use Rattle.irreversible.specs.Transforms.{fixedLine}
 use Rattle.irreversible.specs.Claims.{InWidth, LevelInWidth}

@@ -13,7 +13,7 @@ use Rattle.width_table.specs.Table.{maxConstantBits, maxFractionBits, maxProduc
 use Rattle.width_table.specs.Readers.{fractionBitsAt, inputBitsAt}
 use Rattle.width_table.specs.Numbered.{nodeOf, passOf, IsNode, IsPass, pass-number}
 use Rattle.width_table.specs.Limits.{form-constants, form-widths, fraction-read, input-read}
-use Rattle.precision.specs.Products.{widthOf, productOf}
+use Rattle.table_meaning.specs.Products.{widthOf, productOf}
 use Rattle.precision.specs.Verdict.{Accepted}
 use Rattle.precision.specs.Promise.{promise}
 use Rattle.irreversible.specs.StepLaws.{step-of-wide}

@@ -22,7 +22,7 @@ use Rattle.lifting.specs.Kernels.{SafeKernel, rowOf, columnOf, rowsBy, columnsB
 use Rattle.pictures.specs.MemoryLaws.{Reads, Stands, columnsPlane, columns-in, columns-below, columns-left, columns-right, one-reads, rows-stand, rows-beyond, columns-stand, columns-beyond}
 use Rattle.stages.specs.Stages.{Product}
 use Rattle.stages.specs.Fixed.{cut, step, scale}
-use Rattle.precision.specs.Products.{productOf}
+use Rattle.table_meaning.specs.Products.{productOf}
 use Rattle.irreversible.specs.Fixed.{atP1, atU1, atP2, atU2, atG1, atG2, valueAt, countAt, fixedLong, fixedPass}
 use Rattle.irreversible.specs.Transforms.{fixedLine, fixedLevel}
 use Rattle.irreversible.specs.Sized.{SizedTo, LineSizedTo, Sized, LineSized, LevelSized}

@@ -11,7 +11,7 @@ use Rattle.width_table.specs.Nodes.{Node, G1, Pass, Rows, columnPass}
 use Rattle.width_table.specs.declared.WidthTable.{WidthTable}
 use Rattle.width_table.specs.Table.{constantBits, fractionBits, inputBits}
 use Rattle.pictures.specs.Pictures.{sample}
-use Rattle.precision.specs.Products.{productOf}
+use Rattle.table_meaning.specs.Products.{productOf}
 use Rattle.precision.specs.Verdict.{Accepted}
 use Rattle.irreversible.specs.Fixed.{valueAt, countAt}
 use Rattle.irreversible.specs.Transforms.{fixedLine, fixedAfter}

@@ -20,7 +20,7 @@ use Rattle.width_table.specs.Nodes.{Node, G1, G2, Pass, Rows, LowColumns, HighC
 use Rattle.width_table.specs.Limits.{form-levels, form-widths, form-input}
 use Rattle.width_table.specs.declared.WidthTable.{WidthTable}
 use Rattle.width_table.specs.Table.{maxFractionBits, constantBits, fractionBits, inputBits}
-use Rattle.precision.specs.Products.{productOf}
+use Rattle.table_meaning.specs.Products.{productOf}
 use Rattle.precision.specs.Bounds.{boundAt, rowBound, passBound, entering, boundOf}
 use Rattle.precision.specs.Verdict.{AcceptPromise}
 use Rattle.precision.specs.Promise.{promise}

@@ -3,7 +3,7 @@ use Prim.Native.Nat.{ℕ}
 use Rattle.width_table.specs.Nodes.{Pass}
 use Rattle.width_table.specs.declared.WidthTable.{WidthTable}
 use Rattle.width_table.specs.Table.{constantBits, fractionBits, inputBits}
-use Rattle.precision.specs.Products.{productOf}
+use Rattle.table_meaning.specs.Products.{productOf}
 use Rattle.lifting.specs.Steps.{SameFactor}
 use Rattle.lifting.specs.Kernels.{SamePair, SameKernel, same-two}
 use Rattle.lifting.specs.declared.Kernel.the-variants.{Two}

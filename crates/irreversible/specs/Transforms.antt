@@ -7,7 +7,7 @@ use Rattle.lines.specs.Planes.{Plane, OnLine, OnPart, rowsFirst, levels}
 use Rattle.width_table.specs.Nodes.{Pass, Rows, columnPass}
 use Rattle.width_table.specs.declared.WidthTable.{WidthTable}
 use Rattle.width_table.specs.Table.{constantBits, fractionBits, inputBits}
-use Rattle.precision.specs.Products.{productOf}
+use Rattle.table_meaning.specs.Products.{productOf}
 use Rattle.pictures.specs.Pictures.{sample}
 use Rattle.irreversible.specs.Fixed.{fixedPass}
 

@@ -10,7 +10,7 @@ use Rattle.width_table.specs.declared.WidthTable.{WidthTable}
 use Rattle.width_table.specs.Table.{constantBits, fractionBits, inputBits}
 use Rattle.pictures.specs.Pictures.{sample}
 use Rattle.stages.specs.Fixed.{cut}
-use Rattle.precision.specs.Products.{productOf}
+use Rattle.table_meaning.specs.Products.{productOf}
 use Rattle.irreversible.specs.Fixed.{fixedLong, fixedPass}
 use Rattle.irreversible.specs.Transforms.{fixedLine, fixedAfter, fixedPlane}
 

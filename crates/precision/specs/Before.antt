@@ -1,20 +1,33 @@
 -- The judge without document 02's job 6: G1's error as on lines of two samples or more. No verdict changes by that job (`same-verdict`), with
 -- widths of products (job 7) or without them.
-use Prim.Native.Nat.{ℕ, zero, suc, _^_}
+use Prim.Native.Nat.{ℕ, zero, suc, _^_, max}
 use mathlib.Core.List.{List, [], _∷_}
 use mathlib.Core.Path.{_≡_, refl, _∙_, ap, ap₂, fun-ext}
+use native.Mathlib.Omega.{arith}
 use Rattle.refusals.specs.Answers.{Answer, passed, asks, _then_}
-use Rattle.stages.specs.Stages.{Product}
-use Rattle.stages.specs.Rule.{Bound}
-use Rattle.width_table.specs.Nodes.{Node, G1, G2, Pass, Rows, LowColumns, HighColumns, TableNode, bookOrder}
+use Rattle.stages.specs.Stages.{low, high, Product}
+use Rattle.stages.specs.Rule as Rule
+use Rattle.stages.specs.Rule.{Bound, singleError}
+use Rattle.stages.specs.ForwardLaws.{single-least}
+use Rattle.width_table.specs.Nodes.{Node, P1, U1, P2, U2, G1, G2, Pass, Rows, LowColumns, HighColumns, TableNode, bookOrder}
+use Rattle.width_table.specs.Numbered.{nodeOf}
 use Rattle.width_table.specs.declared.WidthTable.{WidthTable}
 use Rattle.width_table.specs.Table.{constantBits, integerBits, fractionBits, inputBits, formRight}
-use Rattle.precision.specs.Products.{productOf}
-use Rattle.precision.specs.Bounds.{longBound, boundAt, rowBound, passBound, entering, boundOf}
+use Rattle.table_meaning.specs.Products.{productOf}
+use Rattle.precision.specs.Bounds.{boundAfter, boundAt, rowBound, passBound, entering, boundOf}
 use Rattle.precision.specs.Verdict.{keptAt, placeNumbers, judgedBy, judged, firstRefusal, verdict}
-use Rattle.precision.specs.SingleLaws.{same-bound}
 
 -- ---- the rule before, word by word as in Bounds and Verdict
+
+-- the bound of each node on lines of two samples or more
+module _ (F : Node → ℕ) (fp : Node → Product) (fi : ℕ) (b : Bound) (f : Node → ℕ) where
+  unfoldable pub longBound : Node → Bound
+  longBound P1 = boundAfter F fp fi b f high 1
+  longBound U1 = boundAfter F fp fi b f low 2
+  longBound P2 = boundAfter F fp fi b f high 3
+  longBound U2 = boundAfter F fp fi b f low 4
+  longBound G1 = boundAfter F fp fi b f low 5
+  longBound G2 = boundAfter F fp fi b f high 6
 
 module _ (t : WidthTable) (l : ℕ) (b : Bound) where
   unfoldable pub rowBefore : Node → Bound
@@ -48,6 +61,20 @@ verdictBefore t = asks (formRight t) 4 (firstBefore t (bookOrder (t .levels)))
 -- every table, and not those of right form alone
 abbrev pub SameVerdict : Type 0
 SameVerdict = (t : WidthTable) → verdict t ≡ verdictBefore t
+
+-- the larger error of G1 is always the one on longer lines
+module _ (F : Node → ℕ) (fp : Node → Product) (fi : ℕ) (b : Bound) (f : Node → ℕ) where
+  pub same-bound : (n : Node) → boundAt F fp fi b f n ≡ longBound F fp fi b f n
+  unfolding boundAt longBound Rule.boundAt
+  same-bound P1 = refl
+  same-bound U1 = refl
+  same-bound P2 = refl
+  same-bound U2 = refl
+  same-bound G1 =
+      let long = boundAfter F fp fi b f low 5 in
+      let e : max (long .error) (singleError fi b (f G1)) ≡ long .error = omega (arith, single-least b (λ i. F (nodeOf (suc i))) (λ i. fp (nodeOf (suc i))) fi (λ i. f (nodeOf (suc i)))) in
+      ap (λ (x : ℕ). record { range = long .range; error = x }) e
+  same-bound G2 = refl
 
 same-at : (F : Node → ℕ) (fp : Node → Product) (fi : ℕ) (f : Node → ℕ) {b c : Bound} → b ≡ c → boundAt F fp fi b f ≡ longBound F fp fi c f
 same-at F fp fi f {b} e = fun-ext (same-bound F fp fi b f) ∙ ap (λ (x : Bound). longBound F fp fi x f) e

@@ -8,7 +8,7 @@ use Rattle.width_table.specs.Nodes.{Node, P1, U1, P2, U2, G1, G2, Pass, Rows, L
 use Rattle.width_table.specs.Numbered.{nodeOf}
 use Rattle.width_table.specs.declared.WidthTable.{WidthTable}
 use Rattle.width_table.specs.Table.{constantBits, fractionBits, inputBits}
-use Rattle.precision.specs.Products.{productOf}
+use Rattle.table_meaning.specs.Products.{productOf}
 
 -- One pass: F the bits of the constants, fp the widths of the products, fi the input's bits, b the input's bound, f the nodes' bits.
 module _ (F : Node → ℕ) (fp : Node → Product) (fi : ℕ) (b : Bound) (f : Node → ℕ) where
@@ -16,24 +16,15 @@ module _ (F : Node → ℕ) (fp : Node → Product) (fi : ℕ) (b : Bound) (f : 
   abbrev pub boundAfter : Side → ℕ → Bound
   boundAfter = Rule.boundAt forward (together b) (λ i. F (nodeOf (suc i))) (λ i. fp (nodeOf (suc i))) (λ s. fi) (λ i. f (nodeOf (suc i)))
 
-  -- on lines of two samples or more
-  unfoldable pub longBound : Node → Bound
-  longBound P1 = boundAfter high 1
-  longBound U1 = boundAfter low 2
-  longBound P2 = boundAfter high 3
-  longBound U2 = boundAfter low 4
-  longBound G1 = boundAfter low 5
-  longBound G2 = boundAfter high 6
-
-  -- On lines from one sample (document 02, job 6): G1's error is the larger of that and the single sample's, the input's error plus 2^-f
-  -- where f is below the input's bits.
+  -- of each node. On a line of one sample (document 02, job 6) G1 has the input's error plus 2^-f where f is below the input's bits; its error
+  -- is the larger one.
   unfoldable pub boundAt : Node → Bound
-  boundAt P1 = longBound P1
-  boundAt U1 = longBound U1
-  boundAt P2 = longBound P2
-  boundAt U2 = longBound U2
-  boundAt G1 = record { range = longBound G1 .range; error = max (longBound G1 .error) (singleError fi b (f G1)) }
-  boundAt G2 = longBound G2
+  boundAt P1 = boundAfter high 1
+  boundAt U1 = boundAfter low 2
+  boundAt P2 = boundAfter high 3
+  boundAt U2 = boundAfter low 4
+  boundAt G1 = record { range = boundAfter low 5 .range; error = max (boundAfter low 5 .error) (singleError fi b (f G1)) }
+  boundAt G2 = boundAfter high 6
 
 -- The nodes of each pass of level l, where b bounds what enters the level. Columns take range and error of the G node that feeds them.
 module _ (t : WidthTable) (l : ℕ) (b : Bound) where

@@ -14,7 +14,7 @@ use Rattle.width_table.specs.Table.{maxLevels, formRight}
 use Rattle.stages.specs.Stages.{made, bits}
 use Rattle.stages.specs.Gains.{gain, exactGain, sumFrom, sumTo, inputAnswer, nodeAnswer, held}
 use Rattle.stages.specs.Rule as Rule
-use Rattle.precision.specs.Products.{productOf}
+use Rattle.table_meaning.specs.Products.{productOf}
 use Rattle.precision.specs.Bounds
 use Rattle.refusals.specs.Answers.{Answer, passed, refused}
 use Rattle.precision.specs.Verdict.{judged, firstRefusal, verdict, Accepted}
@@ -71,7 +71,7 @@ wide = table 1 [] (level 12 13 2 2 20)
 verdicts :
     verdict (usual 1) ∷ verdict (usual 2) ∷ verdict (usual 3) ∷ verdict (usual 4) ∷ verdict (usual 5) ∷ verdict narrow ∷ verdict rough ∷ verdict wide ∷ []
     ≡ passed ∷ passed ∷ passed ∷ passed ∷ passed ∷ refused (6, 1 ∷ 1 ∷ 1 ∷ []) ∷ refused (7, 1 ∷ 2 ∷ 5 ∷ []) ∷ refused (4, []) ∷ []
-unfolding verdict formRight every firstRefusal judged Bounds.boundOf Bounds.entering Bounds.passBound Bounds.rowBound Bounds.boundAt Bounds.longBound productOf Rule.boundAt Rule.rangeAt Rule.errorAt Rule.owns Rule.ownsBring Rule.ownFrom Rule.brought Rule.ownLift Rule.productLoss Rule.ownScale Rule.loss Rule.timesGain bits upDiv gain exactGain sumFrom sumTo inputAnswer nodeAnswer held made wholesOf lift _⊕_ _⊗_ whole magnitude
+unfolding verdict formRight every firstRefusal judged Bounds.boundOf Bounds.entering Bounds.passBound Bounds.rowBound Bounds.boundAt productOf Rule.boundAt Rule.rangeAt Rule.errorAt Rule.owns Rule.ownsBring Rule.ownFrom Rule.brought Rule.ownLift Rule.productLoss Rule.ownScale Rule.loss Rule.timesGain bits upDiv gain exactGain sumFrom sumTo inputAnswer nodeAnswer held made wholesOf lift _⊕_ _⊗_ whole magnitude
 verdicts = refl
 
 abbrev nth : ℕ → List (Answer Unit) → Answer Unit
@@ -107,7 +107,7 @@ told level pass node = (boundable narrow level pass node, rangeTold narrow level
 bounds-told :
     told 1 1 1 ∷ told 1 1 2 ∷ told 2 1 1 ∷ []
     ≡ (passed, 8959885312, 4224) ∷ (refused (6, 1 ∷ 1 ∷ 1 ∷ []), 0, 0) ∷ (refused (4, []), 0, 0) ∷ []
-unfolding boundable formRight every firstRefusal judged Bounds.boundOf Bounds.entering Bounds.passBound Bounds.rowBound Bounds.boundAt Bounds.longBound productOf Rule.boundAt Rule.rangeAt Rule.errorAt Rule.owns Rule.ownsBring Rule.ownFrom Rule.brought Rule.ownLift Rule.productLoss Rule.ownScale Rule.loss Rule.timesGain bits upDiv gain exactGain sumFrom sumTo inputAnswer nodeAnswer held made wholesOf lift _⊕_ _⊗_ whole magnitude
+unfolding boundable formRight every firstRefusal judged Bounds.boundOf Bounds.entering Bounds.passBound Bounds.rowBound Bounds.boundAt productOf Rule.boundAt Rule.rangeAt Rule.errorAt Rule.owns Rule.ownsBring Rule.ownFrom Rule.brought Rule.ownLift Rule.productLoss Rule.ownScale Rule.loss Rule.timesGain bits upDiv gain exactGain sumFrom sumTo inputAnswer nodeAnswer held made wholesOf lift _⊕_ _⊗_ whole magnitude
 bounds-told = refl
 
 -- ---- widths of products (document 02, job 7)
@@ -131,7 +131,7 @@ cut-verdicts :
     ∷ verdict (holding (usual 1) (repeat 4 (four 44) ++ noProducts 3 ++ repeat 2 (four 0))) ∷ verdict stray ∷ []
     ≡ passed ∷ refused (7, 1 ∷ 2 ∷ 5 ∷ []) ∷ passed ∷ refused (7, 5 ∷ 2 ∷ 5 ∷ []) ∷ refused (7, 1 ∷ 2 ∷ 6 ∷ []) ∷ passed ∷ refused (4, [])
     ∷ refused (4, []) ∷ refused (4, []) ∷ []
-unfolding verdict formRight every firstRefusal judged Bounds.boundOf Bounds.entering Bounds.passBound Bounds.rowBound Bounds.boundAt Bounds.longBound productOf Rule.boundAt Rule.rangeAt Rule.errorAt Rule.owns Rule.ownsBring Rule.ownFrom Rule.brought Rule.ownLift Rule.productLoss Rule.ownScale Rule.loss Rule.timesGain bits upDiv gain exactGain sumFrom sumTo inputAnswer nodeAnswer held made wholesOf lift _⊕_ _⊗_ whole magnitude
+unfolding verdict formRight every firstRefusal judged Bounds.boundOf Bounds.entering Bounds.passBound Bounds.rowBound Bounds.boundAt productOf Rule.boundAt Rule.rangeAt Rule.errorAt Rule.owns Rule.ownsBring Rule.ownFrom Rule.brought Rule.ownLift Rule.productLoss Rule.ownScale Rule.loss Rule.timesGain bits upDiv gain exactGain sumFrom sumTo inputAnswer nodeAnswer held made wholesOf lift _⊕_ _⊗_ whole magnitude
 cut-verdicts = refl
 
 -- So tables with tag 5 are accepted, and refused.
@@ -153,5 +153,5 @@ pub cut-errors :
     ∷ (4224 ∷ 5080 ∷ 16686 ∷ 23004 ∷ 30650 ∷ 18747 ∷ 132228 ∷ 49802 ∷ 82544 ∷ 76852 ∷ 1073830387 ∷ 1073813891 ∷ 82550 ∷ 32574 ∷ 57286 ∷ 56419 ∷ 1073806885 ∷ 1073791904 ∷ [])
     ∷ (134217856 ∷ 81332781 ∷ 286275837 ∷ 312459157 ∷ 359207981 ∷ 249026793 ∷ 1632931304 ∷ 599350152 ∷ 1044091200 ∷ 922423131 ∷ 2134164604 ∷ 1981958800 ∷ 1173225427 ∷ 440456870 ∷ 811643919 ∷ 735326962 ∷ 1919077546 ∷ 1779761921 ∷ [])
     ∷ []
-unfolding Bounds.boundOf Bounds.entering Bounds.passBound Bounds.rowBound Bounds.boundAt Bounds.longBound productOf Rule.boundAt Rule.rangeAt Rule.errorAt Rule.owns Rule.ownsBring Rule.ownFrom Rule.brought Rule.ownLift Rule.productLoss Rule.ownScale Rule.loss Rule.timesGain bits upDiv gain exactGain sumFrom sumTo inputAnswer nodeAnswer held made wholesOf lift _⊕_ _⊗_ whole magnitude
+unfolding Bounds.boundOf Bounds.entering Bounds.passBound Bounds.rowBound Bounds.boundAt productOf Rule.boundAt Rule.rangeAt Rule.errorAt Rule.owns Rule.ownsBring Rule.ownFrom Rule.brought Rule.ownLift Rule.productLoss Rule.ownScale Rule.loss Rule.timesGain bits upDiv gain exactGain sumFrom sumTo inputAnswer nodeAnswer held made wholesOf lift _⊕_ _⊗_ whole magnitude
 cut-errors = refl

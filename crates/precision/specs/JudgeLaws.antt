@@ -19,9 +19,8 @@ use Rattle.width_table.specs.Readers.{constantBitsAt, integerBitsAt, fractionBi
 use Rattle.width_table.specs.Limits.{in-nodes, form-constants, form-widths, constant-read, integer-read, fraction-read, cut-read, input-read}
 use Rattle.stages.specs.Stages.{Product, cutTo}
 use Rattle.stages.specs.Rule.{timesGain, ownLift, ownScale}
-use Rattle.precision.specs.Products.{productOf}
-use Rattle.precision.specs.Bounds.{longBound, rowBound, passBound, boundOf}
-use Rattle.precision.specs.SingleLaws.{same-bound}
+use Rattle.table_meaning.specs.Products.{productOf}
+use Rattle.precision.specs.Bounds.{boundAt, rowBound, passBound, boundOf}
 use Rattle.precision.specs.Verdict.{fits, keptColumn, keptAt, judged, firstRefusal}
 use Rattle.precision.specs.Promise.{each-accepts}
 use Rattle.precision.specs.Places.{places, mostFitting, gainAt, carriedTo, multiplied, other, fed, bitsOf, ownFrom, ownErrorOf, ownHere, ownsOf, ownBy, asHeld, judgedAs, boundOfNode, At, Limited, Read, Enters, Holds}
@@ -122,11 +121,11 @@ module _ {t : WidthTable} {l p : ℕ} {w : Widths} (h : Read t l p w) where
 
 -- ---- what is computed for a pass
 
-bound-fed : (t : WidthTable) (l : ℕ) (p : Pass) (n : Node) → boundOf t (nodeAt l p n) ≡ longBound (constantBits t) (productOf t l p) (inputBits t l p) (fed t l p) (fractionBits t l p) n
+bound-fed : (t : WidthTable) (l : ℕ) (p : Pass) (n : Node) → boundOf t (nodeAt l p n) ≡ boundAt (constantBits t) (productOf t l p) (inputBits t l p) (fed t l p) (fractionBits t l p) n
 unfolding boundOf passBound rowBound
-bound-fed t l Rows n = same-bound (constantBits t) (productOf t l Rows) (inputBits t l Rows) (fed t l Rows) (fractionBits t l Rows) n
-bound-fed t l LowColumns n = same-bound (constantBits t) (productOf t l LowColumns) (inputBits t l LowColumns) (fed t l LowColumns) (fractionBits t l LowColumns) n
-bound-fed t l HighColumns n = same-bound (constantBits t) (productOf t l HighColumns) (inputBits t l HighColumns) (fed t l HighColumns) (fractionBits t l HighColumns) n
+bound-fed t l Rows n = refl
+bound-fed t l LowColumns n = refl
+bound-fed t l HighColumns n = refl
 
 -- x has what v, that enters the pass, carries to each place
 abbrev pub Carries : ℕ → List ℕ → Type 0
@@ -192,7 +191,6 @@ module _ {t : WidthTable} {l p : ℕ} {b : Code.Bound} (h : Enters t l p b) wher
 
   -- all of them: the bounds
   bound-is : (k : ℕ) → IsNode k → bound (timesGain (b .range) (gainAt 0 k)) (carriedTo (ownsOf t l P places) k places) ≡ boundOfNode t l p k
-  unfolding longBound
   bound-is k i =
       ap (λ (r : ℕ). bound (timesGain r (gainAt 0 k)) (carriedTo (ownsOf t l P places) k places)) range-fed
       ∙ ap (λ (r : ℕ). bound r (carriedTo (ownsOf t l P places) k places)) (range-is (constantBits t) (productOf t l P) (inputBits t l P) (fed t l P) (fractionBits t l P) k i)

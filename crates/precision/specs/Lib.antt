@@ -1,11 +1,9 @@
 -- The precision analysis of a width table (document 01: the judge; document 02, jobs 6 and 7).
---   Products    the width of each product
 --   Bounds      range and error of each node, by the rule of the crate stages
 --   Verdict     the verdict: form, then the nodes in book order; and what acceptance promises
 --   BoundCalls  the call that tells range and error of a node
 -- Proved of them:
 --   Promise     promise : Accepted t → AcceptPromise t, accept : AcceptPromise t → Accepted t
---   SingleLaws  job 6: the larger error of G1 is the old one
 --   Before      the analysis without job 6, and same-verdict: no verdict changes by it
 --   Uncut       job 7: the analysis in which no product is cut, and old-bounds, old-verdict: a table without tag 5 keeps its own
 --   Examples    tables that are accepted, tables that are refused 4, 6 and 7, with tag 5 and without it, and bounds of nodes
@@ -15,7 +13,6 @@
 --   PlaceLaws   these are the bounds of Bounds, and small where what enters a pass is small
 --   JudgeLaws   what the program reads and computes for a pass, and its verdict on a node
 --   OrderLaws   the first refusal of a part of the book order; what the program answers step by step
-pub mod Products
 pub mod Bounds
 pub mod Verdict
 pub mod BoundCalls
@@ -24,7 +21,6 @@ pub mod Examples
 pub mod Places
 pub mod PlaceLaws
 pub mod ProductReads
-pub mod SingleLaws
 pub mod Before
 pub mod Uncut
 pub mod JudgeLaws

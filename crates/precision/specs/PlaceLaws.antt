@@ -8,18 +8,18 @@ use native.Mathlib.Nat.{div-mul-le-self, mul-le-mul-left, mul-le-mul-right, le-t
 use lib.Dec.{T, eqb, ltb, leb, leb→le, lit≤}
 use lib.ListN.{getD}
 use lib.Pow.{pow-pos, pow-mono}
-use Rattle.numbers.specs.Tests.{every, both, by-leb, ltb-true, ltb-false}
+use Rattle.numbers.specs.Tests.{every, both, by-leb}
 use Rattle.exact.specs.Fractions.{upDiv}
 use Rattle.width_table.specs.Nodes.{Node, P2, G1, G2, nodeNumber}
 use Rattle.stages.specs.Stages.{low, high, stage, forward, Product, uncut, cutTo, productBits, bits}
-use Rattle.stages.specs.Gains.{samples, node, gain}
-use Rattle.stages.specs.GainTable.{forwardGains, forward-gain}
+use Rattle.stages.specs.GainTable.{forwardGains}
+use Rattle.stages.specs.ForwardLaws as Forward
 use Rattle.stages.specs.Rule as Rule
-use Rattle.stages.specs.Rule.{Bound, together, timesGain, loss, productLoss, ownLift, ownScale, brought}
+use Rattle.stages.specs.Rule.{Bound, together, timesGain, loss, productLoss, ownLift, ownScale}
 use Rattle.stages.specs.Held.{weighed}
 use Rattle.stages.specs.RuleLaws as RuleLaws
-use Rattle.stages.specs.RuleLaws.{timesGain-zero, timesGain-none, timesGain-one, weighed-ext, error-sum, bound-start, bound-kept}
-use Rattle.precision.specs.Bounds.{longBound}
+use Rattle.stages.specs.RuleLaws.{timesGain-zero, timesGain-none, timesGain-one, bound-start, bound-kept}
+use Rattle.precision.specs.Bounds.{boundAt}
 use Rattle.precision.specs.Places.{places, mostFitting, gainAt, carriedTo, multiplied, other, bitsAt, ownAt, totalAt, ownFrom, ownsBelow}
 use Rattle.width_table.specs.Numbered.{nodeOf, IsNode}
 
@@ -110,45 +110,38 @@ module _ (F : Node → ℕ) (fp : Node → Product) (fi : ℕ) (b : Bound) (f : 
 
   -- the first stage multiplies the input, and G2 what P2 left
   pub own-is : (k : ℕ) → IsNode k → ownAt F fp fi b f k ≡ ownFrom F fp fi b f k (totalAt F fp fi b f (multiplied k))
-  unfolding ownAt ownFrom totalAt longBound bits RuleLaws.ownAt Rule.ownFrom Rule.boundAt
+  unfolding ownAt ownFrom totalAt boundAt bits RuleLaws.ownAt Rule.ownFrom Rule.boundAt
   own-is =
       by-place _
       (ap (λ (x : Bound). ownLift (fps 0) (Fs 0) fi fi (fs 0) (x .range + x .error)) (bound-start forward (together b) Fs fps (λ s. fi) fs low))
       refl refl refl refl
       (ap (λ (x : Bound). ownScale (Fs 5) (fs 2) (fs 5) (x .range + x .error)) (bound-kept forward (together b) Fs fps (λ s. fi) fs 4 high refl ∙ bound-kept forward (together b) Fs fps (λ s. fi) fs 3 high refl))
 
-  pub range-is : (k : ℕ) → IsNode k → timesGain (b .range) (gainAt 0 k) ≡ longBound F fp fi b f (nodeOf k) .range
-  unfolding longBound Rule.boundAt Rule.rangeAt brought
+  pub range-is : (k : ℕ) → IsNode k → timesGain (b .range) (gainAt 0 k) ≡ boundAt F fp fi b f (nodeOf k) .range
+  unfolding boundAt Rule.boundAt
   range-is = by-place _ (at 1 (lit≤ tt)) (at 2 (lit≤ tt)) (at 3 (lit≤ tt)) (at 4 (lit≤ tt)) (at 5 (lit≤ tt)) (at 6 (lit≤ tt))
     where
-      at : (k : ℕ) → k < places → timesGain (b .range) (gainAt 0 k) ≡ timesGain (b .range) (gain forward (stage forward (k - 1) .side) k samples)
-      at k h = ap (timesGain (b .range)) (sym (forward-gain 0 k (omega arith) (omega arith)))
+      at : (k : ℕ) → k < places → timesGain (b .range) (gainAt 0 k) ≡ Rule.rangeAt forward (together b) Fs fps (λ s. fi) fs (stage forward (k - 1) .side) k
+      at k h = sym (Forward.range-at b Fs fps fi fs k h)
 
   -- the error of a node by numbers
-  pub error-at : (k : ℕ) → k < places → Rule.errorAt forward (together b) Fs fps (λ s. fi) fs (stage forward (k - 1) .side) k ≡ timesGain (b .error) (gainAt 0 k) + weighed (λ i. gainAt (suc i) k) (RuleLaws.ownAt forward (together b) Fs fps (λ s. fi) fs) k
-  unfolding brought
-  error-at k h =
-      omega (
-        arith,
-        error-sum forward (together b) Fs fps (λ s. fi) fs (stage forward (k - 1) .side) k,
-        ap (timesGain (b .error)) (forward-gain 0 k (omega arith) (omega arith)),
-        weighed-ext (λ i. gain forward (stage forward (k - 1) .side) k (node i)) (λ i. gainAt (suc i) k) (RuleLaws.ownAt forward (together b) Fs fps (λ s. fi) fs) k (λ i l. forward-gain (suc i) k (omega arith) (omega arith)),
-      )
+  error-at : (k : ℕ) → k < places → Rule.errorAt forward (together b) Fs fps (λ s. fi) fs (stage forward (k - 1) .side) k ≡ timesGain (b .error) (gainAt 0 k) + weighed (λ i. gainAt (suc i) k) (RuleLaws.ownAt forward (together b) Fs fps (λ s. fi) fs) k
+  error-at = Forward.error-at b Fs fps fi fs
 
-  pub error-is : (k : ℕ) → IsNode k → carriedTo (ownsBelow F fp fi b f places) k places ≡ longBound F fp fi b f (nodeOf k) .error
-  unfolding carriedTo ownsBelow ownAt longBound Rule.boundAt weighed
+  pub error-is : (k : ℕ) → IsNode k → carriedTo (ownsBelow F fp fi b f places) k places ≡ boundAt F fp fi b f (nodeOf k) .error
+  unfolding carriedTo ownsBelow ownAt boundAt Rule.boundAt weighed
   error-is =
       by-place _
       (simp timesGain-none (omega (arith, error-at 1 (lit≤ tt))))
       (simp timesGain-none (omega (arith, error-at 2 (lit≤ tt))))
       (simp timesGain-none (omega (arith, error-at 3 (lit≤ tt))))
       (simp timesGain-none (omega (arith, error-at 4 (lit≤ tt))))
-      (simp timesGain-none (omega (arith, error-at 5 (lit≤ tt))))
+      (simp timesGain-none (omega (arith, error-at 5 (lit≤ tt), Forward.single-least b Fs fps fi fs)))
       (simp timesGain-none (omega (arith, error-at 6 (lit≤ tt), timesGain-none (RuleLaws.ownAt forward (together b) Fs fps (λ s. fi) fs 3), timesGain-none (RuleLaws.ownAt forward (together b) Fs fps (λ s. fi) fs 4))))
 
   -- what the places below k carry to the place that k multiplies
   pub total-is : (k : ℕ) → IsNode k → timesGain (b .range) (gainAt 0 (multiplied k)) + carriedTo (ownsBelow F fp fi b f k) (multiplied k) places ≡ totalAt F fp fi b f (multiplied k)
-  unfolding carriedTo ownsBelow ownAt totalAt longBound Rule.boundAt weighed
+  unfolding carriedTo ownsBelow ownAt totalAt boundAt Rule.boundAt weighed
   total-is =
       by-place _
       (simp (timesGain-zero, timesGain-one) (omega arith))
@@ -176,14 +169,6 @@ loss-most f full = go (ltb f full)
     go : (t : Bool) → elim t [ true ↦ 2 ^ (32 - f) | false ↦ 0 ] ≤ 2 ^ 32
     go true = pow-mono {i = 32 - f} {j = 32} (omega arith)
     go false = lit≤ tt
-
-pub loss-below : (f full : ℕ) → f < full → loss f full ≡ 2 ^ (32 - f)
-unfolding loss
-loss-below f full h = ap (λ (t : Bool). elim t [ true ↦ 2 ^ (32 - f) | false ↦ 0 ]) (ltb-true f full h)
-
-pub loss-none : (f full : ℕ) → full ≤ f → loss f full ≡ 0
-unfolding loss
-loss-none f full h = ap (λ (t : Bool). elim t [ true ↦ 2 ^ (32 - f) | false ↦ 0 ]) (ltb-false f full h)
 
 -- a division rounded up gives no more than what is divided
 up-most : (a k : ℕ) → upDiv a (2 ^ k) ≤ a

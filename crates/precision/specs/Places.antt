@@ -15,8 +15,8 @@ use Rattle.stages.specs.Stages.{forward, Product, cutTo}
 use Rattle.stages.specs.GainTable.{forwardGains}
 use Rattle.stages.specs.RuleLaws as RuleLaws
 use Rattle.stages.specs.Rule.{Bound, together, timesGain, ownLift, ownScale}
-use Rattle.precision.specs.Products.{productOf}
-use Rattle.precision.specs.Bounds.{longBound, boundOf, entering}
+use Rattle.table_meaning.specs.Products.{productOf}
+use Rattle.precision.specs.Bounds.{boundAt, boundOf, entering}
 use Rattle.precision.specs.declared.Bound as Code
 use Rattle.precision.specs.declared.PassBounds.{PassBounds}
 use Rattle.precision.specs.declared.Widths.{Widths}
@@ -65,7 +65,7 @@ module _ (F : Node → ℕ) (fp : Node → Product) (fi : ℕ) (b : Bound) (f : 
   -- range plus error of a place
   unfoldable pub totalAt : ℕ → ℕ
   totalAt zero = b .range + b .error
-  totalAt (suc k) = longBound F fp fi b f (nodeOf (suc k)) .range + longBound F fp fi b f (nodeOf (suc k)) .error
+  totalAt (suc k) = boundAt F fp fi b f (nodeOf (suc k)) .range + boundAt F fp fi b f (nodeOf (suc k)) .error
 
   -- the own error of place k where r is the range plus error of the value that it multiplies
   unfoldable pub ownFrom : ℕ → ℕ → ℕ

@@ -16,7 +16,7 @@ use Rattle.width_table.specs.Numbered.{nodeOf, passOf, IsProduct, node-number, 
 use Rattle.width_table.specs.Table.{maxConstantBits, maxFractionBits, maxProductBits, productPlace, productWidth}
 use Rattle.width_table.specs.Readers.{cutAt}
 use Rattle.width_table.specs.Limits.{cut-read}
-use Rattle.precision.specs.Products.{widthOf, productOf}
+use Rattle.table_meaning.specs.Products.{widthOf, productOf}
 use Rattle.precision.specs.Places.{At}
 
 -- the stages that lift, by number

@@ -1,9 +1,9 @@
 -- The analysis as it was before document 02's job 7, by the rule in which no product is cut. A table without tag 5 has its old ranges and
 -- errors (`old-bounds`) and its old verdict (`old-verdict`).
 use Prim.Native.Nat.{ℕ, zero, suc, _^_, max}
-use mathlib.Core.Bool.{Bool, false}
+use mathlib.Core.Bool.{false}
 use mathlib.Core.List.{List, [], _∷_}
-use mathlib.Core.Path.{_≡_, refl, _∙_, ap, ap₂, fun-ext}
+use mathlib.Core.Path.{_≡_, refl, _∙_, ap, ap₂}
 use Rattle.refusals.specs.Answers.{Answer, passed, asks, _then_}
 use Rattle.stages.specs.Stages.{Side, low, high, forward, uncut}
 use Rattle.stages.specs.Rule.{Bound, together, singleError}
@@ -11,9 +11,10 @@ use Rattle.stages.specs.UncutRule.{oldBoundAt, old-bound}
 use Rattle.width_table.specs.Nodes.{Node, P1, U1, P2, U2, G1, G2, Pass, Rows, LowColumns, HighColumns, TableNode, bookOrder}
 use Rattle.width_table.specs.Numbered.{nodeOf}
 use Rattle.width_table.specs.declared.WidthTable.{WidthTable}
-use Rattle.width_table.specs.Table.{constantBits, integerBits, fractionBits, inputBits, productWidth, formRight}
-use Rattle.precision.specs.Products.{widthOf, productOf}
-use Rattle.precision.specs.Bounds.{boundAfter, longBound, boundAt, rowBound, passBound, entering, boundOf}
+use Rattle.width_table.specs.Table.{constantBits, integerBits, fractionBits, inputBits, formRight}
+use Rattle.table_meaning.specs.Products.{productOf}
+use Rattle.table_meaning.specs.ProductLaws.{none-cut}
+use Rattle.precision.specs.Bounds.{boundAfter, boundAt, rowBound, passBound, entering, boundOf}
 use Rattle.precision.specs.Verdict.{keptAt, placeNumbers, judgedBy, judged, firstRefusal, verdict}
 
 -- ---- the analysis before, word by word as in Bounds and Verdict
@@ -22,21 +23,13 @@ module _ (F : Node → ℕ) (fi : ℕ) (b : Bound) (f : Node → ℕ) where
   abbrev oldAfter : Side → ℕ → Bound
   oldAfter = oldBoundAt forward (together b) (λ i. F (nodeOf (suc i))) (λ s. fi) (λ i. f (nodeOf (suc i)))
 
-  unfoldable pub oldLong : Node → Bound
-  oldLong P1 = oldAfter high 1
-  oldLong U1 = oldAfter low 2
-  oldLong P2 = oldAfter high 3
-  oldLong U2 = oldAfter low 4
-  oldLong G1 = oldAfter low 5
-  oldLong G2 = oldAfter high 6
-
   unfoldable pub oldAt : Node → Bound
-  oldAt P1 = oldLong P1
-  oldAt U1 = oldLong U1
-  oldAt P2 = oldLong P2
-  oldAt U2 = oldLong U2
-  oldAt G1 = record { range = oldLong G1 .range; error = max (oldLong G1 .error) (singleError fi b (f G1)) }
-  oldAt G2 = oldLong G2
+  oldAt P1 = oldAfter high 1
+  oldAt U1 = oldAfter low 2
+  oldAt P2 = oldAfter high 3
+  oldAt U2 = oldAfter low 4
+  oldAt G1 = record { range = oldAfter low 5 .range; error = max (oldAfter low 5 .error) (singleError fi b (f G1)) }
+  oldAt G2 = oldAfter high 6
 
 module _ (t : WidthTable) (l : ℕ) (b : Bound) where
   unfoldable pub oldRow : Node → Bound
@@ -67,40 +60,18 @@ oldVerdict t = asks (formRight t) 4 (oldFirst t (bookOrder (t .levels)))
 
 -- ---- a table without tag 5
 
--- no product has a width
-pub none-cut : (t : WidthTable) (l : ℕ) (p : Pass) → t .five ≡ false → productOf t l p ≡ λ n. uncut
-unfolding productOf
-none-cut t l p e = fun-ext go
-  where
-    go : (n : Node) → productOf t l p n ≡ uncut
-    go P1 = ap (λ (b : Bool). widthOf b (productWidth t l p P1)) e
-    go U1 = ap (λ (b : Bool). widthOf b (productWidth t l p U1)) e
-    go P2 = ap (λ (b : Bool). widthOf b (productWidth t l p P2)) e
-    go U2 = ap (λ (b : Bool). widthOf b (productWidth t l p U2)) e
-    go G1 = refl
-    go G2 = refl
-
 module _ (F : Node → ℕ) (fi : ℕ) (b : Bound) (f : Node → ℕ) where
   after-same : (s : Side) (m : ℕ) → boundAfter F (λ n. uncut) fi b f s m ≡ oldAfter F fi b f s m
   after-same = old-bound forward (together b) (λ i. F (nodeOf (suc i))) (λ s. fi) (λ i. f (nodeOf (suc i)))
 
-  long-same : (n : Node) → longBound F (λ n. uncut) fi b f n ≡ oldLong F fi b f n
-  unfolding longBound oldLong
-  long-same P1 = after-same high 1
-  long-same U1 = after-same low 2
-  long-same P2 = after-same high 3
-  long-same U2 = after-same low 4
-  long-same G1 = after-same low 5
-  long-same G2 = after-same high 6
-
   at-same : (n : Node) → boundAt F (λ n. uncut) fi b f n ≡ oldAt F fi b f n
   unfolding boundAt oldAt
-  at-same P1 = long-same P1
-  at-same U1 = long-same U1
-  at-same P2 = long-same P2
-  at-same U2 = long-same U2
-  at-same G1 = ap (λ (x : Bound). record { range = x .range; error = max (x .error) (singleError fi b (f G1)) }) (long-same G1)
-  at-same G2 = long-same G2
+  at-same P1 = after-same high 1
+  at-same U1 = after-same low 2
+  at-same P2 = after-same high 3
+  at-same U2 = after-same low 4
+  at-same G1 = ap (λ (x : Bound). record { range = x .range; error = max (x .error) (singleError fi b (f G1)) }) (after-same low 5)
+  at-same G2 = after-same high 6
 
 module _ (t : WidthTable) (e : t .five ≡ false) where
   pass-at : (l : ℕ) (p : Pass) (n : Node) {b b′ : Bound} → b ≡ b′ → boundAt (constantBits t) (productOf t l p) (inputBits t l p) b (fractionBits t l p) n ≡ oldAt (constantBits t) (inputBits t l p) b′ (fractionBits t l p) n

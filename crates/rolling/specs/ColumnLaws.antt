@@ -7,7 +7,7 @@ use Rattle.stages.specs.Fixed.{step}
 use Rattle.width_table.specs.Nodes.{P1, U1, P2, U2}
 use Rattle.width_table.specs.declared.WidthTable.{WidthTable}
 use Rattle.width_table.specs.Table.{constantBits, fractionBits, inputBits}
-use Rattle.precision.specs.Products.{productOf}
+use Rattle.table_meaning.specs.Products.{productOf}
 use Rattle.rolling.specs.Schedule.{passOf, lineP1, lineU1, lineP2, lineU2}
 use Rattle.rolling.specs.Memory.{lineIn, moved, column, put, column-set}
 use Rattle.rolling.specs.Program.{setP1, setU1, setP2, setU2, firstDone, secondDone, firstKept}

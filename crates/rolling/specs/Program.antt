@@ -14,7 +14,7 @@ use Rattle.lifting.specs.declared.Step.{Step}
 use Rattle.lifting.specs.declared.Factor.{Factor}
 use Rattle.lifting.specs.Steps.{Same, SameFactor}
 use Rattle.precision.specs.Promise.{promise}
-use Rattle.precision.specs.Products.{productOf}
+use Rattle.table_meaning.specs.Products.{productOf}
 use Rattle.irreversible.specs.StepLaws.{step-applied, scale-applied, single-applied}
 use Rattle.irreversible.specs.KernelLaws.{sP1, sU1, sP2, sU2, sG1, sG2, singleFor}
 use Rattle.irreversible.specs.SafeLaws.{Limits}

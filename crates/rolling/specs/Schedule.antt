@@ -14,7 +14,7 @@ use Rattle.width_table.specs.Nodes.{P1, U1, P2, U2, G1, G2, Pass, columnPass}
 use Rattle.width_table.specs.declared.WidthTable.{WidthTable}
 use Rattle.width_table.specs.Table.{constantBits, fractionBits, inputBits}
 use Rattle.stages.specs.Fixed.{cut, step, scale}
-use Rattle.precision.specs.Products.{productOf}
+use Rattle.table_meaning.specs.Products.{productOf}
 use Rattle.rolling.specs.declared.Taken.{Taken}
 use Rattle.rolling.specs.declared.Taken.the-variants.{Zero, One, Two, Three, Four, OddMany, EvenMany}
 

@@ -13,7 +13,7 @@ use Rattle.width_table.specs.Nodes.{Node, P1, U1, P2, U2, G1, G2, Pass}
 use Rattle.width_table.specs.declared.WidthTable.{WidthTable}
 use Rattle.width_table.specs.Table.{constantBits, fractionBits, inputBits}
 use Rattle.stages.specs.Fixed.{cut, step, scale}
-use Rattle.precision.specs.Products.{productOf}
+use Rattle.table_meaning.specs.Products.{productOf}
 use Rattle.irreversible.specs.Fixed.{atP1, atU1, atP2, atU2, atG1, atG2, valueAt, countAt, fixedLong, fixedPass}
 use Rattle.irreversible.specs.Transforms.{fixedLine}
 use Rattle.rolling.specs.declared.Taken.{Taken}

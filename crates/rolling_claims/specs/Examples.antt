@@ -13,7 +13,7 @@ use Rattle.width_table.specs.Nodes.{Rows}
 use Rattle.width_table.specs.declared.WidthTable.{WidthTable}
 use Rattle.pictures.specs.Pictures.{sample}
 use Rattle.stages.specs.Fixed as F
-use Rattle.precision.specs.Products.{productOf}
+use Rattle.table_meaning.specs.Products.{productOf}
 use Rattle.irreversible.specs.Fixed as X
 use Rattle.irreversible.specs.Transforms.{fixedLine, fixedAfter, fixedPlane}
 use Rattle.rolling.specs.declared.Taken.{Taken}

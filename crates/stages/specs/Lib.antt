@@ -16,6 +16,8 @@
 --   UncutRule  the rule of document 01, in which no product is cut, and that it is this one without widths of products
 -- Of the two passes:
 --   GainTable  the gains as numbers
+--   ForwardLaws   the bounds of the forward pass by these numbers; single-least: the error of a single sample is never above that of G1 on
+--              longer lines
 --   Examples   worked bounds
 -- Proofs: Linear, Held, Walk, Own lead to Sound, in this order; OnLine has the stages on a line of n samples.
 pub mod Stages
@@ -34,5 +36,6 @@ pub mod Walk
 pub mod Own
 pub mod Sound
 pub mod Single
+pub mod ForwardLaws
 pub mod ProductLaws
 pub mod UncutRule

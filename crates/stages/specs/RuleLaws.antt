@@ -1,19 +1,21 @@
--- Laws of the rule: the error as a sum over the stages; what enters has its own bound; a side that a stage does not work keeps its bound;
--- the bounds grow with what enters.
+-- Laws of the rule: products by a gain; what a cut loses; the error as a sum over the stages; what enters has its own bound; a side that a
+-- stage does not work keeps its bound; the bounds grow with what enters.
 use mathlib.Core.List.{List}
 use Prim.Native.Nat.{ℕ, zero, suc, _+_, _*_, _-_, _^_, _<_, _≤_}
 use mathlib.Core.Path.{_≡_, refl, _∙_, ap, fun-ext}
+use mathlib.Core.Bool.{Bool, true, false}
 use native.Mathlib.Omega.{arith}
-use native.Mathlib.Nat.{mul-le-mul, le-trans, le-div-iff-mul-le, div-mul-le-self}
+use native.Mathlib.Nat.{mul-le-mul, mul-le-mul-left, le-trans, le-div-iff-mul-le, div-mul-le-self}
 use lib.Dec.{lit<}
 use lib.Pow.{pow-pos}
 use lib.IntN.{ℤ, pos, negsuc}
+use Rattle.numbers.specs.Tests.{ltb-true, ltb-false}
 use Rattle.exact.specs.Fractions.{Frac, _≈_, _⊕_, whole, magnitude, upDiv, wholesOf}
 use Rattle.exact.specs.FracLaws.{≈-trans, ⊕-cong, ⊕-zero-r, zeroF}
 use Rattle.stages.specs.Stages.{Side, low, high, Kind, lifts, scales, Stage, stage, Product, made, worked}
 use Rattle.stages.specs.OnLine.{other}
 use Rattle.stages.specs.Gains.{Line, before, after, held, nothing, unit, feed, only, sumTo, Source, samples, lows, highs, node, inputAnswer, nodeAnswer, sumFrom, exactGain, gain}
-use Rattle.stages.specs.Rule.{Bound, timesGain, ownLift, ownScale, Entering, together, apart, carried, brought, rangeAt, ownFrom, ownsBring, owns, errorAt, boundAt}
+use Rattle.stages.specs.Rule.{Bound, timesGain, loss, ownLift, ownScale, Entering, together, apart, carried, brought, rangeAt, ownFrom, ownsBring, owns, errorAt, boundAt}
 use Rattle.stages.specs.Held.{enters, weighed, nodesBring, node-later}
 use Rattle.stages.specs.Endless.{magnitude-zero, endless-gain, wholes-≈}
 
@@ -30,6 +32,21 @@ timesGain-none x = omega arith
 pub timesGain-one : (x : ℕ) → timesGain x 65536 ≡ x
 unfolding timesGain upDiv
 timesGain-one x = omega arith
+
+-- by a gain of 1 or more
+pub times-least : (x g : ℕ) → 65536 ≤ g → x ≤ timesGain x g
+unfolding timesGain upDiv
+times-least x g h = omega (arith, mul-le-mul-left x h)
+
+-- ---- what a cut loses
+
+pub loss-below : (f full : ℕ) → f < full → loss f full ≡ 2 ^ (32 - f)
+unfolding loss
+loss-below f full h = ap (λ (t : Bool). elim t [ true ↦ 2 ^ (32 - f) | false ↦ 0 ]) (ltb-true f full h)
+
+pub loss-none : (f full : ℕ) → full ≤ f → loss f full ≡ 0
+unfolding loss
+loss-none f full h = ap (λ (t : Bool). elim t [ true ↦ 2 ^ (32 - f) | false ↦ 0 ]) (ltb-false f full h)
 
 -- ---- the error as a sum
 

@@ -16,7 +16,7 @@ use Rattle.stages.specs.Stages.{made, bits}
 use Rattle.stages.specs.Gains.{gain, exactGain, sumFrom, sumTo, inputAnswer, nodeAnswer, held}
 use Rattle.stages.specs.Rule as Rule
 use Rattle.precision.specs.Bounds as Judge
-use Rattle.precision.specs.Products.{productOf}
+use Rattle.table_meaning.specs.Products.{productOf}
 use Rattle.precision.specs.Verdict.{judged, firstRefusal, verdict}
 use Rattle.view_precision.specs.Bounds
 use Rattle.view_precision.specs.Products.{SeenAlike, same-nodes}
@@ -124,7 +124,7 @@ all-figures :
     ∷ are passed true true 291199 9605421042
     ∷ are (refused (7, 1 ∷ 2 ∷ 5 ∷ [])) true true 291199 9605421042
     ∷ []
-unfolding viewVerdict viewable pixelBound viewDistance nodesRight Bounds.givesFrom Bounds.levelGives Bounds.passBound Bounds.fromLow Bounds.fromHigh Bounds.stored Bounds.larger Bounds.even Bounds.odd Bounds.boundAt Bounds.passGives viewVerdictBefore Before.viewableBefore pixelBoundBefore viewDistanceBefore nodesRightBefore Before.givesFromBefore Before.levelGivesBefore Before.passBoundBefore Before.fromLowBefore Before.fromHighBefore Before.boundAtBefore Before.passGivesBefore verdict formRight every firstRefusal judged Judge.boundOf Judge.entering Judge.passBound Judge.rowBound Judge.boundAt Judge.longBound productOf Rule.boundAt Rule.rangeAt Rule.errorAt Rule.owns Rule.ownsBring Rule.ownFrom Rule.brought Rule.ownLift Rule.productLoss Rule.ownScale Rule.loss Rule.timesGain bits upDiv gain exactGain sumFrom sumTo inputAnswer nodeAnswer held made wholesOf lift _⊕_ _⊗_ neg whole magnitude
+unfolding viewVerdict viewable pixelBound viewDistance nodesRight Bounds.givesFrom Bounds.levelGives Bounds.passBound Bounds.fromLow Bounds.fromHigh Bounds.stored Bounds.larger Bounds.even Bounds.odd Bounds.boundAt Bounds.passGives viewVerdictBefore Before.viewableBefore pixelBoundBefore viewDistanceBefore nodesRightBefore Before.givesFromBefore Before.levelGivesBefore Before.passBoundBefore Before.fromLowBefore Before.fromHighBefore Before.boundAtBefore Before.passGivesBefore verdict formRight every firstRefusal judged Judge.boundOf Judge.entering Judge.passBound Judge.rowBound Judge.boundAt productOf Rule.boundAt Rule.rangeAt Rule.errorAt Rule.owns Rule.ownsBring Rule.ownFrom Rule.brought Rule.ownLift Rule.productLoss Rule.ownScale Rule.loss Rule.timesGain bits upDiv gain exactGain sumFrom sumTo inputAnswer nodeAnswer held made wholesOf lift _⊕_ _⊗_ neg whole magnitude
 all-figures = refl
 
 abbrev nth : ℕ → List Figures → Figures

@@ -25,7 +25,7 @@ use Rattle.width_table.specs.Limits.{form-depth, form-levels}
 use Rattle.width_table.specs.declared.WidthTable.{WidthTable}
 use Rattle.width_table.specs.Table.{maxDepth, maxLevels, maxConstantBits, maxIntegerBits, maxFractionBits, levelBytes, integerBits, formRight}
 use Rattle.precision.specs.Bounds as Judge
-use Rattle.precision.specs.Products.{productOf}
+use Rattle.table_meaning.specs.Products.{productOf}
 use Rattle.precision.specs.Verdict.{judged, firstRefusal, verdict, Accepted, AcceptPromise}
 use Rattle.precision.specs.Promise.{promise}
 use Rattle.view_precision.specs.Bounds
@@ -165,7 +165,7 @@ answer k l = getD l k passed
 verdicts :
     viewVerdict (leastTable (deepest 1) 1) ∷ viewVerdict (leastTable (deepest 2) 2) ∷ viewVerdict (leastTable (deepest 3) 3) ∷ viewVerdict (leastTable (deepest 4) 4) ∷ viewVerdict (leastTable (deepest 5) 5) ∷ verdict (leastTable (deepest 2 + 1) 2) ∷ verdict (leastTable (deepest 3 + 1) 3) ∷ verdict (leastTable (deepest 4 + 1) 4) ∷ verdict (leastTable (deepest 5 + 1) 5) ∷ []
     ≡ passed ∷ passed ∷ passed ∷ passed ∷ passed ∷ passed ∷ passed ∷ passed ∷ passed ∷ []
-unfolding viewVerdict viewable pixelBound nodesRight givesFrom levelGives Bounds.passBound Bounds.fromLow Bounds.fromHigh stored verdict formRight every firstRefusal judged Judge.boundOf Judge.entering Judge.passBound Judge.rowBound Judge.boundAt Judge.longBound productOf Bounds.larger Bounds.even Bounds.odd Bounds.passGives Bounds.boundAt Rule.boundAt Rule.rangeAt Rule.errorAt Rule.owns Rule.ownsBring Rule.ownFrom Rule.brought Rule.ownLift Rule.productLoss Rule.ownScale Rule.loss Rule.timesGain bits upDiv gain exactGain sumFrom sumTo inputAnswer nodeAnswer held made wholesOf lift _⊕_ _⊗_ neg whole magnitude
+unfolding viewVerdict viewable pixelBound nodesRight givesFrom levelGives Bounds.passBound Bounds.fromLow Bounds.fromHigh stored verdict formRight every firstRefusal judged Judge.boundOf Judge.entering Judge.passBound Judge.rowBound Judge.boundAt productOf Bounds.larger Bounds.even Bounds.odd Bounds.passGives Bounds.boundAt Rule.boundAt Rule.rangeAt Rule.errorAt Rule.owns Rule.ownsBring Rule.ownFrom Rule.brought Rule.ownLift Rule.productLoss Rule.ownScale Rule.loss Rule.timesGain bits upDiv gain exactGain sumFrom sumTo inputAnswer nodeAnswer held made wholesOf lift _⊕_ _⊗_ neg whole magnitude
 verdicts = refl
 
 -- A table of each L that can be viewed at the greatest depth.

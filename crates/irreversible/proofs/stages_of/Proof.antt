@@ -13,7 +13,7 @@ use Rattle.width_table.specs.Nodes.{productsPerPass, Node, P1, U1, P2, U2, G1, 
 use Rattle.width_table.specs.Table.{maxLevels, widthBytes, maxFractionBits, constantBits, fractionBits, inputBits}
 use Rattle.width_table.specs.Limits.{form-levels}
 use Rattle.width_table.specs.Numbered.{passOf}
-use Rattle.precision.specs.Products.{productOf}
+use Rattle.table_meaning.specs.Products.{productOf}
 use Rattle.precision.specs.Promise.{promise}
 use Rattle.irreversible.specs.KernelLaws.{stageOf, scalingOf, firstPair, secondPair, sG1, sG2}
 use Rattle.irreversible.specs.SafeLaws.{ConstantBits}

@@ -1,6 +1,7 @@
 use mathlib.Core.Path.{_∙_, sym}
 use native.Mathlib.Omega.{arith}
-use Rattle.precision.specs.PlaceLaws.{loss-most, loss-below, loss-none}
+use Rattle.stages.specs.RuleLaws.{loss-below, loss-none}
+use Rattle.precision.specs.PlaceLaws.{loss-most}
 use Rattle.precision.proofs.loss_of.Statement.{statement}
 use Rattle.precision.proofs.loss_of.Tie as tie
 

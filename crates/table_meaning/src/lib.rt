@@ -1,0 +1,1 @@
+// What a width table gives the stages, in specs/; no code.

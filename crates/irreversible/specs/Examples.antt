@@ -5,7 +5,7 @@ use lib.IntN.{pos, negsuc}
 use Rattle.lines.specs.Lines.{lowAfter, highBefore, highAfter, onHighs, onLows, lowsFirst}
 use Rattle.lines.specs.Planes.{fromOne, rows, columns, within, side, rowsFirst, levels, tabulate, rowByRow}
 use Rattle.pictures.specs.Pictures.{sample}
-use Rattle.precision.specs.Examples.{usual}
+use Rattle.width_table.specs.WorkedTables.{usual}
 use Rattle.stages.specs.Fixed.{nearest, cut, cutProduct, step, scale}
 use Rattle.table_meaning.specs.Products.{productOf}
 use Rattle.irreversible.specs.Fixed.{atP1, atU1, atP2, atU2, atG1, atG2, fixedLong, fixedPass}

@@ -3,7 +3,7 @@
 -- times that of G1 or G2, and what enters has no larger error than either; each G1 or G2 is kept or enters a pass, so that no error is
 -- larger than three times that of a kept node, which is below two steps. What the columns of level l leave has at least 2 l integer bits
 -- (`least-bits`).
-use Prim.Native.Nat.{ℕ, zero, suc, _+_, _*_, _-_, _^_, _<_, _≤_}
+use Prim.Native.Nat.{ℕ, zero, suc, _+_, _*_, _-_, _^_, _<_, _≤_, max}
 use mathlib.Core.Path.{_≡_, refl, _∙_, ap, subst}
 use mathlib.Core.Bool.{Bool, true, false, _&&_}
 use mathlib.Core.List.{[]}
@@ -15,21 +15,21 @@ use lib.Pow.{pow-pos}
 use lib.ListN.{getD}
 use Rattle.numbers.specs.Tests.{both, four}
 use Rattle.exact.specs.Fractions.{upDiv}
-use Rattle.stages.specs.Stages.{Side, stage, forward, Product}
+use Rattle.stages.specs.Stages.{Side, low, stage, forward, Product}
 use Rattle.stages.specs.Gains.{Source, samples, node, gain}
 use Rattle.stages.specs.Rule as Rule
-use Rattle.stages.specs.Rule.{Bound, timesGain, together, brought, rangeAt}
+use Rattle.stages.specs.Rule.{Bound, timesGain, together, singleError, brought, rangeAt}
 use Rattle.stages.specs.Held.{weighed, nodesBring}
-use Rattle.stages.specs.RuleLaws.{timesGain-one, times-grows, ownAt, error-sum}
+use Rattle.stages.specs.RuleLaws.{times-least, times-grows, ownAt, error-sum}
 use Rattle.stages.specs.GainTable.{forwardGains, forwardSource, forward-gain}
+use Rattle.stages.specs.ForwardLaws.{single-least}
 use Rattle.width_table.specs.Nodes.{Node, P1, U1, P2, U2, G1, G2, Pass, Rows, LowColumns, HighColumns, columnPass, nodeAt, lastNode}
 use Rattle.width_table.specs.Limits.{form-levels}
 use Rattle.width_table.specs.Numbered.{nodeOf}
 use Rattle.width_table.specs.declared.WidthTable.{WidthTable}
 use Rattle.width_table.specs.Table.{maxLevels, constantBits, integerBits, fractionBits, inputBits}
-use Rattle.precision.specs.SingleLaws.{same-bound}
 use Rattle.table_meaning.specs.Products.{productOf}
-use Rattle.precision.specs.Bounds.{boundAfter, longBound, boundAt, rowBound, passBound, entering, boundOf}
+use Rattle.precision.specs.Bounds.{boundAfter, boundAt, rowBound, passBound, entering, boundOf}
 use Rattle.precision.specs.Verdict.{keptAt, AcceptPromise}
 
 -- ---- products by gains
@@ -45,10 +45,6 @@ up-most a b h = omega arith
 times-under : (x g h k : ℕ) → g ≤ k * h → timesGain x g ≤ k * timesGain x h
 unfolding timesGain
 times-under x g h k i = up-most (x * g) _ (omega (arith, mul-le-mul-left x i, mul-le-mul-left k (up-least (x * h))))
-
--- a gain of 1 or more
-times-least : (x g : ℕ) → 65536 ≤ g → x ≤ timesGain x g
-times-least x g h = omega (arith, timesGain-one x, times-grows x x 65536 g (omega arith) h)
 
 -- ---- sums of them
 
@@ -152,17 +148,18 @@ gain-under n i h = rw (gain-to n i h, gain-to (last n) i h) (leb→le (gainTo n 
 -- ---- one pass
 
 module _ (F : Node → ℕ) (fp : Node → Product) (fi : ℕ) (b : Bound) (f : Node → ℕ) where
+  -- the error of a single sample is never the larger one
   node-is : (n : Node) → boundAt F fp fi b f n ≡ boundAfter F fp fi b f (sideOf n) (suc (stageOf n))
-  unfolding longBound
-  node-is n = same-bound F fp fi b f n ∙ stage-is n
-    where
-      stage-is : (n : Node) → longBound F fp fi b f n ≡ boundAfter F fp fi b f (sideOf n) (suc (stageOf n))
-      stage-is P1 = refl
-      stage-is U1 = refl
-      stage-is P2 = refl
-      stage-is U2 = refl
-      stage-is G1 = refl
-      stage-is G2 = refl
+  unfolding boundAt Rule.boundAt
+  node-is P1 = refl
+  node-is U1 = refl
+  node-is P2 = refl
+  node-is U2 = refl
+  node-is G1 =
+      let long = boundAfter F fp fi b f low 5 in
+      let e : max (long .error) (singleError fi b (f G1)) ≡ long .error = omega (arith, single-least b (λ i. F (nodeOf (suc i))) (λ i. fp (nodeOf (suc i))) fi (λ i. f (nodeOf (suc i)))) in
+      ap (λ (x : ℕ). record { range = long .range; error = x }) e
+  node-is G2 = refl
 
   node-range : (n : Node) → boundAt F fp fi b f n .range ≡ timesGain (b .range) (gainTo n 0)
   unfolding Rule.boundAt rangeAt brought

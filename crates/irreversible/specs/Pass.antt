@@ -4,7 +4,7 @@ use mathlib.Core.Path.{_≡_, sym, ap, subst, subst₂}
 use mathlib.Core.Bool.{Bool, true, false}
 use native.Mathlib.Omega.{arith}
 use native.Mathlib.Nat.{mul-pos, mul-le-mul-right, mul-lt-mul-of-pos-right, lt-of-mul-lt-mul-right}
-use lib.Dec.{ltb, lit≤}
+use lib.Dec.{ltb}
 use lib.Pow.{pow-pos, pow-add}
 use lib.IntN.{ℤ, pos, negℤ, natAbs, _+ℤ_, _*ℤ_}
 use lib.Signed.{mag, _≤ℤ_, _<ℤ_}
@@ -17,16 +17,15 @@ use Rattle.exact.specs.Exact.{exactLong, exactPass, low₀, high₀, p1, u1, p2
 use Rattle.stages.specs.Fixed.{meant, cut}
 use Rattle.irreversible.specs.Fixed.{fixedLong, fixedPass, valueAt, countAt, atP1, atU1, atP2, atU2, atG1, atG2}
 use Rattle.width_table.specs.Nodes.{Node, P1, U1, P2, U2, G1, G2, lastNode}
-use Rattle.stages.specs.Rule.{Bound}
-use Rattle.precision.specs.Bounds.{boundAfter, longBound, boundAt}
-use Rattle.precision.specs.PlaceLaws.{range-is}
-use Rattle.precision.specs.SingleLaws.{times-least, same-bound}
+use Rattle.stages.specs.Rule as Rule
+use Rattle.stages.specs.Rule.{Bound, together}
+use Rattle.precision.specs.Bounds.{boundAfter, boundAt}
 use Rattle.exact.specs.FracLaws.{within-near}
 use Rattle.stages.specs.Stages.{Side, low, high, forward, made, Product, bits}
-use Rattle.stages.specs.Rule.{together}
 use Rattle.stages.specs.OnLine.{count, exactAfter, fixedMade, fixedAfter}
 use Rattle.stages.specs.Sound.{Good, good}
 use Rattle.stages.specs.Single.{single-good, good-most}
+use Rattle.stages.specs.ForwardLaws.{range-least}
 use Rattle.width_table.specs.Numbered.{nodeOf}
 use Rattle.stages.specs.Own.{pow-split}
 use Rattle.irreversible.specs.Claims.{Near, Holds}
@@ -61,18 +60,14 @@ module _ (F : Node → ℕ) (fp : Node → Product) (fi : ℕ) (b : Bound) (f : 
   exactAt G1 = g1 n x
   exactAt G2 = g2 n x
 
-  long-good : (i : Node) (k : ℕ) → k < countAt n i → Good (longBound F fp fi b f i) (f i) (valueAt F fp fi f n v i k) (exactAt i k)
-  unfolding longBound bits fixedAfter fixedMade exactAfter made atP1 atU1 atP2 atU2 atG1 atG2 p1 u1 p2 u2 g1 g2 low₀ high₀ onHighs onLows
-  long-good P1 k i = after 1 high k i
-  long-good U1 k i = after 2 low k i
-  long-good P2 k i = after 3 high k i
-  long-good U2 k i = after 4 low k i
-  long-good G1 k i = after 5 low k i
-  long-good G2 k i = after 6 high k i
-
-  -- the larger bound of G1 is the same
   pub node-good : (i : Node) (k : ℕ) → k < countAt n i → Good (boundAt F fp fi b f i) (f i) (valueAt F fp fi f n v i k) (exactAt i k)
-  node-good i k h = subst (λ (c : Bound). Good c (f i) (valueAt F fp fi f n v i k) (exactAt i k)) (sym (same-bound F fp fi b f i)) (long-good i k h)
+  unfolding boundAt bits fixedAfter fixedMade exactAfter made atP1 atU1 atP2 atU2 atG1 atG2 p1 u1 p2 u2 g1 g2 low₀ high₀ onHighs onLows
+  node-good P1 k i = after 1 high k i
+  node-good U1 k i = after 2 low k i
+  node-good P2 k i = after 3 high k i
+  node-good U2 k i = after 4 low k i
+  node-good G1 k i = good-most (omega arith) (omega arith) (after 5 low k i)
+  node-good G2 k i = after 6 high k i
 
   -- the lows first, then the highs
   line-good : (i : ℕ) → i < n → Good (boundAt F fp fi b f (lastNode (ltb i (lows n)))) (f (lastNode (ltb i (lows n)))) (fixedLong F fp fi f n v i) (exactLong n x i)
@@ -84,14 +79,9 @@ module _ (F : Node → ℕ) (fp : Node → Product) (fi : ℕ) (b : Bound) (f : 
 
 -- ---- a single sample, and any line
 
--- the range of G1 is not below the input's
-range-least : (F : Node → ℕ) (fp : Node → Product) (fi : ℕ) (b : Bound) (f : Node → ℕ) → b .range ≤ boundAt F fp fi b f G1 .range
-unfolding boundAt
-range-least F fp fi b f = omega (arith, times-least (b .range) 127934 (lit≤ tt), range-is F fp fi b f 5 (lit≤ tt, lit≤ tt))
-
 sample-good : (F : Node → ℕ) (fp : Node → Product) (fi : ℕ) (b : Bound) (f : Node → ℕ) (v : ℤ) (x : Frac) → Small f → Good b fi v x → Good (boundAt F fp fi b f G1) (f G1) (cut fi (f G1) v) x
-unfolding boundAt
-sample-good F fp fi b f v x small g = good-most (range-least F fp fi b f) (omega arith) (single-good fi b (f G1) v x (small G1) g)
+unfolding boundAt Rule.boundAt
+sample-good F fp fi b f v x small g = good-most (range-least b (λ i. F (nodeOf (suc i))) (λ i. fp (nodeOf (suc i))) fi (λ i. f (nodeOf (suc i)))) (omega arith) (single-good fi b (f G1) v x (small G1) g)
 
 module _ (F : Node → ℕ) (fp : Node → Product) (fi : ℕ) (b : Bound) (f : Node → ℕ) (n : ℕ) (v : ℕ → ℤ) (x : ℕ → Frac) (small : Small f) (given : (k : ℕ) → k < n → Good b fi (v k) (x k)) where
   pub pass-good : (i : ℕ) → i < n → Good (boundAt F fp fi b f (lastNode (ltb i (lows n)))) (f (lastNode (ltb i (lows n)))) (fixedPass F fp fi f n v i) (exactPass n x i)

@@ -11,8 +11,8 @@ use Rattle.pictures.specs.Pictures.{sample}
 use Rattle.stages.specs.Stages.{uncut, cutTo}
 use Rattle.stages.specs.Fixed.{nearest, cut, cutProduct, step, scale}
 use Rattle.table_meaning.specs.Products.{productOf}
-use Rattle.precision.specs.Examples.{usual}
-use Rattle.precision.specs.Examples as Tables
+use Rattle.width_table.specs.WorkedTables as Tables
+use Rattle.width_table.specs.WorkedTables.{usual}
 use Rattle.irreversible.specs.Fixed.{atP1, atU1, atP2, atU2, atG1, atG2, fixedLong, fixedPass}
 use Rattle.irreversible.specs.Transforms.{fixedLine, fixedAfter, fixedPlane}
 

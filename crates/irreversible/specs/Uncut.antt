@@ -15,7 +15,7 @@ use Rattle.width_table.specs.Table.{constantBits, fractionBits, inputBits}
 use Rattle.pictures.specs.Pictures.{sample}
 use Rattle.stages.specs.Stages.{Product, uncut}
 use Rattle.stages.specs.Fixed.{nearest, cut, cutProduct, step, scale}
-use Rattle.precision.specs.Uncut.{none-cut}
+use Rattle.table_meaning.specs.ProductLaws.{none-cut}
 use Rattle.irreversible.specs.Fixed.{atP1, atU1, atP2, atU2, atG1, atG2, fixedLong, fixedPass}
 use Rattle.irreversible.specs.Transforms.{fixedLine, fixedAfter, fixedPlane}
 

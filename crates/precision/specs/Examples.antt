@@ -1,6 +1,5 @@
--- The tables that document 01 names, some with widths of products, and their verdicts, by computation. So `Accepted` is not empty.
-use Prim.Native.Nat.{ℕ, zero, suc, _*_, _-_, _≤_}
-use mathlib.Core.Bool.{true, false}
+-- The verdicts on the tables that document 01 names, and on some with widths of products, by computation. So `Accepted` is not empty.
+use Prim.Native.Nat.{ℕ, zero, suc, _≤_}
 use mathlib.Core.List.{List, [], _∷_, _++_, map}
 use mathlib.Core.Path.{_≡_, refl, ap}
 use native.Mathlib.Omega.{arith}
@@ -9,8 +8,9 @@ use Rattle.exact.specs.Fractions.{_⊕_, _⊗_, whole, magnitude, upDiv, wholes
 use Rattle.numbers.specs.Tests.{every}
 use Rattle.exact.specs.Exact.{lift}
 use Rattle.width_table.specs.declared.WidthTable.{WidthTable}
-use Rattle.width_table.specs.Nodes.{passesPerLevel, bookOrder}
+use Rattle.width_table.specs.Nodes.{bookOrder}
 use Rattle.width_table.specs.Table.{maxLevels, formRight}
+use Rattle.width_table.specs.WorkedTables.{repeat, four, noProducts, usual, narrow, rough, wide, holding, cut, stray}
 use Rattle.stages.specs.Stages.{made, bits}
 use Rattle.stages.specs.Gains.{gain, exactGain, sumFrom, sumTo, inputAnswer, nodeAnswer, held}
 use Rattle.stages.specs.Rule as Rule
@@ -19,53 +19,6 @@ use Rattle.precision.specs.Bounds
 use Rattle.refusals.specs.Answers.{Answer, passed, refused}
 use Rattle.precision.specs.Verdict.{judged, firstRefusal, verdict, Accepted}
 use Rattle.precision.specs.BoundCalls.{boundable, rangeTold, errorTold}
-
--- The nodes of a pass, IB then f: IB of P1, IB of the others, f of P1 to U2, of G1, of G2.
-abbrev pass : ℕ → ℕ → ℕ → ℕ → ℕ → List ℕ
-pass first IB f g1 g2 = first ∷ f ∷ IB ∷ f ∷ IB ∷ f ∷ IB ∷ f ∷ IB ∷ g1 ∷ IB ∷ g2 ∷ []
-
--- The three passes of a level: IB of row P1, IB of the others, f of the kept nodes, of low-low, of all others.
-abbrev level : ℕ → ℕ → ℕ → ℕ → ℕ → List ℕ
-level first IB kept lowLow other = pass first IB other other other ++ pass IB IB other lowLow kept ++ pass IB IB other kept kept
-
-abbrev repeat : ℕ → List ℕ → List ℕ
-repeat zero l = []
-repeat (suc k) l = l ++ repeat k l
-
--- the widths of the products of a pass, of P1 to U2
-abbrev four : ℕ → List ℕ
-four fp = fp ∷ fp ∷ fp ∷ fp ∷ []
-
--- zeros for the products of so many levels
-abbrev noProducts : ℕ → List ℕ
-noProducts levels = repeat (passesPerLevel * levels) (four 0)
-
--- a table of depth 8, all F 24, without tag 5; inner levels, then the last one, then zeros
-abbrev pub table : ℕ → List ℕ → List ℕ → WidthTable
-table L inner last = record {
-  depth = 8;
-  levels = L;
-  constants = 24 ∷ 24 ∷ 24 ∷ 24 ∷ 24 ∷ 24 ∷ [];
-  nodes = repeat (L - 1) inner ++ last ++ repeat (maxLevels - L) (level 0 0 0 0 0);
-  five = false;
-  products = noProducts maxLevels;
-}
-
--- all nodes (12, 20), kept ones (12, 2)
-abbrev pub usual : ℕ → WidthTable
-usual L = table L (level 12 12 2 20 20) (level 12 12 2 2 20)
-
--- the same, one level, with IB 2 at row P1
-abbrev pub narrow : WidthTable
-narrow = table 1 [] (level 2 12 2 2 20)
-
--- one level, kept nodes (12, 20), others (12, 0)
-abbrev pub rough : WidthTable
-rough = table 1 [] (level 12 12 20 20 0)
-
--- an IB outside its limits
-abbrev pub wide : WidthTable
-wide = table 1 [] (level 12 13 2 2 20)
 
 -- computed once for all
 verdicts :
@@ -111,18 +64,6 @@ unfolding boundable formRight every firstRefusal judged Bounds.boundOf Bounds.en
 bounds-told = refl
 
 -- ---- widths of products (document 02, job 7)
-
--- a table with tag 5 and these widths of products
-abbrev holding : WidthTable → List ℕ → WidthTable
-holding t widths = record { depth = t .depth; levels = t .levels; constants = t .constants; nodes = t .nodes; five = true; products = widths }
-
--- the usual table of L levels with tag 5: in each pass these four widths
-abbrev pub cut : ℕ → List ℕ → WidthTable
-cut L widths = holding (usual L) (repeat (passesPerLevel * L) widths ++ noProducts (maxLevels - L))
-
--- without tag 5 a width is held nevertheless
-abbrev stray : WidthTable
-stray = record { depth = 8; levels = 1; constants = usual 1 .constants; nodes = usual 1 .nodes; five = false; products = 1 ∷ 0 ∷ 0 ∷ 0 ∷ repeat 14 (four 0) }
 
 -- With one level widths of 7 bits are enough and 6 are not, with five levels 15 and 14; of two levels with 0 the first kept node is refused.
 -- 44 cut nothing. Refused 4: 45; a width at an unused level; a width without tag 5.

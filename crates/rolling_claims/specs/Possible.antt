@@ -19,7 +19,8 @@ use Rattle.lines.specs.Planes.{rowByRow}
 use Rattle.lines.specs.RowLaws.{place-in, rows-length, rows-at}
 use Rattle.width_table.specs.declared.WidthTable.{WidthTable}
 use Rattle.pictures.specs.Pictures.{Admitted, planeOf}
-use Rattle.precision.specs.Examples.{usual, usual-accepted, cut, cut-accepted}
+use Rattle.width_table.specs.WorkedTables.{usual, cut}
+use Rattle.precision.specs.Examples.{usual-accepted, cut-accepted}
 use Rattle.rolling.specs.declared.Taken.{Taken}
 use Rattle.rolling.specs.declared.Taken.the-variants.{Zero, One, Two, Three, Four, OddMany, EvenMany}
 use Rattle.rolling.specs.declared.Scan.{Scan}

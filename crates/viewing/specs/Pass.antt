@@ -24,6 +24,7 @@ use Rattle.stages.specs.Fixed.{meant, nearest, cut, cutProduct, step}
 use Rattle.stages.specs.OnLine.{count, exactAfter, fixedMade, fixedAfter}
 use Rattle.stages.specs.Rule as Rule
 use Rattle.stages.specs.Rule.{Bound, loss, ownScale, Entering, apart, brought, rangeAt, ownFrom, ownsBring, owns, errorAt}
+use Rattle.stages.specs.RuleLaws.{loss-none}
 use Rattle.stages.specs.Held.{enters, made-cong}
 use Rattle.stages.specs.Sound.{Good, good-≈, good}
 use Rattle.stages.specs.Single.{single-good, good-most}
@@ -31,7 +32,6 @@ use Rattle.width_table.specs.Nodes.{Node, P1, U1, P2, U2, G1, G2}
 use Rattle.unlifting.specs.Fixed.{nodeBits, inverseBits, unstep, atG1, atG2, atU2, atP2, atU1, atP1, fixedBackLong, fixedBack, Small, limit}
 use Rattle.view_precision.specs.Bounds.{larger, boundAfter, even, odd, boundAt, passGives, atMost15, passRight}
 use Rattle.view_precision.specs.Odd.{odd-range, odd-error}
-use Rattle.precision.specs.PlaceLaws.{loss-none}
 use Rattle.irreversible.specs.Fixed.{countAt}
 
 -- ---- a stage undone is a stage with the constant negated

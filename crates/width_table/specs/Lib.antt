@@ -17,6 +17,7 @@
 --   RoundTrip  read and written, written and read; what a write leaves
 --   ChangeLaws what an accepted change leaves and keeps
 --   Cases      worked cases
+--   WorkedTables  the tables that document 01 names, and some with widths of products, for the crates above
 pub mod Nodes
 pub mod Numbered
 pub mod Table
@@ -38,3 +39,4 @@ pub mod ChangeLaws
 pub mod EarlierOrder
 pub mod WithoutProducts
 pub mod Cases
+pub mod WorkedTables

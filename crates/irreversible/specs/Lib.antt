@@ -1,6 +1,6 @@
 -- The 9/7 transform in fixed point, and demand 3.
 --
--- Definitions (with those of numbers, refusals, lines, exact, stages, width_table, pictures and precision, all that demand 3 rests on):
+-- Definitions (with those of numbers, refusals, lines, exact, stages, width_table, table_meaning, pictures and precision, all that demand 3 rests on):
 --   Fixed        the fixed-point 9/7 lifting of one line: nearest constants, products cut to their widths, one cut towards minus infinity
 --   Cases        the same by cases, ends apart from the middle (source document 003, equations 2 to 4)
 --   Transforms   the plane of a picture under a table

@@ -20,11 +20,12 @@ use Rattle.width_table.specs.Bytes.{announced, headed, field, formBy, levelsIn,
 use Rattle.width_table.specs.FormLists.{Sized}
 use Rattle.width_table.specs.ReadLaws.{table-read}
 use Rattle.width_table.specs.RoundTrip.{read-sized, written-reads}
+use Rattle.width_table.specs.WorkedTables.{usual}
 use Rattle.pictures.specs.Pictures.{Admitted, sample}
 use Rattle.pictures.specs.PictureLaws.{over-take}
 use Rattle.precision.specs.Verdict.{verdict}
 use Rattle.precision.specs.Promise.{promise}
-use Rattle.precision.specs.Examples.{usual, usual-accepted}
+use Rattle.precision.specs.Examples.{usual-accepted}
 use Rattle.irreversible.specs.Claims.{LevelInWidth}
 use Rattle.rolling.specs.declared.Scan.{Scan}
 use Rattle.rolling.specs.Calls.{beginAnswer, scanOf, heldLines, outLines, lineAnswer, givenByLine, LineCall, endAnswer, givenByEnd, scanEnded, EndCall}

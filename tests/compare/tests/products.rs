@@ -61,7 +61,7 @@ fn malformed(bytes: &[u8]) -> u8 {
     let (distance, told) = both::view_distance(bytes, 5);
     assert_eq!(told, 5);
     let (begun, state) = begin(bytes, &[9; STATE]);
-    assert_eq!(state, [0; STATE]);
+    assert_eq!(state, [9; STATE]);
     let mut answers = vec![
         both::table_check(bytes),
         both::table_view(bytes),

@@ -1,35 +1,44 @@
 -- Document 02, job 7, at the C interface: with a table's bytes in which no byte 5 follows the fourth field, a call answers as before, and
--- what it is lent holds the same afterwards; no product's width can be changed. (suz_table_form answers by `form` and suz_table_value
--- by `nameable`: `reads-as-before` and `names-as-before` of width_table. Viewing cuts no product: Products of viewing.)
+-- what it is lent holds the same afterwards; no product's width can be changed. Each equation has on its right what stood before: the form
+-- of four fields (`formWithout`), the analysis and the lifting in which no product is cut (`oldVerdict`, `oldBoundable`, `oldBoundOf`,
+-- `uncutPlane`), the bytes of four fields. Rules of a change, of strips and of viewing, which cuts no product (Products of viewing), stand as
+-- they are; what the form in memory asks of products besides holds of every table that is read (`read-formed` of width_table).
+-- (suz_table_form answers by `form` and suz_table_value by `nameable`: `reads-as-before`, and `names-as-before` for every tag but 5, of
+-- width_table.)
 use Prim.Native.Nat.{ℕ, _*_}
-use mathlib.Core.Bool.{Bool, false}
+use mathlib.Core.Bool.{Bool, true, false}
 use mathlib.Core.List.{List, []}
 use mathlib.Core.Path.{_≡_, refl, sym, _∙_, ap, ap₂}
-use lib.Dec.{leb}
+use lib.Dec.{leb, eqb}
 use lib.ListN.{length}
 use lib.IntN.{ℤ}
 use Rattle.numbers.specs.Lists.{over}
 use Rattle.refusals.specs.Answers.{Answer, done, refused, passed, asks, _then_, answered}
+use Rattle.refusals.specs.AnswerLaws.{then-assoc}
 use Rattle.lines.specs.Planes.{Plane, rowByRow}
 use Rattle.width_table.specs.declared.WidthTable.{WidthTable}
 use Rattle.width_table.specs.Numbered.{passOf, nodeOf}
 use Rattle.width_table.specs.Nodes.{nodeAt}
-use Rattle.width_table.specs.Fields.{tableSize}
+use Rattle.width_table.specs.Fields.{fields, tableSize, valueStart, valueLength, bytesOf}
 use Rattle.width_table.specs.Bytes.{levelsIn, hasFifth, form, tableIn, tableBytes}
-use Rattle.width_table.specs.Changes.{withProduct}
+use Rattle.width_table.specs.Changes.{changeable, withWidth, constantChangeable, withConstant, withProduct}
 use Rattle.width_table.specs.FormLaws.{no-products}
-use Rattle.width_table.specs.WithoutProducts.{formWithout, reads-as-before}
-use Rattle.pictures.specs.Pictures.{sided, holds, pixelsRight}
-use Rattle.precision.specs.Uncut.{oldBoundOf, oldVerdict, old-bounds, old-verdict}
-use Rattle.irreversible.specs.Transforms.{fixedPlane}
-use Rattle.irreversible.specs.Calls.{fixedAnswer, fixedPlaneAfter}
+use Rattle.width_table.specs.EarlierForms.{formWithout, nameableWithout}
+use Rattle.width_table.specs.WithoutProducts.{then-answered, reads-as-before, named-as-before, writes-as-before}
+use Rattle.pictures.specs.Pictures.{sided, holds, pixelsRight, planeOf, zeroed}
+use Rattle.stages.specs.Rule.{Bound}
+use Rattle.precision.specs.Uncut.{oldBoundOf, oldVerdict, oldBoundable, old-bounds, old-verdict, old-boundable}
+use Rattle.irreversible.specs.Calls.{fixedAnswer, fixedPlaneAfter, fixedWork}
 use Rattle.irreversible.specs.Uncut.{uncutPlane, old-coefficients}
-use Rattle.engine.specs.Answers.{checked, boundIn, newTableAnswer, newTableOut, productChangeAnswer, productChangeOut, answer97, plane97}
-
--- what is written where two answers are passed
-then-answered : {B : Type 0} (o p : Answer Unit) (new old : B) → answered o (answered p new old) old ≡ answered (o then p) new old
-then-answered (done tt) p new old = refl
-then-answered (refused r) p new old = refl
+use Rattle.view_precision.specs.Bounds.{viewDistance, viewable, viewVerdict}
+use Rattle.viewing.specs.View.{viewPicture}
+use Rattle.viewing.specs.Calls.{coefficientsRight, viewAnswer, viewPixels, viewWork}
+use Rattle.rolling.specs.declared.Taken.the-variants.{Zero}
+use Rattle.rolling.specs.declared.Scan.{Scan}
+use Rattle.rolling.specs.Calls.{beginAnswer, scanOf}
+use Rattle.scan_bytes.specs.ScanBytes.{scanLength, stateBytes}
+use Rattle.engine.specs.Answers.{checked, startAfter, lengthAfter, boundAnswered, boundIn, rangeAfter, errorAfter, newTableAnswer, newTableOut, changeOut, constantChangeOut, productChangeAnswer, productChangeOut, answer97, plane97, work97, viewChecked, distanceAfter, viewAnswer97, viewPixels97, viewWork97}
+use Rattle.engine.specs.ScanAnswers.{begins, scanBeginAnswer, scanBeginState}
 
 answered-none : {B : Type 0} (o : Answer Unit) (old : B) → answered o old old ≡ old
 answered-none (done tt) old = refl
@@ -48,16 +57,58 @@ module _ (bytes : List ℕ) (none : hasFifth bytes ≡ false) where
   unfolding checked
   old-check = ap₂ (λ (a b : Answer Unit). a then b) (reads-as-before bytes none) (old-verdict t without)
 
+  -- suz_table_value
+  module _ (tag : ℕ) where
+    pub old-start : (start : ℕ) → startAfter bytes tag start ≡ answered (nameableWithout bytes tag) (valueStart (levelsIn bytes) tag) start
+    unfolding startAfter
+    old-start start = named-as-before bytes tag (reads-as-before bytes none) (valueStart (levelsIn bytes) tag) start
+
+    pub old-length : (len : ℕ) → lengthAfter bytes tag len ≡ answered (nameableWithout bytes tag) (valueLength (levelsIn bytes) tag) len
+    unfolding lengthAfter
+    old-length len = named-as-before bytes tag (reads-as-before bytes none) (valueLength (levelsIn bytes) tag) len
+
   -- suz_table_bound
-  pub old-bound : (level pass node : ℕ) → boundIn bytes level pass node ≡ oldBoundOf t (nodeAt level (passOf pass) (nodeOf node))
-  old-bound level pass node = old-bounds t without (nodeAt level (passOf pass) (nodeOf node))
+  module _ (level pass node : ℕ) where
+    abbrev told : Bound
+    told = oldBoundOf t (nodeAt level (passOf pass) (nodeOf node))
+
+    pub old-bound : boundIn bytes level pass node ≡ told
+    old-bound = old-bounds t without (nodeAt level (passOf pass) (nodeOf node))
+
+    pub old-bound-answer : boundAnswered bytes level pass node ≡ formWithout bytes then oldBoundable t level pass node
+    unfolding boundAnswered
+    old-bound-answer = ap₂ (λ (a b : Answer Unit). a then b) (reads-as-before bytes none) (old-boundable t without level pass node)
+
+    pub old-range : (range : ℕ) → rangeAfter bytes level pass node range ≡ answered (formWithout bytes then oldBoundable t level pass node) (told .range) range
+    unfolding rangeAfter
+    old-range range = ap₂ (λ (o : Answer Unit) (b : Bound). answered o (b .range) range) old-bound-answer old-bound
+
+    pub old-error : (error : ℕ) → errorAfter bytes level pass node error ≡ answered (formWithout bytes then oldBoundable t level pass node) (told .error) error
+    unfolding errorAfter
+    old-error error = ap₂ (λ (o : Answer Unit) (b : Bound). answered o (b .error) error) old-bound-answer old-bound
 
   -- suz_table_change, suz_table_change_constant
-  pub old-change : (change : Answer Unit) (out : List ℕ) → newTableAnswer bytes change out ≡ formWithout bytes then change then asks (leb (tableSize false (levelsIn bytes)) (length out)) 9 passed
-  unfolding newTableAnswer
-  old-change change out = ap₂ (λ (o : Answer Unit) (five : Bool). o then change then asks (leb (tableSize five (levelsIn bytes)) (length out)) 9 passed) (reads-as-before bytes none) none
+  module _ (change : Answer Unit) (out : List ℕ) where
+    abbrev oldNewTable : Answer Unit
+    oldNewTable = formWithout bytes then change then asks (leb (tableSize false (levelsIn bytes)) (length out)) 9 passed
 
-  -- suz_table_change_product: 4 after 1 to 5, and out stays
+    pub old-change : newTableAnswer bytes change out ≡ oldNewTable
+    unfolding newTableAnswer
+    old-change = ap₂ (λ (o : Answer Unit) (five : Bool). o then change then asks (leb (tableSize five (levelsIn bytes)) (length out)) 9 passed) (reads-as-before bytes none) none
+
+    old-out : (new : WidthTable) → new .five ≡ false → newTableOut bytes change out new ≡ answered oldNewTable (over (bytesOf (fields false (new .levels)) new) out) out
+    unfolding newTableOut
+    old-out new e = ap₂ (λ (o : Answer Unit) (l : List ℕ). answered o (over l out) out) old-change (writes-as-before new e .0)
+
+  module _ (level pass node IB f : ℕ) (out : List ℕ) where
+    pub old-width-out : changeOut bytes level pass node IB f out ≡ answered (oldNewTable (changeable t level pass node IB f) out) (over (bytesOf (fields false (t .levels)) (withWidth t level pass node IB f)) out) out
+    old-width-out = old-out (changeable t level pass node IB f) out (withWidth t level pass node IB f) without
+
+  module _ (node F : ℕ) (out : List ℕ) where
+    pub old-constant-out : constantChangeOut bytes node F out ≡ answered (oldNewTable (constantChangeable t node F) out) (over (bytesOf (fields false (t .levels)) (withConstant t node F)) out) out
+    old-constant-out = old-out (constantChangeable t node F) out (withConstant t node F) without
+
+  -- suz_table_change_product, which is new: 4 after 1 to 5, and out stays
   module _ (level pass product fp : ℕ) (out : List ℕ) where
     pub no-change : productChangeAnswer bytes level pass product fp out ≡ form bytes then refused (4, [])
     unfolding newTableAnswer
@@ -69,7 +120,7 @@ module _ (bytes : List ℕ) (none : hasFifth bytes ≡ false) where
         let new = over (tableBytes (withProduct t level pass product fp)) out in
         ap (λ (o : Answer Unit). answered o new out) no-change ∙ sym (then-answered (form bytes) (refused (4, [])) new out) ∙ answered-none (form bytes) out
 
-  -- suz_forward97: the answer, and the coefficients
+  -- suz_forward97
   module _ (w h : ℕ) (pixels : List ℕ) (plane work : List ℤ) where
     -- 8, 9, 10
     abbrev pub strip : Answer Unit
@@ -79,9 +130,88 @@ module _ (bytes : List ℕ) (none : hasFifth bytes ≡ false) where
     unfolding answer97 fixedAnswer
     old-answer = ap₂ (λ (a b : Answer Unit). a then b then strip) (reads-as-before bytes none) (old-verdict t without)
 
-    pub old-plane : plane97 bytes w h pixels plane work ≡ answered (answer97 bytes w h pixels plane work) (over (rowByRow w h (uncutPlane t pixels w h)) plane) plane
-    unfolding plane97 answer97 fixedPlaneAfter
+    -- what stands where the call is done, and where not
+    old-after : {B : Type 0} (x y : B) → answered (form bytes) (answered (fixedAnswer t w h pixels plane work) x y) y ≡ answered (formWithout bytes then oldVerdict t then strip) x y
+    unfolding answer97
+    old-after x y = then-answered (form bytes) (fixedAnswer t w h pixels plane work) x y ∙ ap (λ (o : Answer Unit). answered o x y) old-answer
+
+    pub old-plane : plane97 bytes w h pixels plane work ≡ answered (formWithout bytes then oldVerdict t then strip) (over (rowByRow w h (uncutPlane t pixels w h)) plane) plane
+    unfolding plane97 fixedPlaneAfter
     old-plane =
-        let new : Plane ℤ → List ℤ = λ p. over (rowByRow w h p) plane in
-        then-answered (form bytes) (fixedAnswer t w h pixels plane work) (new (fixedPlane t pixels w h)) plane
-        ∙ ap (λ (p : Plane ℤ). answered (form bytes then fixedAnswer t w h pixels plane work) (new p) plane) (old-coefficients t pixels w h without)
+        ap (λ (p : Plane ℤ). answered (form bytes) (answered (fixedAnswer t w h pixels plane work) (over (rowByRow w h p) plane) plane) plane) (old-coefficients t pixels w h without)
+        ∙ old-after (over (rowByRow w h (uncutPlane t pixels w h)) plane) plane
+
+    pub old-work : work97 bytes w h pixels plane work ≡ answered (formWithout bytes then oldVerdict t then strip) (zeroed (w * h) work) work
+    unfolding work97 fixedWork
+    old-work = old-after (zeroed (w * h) work) work
+
+  -- suz_table_view, suz_view_distance
+  abbrev oldViewVerdict : Answer Unit
+  oldViewVerdict = oldVerdict t then asks (viewable t) 13 passed
+
+  old-view-verdict : viewVerdict t ≡ oldViewVerdict
+  unfolding viewVerdict
+  old-view-verdict = ap (λ (o : Answer Unit). o then asks (viewable t) 13 passed) (old-verdict t without)
+
+  pub old-view-check : viewChecked bytes ≡ formWithout bytes then oldViewVerdict
+  unfolding viewChecked
+  old-view-check = ap₂ (λ (a b : Answer Unit). a then b) (reads-as-before bytes none) old-view-verdict
+
+  pub old-distance : (distance : ℕ) → distanceAfter bytes distance ≡ answered (formWithout bytes then oldViewVerdict) (viewDistance t) distance
+  unfolding distanceAfter
+  old-distance distance = ap (λ (o : Answer Unit). answered o (viewDistance t) distance) old-view-check
+
+  -- suz_view97
+  module _ (w h : ℕ) (plane : List ℤ) (pixels : List ℕ) (work : List ℤ) where
+    -- 8, 9, 12
+    abbrev pub shown : Answer Unit
+    shown = sided w h then holds (w * h) (length pixels) then holds (w * h) (length plane) then holds (w * h) (length work) then coefficientsRight t w h plane
+
+    pub old-view : viewAnswer97 bytes w h plane pixels work ≡ formWithout bytes then oldViewVerdict then shown
+    unfolding viewAnswer97 viewAnswer
+    old-view = ap₂ (λ (a b : Answer Unit). a then b then shown) (reads-as-before bytes none) old-view-verdict
+
+    old-view-after : {B : Type 0} (x y : B) → answered (form bytes) (answered (viewAnswer t w h plane pixels work) x y) y ≡ answered (formWithout bytes then oldViewVerdict then shown) x y
+    unfolding viewAnswer97
+    old-view-after x y = then-answered (form bytes) (viewAnswer t w h plane pixels work) x y ∙ ap (λ (o : Answer Unit). answered o x y) old-view
+
+    pub old-view-pixels : viewPixels97 bytes w h plane pixels work ≡ answered (formWithout bytes then oldViewVerdict then shown) (over (rowByRow w h (viewPicture t w h (planeOf w plane))) pixels) pixels
+    unfolding viewPixels97 viewPixels
+    old-view-pixels = old-view-after (over (rowByRow w h (viewPicture t w h (planeOf w plane))) pixels) pixels
+
+    pub old-view-work : viewWork97 bytes w h plane pixels work ≡ answered (formWithout bytes then oldViewVerdict then shown) (zeroed (w * h) work) work
+    unfolding viewWork97 viewWork
+    old-view-work = old-view-after (zeroed (w * h) work) work
+
+  -- suz_scan_begin. How long a state is, and the bytes of a scan, are the library's own: job 7 gave them room for tag 5.
+  module _ (state : List ℕ) where
+    -- 14, then 4, 6 and 7; then 9
+    abbrev oldBegin : Answer Unit
+    oldBegin = asks (eqb (t .levels) 1) 14 (oldVerdict t)
+
+    abbrev stateRoom : Answer Unit
+    stateRoom = asks (leb scanLength (length state)) 9 passed
+
+    pub old-begin : scanBeginAnswer bytes state ≡ formWithout bytes then oldBegin then stateRoom
+    unfolding scanBeginAnswer begins beginAnswer
+    old-begin =
+        sym (then-assoc (form bytes) (beginAnswer t) stateRoom)
+        ∙ ap₂ (λ (a b : Answer Unit). a then asks (eqb (t .levels) 1) 14 b then stateRoom) (reads-as-before bytes none) (old-verdict t without)
+
+    -- a scan that begins: no line is taken, and it has not ended
+    abbrev begun : Bool → Scan
+    begun ended = record { table = t; width = 0; taken = Zero; ended = ended }
+
+    pub old-state : scanBeginState bytes state ≡ answered (formWithout bytes then oldBegin then stateRoom) (over (stateBytes (begun false)) state) state
+    unfolding scanBeginState scanOf beginAnswer
+    old-state =
+        ap₂ (λ (o v : Answer Unit). answered o (over (stateBytes (begun (answered (asks (eqb (t .levels) 1) 14 v) false true))) state) state) old-begin (old-verdict t without)
+        ∙ not-ended (formWithout bytes) oldBegin
+      where
+        left : Bool → List ℕ
+        left ended = over (stateBytes (begun ended)) state
+
+        not-ended : (o b : Answer Unit) → answered (o then b then stateRoom) (left (answered b false true)) state ≡ answered (o then b then stateRoom) (left false) state
+        not-ended (done u) (done v) = refl
+        not-ended (done u) (refused r) = refl
+        not-ended (refused r) b = refl

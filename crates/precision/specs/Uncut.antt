@@ -1,5 +1,5 @@
 -- The analysis as it was before document 02's job 7, by the rule in which no product is cut. A table without tag 5 has its old ranges and
--- errors (`old-bounds`) and its old verdict (`old-verdict`).
+-- errors (`old-bounds`), which are told as before (`old-boundable`), and its old verdict (`old-verdict`).
 use Prim.Native.Nat.{ℕ, zero, suc, _^_, max}
 use mathlib.Core.Bool.{false}
 use mathlib.Core.List.{List, [], _∷_}
@@ -9,6 +9,7 @@ use Rattle.stages.specs.Stages.{Side, low, high, forward, uncut}
 use Rattle.stages.specs.Rule.{Bound, together, singleError}
 use Rattle.stages.specs.UncutRule.{oldBoundAt, old-bound}
 use Rattle.width_table.specs.Nodes.{Node, P1, U1, P2, U2, G1, G2, Pass, Rows, LowColumns, HighColumns, TableNode, bookOrder}
+use Rattle.width_table.specs.Changes.{hasNode}
 use Rattle.width_table.specs.Numbered.{nodeOf}
 use Rattle.width_table.specs.declared.WidthTable.{WidthTable}
 use Rattle.width_table.specs.Table.{constantBits, integerBits, fractionBits, inputBits, formRight}
@@ -16,8 +17,9 @@ use Rattle.table_meaning.specs.Products.{productOf}
 use Rattle.table_meaning.specs.ProductLaws.{none-cut}
 use Rattle.precision.specs.Bounds.{boundAfter, boundAt, rowBound, passBound, entering, boundOf}
 use Rattle.precision.specs.Verdict.{keptAt, placeNumbers, judgedBy, judged, firstRefusal, verdict}
+use Rattle.precision.specs.BoundCalls.{nodesBefore, boundable}
 
--- ---- the analysis before, word by word as in Bounds and Verdict
+-- ---- the analysis before, word by word as in Bounds, Verdict and BoundCalls
 
 module _ (F : Node → ℕ) (fi : ℕ) (b : Bound) (f : Node → ℕ) where
   abbrev oldAfter : Side → ℕ → Bound
@@ -57,6 +59,13 @@ oldFirst t (p ∷ ps) = oldJudged t p then oldFirst t ps
 
 unfoldable pub oldVerdict : WidthTable → Answer Unit
 oldVerdict t = asks (formRight t) 4 (oldFirst t (bookOrder (t .levels)))
+
+-- the call that tells a bound
+unfoldable pub oldBoundable : WidthTable → ℕ → ℕ → ℕ → Answer Unit
+oldBoundable t level pass node =
+    asks (formRight t) 4
+    (asks (hasNode (t .levels) level pass node) 4
+    (oldFirst t (nodesBefore (t .levels) level pass node)))
 
 -- ---- a table without tag 5
 
@@ -110,3 +119,8 @@ module _ (t : WidthTable) (e : t .five ≡ false) where
   pub old-verdict : verdict t ≡ oldVerdict t
   unfolding verdict oldVerdict
   old-verdict = ap (asks (formRight t) 4) (first-same (bookOrder (t .levels)))
+
+  pub old-boundable : (level pass node : ℕ) → boundable t level pass node ≡ oldBoundable t level pass node
+  unfolding boundable oldBoundable
+  old-boundable level pass node =
+      ap (λ (o : Answer Unit). asks (formRight t) 4 (asks (hasNode (t .levels) level pass node) 4 o)) (first-same (nodesBefore (t .levels) level pass node))

@@ -8,16 +8,16 @@ use native.Mathlib.Omega.{arith}
 use lib.Dec.{T, leb, ltb, eqb, leb→le, le→leb, eqb→eq, eqb-refl}
 use lib.ListN.{length, getD, take, drop, replicate, length-append, length-drop, take-append-drop, drop-of-length-le}
 use lib.Seq.{drop-drop, getD-drop, take-at, drop-at, length-take-le}
-use Rattle.refusals.specs.Answers.{passed}
-use Rattle.refusals.specs.AnswerLaws.{asks-done, asks-right, asks-wrong, then-done, then-right, answered-done, answered-refused}
+use Rattle.refusals.specs.Answers.{Answer, done, passed, _then_}
+use Rattle.refusals.specs.AnswerLaws.{asks-done, asks-right, asks-wrong, then-done, then-right}
 use Rattle.numbers.specs.Tests.{four, and-intro, every, between-≤, ltb-true, ltb-false}
 use Rattle.numbers.specs.Lists.{next-one, next-two, one-of, every-one, zeros}
 use Rattle.width_table.specs.declared.WidthTable.{WidthTable}
 use Rattle.width_table.specs.Table.{maxLevels, depthRight, levelsRight, constantRight, productRight, formRight}
-use Rattle.width_table.specs.Fields.{depthTag, levelsTag, constantsTag, nodesTag, productsTag, tagRight, headBytes, Field, nodeBytes, productBytes, widthsRight, fixedFields, nodesField, productsField, lastFields, fields, sizeOf, fieldOf, startOf, tableSize, valueStart, fieldBytes, bytesOf}
+use Rattle.width_table.specs.Fields.{depthTag, levelsTag, constantsTag, nodesTag, productsTag, tagRight, headBytes, Field, nodeBytes, productBytes, widthsRight, fixedFields, nodesField, productsField, lastFields, fields, sizeOf, fieldOf, startOf, tableSize, valueStart, valueLength, fieldBytes, bytesOf}
 use Rattle.width_table.specs.Bytes.{announced, headed, field, formBy, depthIn, levelsIn, hasFifth, form, valueIn, productsIn, tableIn, tableBytes}
 use Rattle.width_table.specs.FormLists.{Sized, usedProducts, formLists, form-lists}
-use Rattle.width_table.specs.Names.{hasTag, nameable, valueOf}
+use Rattle.width_table.specs.Names.{hasTag, nameable, naming, partAt}
 
 -- ---- one field
 
@@ -251,34 +251,35 @@ module _ (bytes : List ℕ) (e : form bytes ≡ passed) where
   read-written = holds-bytes (tableIn bytes) (fields (hasFifth bytes) L) 0 bytes form-done values
 
   -- where a tag's value lies
-  value-of : (tag : ℕ) → T (tagRight tag) → T (hasTag bytes tag) → valueOf bytes tag ≡ valueIn bytes tag
-  unfolding valueOf nameable
-  value-of tag h k = answered-done _ _ (asks-right (tagRight tag) _ _ h ∙ then-right (form bytes) _ e ∙ asks-right (hasTag bytes tag) _ _ k)
+  value-of : (tag : ℕ) → T (tagRight tag) → T (hasTag bytes tag) → partAt bytes (naming bytes tag) ≡ valueIn bytes tag
+  unfolding naming nameable
+  value-of tag h k =
+      ap (λ (o : Answer Unit). partAt bytes (o then done (valueStart L tag, valueLength L tag))) (asks-right (tagRight tag) _ _ h ∙ then-right (form bytes) _ e ∙ asks-right (hasTag bytes tag) _ _ k)
 
-  pub depth-value : valueOf bytes depthTag ≡ tableIn bytes .depth ∷ []
+  pub depth-value : partAt bytes (naming bytes depthTag) ≡ tableIn bytes .depth ∷ []
   depth-value = value-of depthTag tt tt ∙ values .1
 
-  pub levels-value : valueOf bytes levelsTag ≡ tableIn bytes .levels ∷ []
+  pub levels-value : partAt bytes (naming bytes levelsTag) ≡ tableIn bytes .levels ∷ []
   levels-value = value-of levelsTag tt tt ∙ values .2 .1
 
-  pub constants-value : valueOf bytes constantsTag ≡ tableIn bytes .constants
+  pub constants-value : partAt bytes (naming bytes constantsTag) ≡ tableIn bytes .constants
   constants-value = value-of constantsTag tt tt ∙ values .2 .2 .1
 
-  pub nodes-value : valueOf bytes nodesTag ≡ take (nodeBytes (tableIn bytes .levels)) (tableIn bytes .nodes)
+  pub nodes-value : partAt bytes (naming bytes nodesTag) ≡ take (nodeBytes (tableIn bytes .levels)) (tableIn bytes .nodes)
   unfolding tableIn
   nodes-value = value-of nodesTag tt tt ∙ values .2 .2 .2 .1
 
   -- the widths of products that the table has; where it has none, naming is refused
-  pub products-value : valueOf bytes productsTag ≡ take (usedProducts (tableIn bytes)) (tableIn bytes .products)
-  unfolding tableIn valueOf nameable
+  pub products-value : partAt bytes (naming bytes productsTag) ≡ take (usedProducts (tableIn bytes)) (tableIn bytes .products)
+  unfolding tableIn naming nameable
   products-value = go (hasFifth bytes) refl
     where
-      go : (five : Bool) → hasFifth bytes ≡ five → valueOf bytes productsTag ≡ take (usedProducts (tableIn bytes)) (tableIn bytes .products)
+      go : (five : Bool) → hasFifth bytes ≡ five → partAt bytes (naming bytes productsTag) ≡ take (usedProducts (tableIn bytes)) (tableIn bytes .products)
       go true five =
           value-of productsTag tt (subst T (sym five) tt)
           ∙ sym (ap (λ (b : Bool). take (elim b [ true ↦ M | false ↦ 0 ]) (productsIn b bytes)) five ∙ take-at (valueIn bytes productsTag) (replicate (productBytes maxLevels - M) 0) M (products-long five))
       go false none =
-          answered-refused (valueIn bytes productsTag) [] (then-right (form bytes) _ e ∙ asks-wrong (hasFifth bytes) (2, []) passed none)
+          ap (λ (o : Answer Unit). partAt bytes (o then done (valueStart L productsTag, valueLength L productsTag))) (then-right (form bytes) _ e ∙ asks-wrong (hasFifth bytes) (2, []) passed none)
           ∙ sym (ap (λ (b : Bool). take (elim b [ true ↦ M | false ↦ 0 ]) (productsIn b bytes)) none)
 
 -- ---- a table of right form is read back from its bytes

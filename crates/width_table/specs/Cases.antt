@@ -13,10 +13,9 @@ use Rattle.width_table.specs.Table.{maxLevels, formRight, integerBits, f
 use Rattle.width_table.specs.Fields.{nodeBytes, productBytes, widthsRight, tableSize}
 use Rattle.width_table.specs.Bytes.{tableBytes, headed, field, formBy, form, tableIn, tableRead, emptyTable, writable, writing, bytesAfter}
 use Rattle.width_table.specs.Changes.{changeable, tableAfterWidth, constantChangeable, tableAfterConstant, productChangeable, tableAfterProduct}
-use Rattle.width_table.specs.Names.{nameable, naming, valueOf}
-use Rattle.width_table.specs.EarlierOrder.{earlierHeaded, earlierField, earlierFormBy, earlierForm, wrongTagCut, wrongLengthCut, comesTo, happens}
+use Rattle.width_table.specs.Names.{nameable, naming, partAt}
+use Rattle.width_table.specs.EarlierForms.{formWithout, earlierHeaded, earlierField, earlierFormBy, earlierForm, wrongTagCut, wrongLengthCut, comesTo, happens}
 use Rattle.width_table.specs.Readers.{constantBitsAt, integerBitsAt, fractionBitsAt, productWidthAt, cutAt, inputBitsAt}
-use Rattle.width_table.specs.WithoutProducts.{formWithout}
 
 -- ---- tables
 
@@ -109,11 +108,13 @@ someHeads =
     ∷ (1 ∷ 0 ∷ 1 ∷ []) ∷ (1 ∷ 0 ∷ 1 ∷ 0 ∷ []) ∷ (1 ∷ 0 ∷ 1 ∷ 8 ∷ []) ∷ (9 ∷ 1 ∷ [])
     ∷ (1 ∷ 0 ∷ 1 ∷ 8 ∷ 9 ∷ 0 ∷ 5 ∷ []) ∷ (1 ∷ 0 ∷ 1 ∷ 8 ∷ 2 ∷ 0 ∷ 5 ∷ []) ∷ (1 ∷ 0 ∷ 1 ∷ 0 ∷ 9 ∷ 0 ∷ 5 ∷ []) ∷ []
 
-pub heads : map (λ b. code (form b)) someHeads ≡ 2 ∷ 2 ∷ 2 ∷ 2 ∷ 3 ∷ 3 ∷ 3 ∷ 3 ∷ 1 ∷ 4 ∷ 1 ∷ 1 ∷ 2 ∷ 3 ∷ 4 ∷ []
-unfolding form formBy field headed every widthsRight
-heads = refl
+pub heads :
+    let answers : List ℕ = 2 ∷ 2 ∷ 2 ∷ 2 ∷ 3 ∷ 3 ∷ 3 ∷ 3 ∷ 1 ∷ 4 ∷ 1 ∷ 1 ∷ 2 ∷ 3 ∷ 4 ∷ [] in
+    (map (λ b. code (form b)) someHeads ≡ answers) × (map (λ b. code (formWithout b)) someHeads ≡ answers)
+unfolding form formWithout formBy field headed every widthsRight
+heads = (refl, refl)
 
--- in the earlier order
+-- in the order of document 01
 pub earlier-heads : map (λ b. code (earlierForm b)) someHeads ≡ 1 ∷ 2 ∷ 1 ∷ 2 ∷ 3 ∷ 1 ∷ 3 ∷ 1 ∷ 1 ∷ 4 ∷ 1 ∷ 1 ∷ 1 ∷ 1 ∷ 4 ∷ []
 unfolding earlierForm earlierFormBy earlierField earlierHeaded every widthsRight
 earlier-heads = refl
@@ -125,12 +126,16 @@ pub changed-heads :
 unfolding happens comesTo field headed every
 changed-heads = (refl, refl)
 
--- tag 5 with a wrong length and a value cut short: 1 in the earlier order
+-- What follows the fourth field was 5 in either order, and neither case happens there: tag 5, whole, and with a wrong length and a value
+-- cut short.
 pub fifth-heads :
-    let bytes = take 60 (set five 58 13) in
-    (code (earlierForm bytes) ≡ 1) × (happens wrongLengthCut bytes ≡ true) × (happens wrongTagCut bytes ≡ false)
-unfolding earlierForm earlierFormBy earlierField earlierHeaded happens comesTo field headed every widthsRight tableBytes
-fifth-heads = (refl, refl, refl)
+    let tables : List (List ℕ) = five ∷ take 60 (set five 58 13) ∷ [] in
+    (map (λ b. code (earlierForm b)) tables ≡ 5 ∷ 5 ∷ [])
+    × (map (λ b. code (formWithout b)) tables ≡ 5 ∷ 5 ∷ [])
+    × (map (happens wrongTagCut) tables ≡ false ∷ false ∷ [])
+    × (map (happens wrongLengthCut) tables ≡ false ∷ false ∷ [])
+unfolding earlierForm earlierFormBy earlierField earlierHeaded formWithout formBy happens comesTo field headed every widthsRight tableBytes
+fifth-heads = (refl, refl, refl, refl)
 
 -- 5 comes after a right fourth field alone; fractional bits 0 are right
 pub ends : map (λ b. code (form b)) ((set good 20 0 ++ (0 ∷ [])) ∷ (take 55 good ++ []) ∷ set good 21 0 ∷ []) ≡ 4 ∷ 1 ∷ 0 ∷ []
@@ -181,8 +186,10 @@ pub no-names :
 unfolding naming nameable form formBy field headed every widthsRight tableBytes
 no-names = (refl, refl, refl, refl)
 
-pub values : valueOf good 1 ∷ valueOf good 3 ∷ valueOf [] 3 ∷ valueOf five 5 ∷ valueOf good 5 ∷ [] ≡ (8 ∷ []) ∷ (24 ∷ 24 ∷ 24 ∷ 24 ∷ 24 ∷ 24 ∷ []) ∷ [] ∷ replicate 12 30 ∷ [] ∷ []
-unfolding valueOf nameable form formBy field headed every widthsRight tableBytes
+pub values :
+    let value : List ℕ → ℕ → List ℕ = λ b tag. partAt b (naming b tag) in
+    value good 1 ∷ value good 3 ∷ value [] 3 ∷ value five 5 ∷ value good 5 ∷ [] ≡ (8 ∷ []) ∷ (24 ∷ 24 ∷ 24 ∷ 24 ∷ 24 ∷ 24 ∷ []) ∷ [] ∷ replicate 12 30 ∷ [] ∷ []
+unfolding naming nameable form formBy field headed every widthsRight tableBytes
 values = refl
 
 -- ---- changes

@@ -1,73 +1,22 @@
--- Document 02, job 3, changed the order of 1, 2 and 3 within a field. The earlier order is kept here alone, for this: the answers
--- that differ are those that document 02 names, in whichever field, tag 5 too, and no other.
+-- Document 02, job 3, changed the order of 1, 2 and 3 within a field. Of document 01's four fields the answers that differ are those that
+-- document 02 names, in whichever field, and no other (`form-changes`; the forms of before: EarlierForms). Since job 7 it is so of every
+-- answer of document 01 but 5 (`present-changes`, by `only-five` of WithoutProducts).
 use Prim.Native.Nat.{ℕ, _+_, _*_, _-_, _≤_}
 use mathlib.Core.Bool.{Bool, true, false, _&&_, _||_, not}
 use mathlib.Core.List.{List, [], _∷_}
 use mathlib.Core.Path.{_≡_, refl, sym, _∙_, ap, subst}
 use native.Mathlib.Omega.{arith}
+use borrow.Author.Tests.{le-leb}
 use lib.Dec.{T, leb, eqb}
 use lib.ListN.{length, getD, take, drop}
+use Rattle.numbers.specs.Tests.{between, by-leb, right-false}
 use Rattle.refusals.specs.Answers.{Answer, done, refused, passed, asks, _then_, answered, code}
 use Rattle.refusals.specs.AnswerLaws.{asks-right, asks-wrong, then-right, then-refused, answered-refused}
-use Rattle.width_table.specs.declared.WidthTable.{WidthTable}
-use Rattle.width_table.specs.Fields.{tagRight, headBytes, Field, fields}
+use Rattle.width_table.specs.Fields.{depthTag, nodesTag, productsTag, tagRight, headBytes, Field, fields, valueStart, valueLength}
 use Rattle.width_table.specs.Bytes.{announced, headed, field, formBy, levelsIn, hasFifth, form, valueIn, tableIn, emptyTable, tableRead}
-use Rattle.width_table.specs.Names.{hasTag, nameable, valueOf}
-
--- ---- the earlier order
-
--- document 01, refusals 1 to 3, in rising order: a value that is cut short (1) came before a wrong tag (2) and a wrong length (3)
-unfoldable pub earlierHeaded : ℕ → ℕ → List ℕ → Answer Unit
-earlierHeaded tag len bytes =
-    asks (leb headBytes (length bytes)) 1
-    (asks (leb (announced bytes) (length bytes - headBytes)) 1
-    (asks (eqb (getD bytes 0 0) tag) 2
-    (asks (eqb (announced bytes) len) 3
-    passed)))
-
--- one field, 4 last, as in `field`
-unfoldable pub earlierField : Field → List ℕ → Answer Unit
-earlierField f bytes = earlierHeaded (f .tag) (f .size) bytes then asks (f .right (take (f .size) (drop headBytes bytes))) 4 passed
-
--- fields one by one, then 5, as in `formBy`
-unfoldable pub earlierFormBy : List Field → List ℕ → Answer Unit
-earlierFormBy [] bytes = asks (eqb (length bytes) 0) 5 passed
-earlierFormBy (f ∷ fs) bytes = earlierField f bytes then earlierFormBy fs (drop (headBytes + f .size) bytes)
-
--- the fields of a table of as many levels as the second field has, with tag 5 where it is there, as in `form`
-unfoldable pub earlierForm : List ℕ → Answer Unit
-earlierForm bytes = earlierFormBy (fields (hasFifth bytes) (levelsIn bytes)) bytes
-
--- the table that reading gave, as in `tableRead`
-unfoldable pub earlierTableRead : List ℕ → WidthTable
-earlierTableRead bytes = answered (earlierForm bytes) (tableIn bytes) emptyTable
-
--- naming a tag: the name (2), then the form, then whether tag 5 is there (2), as in `nameable`
-unfoldable pub earlierNameable : List ℕ → ℕ → Answer Unit
-earlierNameable bytes tag = asks (tagRight tag) 2 (earlierForm bytes then asks (hasTag bytes tag) 2 passed)
-
--- ---- the two cases of document 02, job 3
-
--- the three head bytes are there, and fewer value bytes than they announce
-abbrev pub valueCut : List ℕ → Bool
-valueCut bytes = leb headBytes (length bytes) && not (leb (announced bytes) (length bytes - headBytes))
-
--- "a whole head with a wrong tag whose value is cut short"
-abbrev pub wrongTagCut : Field → List ℕ → Bool
-wrongTagCut f bytes = valueCut bytes && not (eqb (getD bytes 0 0) (f .tag))
-
--- "a due tag with a wrong length and a value cut short"
-abbrev pub wrongLengthCut : Field → List ℕ → Bool
-wrongLengthCut f bytes = valueCut bytes && eqb (getD bytes 0 0) (f .tag) && not (eqb (announced bytes) (f .size))
-
--- it is so of a field that reading comes to: every field before it is right
-unfoldable pub comesTo : (Field → List ℕ → Bool) → List Field → List ℕ → Bool
-comesTo test [] bytes = false
-comesTo test (f ∷ fs) bytes = test f bytes || answered (field f bytes) (comesTo test fs (drop (headBytes + f .size) bytes)) false
-
--- the same of a whole table's bytes: in whichever field
-unfoldable pub happens : (Field → List ℕ → Bool) → List ℕ → Bool
-happens test bytes = comesTo test (fields (hasFifth bytes) (levelsIn bytes)) bytes
+use Rattle.width_table.specs.Names.{nameable, naming, partAt}
+use Rattle.width_table.specs.EarlierForms.{formWithout, nameableWithout, earlierHeaded, earlierField, earlierFormBy, earlierForm, earlierTableRead, earlierNameable, wrongTagCut, wrongLengthCut, comesTo, happens, inEither, Changes, NotFive, PresentChanges}
+use Rattle.width_table.specs.WithoutProducts.{then-answered, none-after, only-five, four-names, named-as-before}
 
 -- ---- one field
 
@@ -194,104 +143,128 @@ form-stays (f ∷ fs) bytes g h =
 
 -- ---- every list of bytes
 
--- An answer in the earlier order, and as it is: 1 becomes 2 or 3 in the two cases, and no other answer differs.
-pub record Changes (bytes : List ℕ) {A : Type 0} (earlier present : Answer A) : Type 0 where
-  pub two : T (happens wrongTagCut bytes) → (earlier ≡ refused (1, [])) × (present ≡ refused (2, []))
-  pub three : T (happens wrongLengthCut bytes) → (earlier ≡ refused (1, [])) × (present ≡ refused (3, []))
-  pub no-other : happens wrongTagCut bytes ≡ false → happens wrongLengthCut bytes ≡ false → present ≡ earlier
-
 module _ (bytes : List ℕ) where
-  pub form-changes : Changes bytes (earlierForm bytes) (form bytes)
-  unfolding happens form earlierForm
+  -- job 3 by itself: four fields in the earlier order, and in the order of job 3
+  pub form-changes : Changes bytes (earlierForm bytes) (formWithout bytes)
+  unfolding happens formWithout earlierForm
   form-changes = record {
-    two = comes wrongTagCut 2 field-two (fields (hasFifth bytes) (levelsIn bytes)) bytes;
-    three = comes wrongLengthCut 3 field-three (fields (hasFifth bytes) (levelsIn bytes)) bytes;
-    no-other = form-stays (fields (hasFifth bytes) (levelsIn bytes)) bytes;
+    two = comes wrongTagCut 2 field-two (fields false (levelsIn bytes)) bytes;
+    three = comes wrongLengthCut 3 field-three (fields false (levelsIn bytes)) bytes;
+    no-other = form-stays (fields false (levelsIn bytes)) bytes;
   }
 
   -- one of the three holds of any bytes, so what follows from each of them does
-  by-change : {P : Type 0} → (earlierForm bytes ≡ refused (1, []) → (n : ℕ) → form bytes ≡ refused (n, []) → P) → (form bytes ≡ earlierForm bytes → P) → P
-  by-change {P} moved keeps = go (happens wrongTagCut bytes) (happens wrongLengthCut bytes) refl refl
+  by-change : {P : Type 0} → (T (inEither bytes) → (n : ℕ) → 2 ≤ n → n ≤ 3 → Becomes n (earlierForm bytes) (formWithout bytes) → P) → (inEither bytes ≡ false → formWithout bytes ≡ earlierForm bytes → P) → P
+  by-change {P} moved keeps = go (happens wrongTagCut bytes) (happens wrongLengthCut bytes) refl refl moved keeps
     where
-      go : (a b : Bool) → happens wrongTagCut bytes ≡ a → happens wrongLengthCut bytes ≡ b → P
-      go true b e f = let (x, y) = form-changes .two (subst T (sym e) tt) in moved x 2 y
-      go false true e f = let (x, y) = form-changes .three (subst T (sym f) tt) in moved x 3 y
-      go false false e f = keeps (form-changes .no-other e f)
+      go : (a b : Bool) → happens wrongTagCut bytes ≡ a → happens wrongLengthCut bytes ≡ b
+          → (T (a || b) → (n : ℕ) → 2 ≤ n → n ≤ 3 → Becomes n (earlierForm bytes) (formWithout bytes) → P) → (a || b ≡ false → formWithout bytes ≡ earlierForm bytes → P) → P
+      go true b e f moved keeps = moved tt 2 (omega arith) (omega arith) (form-changes .two (subst T (sym e) tt))
+      go false true e f moved keeps = moved tt 3 (omega arith) (omega arith) (form-changes .three (subst T (sym f) tt))
+      go false false e f moved keeps = keeps refl (form-changes .no-other e f)
 
-  -- so the answers differ exactly there
-  abbrev pub inEither : Bool
-  inEither = happens wrongTagCut bytes || happens wrongLengthCut bytes
+  -- a refusal is no other one
+  other-refusal : (m n : ℕ) → (m ≡ n → ⊥) → {o : Answer Unit} → o ≡ refused (m, []) → o ≡ refused (n, []) → ⊥
+  other-refusal m n h e f = let c : m + 256 * 0 ≡ n + 256 * 0 = ap code (sym e ∙ f) in h (omega arith)
 
-  pub differs-only : (form bytes ≡ earlierForm bytes → ⊥) → T inEither
-  differs-only h = go (happens wrongTagCut bytes) (happens wrongLengthCut bytes) refl refl
+  -- so the answers differ exactly in the two cases
+  pub differs-only : (formWithout bytes ≡ earlierForm bytes → ⊥) → T (inEither bytes)
+  differs-only h = by-change (λ k n l m b. k) (λ k e. absurd (h e))
+
+  pub differs-there : T (inEither bytes) → formWithout bytes ≡ earlierForm bytes → ⊥
+  differs-there h e = by-change (λ k n l m b. other-refusal n 1 (λ z. omega arith) (b .1) (e ∙ b .0)) (λ k f. subst T k h)
+
+  -- what stands where a table is read, and where not, was the same in either order
+  pub same-in-order : {B : Type 0} (x y : B) → answered (formWithout bytes) x y ≡ answered (earlierForm bytes) x y
+  same-in-order x y = by-change (λ k n l m b. answered-refused x y (b .1) ∙ sym (answered-refused x y (b .0))) (λ k e. ap (λ (o : Answer Unit). answered o x y) e)
+
+  -- ---- today, after job 7
+
+  -- bytes that were not refused 5 are answered as job 3 left it
+  pub present-order : NotFive bytes → form bytes ≡ formWithout bytes
+  present-order h = only-five bytes (by-change (λ k n l m b. other-refusal n 5 (λ z. omega arith) (b .1)) (λ k e f. h (sym e ∙ f)))
+
+  pub present-changes : PresentChanges bytes (earlierForm bytes) (form bytes)
+  present-changes = record {
+    two = λ h. moved 2 (λ z. omega arith) (form-changes .two h);
+    three = λ h. moved 3 (λ z. omega arith) (form-changes .three h);
+    no-other = λ g h k. present-order k ∙ form-changes .no-other g h;
+  }
     where
-      go : (a b : Bool) → happens wrongTagCut bytes ≡ a → happens wrongLengthCut bytes ≡ b → T (a || b)
-      go true b e f = tt
-      go false true e f = tt
-      go false false e f = absurd (h (form-changes .no-other e f))
+      moved : (n : ℕ) → (n ≡ 5 → ⊥) → Becomes n (earlierForm bytes) (formWithout bytes) → Becomes n (earlierForm bytes) (form bytes)
+      moved n h b = (b .0, only-five bytes (other-refusal n 5 h (b .1)) ∙ b .1)
 
-  pub differs-there : T inEither → form bytes ≡ earlierForm bytes → ⊥
-  differs-there h e = go (happens wrongTagCut bytes) (happens wrongLengthCut bytes) refl refl h
-    where
-      other : (n : ℕ) → 2 ≤ n → (earlierForm bytes ≡ refused (1, [])) × (form bytes ≡ refused (n, [])) → ⊥
-      other n k b = let c : n + 256 * 0 ≡ 1 + 256 * 0 = ap code (sym (b .1) ∙ e ∙ b .0) in omega arith
+  -- what stands where a table is read, and where not, and so the table
+  pub same-after : NotFive bytes → {B : Type 0} (x y : B) → answered (form bytes) x y ≡ answered (earlierForm bytes) x y
+  same-after h x y = ap (λ (o : Answer Unit). answered o x y) (present-order h) ∙ same-in-order x y
 
-      go : (a b : Bool) → happens wrongTagCut bytes ≡ a → happens wrongLengthCut bytes ≡ b → T (a || b) → ⊥
-      go true b f g k = other 2 (omega arith) (form-changes .two (subst T (sym f) tt))
-      go false true f g k = other 3 (omega arith) (form-changes .three (subst T (sym g) tt))
-      go false false f g k = k
-
-  -- what stands where a table is read, and where not, is the same
-  pub same-after : {B : Type 0} (x y : B) → answered (form bytes) x y ≡ answered (earlierForm bytes) x y
-  same-after x y = by-change (λ e n f. answered-refused x y f ∙ sym (answered-refused x y e)) (λ e. ap (λ (o : Answer Unit). answered o x y) e)
-
-  pub same-table : tableRead bytes ≡ earlierTableRead bytes
+  pub same-table : NotFive bytes → tableRead bytes ≡ earlierTableRead bytes
   unfolding tableRead earlierTableRead
-  same-table = same-after (tableIn bytes) emptyTable
+  same-table h = same-after h (tableIn bytes) emptyTable
+
+  -- bytes that document 01 took have no tag 5
+  pub earlier-without : earlierForm bytes ≡ passed → hasFifth bytes ≡ false
+  earlier-without e = by-change (λ k n l m b. absurd (not-passed (sym e ∙ b .0))) (λ k f. none-after bytes (f ∙ e))
+    where
+      not-passed : passed ≡ refused (1, []) → ⊥
+      not-passed z = let c : _≡_ {A = ℕ} 0 1 = ap code z in omega arith
+
+  -- so that rules which go by tag 5 were those of a table without it
+  pub earlier-four : {A : Type 0} (rules : Bool → Answer A) → earlierForm bytes then rules (hasFifth bytes) ≡ earlierForm bytes then rules false
+  earlier-four {A} rules = go (earlierForm bytes) refl
+    where
+      go : (o : Answer Unit) → earlierForm bytes ≡ o → o then rules (hasFifth bytes) ≡ o then rules false
+      go (done tt) e = ap rules (earlier-without e)
+      go (refused r) e = refl
 
   -- ---- a call that reads its table from bytes first: its answer changes alike, and what it is lent holds the same afterwards
   module _ {A : Type 0} (rules : Answer A) where
-    pub call-changes : Changes bytes (earlierForm bytes then rules) (form bytes then rules)
+    pub call-changes : PresentChanges bytes (earlierForm bytes then rules) (form bytes then rules)
     call-changes = record {
-      two = λ h. let (a, b) = form-changes .two h in (then-refused (earlierForm bytes) rules _ a, then-refused (form bytes) rules _ b);
-      three = λ h. let (a, b) = form-changes .three h in (then-refused (earlierForm bytes) rules _ a, then-refused (form bytes) rules _ b);
-      no-other = λ g h. ap (λ (o : Answer Unit). o then rules) (form-changes .no-other g h);
+      two = λ h. let (a, b) = present-changes .two h in (then-refused (earlierForm bytes) rules _ a, then-refused (form bytes) rules _ b);
+      three = λ h. let (a, b) = present-changes .three h in (then-refused (earlierForm bytes) rules _ a, then-refused (form bytes) rules _ b);
+      no-other = λ g h k. ap (λ (o : Answer Unit). o then rules) (present-changes .no-other g h k);
     }
 
-    pub same-lent : {B : Type 0} (x y : B) → answered (form bytes then rules) x y ≡ answered (earlierForm bytes then rules) x y
-    same-lent x y =
-        by-change (λ e n f. answered-refused x y (then-refused (form bytes) rules _ f) ∙ sym (answered-refused x y (then-refused (earlierForm bytes) rules _ e)))
-        (λ e. ap (λ (o : Answer Unit). answered (o then rules) x y) e)
+    pub same-lent : NotFive bytes → {B : Type 0} (x y : B) → answered (form bytes then rules) x y ≡ answered (earlierForm bytes then rules) x y
+    same-lent h x y = sym (then-answered (form bytes) rules x y) ∙ same-after h (answered rules x y) y ∙ then-answered (earlierForm bytes) rules x y
 
-  -- ---- naming a tag: a wrong name is 2 in either order; after a right one the answer changes alike, and the value is the same
+  -- ---- naming a tag: a wrong name is 2 as before; after one of document 01's names, 1 to 4, the answer changes alike
   module _ (tag : ℕ) where
-    -- whether there is such a tag, judged after the form
-    abbrev there : Answer Unit
-    there = asks (hasTag bytes tag) 2 passed
-
     pub wrong-name : tagRight tag ≡ false → (nameable bytes tag ≡ refused (2, [])) × (earlierNameable bytes tag ≡ refused (2, []))
     unfolding nameable earlierNameable
-    wrong-name e = (asks-wrong (tagRight tag) _ (form bytes then there) e, asks-wrong (tagRight tag) _ (earlierForm bytes then there) e)
+    wrong-name e = (asks-wrong (tagRight tag) _ _ e, asks-wrong (between depthTag nodesTag tag) _ (earlierForm bytes) outside)
+      where
+        outside : between depthTag nodesTag tag ≡ false
+        outside =
+            by-leb (λ (b : Bool). leb depthTag tag && b ≡ false) tag nodesTag
+            (λ h. ap (λ (b : Bool). leb depthTag tag && b) (sym (le-leb tag productsTag (omega arith))) ∙ e)
+            (λ h. right-false (leb depthTag tag) false refl)
 
-    pub name-changes : T (tagRight tag) → Changes bytes (earlierNameable bytes tag) (nameable bytes tag)
-    unfolding nameable earlierNameable
+    pub name-changes : T (between depthTag nodesTag tag) → PresentChanges bytes (earlierNameable bytes tag) (nameable bytes tag)
+    unfolding earlierNameable
     name-changes h =
-        let present = asks-right (tagRight tag) (2, []) (form bytes then there) h in
-        let earlier = asks-right (tagRight tag) (2, []) (earlierForm bytes then there) h in
+        let present : nameable bytes tag ≡ form bytes = four-names bytes tag h in
+        let earlier = asks-right (between depthTag nodesTag tag) (2, []) (earlierForm bytes) h in
         record {
-          two = λ k. let (a, b) = call-changes there .two k in (earlier ∙ a, present ∙ b);
-          three = λ k. let (a, b) = call-changes there .three k in (earlier ∙ a, present ∙ b);
-          no-other = λ g k. present ∙ call-changes there .no-other g k ∙ sym earlier;
+          two = λ k. let (a, b) = present-changes .two k in (earlier ∙ a, present ∙ b);
+          three = λ k. let (a, b) = present-changes .three k in (earlier ∙ a, present ∙ b);
+          no-other = λ g k l. present ∙ present-changes .no-other g k l ∙ sym earlier;
         }
 
-    pub same-named : {B : Type 0} (x y : B) → answered (nameable bytes tag) x y ≡ answered (earlierNameable bytes tag) x y
-    unfolding nameable earlierNameable
-    same-named {B} x y = go (tagRight tag)
+    -- what stands where the tag is named, and where not, is the same, of any tag, and so the value
+    pub same-named : NotFive bytes → {B : Type 0} (x y : B) → answered (nameable bytes tag) x y ≡ answered (earlierNameable bytes tag) x y
+    unfolding nameableWithout earlierNameable
+    same-named h {B} x y = named-as-before bytes tag (present-order h) x y ∙ go (between depthTag nodesTag tag)
       where
-        go : (t : Bool) → answered (asks t 2 (form bytes then there)) x y ≡ answered (asks t 2 (earlierForm bytes then there)) x y
-        go true = same-lent there x y
+        go : (t : Bool) → answered (asks t 2 (formWithout bytes)) x y ≡ answered (asks t 2 (earlierForm bytes)) x y
+        go true = same-in-order x y
         go false = refl
 
-    pub same-value : valueOf bytes tag ≡ answered (earlierNameable bytes tag) (valueIn bytes tag) []
-    unfolding valueOf
-    same-value = same-named (valueIn bytes tag) []
+    pub same-value : NotFive bytes → partAt bytes (naming bytes tag) ≡ answered (earlierNameable bytes tag) (valueIn bytes tag) []
+    unfolding naming
+    same-value h = part-of (nameable bytes tag) ∙ same-named h (valueIn bytes tag) []
+      where
+        part-of : (o : Answer Unit) → partAt bytes (o then done (valueStart (levelsIn bytes) tag, valueLength (levelsIn bytes) tag)) ≡ answered o (valueIn bytes tag) []
+        part-of (done tt) = refl
+        part-of (refused r) = refl

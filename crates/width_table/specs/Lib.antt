@@ -9,8 +9,9 @@
 --   Told       what the code's answers of writing and naming say
 --   Readers    widths by the numbers of level, pass and node
 --   Limits     the limits of a table of right form, by node and by number
---   EarlierOrder  the order of 1, 2 and 3 before document 02, job 3, and exactly which answers the job changed
+--   EarlierForms  the forms before document 02, job 3 and job 7, and the two cases in which job 3 changed an answer
 --   WithoutProducts  tables without tag 5 are read, named and written as before document 02, job 7
+--   EarlierOrder  exactly which of document 01's answers document 02, job 3, changed
 --   FormLists  the form by lists
 --   BytesLaws  fields and the whole form taken apart, and the values of tags
 --   ReadLaws, FormLaws, NameLaws, WriteLaws   the rules one by one, as the code goes through them
@@ -28,6 +29,7 @@ pub mod Names
 pub mod Told
 pub mod Readers
 pub mod Limits
+pub mod EarlierForms
 pub mod FormLists
 pub mod BytesLaws
 pub mod ReadLaws
@@ -36,7 +38,7 @@ pub mod NameLaws
 pub mod WriteLaws
 pub mod RoundTrip
 pub mod ChangeLaws
-pub mod EarlierOrder
 pub mod WithoutProducts
+pub mod EarlierOrder
 pub mod Cases
 pub mod WorkedTables

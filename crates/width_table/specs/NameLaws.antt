@@ -2,17 +2,17 @@
 use Prim.Native.Nat.{ℕ, _+_, _≤_}
 use mathlib.Core.Bool.{Bool, true, false}
 use mathlib.Core.List.{List, []}
-use mathlib.Core.Path.{_≡_, refl, _∙_, ap, ap₂}
+use mathlib.Core.Path.{_≡_, refl, _∙_, ap}
 use native.Mathlib.Omega.{arith}
-use lib.ListN.{length, take, drop, length-drop}
+use lib.ListN.{length, drop, length-drop}
 use lib.Seq.{length-take-le}
 use Rattle.refusals.specs.Answers.{Reason, Answer, done, refused, passed, asks, _then_}
-use Rattle.refusals.specs.AnswerLaws.{asks-done, then-done, gives-done, gives-refused, answered-done, answered-refused}
+use Rattle.refusals.specs.AnswerLaws.{asks-done, then-done, gives-done}
 use Rattle.numbers.specs.Tests.{between-≤}
 use Rattle.width_table.specs.Table.{maxLevels}
 use Rattle.width_table.specs.Fields.{depthTag, productsTag, tagRight, IsTag, tableSize, valueStart, valueLength}
-use Rattle.width_table.specs.Bytes.{levelsIn, hasFifth, form, valueIn}
-use Rattle.width_table.specs.Names.{hasTag, nameable, naming, valueOf}
+use Rattle.width_table.specs.Bytes.{levelsIn, hasFifth, form}
+use Rattle.width_table.specs.Names.{hasTag, nameable, naming, partAt}
 use Rattle.width_table.specs.BytesLaws.{form-long, levels-byte, levels-most}
 use Rattle.width_table.specs.ReadLaws.{value-ends, value-within, value-some}
 
@@ -43,16 +43,15 @@ module _ (bytes : List ℕ) (tag : ℕ) where
   pub name-right : tagRight tag ≡ true → form bytes ≡ passed → there ≡ true → naming bytes tag ≡ done (start, long)
   name-right e f g = decided true e passed f true g
 
-  -- what the place says of the part: it is there, it is not empty, and it is the value
+  -- what the place says of the part: it is there whole, and it is not empty
   pub record Valued (from len : ℕ) : Type 0 where
     pub fits : from + len ≤ length bytes
     pub small : from + len ≤ tableSize true maxLevels
     pub some : 1 ≤ len
-    pub part : valueOf bytes tag ≡ take len (drop from bytes)
-    pub long : length (valueOf bytes tag) ≡ len
+    pub long : length (partAt bytes (naming bytes tag)) ≡ len
 
   pub valued : (from len : ℕ) → naming bytes tag ≡ done (from, len) → Valued from len
-  unfolding naming valueOf nameable
+  unfolding naming nameable
   valued from len e =
       let d = gives-done (nameable bytes tag) (start, long) e in
       let a = asks-done (tagRight tag) _ _ (d .0) in
@@ -64,16 +63,9 @@ module _ (bytes : List ℕ) (tag : ℕ) where
       let ends = value-ends (levelsIn bytes) tag h in
       let within = value-within (levelsIn bytes) (hasFifth bytes) tag h (t .0) in
       let fits : from + len ≤ length bytes = omega (arith, within, form-long bytes (b .0)) in
-      let part : valueOf bytes tag ≡ take len (drop from bytes) = answered-done (valueIn bytes tag) [] (d .0) ∙ ap₂ (λ (n s : ℕ). take n (drop s bytes)) y x in
       record {
         fits = fits;
         small = omega (arith, ends, levels-most bytes (b .0));
         some = omega (arith, y, value-some (levelsIn bytes) (between-≤ 1 maxLevels (levelsIn bytes) (levels-byte bytes (b .0)) .0) tag h);
-        part = part;
-        long = ap length part ∙ length-take-le len (drop from bytes) (omega (arith, length-drop from bytes, fits));
+        long = ap (λ (o : Answer (ℕ × ℕ)). length (partAt bytes o)) e ∙ length-take-le len (drop from bytes) (omega (arith, length-drop from bytes, fits));
       }
-
-  -- no place, no value: the part is empty
-  pub no-value : (r : Reason) → naming bytes tag ≡ refused r → valueOf bytes tag ≡ []
-  unfolding naming valueOf
-  no-value r e = answered-refused (valueIn bytes tag) [] (gives-refused (nameable bytes tag) (start, long) r e)

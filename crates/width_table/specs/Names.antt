@@ -3,9 +3,10 @@ use Prim.Native.Nat.{ℕ}
 use mathlib.Core.Bool.{Bool, _||_}
 use mathlib.Core.List.{List, []}
 use lib.Dec.{leb}
-use Rattle.refusals.specs.Answers.{Answer, done, passed, asks, _then_, answered}
+use lib.ListN.{take, drop}
+use Rattle.refusals.specs.Answers.{Answer, done, refused, passed, asks, _then_}
 use Rattle.width_table.specs.Fields.{nodesTag, tagRight, valueStart, valueLength}
-use Rattle.width_table.specs.Bytes.{levelsIn, hasFifth, form, valueIn}
+use Rattle.width_table.specs.Bytes.{levelsIn, hasFifth, form}
 
 -- bytes of a right form have a field of this tag: every table has tags 1 to 4
 abbrev pub hasTag : List ℕ → ℕ → Bool
@@ -19,6 +20,7 @@ nameable bytes tag = asks (tagRight tag) 2 (form bytes then asks (hasTag bytes t
 unfoldable pub naming : List ℕ → ℕ → Answer (ℕ × ℕ)
 naming bytes tag = nameable bytes tag then done (valueStart (levelsIn bytes) tag, valueLength (levelsIn bytes) tag)
 
--- and as the part of the caller's bytes: empty where it is refused (no value is empty)
-unfoldable pub valueOf : List ℕ → ℕ → List ℕ
-valueOf bytes tag = answered (nameable bytes tag) (valueIn bytes tag) []
+-- the part of the caller's bytes that lies there: from its start, of its length; empty where the name is refused (no value is empty)
+abbrev pub partAt : List ℕ → Answer (ℕ × ℕ) → List ℕ
+partAt bytes (done (start, len)) = take len (drop start bytes)
+partAt bytes (refused r) = []

@@ -1,4 +1,4 @@
--- A table without tag 5 is read, named and written as before document 02, job 7. The form of before is kept here alone, for this.
+-- A table without tag 5 is read, named and written as before document 02, job 7 (the forms of before: EarlierForms).
 use Prim.Native.Nat.{ℕ, _+_, _*_, _<_}
 use mathlib.Core.Bool.{Bool, true, false, _&&_, _||_}
 use mathlib.Core.List.{List, [], _∷_, _++_}
@@ -8,21 +8,23 @@ use borrow.Author.Tests.{le-leb, lt-leb, ne-eqb}
 use lib.Dec.{T, leb, eqb, eqb→eq}
 use lib.ListN.{length, getD, take, drop, replicate, length-append, length-drop, drop-of-length-le}
 use lib.Seq.{take-append-seam, take-append-le, drop-append-le, getD-take, getD-drop, getD-append-add}
-use Rattle.numbers.specs.Tests.{between, by-leb}
-use Rattle.refusals.specs.Answers.{Answer, done, refused, passed, asks, _then_}
-use Rattle.refusals.specs.AnswerLaws.{asks-done, then-done, then-right}
+use Rattle.numbers.specs.Tests.{between, by-leb, between-≤, to-between}
+use Rattle.refusals.specs.Answers.{Answer, done, refused, passed, asks, _then_, answered}
+use Rattle.refusals.specs.AnswerLaws.{asks-done, asks-right, then-done, then-right}
 use Rattle.width_table.specs.declared.WidthTable.{WidthTable}
 use Rattle.width_table.specs.Table.{maxLevels, formRight}
-use Rattle.width_table.specs.Fields.{depthTag, levelsTag, nodesTag, productsTag, headBytes, Field, productBytes, fixedFields, lastFields, fields, startOf, tableSize, bytesOf}
+use Rattle.width_table.specs.Fields.{depthTag, levelsTag, nodesTag, productsTag, tagRight, headBytes, Field, productBytes, fixedFields, lastFields, fields, startOf, tableSize, bytesOf}
 use Rattle.width_table.specs.Bytes.{headed, field, formBy, levelsIn, hasFifth, form, productsIn, tableIn, tableBytes}
 use Rattle.width_table.specs.Names.{nameable}
+use Rattle.width_table.specs.EarlierForms.{formWithout, nameableWithout}
 use Rattle.width_table.specs.FormLists.{Sized}
 use Rattle.width_table.specs.BytesLaws.{FieldAt, field-done, field-right, right-from, right-long, right-form, bytes-length}
 use Rattle.width_table.specs.ReadLaws.{more-follows}
 
--- the form of before: four fields, and 5 where bytes follow them
-unfoldable pub formWithout : List ℕ → Answer Unit
-formWithout bytes = formBy (fields false (levelsIn bytes)) bytes
+-- what stands where one answer is passed, and then another
+pub then-answered : {A B : Type 0} (o : Answer Unit) (p : Answer A) (x y : B) → answered o (answered p x y) y ≡ answered (o then p) x y
+then-answered (done tt) p x y = refl
+then-answered (refused r) p x y = refl
 
 -- ---- reading
 
@@ -56,7 +58,7 @@ module _ (bytes : List ℕ) where
   unfolding formWithout
   without-ends e = let fs = fields false (levelsIn bytes) in omega (arith, right-long fs 0 bytes (right-from fs 0 bytes (omega arith) e))
 
-  none-after : formWithout bytes ≡ passed → hasFifth bytes ≡ false
+  pub none-after : formWithout bytes ≡ passed → hasFifth bytes ≡ false
   none-after e =
       let n = tableSize false (levelsIn bytes) in
       let place : n ≡ n + 0 = omega arith in
@@ -81,24 +83,65 @@ module _ (bytes : List ℕ) where
   unfolding tableIn
   right-as-before e = (reads-as-before (none-after e) ∙ e, none-after e, ap (λ (b : Bool). productsIn b bytes) (none-after e))
 
-  -- ---- naming: of every tag but 5, which was 2 before the form was judged
-  pub names-as-before : hasFifth bytes ≡ false → (tag : ℕ) → (tag ≡ productsTag → ⊥) → nameable bytes tag ≡ asks (between depthTag nodesTag tag) 2 (formWithout bytes)
-  unfolding nameable
-  names-as-before none tag other =
-      by-leb (λ (b : Bool). asks (leb depthTag tag && leb tag productsTag) 2 (form bytes then asks (b || hasFifth bytes) 2 passed) ≡ asks (leb depthTag tag && b) 2 (formWithout bytes)) tag nodesTag
-      (λ h. ap (λ (b : Bool). asks (leb depthTag tag && b) 2 (form bytes then passed)) (le-leb tag productsTag (omega arith)) ∙ ap (asks (leb depthTag tag && true) 2) (then-passed (form bytes) ∙ reads-as-before none))
-      (λ h. ap (λ (b : Bool). asks (leb depthTag tag && b) 2 (form bytes then asks (hasFifth bytes) 2 passed)) (lt-leb tag productsTag (above h)) ∙ neither (leb depthTag tag) _ _)
-    where
-      above : nodesTag < tag → productsTag < tag
-      above h = omega arith
+  -- ---- naming
 
-      then-passed : (o : Answer Unit) → o then passed ≡ o
-      then-passed (done tt) = refl
-      then-passed (refused r) = refl
+  then-passed : (o : Answer Unit) → o then passed ≡ o
+  then-passed (done tt) = refl
+  then-passed (refused r) = refl
 
-      neither : (b : Bool) (x y : Answer Unit) → asks (b && false) 2 x ≡ asks (b && false) 2 y
-      neither true x y = refl
-      neither false x y = refl
+  module _ (tag : ℕ) where
+    -- tags 1 to 4, which every table has, are answered by the form
+    pub four-names : T (between depthTag nodesTag tag) → nameable bytes tag ≡ form bytes
+    unfolding nameable
+    four-names h =
+        let (least, most) = between-≤ depthTag nodesTag tag h in
+        asks-right (tagRight tag) _ _ (to-between depthTag productsTag tag least (omega arith))
+        ∙ ap (λ (b : Bool). form bytes then asks (b || hasFifth bytes) 2 passed) (le-leb tag nodesTag most)
+        ∙ then-passed (form bytes)
+
+    -- every tag but 5, which was 2 before the form was judged
+    pub names-as-before : hasFifth bytes ≡ false → (tag ≡ productsTag → ⊥) → nameable bytes tag ≡ nameableWithout bytes tag
+    unfolding nameable nameableWithout
+    names-as-before none other =
+        by-leb (λ (b : Bool). asks (leb depthTag tag && leb tag productsTag) 2 (form bytes then asks (b || hasFifth bytes) 2 passed) ≡ asks (leb depthTag tag && b) 2 (formWithout bytes)) tag nodesTag
+        (λ h. ap (λ (b : Bool). asks (leb depthTag tag && b) 2 (form bytes then passed)) (le-leb tag productsTag (omega arith)) ∙ ap (asks (leb depthTag tag && true) 2) (then-passed (form bytes) ∙ reads-as-before none))
+        (λ h. ap (λ (b : Bool). asks (leb depthTag tag && b) 2 (form bytes then asks (hasFifth bytes) 2 passed)) (lt-leb tag productsTag (above h)) ∙ neither (leb depthTag tag) _ _)
+      where
+        above : nodesTag < tag → productsTag < tag
+        above h = omega arith
+
+        neither : (b : Bool) (x y : Answer Unit) → asks (b && false) 2 x ≡ asks (b && false) 2 y
+        neither true x y = refl
+        neither false x y = refl
+
+    -- What stands where a tag is named, and where not, is the same for every tag where the form is answered as before: tag 5 is named in
+    -- none of these bytes.
+    pub named-as-before : form bytes ≡ formWithout bytes → {B : Type 0} (x y : B) → answered (nameable bytes tag) x y ≡ answered (nameableWithout bytes tag) x y
+    unfolding nameable nameableWithout
+    named-as-before same {B} x y =
+        by-leb (λ (b : Bool). answered (asks (leb depthTag tag && leb tag productsTag) 2 (form bytes then asks (b || hasFifth bytes) 2 passed)) x y ≡ answered (asks (leb depthTag tag && b) 2 (formWithout bytes)) x y) tag nodesTag
+        (λ h. (λ u. answered (asks (leb depthTag tag && le-leb tag productsTag (omega arith) u) 2 ((then-passed (form bytes) ∙ same) u)) x y))
+        (λ h. judged-none (leb depthTag tag && leb tag productsTag) _ (fifth-none (hasFifth bytes) refl) ∙ sym (no-name (leb depthTag tag) (formWithout bytes)))
+      where
+        never-read : hasFifth bytes ≡ true → (o : Answer Unit) → form bytes ≡ o → answered (o then passed) x y ≡ y
+        never-read five (done u) e = absurd (was-refused five (sym same ∙ e))
+        never-read five (refused r) e = refl
+
+        lacking : (o : Answer Unit) → answered (o then asks false 2 passed) x y ≡ y
+        lacking (done tt) = refl
+        lacking (refused r) = refl
+
+        fifth-none : (five : Bool) → hasFifth bytes ≡ five → answered (form bytes then asks five 2 passed) x y ≡ y
+        fifth-none true five = never-read five (form bytes) refl
+        fifth-none false none = lacking (form bytes)
+
+        judged-none : (b : Bool) (o : Answer Unit) → answered o x y ≡ y → answered (asks b 2 o) x y ≡ y
+        judged-none true o e = e
+        judged-none false o e = refl
+
+        no-name : (b : Bool) (o : Answer Unit) → answered (asks (b && false) 2 o) x y ≡ y
+        no-name true o = refl
+        no-name false o = refl
 
 -- ---- what follows a table without tag 5
 

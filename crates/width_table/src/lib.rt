@@ -16,7 +16,7 @@ ghost use Rattle.width_table.specs.Numbered.{IsNode, IsPass, IsProduct};
 ghost use Rattle.width_table.specs.Table.{maxLevels, depthRight, levelsRight, widthRight, formRight, widthBytes, nodePlace, productPlace};
 ghost use Rattle.width_table.specs.Fields.{depthTag, levelsTag, constantsTag, nodesTag, productsTag, IsTag, headBytes, nodeBytes, productBytes, widthsRight, fields, fieldsAfter, fieldOf, tableSize, valueStart, valueLength, bytesOf};
 ghost use Rattle.width_table.specs.Bytes.{headed, field, formBy, levelsIn, hasFifth, form, productsIn, tableRead, emptyTable, tableIn, tableBytes, writing, bytesAfter};
-ghost use Rattle.width_table.specs.Names.{hasTag, valueOf, naming};
+ghost use Rattle.width_table.specs.Names.{hasTag, naming, partAt};
 ghost use Rattle.width_table.specs.Changes.{hasNode, changeable, tableAfterWidth, constantChangeable, tableAfterConstant, hasProduct, productChangeable, tableAfterProduct};
 ghost use Rattle.width_table.specs.Told.{toldWritten, toldNamed};
 ghost use Rattle.width_table.specs.Readers.{constantBitsAt, integerBitsAt, fractionBitsAt, productWidthAt, inputBitsAt};
@@ -557,9 +557,9 @@ pub fn value_place(bytes: &[u8], tag: u8) -> Named
     }
 }
 
-// The part of the caller's bytes that holds a tag's value; empty where it is refused.
+// The part of the caller's bytes that holds a tag's value, where `value_place` says that it lies; empty where the name is refused.
 pub fn value_of(bytes: &[u8], tag: u8) -> &[u8]
-    ensures { λ r. ⌜ now r ≡ valueOf (now (bytes .entry)) tag ⌝ }
+    ensures { λ r. ⌜ now r ≡ partAt (now (bytes .entry)) (naming (now (bytes .entry)) tag) ⌝ }
 {
     match value_place(bytes, tag) {
         Named::NotNamed(_) => &bytes[..0],

@@ -1,2 +1,2 @@
 -- The cases that document 01 marks P, proved on the definitions in one table.
-pub mod Cases
+pub mod ProvedNumbers

@@ -12,28 +12,28 @@ use Rattle.refusals.specs.AnswerLaws.{gives-done, gives-refused, then-right, th
 use Rattle.width_table.specs.declared.WidthTable.{WidthTable}
 use Rattle.width_table.specs.Table.{formRight}
 use Rattle.width_table.specs.Fields.{tableSize, valueStart, valueLength}
-use Rattle.width_table.specs.Bytes.{levelsIn, hasFifth, form, tableIn, writable, writing, tableBytes, bytesAfter}
-use Rattle.width_table.specs.Names.{nameable, naming}
-use Rattle.width_table.specs.Changes.{changeable, withWidth, tableAfterWidth, constantChangeable, withConstant, tableAfterConstant, productChangeable, withProduct, tableAfterProduct}
+use Rattle.width_table.specs.Bytes.{levelsIn, hasFifth, form, tableIn, writeAnswer, writing, tableBytes, bytesAfter}
+use Rattle.width_table.specs.Names.{nameAnswer, naming}
+use Rattle.width_table.specs.Changes.{widthAnswer, withWidth, tableAfterWidth, constantAnswer, withConstant, tableAfterConstant, productAnswer, withProduct, tableAfterProduct}
 use Rattle.width_table.specs.RoundTrip.{read-sized}
 use Rattle.width_table.specs.ChangeLaws.{width-form, constant-form, product-form}
 use Rattle.precision.specs.Verdict.{verdict}
-use Rattle.precision.specs.BoundCalls.{boundable}
+use Rattle.precision.specs.BoundCalls.{boundAnswer}
 use Rattle.irreversible.specs.Calls.{fixedAnswer, fixedPlaneAfter, fixedWork}
 use Rattle.view_precision.specs.Bounds.{viewVerdict, viewDistance}
 use Rattle.viewing.specs.Calls.{viewAnswer, viewPixels, viewWork}
-use Rattle.engine.specs.Answers.{checked, startAfter, lengthAfter, boundAnswered, boundIn, rangeAfter, errorAfter, newTableAnswer, newTableOut, answer97, plane97, work97, viewChecked, distanceAfter, viewAnswer97, viewPixels97, viewWork97}
+use Rattle.engine.specs.Answers.{checkAnswer, startAfter, lengthAfter, tableBoundAnswer, boundIn, rangeAfter, errorAfter, newTableAnswer, newTableOut, answer97, plane97, work97, viewCheckAnswer, distanceAfter, viewAnswer97, viewPixels97, viewWork97}
 
 -- ---- a tag that is named
 
 module _ (bytes : List ℕ) (tag start len : ℕ) where
   -- what the call gives
   pub record GivesPlace (o : Answer Unit) (s l : ℕ) : Type 0 where
-    pub answers : nameable bytes tag ≡ o
+    pub answers : nameAnswer bytes tag ≡ o
     pub leaves-start : s ≡ startAfter bytes tag start
     pub leaves-length : l ≡ lengthAfter bytes tag len
 
-  gives-place : (o : Answer Unit) → nameable bytes tag ≡ o → GivesPlace o (answered o (valueStart (levelsIn bytes) tag) start) (answered o (valueLength (levelsIn bytes) tag) len)
+  gives-place : (o : Answer Unit) → nameAnswer bytes tag ≡ o → GivesPlace o (answered o (valueStart (levelsIn bytes) tag) start) (answered o (valueLength (levelsIn bytes) tag) len)
   unfolding startAfter lengthAfter
   gives-place o e = record {
     answers = e;
@@ -43,23 +43,23 @@ module _ (bytes : List ℕ) (tag start len : ℕ) where
 
   pub name-refused : (r : Reason) → naming bytes tag ≡ refused r → GivesPlace (refused r) start len
   unfolding naming
-  name-refused r e = gives-place (refused r) (gives-refused (nameable bytes tag) _ r e)
+  name-refused r e = gives-place (refused r) (gives-refused (nameAnswer bytes tag) _ r e)
 
   pub name-found : (s l : ℕ) → naming bytes tag ≡ done (s, l) → GivesPlace passed s l
   unfolding naming
   name-found s l e =
-      let (right, place) = gives-done (nameable bytes tag) (valueStart (levelsIn bytes) tag, valueLength (levelsIn bytes) tag) e in
+      let (right, place) = gives-done (nameAnswer bytes tag) (valueStart (levelsIn bytes) tag, valueLength (levelsIn bytes) tag) e in
       subst (λ (p : ℕ × ℕ). GivesPlace passed (p .0) (p .1)) place (gives-place passed right)
 
 -- ---- a table that is judged
 
 module _ (bytes : List ℕ) where
-  pub check-refused : (r : Reason) → form bytes ≡ refused r → checked bytes ≡ refused r
-  unfolding checked
+  pub check-refused : (r : Reason) → form bytes ≡ refused r → checkAnswer bytes ≡ refused r
+  unfolding checkAnswer
   check-refused r e = then-refused (form bytes) (verdict (tableIn bytes)) r e
 
-  pub check-judged : form bytes ≡ passed → checked bytes ≡ verdict (tableIn bytes)
-  unfolding checked
+  pub check-judged : form bytes ≡ passed → checkAnswer bytes ≡ verdict (tableIn bytes)
+  unfolding checkAnswer
   check-judged e = then-right (form bytes) (verdict (tableIn bytes)) e
 
 -- ---- the bound of a node
@@ -67,11 +67,11 @@ module _ (bytes : List ℕ) where
 module _ (bytes : List ℕ) (level pass node range error : ℕ) where
   -- what the call gives
   pub record GivesBound (o : Answer Unit) (r e : ℕ) : Type 0 where
-    pub answers : boundAnswered bytes level pass node ≡ o
+    pub answers : tableBoundAnswer bytes level pass node ≡ o
     pub leaves-range : r ≡ rangeAfter bytes level pass node range
     pub leaves-error : e ≡ errorAfter bytes level pass node error
 
-  gives-bound : (o : Answer Unit) → boundAnswered bytes level pass node ≡ o → GivesBound o (answered o (boundIn bytes level pass node .range) range) (answered o (boundIn bytes level pass node .error) error)
+  gives-bound : (o : Answer Unit) → tableBoundAnswer bytes level pass node ≡ o → GivesBound o (answered o (boundIn bytes level pass node .range) range) (answered o (boundIn bytes level pass node .error) error)
   unfolding rangeAfter errorAfter
   gives-bound o e = record {
     answers = e;
@@ -80,30 +80,30 @@ module _ (bytes : List ℕ) (level pass node range error : ℕ) where
   }
 
   pub bound-unread : (r : Reason) → form bytes ≡ refused r → GivesBound (refused r) range error
-  unfolding boundAnswered
+  unfolding tableBoundAnswer
   bound-unread r e = gives-bound (refused r) (then-refused (form bytes) _ r e)
 
-  pub bound-read : form bytes ≡ passed → (o : Answer Unit) → boundable (tableIn bytes) level pass node ≡ o
+  pub bound-read : form bytes ≡ passed → (o : Answer Unit) → boundAnswer (tableIn bytes) level pass node ≡ o
       → GivesBound o (answered o (boundIn bytes level pass node .range) range) (answered o (boundIn bytes level pass node .error) error)
-  unfolding boundAnswered
+  unfolding tableBoundAnswer
   bound-read e o q = gives-bound o (then-right (form bytes) _ e ∙ q)
 
 -- ---- a table that is written
 
 module _ (t : WidthTable) (lent : List ℕ) where
-  pub write-done : (n : ℕ) → writing t lent ≡ done n → writable t lent ≡ passed
+  pub write-done : (n : ℕ) → writing t lent ≡ done n → writeAnswer t lent ≡ passed
   unfolding writing
-  write-done n e = gives-done (writable t lent) _ e .0
+  write-done n e = gives-done (writeAnswer t lent) _ e .0
 
-  pub write-refused : (r : Reason) → writing t lent ≡ refused r → writable t lent ≡ refused r
+  pub write-refused : (r : Reason) → writing t lent ≡ refused r → writeAnswer t lent ≡ refused r
   unfolding writing
-  write-refused r e = gives-refused (writable t lent) _ r e
+  write-refused r e = gives-refused (writeAnswer t lent) _ r e
 
 -- ---- a new table from the old one
 
 module _ (bytes : List ℕ) (change : Answer Unit) (new : WidthTable) (out : List ℕ) where
   abbrev room : Bool → ℕ → Answer Unit
-  room five L = asks (leb (tableSize five L) (length out)) 9 passed
+  room hasProducts L = asks (leb (tableSize hasProducts L) (length out)) 9 passed
 
   abbrev after : Answer Unit → List ℕ
   after o = answered o (over (tableBytes new) out) out
@@ -123,35 +123,35 @@ module _ (bytes : List ℕ) (change : Answer Unit) (new : WidthTable) (out : Lis
 
   -- what it gives where a change's answer and its table go to the lent bytes
   abbrev GivesWritten : Answer Unit → WidthTable → Type 0
-  GivesWritten o made = Gives (o then writable made out) (answered o (bytesAfter made out) out)
+  GivesWritten o made = Gives (o then writeAnswer made out) (answered o (bytesAfter made out) out)
 
   -- an accepted change keeps the form, the levels and whether tag 5 is there, so that 9 alone is left
-  change-read : form bytes ≡ passed → new .levels ≡ levelsIn bytes → new .five ≡ hasFifth bytes → (change ≡ passed → formRight new ≡ true)
+  change-read : form bytes ≡ passed → new .levels ≡ levelsIn bytes → new .«has_products» ≡ hasFifth bytes → (change ≡ passed → formRight new ≡ true)
       → (o : Answer Unit) (made : WidthTable) → o ≡ change → made ≡ answered change new (tableIn bytes) → GivesWritten o made
-  unfolding newTableAnswer writable bytesAfter
-  change-read e levels five right o made answer table = subst₂ GivesWritten (sym answer) (sym table) (go change refl)
+  unfolding newTableAnswer writeAnswer bytesAfter
+  change-read e levels hasProducts right o made answer table = subst₂ GivesWritten (sym answer) (sym table) (go change refl)
     where
       rest : Answer Unit
       rest = room (hasFifth bytes) (levelsIn bytes)
 
       go : (o : Answer Unit) → change ≡ o → GivesWritten o (answered o new (tableIn bytes))
       go (done tt) q =
-          let formed : writable new out ≡ rest = ap (λ (b : Bool). asks b 4 (room (new .five) (new .levels))) (right q) ∙ ap₂ room five levels in
-          gives (writable new out) (then-right (form bytes) _ e ∙ then-right change rest q ∙ sym formed)
+          let formed : writeAnswer new out ≡ rest = ap (λ (b : Bool). asks b 4 (room (new .«has_products») (new .levels))) (right q) ∙ ap₂ room hasProducts levels in
+          gives (writeAnswer new out) (then-right (form bytes) _ e ∙ then-right change rest q ∙ sym formed)
       go (refused r) q = gives (refused r) (then-right (form bytes) _ e ∙ then-refused change rest r q)
 
 module _ (bytes : List ℕ) (out : List ℕ) (e : form bytes ≡ passed) (o : Answer Unit) (made : WidthTable) where
-  pub width-changed : (level pass node IB f : ℕ) → let change = changeable (tableIn bytes) level pass node IB f in
+  pub width-changed : (level pass node IB f : ℕ) → let change = widthAnswer (tableIn bytes) level pass node IB f in
       o ≡ change → made ≡ tableAfterWidth (tableIn bytes) level pass node IB f → GivesWritten bytes change (withWidth (tableIn bytes) level pass node IB f) out o made
   unfolding tableAfterWidth tableIn
   width-changed level pass node IB f = change-read bytes _ (withWidth (tableIn bytes) level pass node IB f) out e refl refl (width-form (tableIn bytes) (read-sized bytes e) level pass node IB f) o made
 
-  pub constant-changed : (node F : ℕ) → let change = constantChangeable (tableIn bytes) node F in
+  pub constant-changed : (node F : ℕ) → let change = constantAnswer (tableIn bytes) node F in
       o ≡ change → made ≡ tableAfterConstant (tableIn bytes) node F → GivesWritten bytes change (withConstant (tableIn bytes) node F) out o made
   unfolding tableAfterConstant tableIn
   constant-changed node F = change-read bytes _ (withConstant (tableIn bytes) node F) out e refl refl (constant-form (tableIn bytes) (read-sized bytes e) node F) o made
 
-  pub product-changed : (level pass product fp : ℕ) → let change = productChangeable (tableIn bytes) level pass product fp in
+  pub product-changed : (level pass product fp : ℕ) → let change = productAnswer (tableIn bytes) level pass product fp in
       o ≡ change → made ≡ tableAfterProduct (tableIn bytes) level pass product fp → GivesWritten bytes change (withProduct (tableIn bytes) level pass product fp) out o made
   unfolding tableAfterProduct tableIn
   product-changed level pass product fp = change-read bytes _ (withProduct (tableIn bytes) level pass product fp) out e refl refl (product-form (tableIn bytes) (read-sized bytes e) level pass product fp) o made
@@ -184,16 +184,16 @@ module _ (bytes : List ℕ) (w h : ℕ) (pixels : List ℕ) (plane work : List �
 -- ---- viewing
 
 module _ (bytes : List ℕ) where
-  pub view-refused : (r : Reason) → form bytes ≡ refused r → viewChecked bytes ≡ refused r
-  unfolding viewChecked
+  pub view-refused : (r : Reason) → form bytes ≡ refused r → viewCheckAnswer bytes ≡ refused r
+  unfolding viewCheckAnswer
   view-refused r e = then-refused (form bytes) (viewVerdict (tableIn bytes)) r e
 
-  pub view-judged : form bytes ≡ passed → viewChecked bytes ≡ viewVerdict (tableIn bytes)
-  unfolding viewChecked
+  pub view-judged : form bytes ≡ passed → viewCheckAnswer bytes ≡ viewVerdict (tableIn bytes)
+  unfolding viewCheckAnswer
   view-judged e = then-right (form bytes) (viewVerdict (tableIn bytes)) e
 
   -- what the distance's number holds afterwards
-  pub leaves-distance : (distance : ℕ) (o : Answer Unit) → viewChecked bytes ≡ o → answered o (viewDistance (tableIn bytes)) distance ≡ distanceAfter bytes distance
+  pub leaves-distance : (distance : ℕ) (o : Answer Unit) → viewCheckAnswer bytes ≡ o → answered o (viewDistance (tableIn bytes)) distance ≡ distanceAfter bytes distance
   unfolding distanceAfter
   leaves-distance distance o e = sym (ap (λ (o : Answer Unit). answered o (viewDistance (tableIn bytes)) distance) e)
 

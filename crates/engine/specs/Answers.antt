@@ -11,11 +11,11 @@ use Rattle.width_table.specs.declared.WidthTable.{WidthTable}
 use Rattle.width_table.specs.Table.{maxLevels}
 use Rattle.width_table.specs.Fields.{productBytes, tableSize, valueStart, valueLength}
 use Rattle.width_table.specs.Bytes.{levelsIn, hasFifth, form, tableIn, tableBytes}
-use Rattle.width_table.specs.Changes.{changeable, withWidth, constantChangeable, withConstant, productChangeable, withProduct}
-use Rattle.width_table.specs.Names.{nameable}
+use Rattle.width_table.specs.Changes.{widthAnswer, withWidth, constantAnswer, withConstant, productAnswer, withProduct}
+use Rattle.width_table.specs.Names.{nameAnswer}
 use Rattle.stages.specs.Rule.{Bound}
 use Rattle.precision.specs.Verdict.{verdict}
-use Rattle.precision.specs.BoundCalls.{boundable, boundNumbered}
+use Rattle.precision.specs.BoundCalls.{boundAnswer, boundNumbered}
 use Rattle.irreversible.specs.Calls.{fixedAnswer, fixedPlaneAfter, fixedWork}
 use Rattle.view_precision.specs.Bounds.{viewVerdict, viewDistance}
 use Rattle.viewing.specs.Calls.{viewAnswer, viewPixels, viewWork}
@@ -23,30 +23,30 @@ use Rattle.viewing.specs.Calls.{viewAnswer, viewPixels, viewWork}
 -- ---- tables
 
 -- 1 to 5 by fields, then 6 and 7 in node order
-unfoldable pub checked : List ℕ → Answer Unit
-checked bytes = form bytes then verdict (tableIn bytes)
+unfoldable pub checkAnswer : List ℕ → Answer Unit
+checkAnswer bytes = form bytes then verdict (tableIn bytes)
 
 -- where a tag's value starts and how long it is, written where the answer is 0
 unfoldable pub startAfter : List ℕ → ℕ → ℕ → ℕ
-startAfter bytes tag start = answered (nameable bytes tag) (valueStart (levelsIn bytes) tag) start
+startAfter bytes tag start = answered (nameAnswer bytes tag) (valueStart (levelsIn bytes) tag) start
 
 unfoldable pub lengthAfter : List ℕ → ℕ → ℕ → ℕ
-lengthAfter bytes tag len = answered (nameable bytes tag) (valueLength (levelsIn bytes) tag) len
+lengthAfter bytes tag len = answered (nameAnswer bytes tag) (valueLength (levelsIn bytes) tag) len
 
 -- range and error of a node: 1 to 5 of the bytes, 4 where the table lacks the node, then 6 or 7 of the nodes before it
 module _ (bytes : List ℕ) (level pass node : ℕ) where
-  unfoldable pub boundAnswered : Answer Unit
-  boundAnswered = form bytes then boundable (tableIn bytes) level pass node
+  unfoldable pub tableBoundAnswer : Answer Unit
+  tableBoundAnswer = form bytes then boundAnswer (tableIn bytes) level pass node
 
   abbrev pub boundIn : Bound
   boundIn = boundNumbered (tableIn bytes) level pass node
 
   -- written where the answer is 0
   unfoldable pub rangeAfter : ℕ → ℕ
-  rangeAfter range = answered boundAnswered (boundIn .range) range
+  rangeAfter range = answered tableBoundAnswer (boundIn .range) range
 
   unfoldable pub errorAfter : ℕ → ℕ
-  errorAfter error = answered boundAnswered (boundIn .error) error
+  errorAfter error = answered tableBoundAnswer (boundIn .error) error
 
 -- A new table from the old one, written to lent bytes: 1 to 5 of the old one's bytes, 4 for the change, 9 where the lent bytes are too short.
 module _ (bytes : List ℕ) (change : Answer Unit) (out : List ℕ) where
@@ -62,35 +62,35 @@ module _ (bytes : List ℕ) (change : Answer Unit) (out : List ℕ) where
 -- with another width of a node
 module _ (bytes : List ℕ) (level pass node IB f : ℕ) (out : List ℕ) where
   abbrev pub changeAnswer : Answer Unit
-  changeAnswer = newTableAnswer bytes (changeable (tableIn bytes) level pass node IB f) out
+  changeAnswer = newTableAnswer bytes (widthAnswer (tableIn bytes) level pass node IB f) out
 
   abbrev pub changeOut : List ℕ
-  changeOut = newTableOut bytes (changeable (tableIn bytes) level pass node IB f) out (withWidth (tableIn bytes) level pass node IB f)
+  changeOut = newTableOut bytes (widthAnswer (tableIn bytes) level pass node IB f) out (withWidth (tableIn bytes) level pass node IB f)
 
 -- with other bits of a stage's constant
 module _ (bytes : List ℕ) (node F : ℕ) (out : List ℕ) where
   abbrev pub constantChangeAnswer : Answer Unit
-  constantChangeAnswer = newTableAnswer bytes (constantChangeable (tableIn bytes) node F) out
+  constantChangeAnswer = newTableAnswer bytes (constantAnswer (tableIn bytes) node F) out
 
   abbrev pub constantChangeOut : List ℕ
-  constantChangeOut = newTableOut bytes (constantChangeable (tableIn bytes) node F) out (withConstant (tableIn bytes) node F)
+  constantChangeOut = newTableOut bytes (constantAnswer (tableIn bytes) node F) out (withConstant (tableIn bytes) node F)
 
 -- with another width of a product (document 02, job 7)
 module _ (bytes : List ℕ) (level pass product fp : ℕ) (out : List ℕ) where
   abbrev pub productChangeAnswer : Answer Unit
-  productChangeAnswer = newTableAnswer bytes (productChangeable (tableIn bytes) level pass product fp) out
+  productChangeAnswer = newTableAnswer bytes (productAnswer (tableIn bytes) level pass product fp) out
 
   abbrev pub productChangeOut : List ℕ
-  productChangeOut = newTableOut bytes (productChangeable (tableIn bytes) level pass product fp) out (withProduct (tableIn bytes) level pass product fp)
+  productChangeOut = newTableOut bytes (productAnswer (tableIn bytes) level pass product fp) out (withProduct (tableIn bytes) level pass product fp)
 
 -- a table from its parts; it says by a number other than 0 that it has tag 5
 abbrev pub tableWith : ℕ → ℕ → List ℕ → List ℕ → ℕ → List ℕ → WidthTable
-tableWith B L constants widths five products = record {
+tableWith B L constants widths hasProducts products = record {
   depth = B;
   levels = L;
   constants = constants;
   nodes = widths;
-  five = not (eqb five 0);
+  «has_products» = not (eqb hasProducts 0);
   products = products;
 }
 
@@ -113,12 +113,12 @@ module _ (bytes : List ℕ) (w h : ℕ) (pixels : List ℕ) (plane work : List �
 -- ---- viewing (document 02, job 1): 1 to 5 of the bytes, then the call's own
 
 -- 1 to 5 by fields, 6 and 7 in node order, 13
-unfoldable pub viewChecked : List ℕ → Answer Unit
-viewChecked bytes = form bytes then viewVerdict (tableIn bytes)
+unfoldable pub viewCheckAnswer : List ℕ → Answer Unit
+viewCheckAnswer bytes = form bytes then viewVerdict (tableIn bytes)
 
 -- the distance from scan to view, written where the answer is 0
 unfoldable pub distanceAfter : List ℕ → ℕ → ℕ
-distanceAfter bytes distance = answered (viewChecked bytes) (viewDistance (tableIn bytes)) distance
+distanceAfter bytes distance = answered (viewCheckAnswer bytes) (viewDistance (tableIn bytes)) distance
 
 module _ (bytes : List ℕ) (w h : ℕ) (plane : List ℤ) (pixels : List ℕ) (work : List ℤ) where
   unfoldable pub viewAnswer97 : Answer Unit

@@ -18,31 +18,31 @@ use Rattle.width_table.specs.Bytes.{levelsIn, hasFifth, form, tableIn, tableByt
 use Rattle.width_table.specs.EarlierForms.{earlierForm, earlierNameable, NotFive, PresentChanges}
 use Rattle.width_table.specs.EarlierOrder.{earlier-four, call-changes, same-after, same-lent, same-named}
 use Rattle.precision.specs.Verdict.{verdict}
-use Rattle.precision.specs.BoundCalls.{boundable}
+use Rattle.precision.specs.BoundCalls.{boundAnswer}
 use Rattle.irreversible.specs.Calls.{fixedAnswer, fixedPlaneAfter, fixedWork}
 use Rattle.view_precision.specs.Bounds.{viewVerdict, viewDistance}
 use Rattle.viewing.specs.Calls.{viewAnswer, viewPixels, viewWork}
 use Rattle.rolling.specs.Calls.{beginAnswer, scanOf}
 use Rattle.scan_bytes.specs.ScanBytes.{scanLength, stateBytes}
-use Rattle.engine.specs.Answers.{checked, startAfter, lengthAfter, boundAnswered, boundIn, rangeAfter, errorAfter, newTableAnswer, newTableOut, answer97, plane97, work97, viewChecked, distanceAfter, viewAnswer97, viewPixels97, viewWork97}
+use Rattle.engine.specs.Answers.{checkAnswer, startAfter, lengthAfter, tableBoundAnswer, boundIn, rangeAfter, errorAfter, newTableAnswer, newTableOut, answer97, plane97, work97, viewCheckAnswer, distanceAfter, viewAnswer97, viewPixels97, viewWork97}
 use Rattle.engine.specs.ScanAnswers.{begins, scanBeginAnswer, scanBeginState}
 
 module _ (bytes : List ℕ) where
   -- suz_table_check
-  pub check-changes : PresentChanges bytes (earlierForm bytes then verdict (tableIn bytes)) (checked bytes)
-  unfolding checked
+  pub check-changes : PresentChanges bytes (earlierForm bytes then verdict (tableIn bytes)) (checkAnswer bytes)
+  unfolding checkAnswer
   check-changes = call-changes bytes (verdict (tableIn bytes))
 
   -- suz_table_view, suz_view_distance
   abbrev earlierViewChecked : Answer Unit
   earlierViewChecked = earlierForm bytes then viewVerdict (tableIn bytes)
 
-  pub view-check-changes : PresentChanges bytes earlierViewChecked (viewChecked bytes)
-  unfolding viewChecked
+  pub view-check-changes : PresentChanges bytes earlierViewChecked (viewCheckAnswer bytes)
+  unfolding viewCheckAnswer
   view-check-changes = call-changes bytes (viewVerdict (tableIn bytes))
 
   pub same-distance : NotFive bytes → (distance : ℕ) → distanceAfter bytes distance ≡ answered earlierViewChecked (viewDistance (tableIn bytes)) distance
-  unfolding distanceAfter viewChecked
+  unfolding distanceAfter viewCheckAnswer
   same-distance k distance = same-lent bytes (viewVerdict (tableIn bytes)) k (viewDistance (tableIn bytes)) distance
 
   -- suz_table_value
@@ -57,25 +57,25 @@ module _ (bytes : List ℕ) where
   -- suz_table_bound
   module _ (level pass node : ℕ) where
     abbrev earlierBound : Answer Unit
-    earlierBound = earlierForm bytes then boundable (tableIn bytes) level pass node
+    earlierBound = earlierForm bytes then boundAnswer (tableIn bytes) level pass node
 
-    pub bound-changes : PresentChanges bytes earlierBound (boundAnswered bytes level pass node)
-    unfolding boundAnswered
-    bound-changes = call-changes bytes (boundable (tableIn bytes) level pass node)
+    pub bound-changes : PresentChanges bytes earlierBound (tableBoundAnswer bytes level pass node)
+    unfolding tableBoundAnswer
+    bound-changes = call-changes bytes (boundAnswer (tableIn bytes) level pass node)
 
     pub same-range : NotFive bytes → (range : ℕ) → rangeAfter bytes level pass node range ≡ answered earlierBound (boundIn bytes level pass node .range) range
-    unfolding rangeAfter boundAnswered
-    same-range k range = same-lent bytes (boundable (tableIn bytes) level pass node) k (boundIn bytes level pass node .range) range
+    unfolding rangeAfter tableBoundAnswer
+    same-range k range = same-lent bytes (boundAnswer (tableIn bytes) level pass node) k (boundIn bytes level pass node .range) range
 
     pub same-error : NotFive bytes → (error : ℕ) → errorAfter bytes level pass node error ≡ answered earlierBound (boundIn bytes level pass node .error) error
-    unfolding errorAfter boundAnswered
-    same-error k error = same-lent bytes (boundable (tableIn bytes) level pass node) k (boundIn bytes level pass node .error) error
+    unfolding errorAfter tableBoundAnswer
+    same-error k error = same-lent bytes (boundAnswer (tableIn bytes) level pass node) k (boundIn bytes level pass node .error) error
 
   -- suz_table_change, suz_table_change_constant (suz_table_change_product came with job 7)
   module _ (change : Answer Unit) (out : List ℕ) where
     -- 4 for the change, and 9 where the lent bytes are too short for a table of four fields or of five
     abbrev rest : Bool → Answer Unit
-    rest five = change then asks (leb (tableSize five (levelsIn bytes)) (length out)) 9 passed
+    rest hasProducts = change then asks (leb (tableSize hasProducts (levelsIn bytes)) (length out)) 9 passed
 
     pub new-table-changes : PresentChanges bytes (earlierForm bytes then rest false) (newTableAnswer bytes change out)
     unfolding newTableAnswer

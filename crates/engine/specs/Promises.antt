@@ -15,12 +15,12 @@ use Rattle.exact.specs.Picture.{exactSample, exactPlane}
 use Rattle.width_table.specs.declared.WidthTable.{WidthTable}
 use Rattle.width_table.specs.Table.{formRight}
 use Rattle.width_table.specs.Bytes.{form, tableIn, tableBytes}
-use Rattle.width_table.specs.FormLists.{Sized}
+use Rattle.width_table.specs.FormLists.{FullLists}
 use Rattle.width_table.specs.ReadLaws.{table-read}
 use Rattle.width_table.specs.RoundTrip.{written-reads}
 use Rattle.precision.specs.Promise.{promise}
 use Rattle.pictures.specs.Pictures.{planeOf}
-use Rattle.pictures.specs.PictureLaws.{Room, sized, sized-then, sized-right, pixels-right}
+use Rattle.pictures.specs.PictureLaws.{Room, roomAnswer, sized-then, sized-right, pixels-right}
 use Rattle.precision.specs.Verdict.{verdict, Accepted}
 use Rattle.irreversible.specs.Transforms.{fixedAfter, fixedPlane}
 use Rattle.irreversible.specs.Claims.{Picture, bitsPlane, Near, LevelInWidth}
@@ -30,11 +30,11 @@ use Rattle.irreversible.specs.Demand3.{two-steps, widths}
 use Rattle.view_precision.specs.Bounds.{viewVerdict, pixelBound, viewDistance}
 use Rattle.viewing.specs.View.{viewPlane, exactView}
 use Rattle.viewing.specs.Calls.{viewAnswer, viewPixels}
-use Rattle.viewing.specs.Claims.{Stored, Close, EachSmall, exactGreys, limited, LessThanOne, greysApart}
+use Rattle.viewing.specs.Claims.{Stored, Close, EachSmall, exactGreys, clamped, LessThanOne, greysApart}
 use Rattle.viewing.specs.Scan.{scan-to-view}
 use Rattle.viewing.specs.CallLaws as View
 use Rattle.viewing.specs.Forward.{call-forward, forward-shown}
-use Rattle.engine.specs.Answers.{checked, answer97, plane97, viewChecked, distanceAfter, viewAnswer97, viewPixels97}
+use Rattle.engine.specs.Answers.{checkAnswer, answer97, plane97, viewCheckAnswer, distanceAfter, viewAnswer97, viewPixels97}
 use Rattle.engine.specs.Zero.{checked-zero, zero97, view-checked-zero, view-zero97}
 
 -- ---- where suz_forward97 answers 0
@@ -59,9 +59,9 @@ module _ (bytes : List ℕ) (w h : ℕ) (pixels : List ℕ) (plane work : List �
 
 -- ---- where suz_table_check answers 0, the same holds for every picture of the table's depth and of admitted size
 
-module _ (bytes : List ℕ) (zero : code (checked bytes) ≡ 0) (pixels : List ℕ) (w h : ℕ) (picture : Picture (tableIn bytes) pixels w h) where
+module _ (bytes : List ℕ) (zero : code (checkAnswer bytes) ≡ 0) (pixels : List ℕ) (w h : ℕ) (picture : Picture (tableIn bytes) pixels w h) where
   accepted : Accepted (tableIn bytes)
-  unfolding checked
+  unfolding checkAnswer
   accepted = then-done (form bytes) (verdict (tableIn bytes)) (checked-zero bytes zero) .1
 
   pub check-near : (r c : ℕ) → r < h → c < w
@@ -73,7 +73,7 @@ module _ (bytes : List ℕ) (zero : code (checked bytes) ≡ 0) (pixels : List �
 
   -- and suz_forward97 answers 0 for it, where its slices are long enough
   pub check-works : (plane work : List ℤ) → w * h ≤ length pixels → w * h ≤ length plane → w * h ≤ length work → code (answer97 bytes w h pixels plane work) ≡ 0
-  unfolding answer97 fixedAnswer checked
+  unfolding answer97 fixedAnswer checkAnswer
   check-works plane work a b c =
       let t = tableIn bytes in
       let formed = then-done (form bytes) (verdict t) (checked-zero bytes zero) .0 in
@@ -82,7 +82,7 @@ module _ (bytes : List ℕ) (zero : code (checked bytes) ≡ 0) (pixels : List �
       (then-right (form bytes) _ formed
       ∙ then-right (verdict t) _ accepted
       ∙ sized-then w h (length pixels) (length plane) (length work) _
-      ∙ then-right (sized w h (length pixels) (length plane) (length work)) _ (sized-right w h (length pixels) (length plane) (length work) room)
+      ∙ then-right (roomAnswer w h (length pixels) (length plane) (length work)) _ (sized-right w h (length pixels) (length plane) (length work) room)
       ∙ pixels-right (t .depth) w h pixels a (picture .depth))
 
 -- ---- where suz_view97 answers 0
@@ -100,22 +100,22 @@ module _ (bytes : List ℕ) (w h : ℕ) (plane : List ℤ) (pixels : List ℕ) (
   pub zero-sizes : EachSmall (tableIn bytes) (tableIn bytes .levels) w h (planeOf w plane)
   zero-sizes = View.call-sizes (tableIn bytes) w h plane pixels work (viewed .1)
 
-  -- every shown pixel is less than one grey from the exact value, limited to the depth.
+  -- every shown pixel is less than one grey from the exact value, clamped to the depth.
   pub zero-shown : (r c : ℕ) → r < h → c < w
       → let B = tableIn bytes .depth in
-      LessThanOne (getD (viewPixels97 bytes w h plane pixels work) (r * w + c) 0) (limited (2 ^ B - 1) (exactGreys B (exactView (tableIn bytes) w h (planeOf w plane) r c)))
+      LessThanOne (getD (viewPixels97 bytes w h plane pixels work) (r * w + c) 0) (clamped (2 ^ B - 1) (exactGreys B (exactView (tableIn bytes) w h (planeOf w plane) r c)))
   unfolding viewPixels97
   zero-shown r c i j =
       let B = tableIn bytes .depth in
-      subst (λ (q : List ℕ). LessThanOne (getD q (r * w + c) 0) (limited (2 ^ B - 1) (exactGreys B (exactView (tableIn bytes) w h (planeOf w plane) r c))))
+      subst (λ (q : List ℕ). LessThanOne (getD q (r * w + c) 0) (clamped (2 ^ B - 1) (exactGreys B (exactView (tableIn bytes) w h (planeOf w plane) r c))))
       (sym (answered-done (viewPixels (tableIn bytes) w h plane pixels work) pixels (viewed .0)))
       (View.call-near (tableIn bytes) w h plane pixels work (viewed .1) r c i j)
 
 -- ---- where suz_table_view answers 0
 
-module _ (bytes : List ℕ) (zero : code (viewChecked bytes) ≡ 0) where
+module _ (bytes : List ℕ) (zero : code (viewCheckAnswer bytes) ≡ 0) where
   viewable : (form bytes ≡ passed) × (viewVerdict (tableIn bytes) ≡ passed)
-  unfolding viewChecked
+  unfolding viewCheckAnswer
   viewable = then-done (form bytes) (viewVerdict (tableIn bytes)) (view-checked-zero bytes zero)
 
   -- suz_view97 answers 0 for every plane of admitted size in the table's widths, where its slices are long enough;
@@ -163,7 +163,7 @@ module _ (bytes : List ℕ) (w h : ℕ) (pixels : List ℕ) (plane work : List �
       (omega (arith, length-append p (drop (length p) plane), rows-length w h (omega (arith, r .wide .0)) (fixedPlane t pixels w h)))
 
   -- and suz_table_view does, suz_view97 answers 0 for the plane that was stored, where its slices are long enough,
-  pub view-works : code (viewChecked bytes) ≡ 0 → (shown : List ℕ) (area : List ℤ) → w * h ≤ length shown → w * h ≤ length area → code (viewAnswer97 bytes w h left shown area) ≡ 0
+  pub view-works : code (viewCheckAnswer bytes) ≡ 0 → (shown : List ℕ) (area : List ℤ) → w * h ≤ length shown → w * h ≤ length area → code (viewAnswer97 bytes w h left shown area) ≡ 0
   unfolding viewAnswer97
   view-works can shown area a c =
       view-shows bytes can w h left shown area (subst (λ (p : List ℤ). Stored t w h (planeOf w p)) (sym left-is) (call-forward t w h pixels plane work (stored .1))) a left-long c
@@ -180,16 +180,16 @@ module _ (bytes : List ℕ) (w h : ℕ) (pixels : List ℕ) (plane work : List �
 
 -- ---- and no premise is empty: an accepted table, written as bytes, is answered 0 by suz_table_check
 
-module _ (t : WidthTable) (sized : Sized t) (ok : Accepted t) where
-  pub accepted-checks : code (checked (tableBytes t)) ≡ 0
-  unfolding checked
+module _ (t : WidthTable) (roomAnswer : FullLists t) (ok : Accepted t) where
+  pub accepted-checks : code (checkAnswer (tableBytes t)) ≡ 0
+  unfolding checkAnswer
   accepted-checks =
-      let (formed, back) = written-reads t sized (is-true (formRight t) (promise t ok .form)) in
+      let (formed, back) = written-reads t roomAnswer (is-true (formRight t) (promise t ok .form)) in
       ap (λ (o : Answer Unit). code o) (then-right (form (tableBytes t)) _ formed ∙ ap verdict (sym (table-read (tableBytes t) formed) ∙ back) ∙ ok)
 
   -- and one that viewing accepts too, by suz_table_view
-  pub viewable-checks : viewVerdict t ≡ passed → code (viewChecked (tableBytes t)) ≡ 0
-  unfolding viewChecked
+  pub viewable-checks : viewVerdict t ≡ passed → code (viewCheckAnswer (tableBytes t)) ≡ 0
+  unfolding viewCheckAnswer
   viewable-checks shown =
-      let (formed, back) = written-reads t sized (is-true (formRight t) (promise t ok .form)) in
+      let (formed, back) = written-reads t roomAnswer (is-true (formRight t) (promise t ok .form)) in
       ap (λ (o : Answer Unit). code o) (then-right (form (tableBytes t)) _ formed ∙ ap viewVerdict (sym (table-read (tableBytes t) formed) ∙ back) ∙ shown)

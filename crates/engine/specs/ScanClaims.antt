@@ -17,7 +17,7 @@ use Rattle.width_table.specs.declared.WidthTable.{WidthTable}
 use Rattle.width_table.specs.Table.{formRight}
 use Rattle.width_table.specs.Fields.{Field, headBytes, fields}
 use Rattle.width_table.specs.Bytes.{announced, headed, field, formBy, levelsIn, hasFifth, form, tableIn, tableBytes}
-use Rattle.width_table.specs.FormLists.{Sized}
+use Rattle.width_table.specs.FormLists.{FullLists}
 use Rattle.width_table.specs.ReadLaws.{table-read}
 use Rattle.width_table.specs.RoundTrip.{read-sized, written-reads}
 use Rattle.width_table.specs.WorkedTables.{usual}
@@ -30,16 +30,16 @@ use Rattle.irreversible.specs.Claims.{LevelInWidth}
 use Rattle.rolling.specs.declared.Scan.{Scan}
 use Rattle.rolling.specs.Calls.{beginAnswer, scanOf, heldLines, outLines, lineAnswer, givenByLine, LineCall, endAnswer, givenByEnd, scanEnded, EndCall}
 use Rattle.rolling.specs.AnswerLaws.{other-levels, one-level}
-use Rattle.rolling_claims.specs.Claims.{HandedOn, Calls, begun, line, line-refused, end, end-refused, Left, ready, firstLines, LinesNear}
+use Rattle.rolling_claims.specs.Claims.{HandedOn, Calls, begun, line, line-refused, end, end-refused, LeftByCalls, ready, firstLines, LinesNear}
 use Rattle.rolling_claims.specs.History.{facts, table-kept}
 use Rattle.rolling_claims.specs.NotFourteen.{Other, done-other, asks-other, then-other, then-fourteen, verdict-other}
-use Rattle.rolling_claims.specs.Possible.{scanned, foreign-refused}
+use Rattle.rolling_claims.specs.Satisfiable.{scanned, foreign-refused}
 use Rattle.rolling_claims.specs.Theorems.{before-end, after-end, refused-keeps, in-widths, near-before-end, near-after-end}
 use Rattle.scan_bytes.specs.ScanBytes.{scanLength, stateBytes, tableEnd, scanHeld, scanIn}
 use Rattle.scan_bytes.specs.ByteLaws.{Keepable, kept-is, state-long, read-written, read-is, read-refused, read-formed, written-read, zeros-hold-none}
-use Rattle.engine.specs.Answers.{checked}
+use Rattle.engine.specs.Answers.{checkAnswer}
 use Rattle.engine.specs.ScanAnswers.{begins, scanBeginAnswer, scanBeginState, givenAfter, OnScan, OnBytes, LineOnBytes, EndOnBytes}
-use Rattle.engine.specs.ScanHistory.{StateHandedOn, HeldHandedOn, ByteCalls, c-begun, c-line, c-line-refused, c-end, c-end-refused, LeftState, ScannedBytes}
+use Rattle.engine.specs.ScanHistory.{StateHandedOn, HeldHandedOn, ByteCalls, c-begun, c-line, c-line-refused, c-end, c-end-refused, LeftState, FinishedByteScan}
 use Rattle.engine.specs.ScanLaws.{begun-kept}
 use Rattle.engine.specs.Promises.{accepted-checks}
 use Rattle.engine.specs.Zero.{checked-zero, scan-begin-zero, line-from-one, end-from-one, gives-zero}
@@ -96,7 +96,7 @@ module _ (bytes : List ℕ) (formed : form bytes ≡ passed) where
   can-hold {s} {n = n} calls =
       let f = facts (tableIn bytes) calls in
       let narrow : Dec (n < 1) → s .width < 65536 = λ d. elim d [ yes i ↦ omega (arith, f .unset (omega arith)) | no i ↦ omega (arith, f .side (omega arith) .1) ] in
-      kept-is s (subst (λ (t : WidthTable). Sized t) (sym (table-kept (tableIn bytes) calls)) (read-sized bytes formed)) (begun-kept s (f .begun) (narrow (decLt n 1)))
+      kept-is s (subst (λ (t : WidthTable). FullLists t) (sym (table-kept (tableIn bytes) calls)) (read-sized bytes formed)) (begun-kept s (f .begun) (narrow (decLt n 1)))
 
 module _ (s : Scan) (k : Keepable s) (state : List ℕ) where
   -- a state whose own bytes are the scan's holds it
@@ -286,10 +286,10 @@ module _ (bytes : List ℕ) (formed : form bytes ≡ passed) where
 
 -- Under the bytes of every accepted table of one level, every strip of at least one line of admitted width and of the table's depth can be
 -- scanned to its end.
-pub c-scanned : (bytes : List ℕ) → code (checked bytes) ≡ 0 → tableIn bytes .levels ≡ 1
+pub c-scanned : (bytes : List ℕ) → code (checkAnswer bytes) ≡ 0 → tableIn bytes .levels ≡ 1
     → (w n : ℕ) → Admitted w → 1 ≤ n → (strip : List ℕ) → length strip ≡ n * w → ((k : ℕ) → getD strip k 0 < 2 ^ tableIn bytes .depth)
-    → ScannedBytes bytes n strip
-unfolding checked
+    → FinishedByteScan bytes n strip
+unfolding checkAnswer
 c-scanned bytes accepts one w n side some strip size below =
     let t = tableIn bytes in
     let (formed, accepted) = then-done (form bytes) (verdict t) (checked-zero bytes accepts) in
@@ -306,10 +306,10 @@ c-scanned bytes accepts one w n side some strip size below =
     }
 
 -- There are such tables and strips: the usual one and a single pixel, for one.
-pub c-one-scanned : ScannedBytes (tableBytes (usual 1)) 1 (10 ∷ [])
+pub c-one-scanned : FinishedByteScan (tableBytes (usual 1)) 1 (10 ∷ [])
 c-one-scanned =
     let t = usual 1 in
-    let sized : Sized t = record { constants = refl; nodes = refl; products = refl } in
+    let sized : FullLists t = record { constants = refl; nodes = refl; products = refl } in
     let ok = usual-accepted 1 (omega arith) (omega arith) in
     let (formed, back) = written-reads t sized (is-true (formRight t) (promise t ok .form)) in
     let same : t ≡ tableIn (tableBytes t) = sym (sym (table-read (tableBytes t) formed) ∙ back) in
@@ -324,7 +324,7 @@ c-one-scanned =
 
 -- A state of enough bytes that no calls left is answered 14, whatever is lent with it.
 module _ (state : List ℕ) (below : (k : ℕ) → k < length state → getD state k 0 < 256) (long : scanLength ≤ length state) (foreign : ¬ (LeftState (take scanLength state))) where
-  not-left : (s : Scan) → scanIn state ≡ done s → ¬ (Left s)
+  not-left : (s : Scan) → scanIn state ≡ done s → ¬ (LeftByCalls s)
   not-left s e l =
       let table = take (tableEnd state) state in
       let formed = read-formed state s e in
@@ -333,7 +333,7 @@ module _ (state : List ℕ) (below : (k : ℕ) → k < length state → getD sta
       foreign (subst LeftState (written-read state below s e) (record { table = table; held = l .held; lines = l .lines; strip = l .strip; all = l .given; calls = calls-on-bytes table formed calls }))
 
   answered-14 : (Call : Scan → Answer ℕ → Scan → List ℤ → List ℤ → Type 0) (held out : List ℤ) {given r : ℕ} {state′ : List ℕ} {held′ out′ : List ℤ} {given′ : ℕ}
-      → ((s : Scan) (o : Answer ℕ) (s′ : Scan) → ¬ (Left s) → Call s o s′ held′ out′ → o ≡ refused (14, []))
+      → ((s : Scan) (o : Answer ℕ) (s′ : Scan) → ¬ (LeftByCalls s) → Call s o s′ held′ out′ → o ≡ refused (14, []))
       → OnBytes Call state held out given r state′ held′ out′ given′ → r ≡ 14
   answered-14 Call held out {r = r} refuses call = go (scanIn state) refl
     where

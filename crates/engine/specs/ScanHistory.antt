@@ -50,7 +50,7 @@ pub record LeftState (state : List ℕ) : Type 0 where
   pub calls : ByteCalls table state held lines strip all
 
 -- n lines accepted, and then the end
-pub record ScannedBytes (bytes : List ℕ) (n : ℕ) (strip : List ℕ) : Type 0 where
+pub record FinishedByteScan (bytes : List ℕ) (n : ℕ) (strip : List ℕ) : Type 0 where
   pub state : List ℕ
   pub held : List ℤ
   pub all : List ℤ

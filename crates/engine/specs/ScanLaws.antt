@@ -17,7 +17,7 @@ use Rattle.rolling.specs.declared.Scan.{Scan}
 use Rattle.rolling.specs.Calls.{beginAnswer, scanOf, outLines, lineAnswer, givenByLine, scanAfter, LineCall, endAnswer, givenByEnd, scanEnded, EndCall}
 use Rattle.rolling.specs.AnswerLaws.{begun-one, begun-accepted, on-side}
 use Rattle.rolling_claims.specs.History.{line-right, end-right}
-use Rattle.rolling_claims.specs.Possible.{line-few, end-few}
+use Rattle.rolling_claims.specs.Satisfiable.{line-few, end-few}
 use Rattle.scan_bytes.specs.ScanBytes.{scanLength, stateBytes, keepable, scanIn, stateAfter, numbersAfter}
 use Rattle.scan_bytes.specs.ByteLaws.{can-keep, no-room, kept, renewed-written}
 use borrow.Author.Tests.{lt-leb}

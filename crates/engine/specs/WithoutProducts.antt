@@ -1,8 +1,8 @@
 -- Document 02, job 7, at the C interface: with a table's bytes in which no byte 5 follows the fourth field, a call answers as before, and
--- what it is lent holds the same afterwards; no product's width can be changed. Each equation has on its right what stood before: the form
+-- what it is lent lengthAnswer the same afterwards; no product's width can be changed. Each equation has on its right what stood before: the form
 -- of four fields (`formWithout`), the analysis and the lifting in which no product is cut (`oldVerdict`, `oldBoundable`, `oldBoundOf`,
 -- `uncutPlane`), the bytes of four fields. Rules of a change, of strips and of viewing, which cuts no product (Products of viewing), stand as
--- they are; what the form in memory asks of products besides holds of every table that is read (`read-formed` of width_table).
+-- they are; what the form in memory asks of products besides lengthAnswer of every table that is read (`read-formed` of width_table).
 -- (suz_table_form answers by `form` and suz_table_value by `nameable`: `reads-as-before`, and `names-as-before` for every tag but 5, of
 -- width_table.)
 use Prim.Native.Nat.{ℕ, _*_}
@@ -21,11 +21,11 @@ use Rattle.width_table.specs.Numbered.{passOf, nodeOf}
 use Rattle.width_table.specs.Nodes.{nodeAt}
 use Rattle.width_table.specs.Fields.{fields, tableSize, valueStart, valueLength, bytesOf}
 use Rattle.width_table.specs.Bytes.{levelsIn, hasFifth, form, tableIn, tableBytes}
-use Rattle.width_table.specs.Changes.{changeable, withWidth, constantChangeable, withConstant, withProduct}
+use Rattle.width_table.specs.Changes.{widthAnswer, withWidth, constantAnswer, withConstant, withProduct}
 use Rattle.width_table.specs.FormLaws.{no-products}
 use Rattle.width_table.specs.EarlierForms.{formWithout, nameableWithout}
 use Rattle.width_table.specs.WithoutProducts.{then-answered, reads-as-before, named-as-before, writes-as-before}
-use Rattle.pictures.specs.Pictures.{sided, holds, pixelsRight, planeOf, zeroed}
+use Rattle.pictures.specs.Pictures.{sideAnswer, lengthAnswer, pixelAnswer, planeOf, zeroed}
 use Rattle.stages.specs.Rule.{Bound}
 use Rattle.precision.specs.Uncut.{oldBoundOf, oldVerdict, oldBoundable, old-bounds, old-verdict, old-boundable}
 use Rattle.irreversible.specs.Calls.{fixedAnswer, fixedPlaneAfter, fixedWork}
@@ -37,7 +37,7 @@ use Rattle.rolling.specs.declared.Taken.the-variants.{Zero}
 use Rattle.rolling.specs.declared.Scan.{Scan}
 use Rattle.rolling.specs.Calls.{beginAnswer, scanOf}
 use Rattle.scan_bytes.specs.ScanBytes.{scanLength, stateBytes}
-use Rattle.engine.specs.Answers.{checked, startAfter, lengthAfter, boundAnswered, boundIn, rangeAfter, errorAfter, newTableAnswer, newTableOut, changeOut, constantChangeOut, productChangeAnswer, productChangeOut, answer97, plane97, work97, viewChecked, distanceAfter, viewAnswer97, viewPixels97, viewWork97}
+use Rattle.engine.specs.Answers.{checkAnswer, startAfter, lengthAfter, tableBoundAnswer, boundIn, rangeAfter, errorAfter, newTableAnswer, newTableOut, changeOut, constantChangeOut, productChangeAnswer, productChangeOut, answer97, plane97, work97, viewCheckAnswer, distanceAfter, viewAnswer97, viewPixels97, viewWork97}
 use Rattle.engine.specs.ScanAnswers.{begins, scanBeginAnswer, scanBeginState}
 
 answered-none : {B : Type 0} (o : Answer Unit) (old : B) → answered o old old ≡ old
@@ -48,13 +48,13 @@ module _ (bytes : List ℕ) (none : hasFifth bytes ≡ false) where
   abbrev t : WidthTable
   t = tableIn bytes
 
-  without : t .five ≡ false
+  without : t .«has_products» ≡ false
   unfolding tableIn
   without = none
 
   -- suz_table_check
-  pub old-check : checked bytes ≡ formWithout bytes then oldVerdict t
-  unfolding checked
+  pub old-check : checkAnswer bytes ≡ formWithout bytes then oldVerdict t
+  unfolding checkAnswer
   old-check = ap₂ (λ (a b : Answer Unit). a then b) (reads-as-before bytes none) (old-verdict t without)
 
   -- suz_table_value
@@ -75,8 +75,8 @@ module _ (bytes : List ℕ) (none : hasFifth bytes ≡ false) where
     pub old-bound : boundIn bytes level pass node ≡ told
     old-bound = old-bounds t without (nodeAt level (passOf pass) (nodeOf node))
 
-    pub old-bound-answer : boundAnswered bytes level pass node ≡ formWithout bytes then oldBoundable t level pass node
-    unfolding boundAnswered
+    pub old-bound-answer : tableBoundAnswer bytes level pass node ≡ formWithout bytes then oldBoundable t level pass node
+    unfolding tableBoundAnswer
     old-bound-answer = ap₂ (λ (a b : Answer Unit). a then b) (reads-as-before bytes none) (old-boundable t without level pass node)
 
     pub old-range : (range : ℕ) → rangeAfter bytes level pass node range ≡ answered (formWithout bytes then oldBoundable t level pass node) (told .range) range
@@ -94,19 +94,19 @@ module _ (bytes : List ℕ) (none : hasFifth bytes ≡ false) where
 
     pub old-change : newTableAnswer bytes change out ≡ oldNewTable
     unfolding newTableAnswer
-    old-change = ap₂ (λ (o : Answer Unit) (five : Bool). o then change then asks (leb (tableSize five (levelsIn bytes)) (length out)) 9 passed) (reads-as-before bytes none) none
+    old-change = ap₂ (λ (o : Answer Unit) (hasProducts : Bool). o then change then asks (leb (tableSize hasProducts (levelsIn bytes)) (length out)) 9 passed) (reads-as-before bytes none) none
 
-    old-out : (new : WidthTable) → new .five ≡ false → newTableOut bytes change out new ≡ answered oldNewTable (over (bytesOf (fields false (new .levels)) new) out) out
+    old-out : (new : WidthTable) → new .«has_products» ≡ false → newTableOut bytes change out new ≡ answered oldNewTable (over (bytesOf (fields false (new .levels)) new) out) out
     unfolding newTableOut
     old-out new e = ap₂ (λ (o : Answer Unit) (l : List ℕ). answered o (over l out) out) old-change (writes-as-before new e .0)
 
   module _ (level pass node IB f : ℕ) (out : List ℕ) where
-    pub old-width-out : changeOut bytes level pass node IB f out ≡ answered (oldNewTable (changeable t level pass node IB f) out) (over (bytesOf (fields false (t .levels)) (withWidth t level pass node IB f)) out) out
-    old-width-out = old-out (changeable t level pass node IB f) out (withWidth t level pass node IB f) without
+    pub old-width-out : changeOut bytes level pass node IB f out ≡ answered (oldNewTable (widthAnswer t level pass node IB f) out) (over (bytesOf (fields false (t .levels)) (withWidth t level pass node IB f)) out) out
+    old-width-out = old-out (widthAnswer t level pass node IB f) out (withWidth t level pass node IB f) without
 
   module _ (node F : ℕ) (out : List ℕ) where
-    pub old-constant-out : constantChangeOut bytes node F out ≡ answered (oldNewTable (constantChangeable t node F) out) (over (bytesOf (fields false (t .levels)) (withConstant t node F)) out) out
-    old-constant-out = old-out (constantChangeable t node F) out (withConstant t node F) without
+    pub old-constant-out : constantChangeOut bytes node F out ≡ answered (oldNewTable (constantAnswer t node F) out) (over (bytesOf (fields false (t .levels)) (withConstant t node F)) out) out
+    old-constant-out = old-out (constantAnswer t node F) out (withConstant t node F) without
 
   -- suz_table_change_product, which is new: 4 after 1 to 5, and out stays
   module _ (level pass product fp : ℕ) (out : List ℕ) where
@@ -124,7 +124,7 @@ module _ (bytes : List ℕ) (none : hasFifth bytes ≡ false) where
   module _ (w h : ℕ) (pixels : List ℕ) (plane work : List ℤ) where
     -- 8, 9, 10
     abbrev pub strip : Answer Unit
-    strip = sided w h then holds (w * h) (length pixels) then holds (w * h) (length plane) then holds (w * h) (length work) then pixelsRight (t .depth) w h pixels
+    strip = sideAnswer w h then lengthAnswer (w * h) (length pixels) then lengthAnswer (w * h) (length plane) then lengthAnswer (w * h) (length work) then pixelAnswer (t .depth) w h pixels
 
     pub old-answer : answer97 bytes w h pixels plane work ≡ formWithout bytes then oldVerdict t then strip
     unfolding answer97 fixedAnswer
@@ -153,8 +153,8 @@ module _ (bytes : List ℕ) (none : hasFifth bytes ≡ false) where
   unfolding viewVerdict
   old-view-verdict = ap (λ (o : Answer Unit). o then asks (viewable t) 13 passed) (old-verdict t without)
 
-  pub old-view-check : viewChecked bytes ≡ formWithout bytes then oldViewVerdict
-  unfolding viewChecked
+  pub old-view-check : viewCheckAnswer bytes ≡ formWithout bytes then oldViewVerdict
+  unfolding viewCheckAnswer
   old-view-check = ap₂ (λ (a b : Answer Unit). a then b) (reads-as-before bytes none) old-view-verdict
 
   pub old-distance : (distance : ℕ) → distanceAfter bytes distance ≡ answered (formWithout bytes then oldViewVerdict) (viewDistance t) distance
@@ -165,7 +165,7 @@ module _ (bytes : List ℕ) (none : hasFifth bytes ≡ false) where
   module _ (w h : ℕ) (plane : List ℤ) (pixels : List ℕ) (work : List ℤ) where
     -- 8, 9, 12
     abbrev pub shown : Answer Unit
-    shown = sided w h then holds (w * h) (length pixels) then holds (w * h) (length plane) then holds (w * h) (length work) then coefficientsRight t w h plane
+    shown = sideAnswer w h then lengthAnswer (w * h) (length pixels) then lengthAnswer (w * h) (length plane) then lengthAnswer (w * h) (length work) then coefficientsRight t w h plane
 
     pub old-view : viewAnswer97 bytes w h plane pixels work ≡ formWithout bytes then oldViewVerdict then shown
     unfolding viewAnswer97 viewAnswer

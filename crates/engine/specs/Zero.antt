@@ -12,16 +12,16 @@ use Rattle.numbers.specs.Tests.{every}
 use Rattle.refusals.specs.Answers.{Answer, done, refused, passed, asks, _then_, code}
 use Rattle.refusals.specs.AnswerLaws.{FromOne, done-from-one, asks-from-one, then-from-one, code-zero}
 use Rattle.width_table.specs.declared.WidthTable.{WidthTable}
-use Rattle.width_table.specs.Nodes.{TableNode, bookOrder}
+use Rattle.width_table.specs.Nodes.{TableNode, tableOrder}
 use Rattle.width_table.specs.Table.{depthRight, levelsRight, formRight, integerBits, fractionBits}
 use Rattle.width_table.specs.Fields.{Field, headBytes, fields}
 use Rattle.width_table.specs.Bytes.{announced, headed, field, formBy, levelsIn, hasFifth, form, tableIn}
-use Rattle.pictures.specs.Pictures.{sideRight, sided, holds, pixelsRight}
+use Rattle.pictures.specs.Pictures.{sideRight, sideAnswer, lengthAnswer, pixelAnswer}
 use Rattle.stages.specs.Rule.{Bound}
 use Rattle.precision.specs.Bounds.{boundOf}
 use Rattle.precision.specs.Verdict.{fits, belowTwoSteps, keptAt, placeNumbers, judgedBy, judged, firstRefusal, verdict}
 use Rattle.reversible.specs.Reversible.{Order}
-use Rattle.reversible.specs.Calls.{limited, forwardAnswer, hasPicture, backAllowed, backAnswer}
+use Rattle.reversible.specs.Calls.{limitAnswer, forwardAnswer, hasPicture, backAllowed, backAnswer}
 use Rattle.irreversible.specs.Calls.{fixedAnswer}
 use Rattle.lines.specs.Planes.{rowByRow}
 use Rattle.pictures.specs.Pictures.{planeOf}
@@ -31,7 +31,7 @@ use Rattle.rolling.specs.declared.Scan.{Scan}
 use Rattle.rolling.specs.Schedule.{anyTaken}
 use Rattle.rolling.specs.Calls.{beginAnswer, goesOn, heldLines, outLines, lineAnswer, endAnswer}
 use Rattle.scan_bytes.specs.ScanBytes.{scanLength}
-use Rattle.engine.specs.Answers.{checked, answer97, viewChecked, viewAnswer97}
+use Rattle.engine.specs.Answers.{checkAnswer, answer97, viewCheckAnswer, viewAnswer97}
 use Rattle.engine.specs.ScanAnswers.{begins, scanBeginAnswer}
 
 -- one rule and nothing after it
@@ -68,28 +68,28 @@ first-from-one t (p ∷ ps) = then-from-one (judged t p) (firstRefusal t ps) (ju
 
 verdict-from-one : (t : WidthTable) → FromOne (verdict t)
 unfolding verdict
-verdict-from-one t = asks-from-one (formRight t) (4, []) _ (omega arith) (first-from-one t (bookOrder (t .levels)))
+verdict-from-one t = asks-from-one (formRight t) (4, []) _ (omega arith) (first-from-one t (tableOrder (t .levels)))
 
-pub checked-zero : (bytes : List ℕ) → code (checked bytes) ≡ 0 → checked bytes ≡ passed
-unfolding checked
-checked-zero bytes = code-zero (checked bytes) (then-from-one (form bytes) (verdict (tableIn bytes)) (form-from-one bytes) (verdict-from-one (tableIn bytes)))
+pub checked-zero : (bytes : List ℕ) → code (checkAnswer bytes) ≡ 0 → checkAnswer bytes ≡ passed
+unfolding checkAnswer
+checked-zero bytes = code-zero (checkAnswer bytes) (then-from-one (form bytes) (verdict (tableIn bytes)) (form-from-one bytes) (verdict-from-one (tableIn bytes)))
 
-sided-from-one : (w h : ℕ) → FromOne (sided w h)
-unfolding sided
+sided-from-one : (w h : ℕ) → FromOne (sideAnswer w h)
+unfolding sideAnswer
 sided-from-one w h = last-from-one (sideRight w && sideRight h) 8 (omega arith)
 
-holds-from-one : (n k : ℕ) → FromOne (holds n k)
-unfolding holds
+holds-from-one : (n k : ℕ) → FromOne (lengthAnswer n k)
+unfolding lengthAnswer
 holds-from-one n k = last-from-one (leb n k) 9 (omega arith)
 
 fixed-from-one : (t : WidthTable) (w h : ℕ) (pixels : List ℕ) (plane work : List ℤ) → FromOne (fixedAnswer t w h pixels plane work)
-unfolding fixedAnswer pixelsRight
+unfolding fixedAnswer pixelAnswer
 fixed-from-one t w h pixels plane work =
     then-from-one (verdict t) _ (verdict-from-one t)
-    (then-from-one (sided w h) _ (sided-from-one w h)
-    (then-from-one (holds (w * h) (length pixels)) _ (holds-from-one _ _)
-    (then-from-one (holds (w * h) (length plane)) _ (holds-from-one _ _)
-    (then-from-one (holds (w * h) (length work)) _ (holds-from-one _ _)
+    (then-from-one (sideAnswer w h) _ (sided-from-one w h)
+    (then-from-one (lengthAnswer (w * h) (length pixels)) _ (holds-from-one _ _)
+    (then-from-one (lengthAnswer (w * h) (length plane)) _ (holds-from-one _ _)
+    (then-from-one (lengthAnswer (w * h) (length work)) _ (holds-from-one _ _)
     (last-from-one (every (λ p. ltb p (2 ^ t .depth)) (take (w * h) pixels)) 10 (omega arith))))))
 
 pub zero97 : (bytes : List ℕ) (w h : ℕ) (pixels : List ℕ) (plane work : List ℤ) → code (answer97 bytes w h pixels plane work) ≡ 0 → answer97 bytes w h pixels plane work ≡ passed
@@ -104,18 +104,18 @@ view-verdict-from-one : (t : WidthTable) → FromOne (viewVerdict t)
 unfolding viewVerdict
 view-verdict-from-one t = then-from-one (verdict t) _ (verdict-from-one t) (last-from-one (viewable t) 13 (omega arith))
 
-pub view-checked-zero : (bytes : List ℕ) → code (viewChecked bytes) ≡ 0 → viewChecked bytes ≡ passed
-unfolding viewChecked
-view-checked-zero bytes = code-zero (viewChecked bytes) (then-from-one (form bytes) (viewVerdict (tableIn bytes)) (form-from-one bytes) (view-verdict-from-one (tableIn bytes)))
+pub view-checked-zero : (bytes : List ℕ) → code (viewCheckAnswer bytes) ≡ 0 → viewCheckAnswer bytes ≡ passed
+unfolding viewCheckAnswer
+view-checked-zero bytes = code-zero (viewCheckAnswer bytes) (then-from-one (form bytes) (viewVerdict (tableIn bytes)) (form-from-one bytes) (view-verdict-from-one (tableIn bytes)))
 
 view-from-one : (t : WidthTable) (w h : ℕ) (plane : List ℤ) (pixels : List ℕ) (work : List ℤ) → FromOne (viewAnswer t w h plane pixels work)
 unfolding viewAnswer coefficientsRight
 view-from-one t w h plane pixels work =
     then-from-one (viewVerdict t) _ (view-verdict-from-one t)
-    (then-from-one (sided w h) _ (sided-from-one w h)
-    (then-from-one (holds (w * h) (length pixels)) _ (holds-from-one _ _)
-    (then-from-one (holds (w * h) (length plane)) _ (holds-from-one _ _)
-    (then-from-one (holds (w * h) (length work)) _ (holds-from-one _ _)
+    (then-from-one (sideAnswer w h) _ (sided-from-one w h)
+    (then-from-one (lengthAnswer (w * h) (length pixels)) _ (holds-from-one _ _)
+    (then-from-one (lengthAnswer (w * h) (length plane)) _ (holds-from-one _ _)
+    (then-from-one (lengthAnswer (w * h) (length work)) _ (holds-from-one _ _)
     (last-from-one (every (λ q. q) (rowByRow w h (inWidth t w h (planeOf w plane)))) 12 (omega arith))))))
 
 pub view-zero97 : (bytes : List ℕ) (w h : ℕ) (plane : List ℤ) (pixels : List ℕ) (work : List ℤ) → code (viewAnswer97 bytes w h plane pixels work) ≡ 0 → viewAnswer97 bytes w h plane pixels work ≡ passed
@@ -126,18 +126,18 @@ view-zero97 bytes w h plane pixels work =
 
 -- ---- 5/3
 
-limited-from-one : (B L : ℕ) → FromOne (limited B L)
+limited-from-one : (B L : ℕ) → FromOne (limitAnswer B L)
 limited-from-one B L = last-from-one (depthRight B && levelsRight L) 4 (omega arith)
 
 pub zero53 : (B L w h : ℕ) (pixels : List ℕ) (plane work : List ℤ) → code (forwardAnswer B L w h pixels plane work) ≡ 0 → forwardAnswer B L w h pixels plane work ≡ passed
-unfolding forwardAnswer pixelsRight
+unfolding forwardAnswer pixelAnswer
 zero53 B L w h pixels plane work =
     code-zero (forwardAnswer B L w h pixels plane work)
-    (then-from-one (limited B L) _ (limited-from-one B L)
-    (then-from-one (sided w h) _ (sided-from-one w h)
-    (then-from-one (holds (w * h) (length pixels)) _ (holds-from-one _ _)
-    (then-from-one (holds (w * h) (length plane)) _ (holds-from-one _ _)
-    (then-from-one (holds (w * h) (length work)) _ (holds-from-one _ _)
+    (then-from-one (limitAnswer B L) _ (limited-from-one B L)
+    (then-from-one (sideAnswer w h) _ (sided-from-one w h)
+    (then-from-one (lengthAnswer (w * h) (length pixels)) _ (holds-from-one _ _)
+    (then-from-one (lengthAnswer (w * h) (length plane)) _ (holds-from-one _ _)
+    (then-from-one (lengthAnswer (w * h) (length work)) _ (holds-from-one _ _)
     (last-from-one (every (λ p. ltb p (2 ^ B)) (take (w * h) pixels)) 10 (omega arith)))))))
 
 -- the number of an answer is at most m
@@ -161,20 +161,20 @@ module _ (order : Order) (B L w h : ℕ) (plane : List ℤ) (pixels : List ℕ) 
   back-zero53 =
       code-zero (backAnswer order B L w h plane pixels work)
       (then-from-one (backAllowed B L w h plane pixels work) _
-      (then-from-one (limited B L) _ (limited-from-one B L)
-      (then-from-one (sided w h) _ (sided-from-one w h)
-      (then-from-one (holds (w * h) (length pixels)) _ (holds-from-one _ _)
-      (then-from-one (holds (w * h) (length plane)) _ (holds-from-one _ _) (holds-from-one _ _)))))
+      (then-from-one (limitAnswer B L) _ (limited-from-one B L)
+      (then-from-one (sideAnswer w h) _ (sided-from-one w h)
+      (then-from-one (lengthAnswer (w * h) (length pixels)) _ (holds-from-one _ _)
+      (then-from-one (lengthAnswer (w * h) (length plane)) _ (holds-from-one _ _) (holds-from-one _ _)))))
       (last-from-one (hasPicture order B L w h plane) 11 (omega arith)))
 
   -- 4, 8 and 9 are at most 9
   allowed-at-most : code (backAllowed B L w h plane pixels work) ≤ 9
-  unfolding backAllowed sided holds
+  unfolding backAllowed sideAnswer lengthAnswer
   allowed-at-most =
-      then-at-most (limited B L) _ 9 (rule-at-most (depthRight B && levelsRight L) 4 9 (omega arith))
-      (then-at-most (sided w h) _ 9 (rule-at-most (sideRight w && sideRight h) 8 9 (omega arith))
-      (then-at-most (holds (w * h) (length pixels)) _ 9 (rule-at-most (leb (w * h) (length pixels)) 9 9 (omega arith))
-      (then-at-most (holds (w * h) (length plane)) _ 9 (rule-at-most (leb (w * h) (length plane)) 9 9 (omega arith))
+      then-at-most (limitAnswer B L) _ 9 (rule-at-most (depthRight B && levelsRight L) 4 9 (omega arith))
+      (then-at-most (sideAnswer w h) _ 9 (rule-at-most (sideRight w && sideRight h) 8 9 (omega arith))
+      (then-at-most (lengthAnswer (w * h) (length pixels)) _ 9 (rule-at-most (leb (w * h) (length pixels)) 9 9 (omega arith))
+      (then-at-most (lengthAnswer (w * h) (length plane)) _ 9 (rule-at-most (leb (w * h) (length plane)) 9 9 (omega arith))
       (rule-at-most (leb (w * h) (length work)) 9 9 (omega arith)))))
 
   -- the number 11 says that 4, 8 and 9 do not apply and that the call is refused 11
@@ -193,20 +193,20 @@ scan-begin-zero bytes state =
     (last-from-one (leb scanLength (length state)) 9 (omega arith)))
 
 pub line-from-one : (s : Scan) (pixels : List ℕ) (w : ℕ) (held out : List ℤ) → FromOne (lineAnswer s pixels w held out)
-unfolding lineAnswer pixelsRight
+unfolding lineAnswer pixelAnswer
 line-from-one s pixels w held out =
     asks-from-one (goesOn s && (not (anyTaken (s .taken)) || eqb w (s .width))) (14, []) _ (omega arith)
     (asks-from-one (sideRight w) (8, []) _ (omega arith)
-    (then-from-one (holds w (length pixels)) _ (holds-from-one _ _)
-    (then-from-one (holds (heldLines * w) (length held)) _ (holds-from-one _ _)
-    (then-from-one (holds (outLines * w) (length out)) _ (holds-from-one _ _)
+    (then-from-one (lengthAnswer w (length pixels)) _ (holds-from-one _ _)
+    (then-from-one (lengthAnswer (heldLines * w) (length held)) _ (holds-from-one _ _)
+    (then-from-one (lengthAnswer (outLines * w) (length out)) _ (holds-from-one _ _)
     (last-from-one (every (λ p. ltb p (2 ^ s .table .depth)) (take (w * 1) pixels)) 10 (omega arith))))))
 
 pub end-from-one : (s : Scan) (held out : List ℤ) → FromOne (endAnswer s held out)
 unfolding endAnswer
 end-from-one s held out =
     asks-from-one (goesOn s && anyTaken (s .taken)) (14, []) _ (omega arith)
-    (then-from-one (holds (heldLines * s .width) (length held)) _ (holds-from-one _ _) (holds-from-one _ _))
+    (then-from-one (lengthAnswer (heldLines * s .width) (length held)) _ (holds-from-one _ _) (holds-from-one _ _))
 
 -- an answer of 0 that gives something
 pub gives-zero : {B : Type 0} (a : Answer Unit) (x : B) {o : Answer B} → FromOne a → o ≡ a then done x → code o ≡ 0 → o ≡ done x

@@ -5,11 +5,11 @@ ghost use lib.Dec.{leb};
 ghost use lib.ListN.{length};
 ghost use Rattle.refusals.specs.Answers.{done, passed, asks, _then_, answered, code};
 ghost use Rattle.refusals.specs.Told.{told};
-ghost use Rattle.width_table.specs.Bytes.{form, writable, bytesAfter};
-ghost use Rattle.width_table.specs.Names.{nameable};
-ghost use Rattle.reversible.specs.Reversible.{columnsThenRows, rowsThenColumns};
+ghost use Rattle.width_table.specs.Bytes.{form, writeAnswer, bytesAfter};
+ghost use Rattle.width_table.specs.Names.{nameAnswer};
+ghost use Rattle.reversible.specs.Reversible.{columnsFirst, rowsFirst};
 ghost use Rattle.reversible.specs.Calls.{forwardAnswer, forwardPlane, forwardWork, backAnswer, backPixels, backWork};
-ghost use Rattle.engine.specs.Answers.{checked, boundAnswered, rangeAfter, errorAfter, startAfter, lengthAfter, changeAnswer, changeOut, constantChangeAnswer, constantChangeOut, productChangeAnswer, productChangeOut, tableWith, tableFrom, answer97, plane97, work97, viewChecked, distanceAfter, viewAnswer97, viewPixels97, viewWork97};
+ghost use Rattle.engine.specs.Answers.{checkAnswer, tableBoundAnswer, rangeAfter, errorAfter, startAfter, lengthAfter, changeAnswer, changeOut, constantChangeAnswer, constantChangeOut, productChangeAnswer, productChangeOut, tableWith, tableFrom, answer97, plane97, work97, viewCheckAnswer, distanceAfter, viewAnswer97, viewPixels97, viewWork97};
 ghost use Rattle.rolling.specs.Calls.{outLines};
 ghost use Rattle.rolling.specs.Told.{toldGiven};
 ghost use Rattle.scan_bytes.specs.ScanBytes.{scanLength, stateAfter, numbersAfter};
@@ -19,7 +19,7 @@ use refusals::Refusal;
 use refusals::refusal_code;
 use rolling::Begun;
 use rolling::Given;
-use rolling::Scanned;
+use rolling::ScanAnswer;
 use width_table::Named;
 use width_table::TableAnswer;
 use width_table::WidthTable;
@@ -36,7 +36,7 @@ pub extern "C" fn suz_table_form(table: &[u8]) -> u32
 // Where the value of a tag stands in the table's bytes; start and length are written where the answer is 0.
 #[no_mangle]
 pub extern "C" fn suz_table_value(table: &[u8], tag: u8, start: &mut u32, length: &mut u32) -> u32
-    ensures answer { λ r. ⌜ r ≡ code (nameable (now (table .entry)) tag) ⌝ }
+    ensures answer { λ r. ⌜ r ≡ code (nameAnswer (now (table .entry)) tag) ⌝ }
     ensures start { λ _. ⌜ now (start .exit) ≡ startAfter (now (table .entry)) tag (now (start .entry)) ⌝ }
     ensures length { λ _. ⌜ now (length .exit) ≡ lengthAfter (now (table .entry)) tag (now (length .entry)) ⌝ }
 {
@@ -53,7 +53,7 @@ pub extern "C" fn suz_table_value(table: &[u8], tag: u8, start: &mut u32, length
 // Reads a width table and judges it: 1 to 5 by fields, then 6 and 7 in node order.
 #[no_mangle]
 pub extern "C" fn suz_table_check(table: &[u8]) -> u32
-    ensures { λ r. ⌜ r ≡ code (checked (now (table .entry))) ⌝ }
+    ensures { λ r. ⌜ r ≡ code (checkAnswer (now (table .entry))) ⌝ }
 {
     let read = WidthTable::read(table);
     let outcome = read.outcome;
@@ -76,7 +76,7 @@ pub extern "C" fn suz_table_bound(
     range: &mut u64,
     error: &mut u64,
 ) -> u32
-    ensures answer { λ r. ⌜ r ≡ code (boundAnswered (now (table .entry)) level pass node) ⌝ }
+    ensures answer { λ r. ⌜ r ≡ code (tableBoundAnswer (now (table .entry)) level pass node) ⌝ }
     ensures range { λ _. ⌜ now (range .exit) ≡ rangeAfter (now (table .entry)) level pass node (now (range .entry)) ⌝ }
     ensures error { λ _. ⌜ now (error .exit) ≡ errorAfter (now (table .entry)) level pass node (now (error .entry)) ⌝ }
 {
@@ -102,7 +102,7 @@ pub extern "C" fn suz_table_bound(
 
 // A table goes to out: 4, 9.
 fn table_written(table: WidthTable, out: &mut [u8]) -> u32
-    ensures answer { λ r. ⌜ r ≡ code (writable table (now (out .entry))) ⌝ }
+    ensures answer { λ r. ⌜ r ≡ code (writeAnswer table (now (out .entry))) ⌝ }
     ensures out { λ _. ⌜ now (out .exit) ≡ bytesAfter table (now (out .entry)) ⌝ }
 {
     match table.write(out) {
@@ -113,7 +113,7 @@ fn table_written(table: WidthTable, out: &mut [u8]) -> u32
 
 // The table of an accepted change goes to out.
 fn change_written(change: TableAnswer, out: &mut [u8]) -> u32
-    ensures answer { λ r. ⌜ r ≡ code (told (change .outcome) then writable (change .table) (now (out .entry))) ⌝ }
+    ensures answer { λ r. ⌜ r ≡ code (told (change .outcome) then writeAnswer (change .table) (now (out .entry))) ⌝ }
     ensures out { λ _. ⌜ now (out .exit) ≡ answered (told (change .outcome)) (bytesAfter (change .table) (now (out .entry))) (now (out .entry)) ⌝ }
 {
     let outcome = change.outcome;
@@ -201,7 +201,7 @@ pub extern "C" fn suz_table_write(
     widths: &[u8; WidthTable::NODE_BYTES],
     out: &mut [u8],
 ) -> u32
-    ensures answer { λ r. ⌜ r ≡ code (writable (tableFrom depth levels (now (constants .entry)) (now (widths .entry))) (now (out .entry))) ⌝ }
+    ensures answer { λ r. ⌜ r ≡ code (writeAnswer (tableFrom depth levels (now (constants .entry)) (now (widths .entry))) (now (out .entry))) ⌝ }
     ensures out { λ _. ⌜ now (out .exit) ≡ bytesAfter (tableFrom depth levels (now (constants .entry)) (now (widths .entry))) (now (out .entry)) ⌝ }
 {
     let none = [0u8; WidthTable::PRODUCT_BYTES];
@@ -216,14 +216,21 @@ pub extern "C" fn suz_table_write_products(
     levels: u8,
     constants: &[u8; WidthTable::CONSTANTS],
     widths: &[u8; WidthTable::NODE_BYTES],
-    five: u8,
+    has_products: u8,
     products: &[u8; WidthTable::PRODUCT_BYTES],
     out: &mut [u8],
 ) -> u32
-    ensures answer { λ r. ⌜ r ≡ code (writable (tableWith depth levels (now (constants .entry)) (now (widths .entry)) five (now (products .entry))) (now (out .entry))) ⌝ }
-    ensures out { λ _. ⌜ now (out .exit) ≡ bytesAfter (tableWith depth levels (now (constants .entry)) (now (widths .entry)) five (now (products .entry))) (now (out .entry)) ⌝ }
+    ensures answer { λ r. ⌜ r ≡ code (writeAnswer (tableWith depth levels (now (constants .entry)) (now (widths .entry)) «has_products» (now (products .entry))) (now (out .entry))) ⌝ }
+    ensures out { λ _. ⌜ now (out .exit) ≡ bytesAfter (tableWith depth levels (now (constants .entry)) (now (widths .entry)) «has_products» (now (products .entry))) (now (out .entry)) ⌝ }
 {
-    let table = WidthTable::new(depth, levels, *constants, *widths, five != 0, *products);
+    let table = WidthTable::new(
+        depth,
+        levels,
+        *constants,
+        *widths,
+        has_products != 0,
+        *products,
+    );
     table_written(table, out)
 }
 
@@ -239,7 +246,7 @@ pub extern "C" fn suz_forward53(
     work: &mut [i32],
 ) -> u32
     ensures answer { λ r. ⌜ r ≡ code (forwardAnswer depth levels width height (now (pixels .entry)) (now (plane .entry)) (now (work .entry))) ⌝ }
-    ensures plane { λ _. ⌜ now (plane .exit) ≡ forwardPlane columnsThenRows depth levels width height (now (pixels .entry)) (now (plane .entry)) (now (work .entry)) ⌝ }
+    ensures plane { λ _. ⌜ now (plane .exit) ≡ forwardPlane columnsFirst depth levels width height (now (pixels .entry)) (now (plane .entry)) (now (work .entry)) ⌝ }
     ensures work { λ _. ⌜ now (work .exit) ≡ forwardWork depth levels width height (now (pixels .entry)) (now (plane .entry)) (now (work .entry)) ⌝ }
 {
     refusals::code(reversible::forward(depth, levels, pixels, width, height, plane, work))
@@ -256,8 +263,8 @@ pub extern "C" fn suz_inverse53(
     pixels: &mut [u16],
     work: &mut [i32],
 ) -> u32
-    ensures answer { λ r. ⌜ r ≡ code (backAnswer columnsThenRows depth levels width height (now (plane .entry)) (now (pixels .entry)) (now (work .entry))) ⌝ }
-    ensures pixels { λ _. ⌜ now (pixels .exit) ≡ backPixels columnsThenRows depth levels width height (now (plane .entry)) (now (pixels .entry)) (now (work .entry)) ⌝ }
+    ensures answer { λ r. ⌜ r ≡ code (backAnswer columnsFirst depth levels width height (now (plane .entry)) (now (pixels .entry)) (now (work .entry))) ⌝ }
+    ensures pixels { λ _. ⌜ now (pixels .exit) ≡ backPixels columnsFirst depth levels width height (now (plane .entry)) (now (pixels .entry)) (now (work .entry)) ⌝ }
     ensures work { λ _. ⌜ now (work .exit) ≡ backWork depth levels width height (now (plane .entry)) (now (pixels .entry)) (now (work .entry)) ⌝ }
 {
     refusals::code(reversible::back(depth, levels, plane, width, height, pixels, work))
@@ -274,8 +281,8 @@ pub extern "C" fn suz_inverse53_rows_first(
     pixels: &mut [u16],
     work: &mut [i32],
 ) -> u32
-    ensures answer { λ r. ⌜ r ≡ code (backAnswer rowsThenColumns depth levels width height (now (plane .entry)) (now (pixels .entry)) (now (work .entry))) ⌝ }
-    ensures pixels { λ _. ⌜ now (pixels .exit) ≡ backPixels rowsThenColumns depth levels width height (now (plane .entry)) (now (pixels .entry)) (now (work .entry)) ⌝ }
+    ensures answer { λ r. ⌜ r ≡ code (backAnswer rowsFirst depth levels width height (now (plane .entry)) (now (pixels .entry)) (now (work .entry))) ⌝ }
+    ensures pixels { λ _. ⌜ now (pixels .exit) ≡ backPixels rowsFirst depth levels width height (now (plane .entry)) (now (pixels .entry)) (now (work .entry)) ⌝ }
     ensures work { λ _. ⌜ now (work .exit) ≡ backWork depth levels width height (now (plane .entry)) (now (pixels .entry)) (now (work .entry)) ⌝ }
 {
     refusals::code(reversible::back_rows_first(depth, levels, plane, width, height, pixels, work))
@@ -309,7 +316,7 @@ pub extern "C" fn suz_forward97(
 // Would viewing refuse this table? 1 to 5, 6 and 7, 13.
 #[no_mangle]
 pub extern "C" fn suz_table_view(table: &[u8]) -> u32
-    ensures { λ r. ⌜ r ≡ code (viewChecked (now (table .entry))) ⌝ }
+    ensures { λ r. ⌜ r ≡ code (viewCheckAnswer (now (table .entry))) ⌝ }
 {
     let read = WidthTable::read(table);
     let outcome = read.outcome;
@@ -325,7 +332,7 @@ pub extern "C" fn suz_table_view(table: &[u8]) -> u32
 // How far a viewed strip can be from what was scanned, in units of 2^-32, written where the answer is 0: 1 to 5, 6 and 7, 13.
 #[no_mangle]
 pub extern "C" fn suz_view_distance(table: &[u8], distance: &mut u64) -> u32
-    ensures answer { λ r. ⌜ r ≡ code (viewChecked (now (table .entry))) ⌝ }
+    ensures answer { λ r. ⌜ r ≡ code (viewCheckAnswer (now (table .entry))) ⌝ }
     ensures distance { λ _. ⌜ now (distance .exit) ≡ distanceAfter (now (table .entry)) (now (distance .entry)) ⌝ }
 {
     let read = WidthTable::read(table);
@@ -409,7 +416,7 @@ pub extern "C" fn suz_scan_begin(table: &[u8], state: &mut [u8]) -> u32
 }
 
 // The numbers of the scan that a line or an end left go to the state, after the table, which stays; and how many lines it gave.
-fn scan_went(scanned: Scanned, state: &mut [u8], given: &mut u32) -> u32
+fn scan_went(scanned: ScanAnswer, state: &mut [u8], given: &mut u32) -> u32
     requires { ⌜ ((m : ℕ) → toldGiven (scanned .given) ≡ done m → m ≤ outLines) ⌝ }
     ensures answer { λ r. ⌜ r ≡ code (toldGiven (scanned .given)) ⌝ }
     ensures state { λ _. ⌜ now (state .exit) ≡ answered (toldGiven (scanned .given)) (numbersAfter (scanned .scan .width) (scanned .scan .taken) (scanned .scan .ended) (now (state .entry))) (now (state .entry)) ⌝ }

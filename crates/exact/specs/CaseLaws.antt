@@ -11,9 +11,9 @@ use Rattle.lines.specs.CaseLaws.{Reduced, highs-are, lows-are}
 use Rattle.exact.specs.Fractions.{Frac, _≈_, _⊕_, _⊗_, whole}
 use Rattle.exact.specs.FracLaws.{≈-refl, ≈-sym, ≈-trans, ⊕-cong, ⊗-cong, neg-cong}
 use Rattle.exact.specs.Exact.{alpha, beta, gamma, delta, zeta, zetaInverse, lift, low₀, high₀, p1, u1, p2, u2, g1, g2, exactLong, exactPass}
-use Rattle.exact.specs.Inverse.{unlift, unG1, unG2, unU2, unP2, unU1, unP1, exactBackLong, exactBack}
-use Rattle.exact.specs.InverseLaws.{same-≈, is, lift-cong, unlift-cong, Likewise}
-use Rattle.exact.specs.Cases.{twice, liftEnd, unliftEnd, p1ByCases, u1ByCases, p2ByCases, u2ByCases, passByCases, unU2ByCases, unP2ByCases, unU1ByCases, unP1ByCases, backByCases}
+use Rattle.exact.specs.Inverse.{inverseLift, unG1, unG2, unU2, unP2, unU1, unP1, exactInverseLong, exactInversePass}
+use Rattle.exact.specs.InverseLaws.{same-≈, is, lift-cong, inverse-lift-cong, Likewise}
+use Rattle.exact.specs.Cases.{twice, liftEnd, inverseLiftEnd, p1ByCases, u1ByCases, p2ByCases, u2ByCases, passByCases, unU2ByCases, unP2ByCases, unU1ByCases, unP1ByCases, inverseByCases}
 
 -- ---- the reduced equations
 
@@ -29,9 +29,9 @@ pub lift-end : (c : Frac) → Reduced _≈_ (lift c) (liftEnd c)
 unfolding lift liftEnd
 lift-end c own x = ⊕-cong (≈-refl own) (twice-is c x)
 
-pub unlift-end : (c : Frac) → Reduced _≈_ (unlift c) (unliftEnd c)
-unfolding unlift unliftEnd
-unlift-end c own x = ⊕-cong (≈-refl own) (neg-cong (twice-is c x))
+pub inverse-lift-end : (c : Frac) → Reduced _≈_ (inverseLift c) (inverseLiftEnd c)
+unfolding inverseLift inverseLiftEnd
+inverse-lift-end c own x = ⊕-cong (≈-refl own) (neg-cong (twice-is c x))
 
 -- ---- the passes
 
@@ -67,27 +67,27 @@ module _ (n : ℕ) (works : Liftable n) where
   module _ (y : ℕ → Frac) where
     unU2-is : Likewise (lows n) (unU2ByCases n y) (unU2 n y)
     unfolding unU2ByCases unU2
-    unU2-is = lows-are same-≈ (unlift-cong delta) (unlift-end delta) n works (λ i p. ≈-refl (unG1 n y i)) (λ i p. ≈-refl (unG2 n y i))
+    unU2-is = lows-are same-≈ (inverse-lift-cong delta) (inverse-lift-end delta) n works (λ i p. ≈-refl (unG1 n y i)) (λ i p. ≈-refl (unG2 n y i))
 
     unP2-is : Likewise (highs n) (unP2ByCases n y) (unP2 n y)
     unfolding unP2ByCases unP2
-    unP2-is = highs-are same-≈ (unlift-cong gamma) (unlift-end gamma) n works unU2-is (λ i p. ≈-refl (unG2 n y i))
+    unP2-is = highs-are same-≈ (inverse-lift-cong gamma) (inverse-lift-end gamma) n works unU2-is (λ i p. ≈-refl (unG2 n y i))
 
     unU1-is : Likewise (lows n) (unU1ByCases n y) (unU1 n y)
     unfolding unU1ByCases unU1
-    unU1-is = lows-are same-≈ (unlift-cong beta) (unlift-end beta) n works unU2-is unP2-is
+    unU1-is = lows-are same-≈ (inverse-lift-cong beta) (inverse-lift-end beta) n works unU2-is unP2-is
 
     unP1-is : Likewise (highs n) (unP1ByCases n y) (unP1 n y)
     unfolding unP1ByCases unP1
-    unP1-is = highs-are same-≈ (unlift-cong alpha) (unlift-end alpha) n works unU1-is unP2-is
+    unP1-is = highs-are same-≈ (inverse-lift-cong alpha) (inverse-lift-end alpha) n works unU1-is unP2-is
 
-    long-back-is : Likewise n (backByCases n y) (exactBackLong n y)
-    unfolding backByCases exactBackLong
-    long-back-is = by-parity (λ k. backByCases n y k ≈ exactBackLong n y k) n
+    long-back-is : Likewise n (inverseByCases n y) (exactInverseLong n y)
+    unfolding inverseByCases exactInverseLong
+    long-back-is = by-parity (λ k. inverseByCases n y k ≈ exactInverseLong n y k) n
         (λ i h. ≈-trans (is (even-place _ _ i)) (≈-trans (unU1-is i h) (≈-sym (is (even-place (unU1 n y) (unP1 n y) i)))))
         (λ i h. ≈-trans (is (odd-place _ _ i)) (≈-trans (unP1-is i h) (≈-sym (is (odd-place (unU1 n y) (unP1 n y) i)))))
 
     -- back
-    pub back-is : Likewise n (backByCases n y) (exactBack n y)
-    unfolding exactBack
-    back-is k h = ≈-trans (long-back-is k h) (≈-sym (is (one-long (λ v. v) exactBackLong n y k works)))
+    pub back-is : Likewise n (inverseByCases n y) (exactInversePass n y)
+    unfolding exactInversePass
+    back-is k h = ≈-trans (long-back-is k h) (≈-sym (is (one-long (λ v. v) exactInverseLong n y k works)))

@@ -6,7 +6,7 @@ use Rattle.lines.specs.Lines.{lowsFirst, interleaved}
 use Rattle.lines.specs.Cases.{highsByCases, lowsByCases}
 use Rattle.exact.specs.Fractions.{Frac, _⊕_, _⊖_, _⊗_, whole}
 use Rattle.exact.specs.Exact.{alpha, beta, gamma, delta, zeta, zetaInverse, lift, low₀, high₀}
-use Rattle.exact.specs.Inverse.{unlift, unG1, unG2}
+use Rattle.exact.specs.Inverse.{inverseLift, unG1, unG2}
 
 -- twice a constant
 abbrev pub twice : Frac → Frac
@@ -43,26 +43,26 @@ module _ (n : ℕ) (x : ℕ → Frac) where
 -- ---- back, which the paper does not print: the same equations taken back are ours
 
 -- equations 3 and 4 taken back: own value less twice a constant times the one neighbour
-unfoldable pub unliftEnd : Frac → Frac → Frac → Frac
-unliftEnd c own x = own ⊖ twice c ⊗ x
+unfoldable pub inverseLiftEnd : Frac → Frac → Frac → Frac
+inverseLiftEnd c own x = own ⊖ twice c ⊗ x
 
 module _ (n : ℕ) (y : ℕ → Frac) where
   -- U2 taken back; at the first low and at the last low of an odd length by equation 3
   unfoldable pub unU2ByCases : ℕ → Frac
-  unU2ByCases = lowsByCases (unlift delta) (unliftEnd delta) n (unG1 n y) (unG2 n y)
+  unU2ByCases = lowsByCases (inverseLift delta) (inverseLiftEnd delta) n (unG1 n y) (unG2 n y)
 
   -- P2 taken back; at the last high of an even length by equation 4
   unfoldable pub unP2ByCases : ℕ → Frac
-  unP2ByCases = highsByCases (unlift gamma) (unliftEnd gamma) n unU2ByCases (unG2 n y)
+  unP2ByCases = highsByCases (inverseLift gamma) (inverseLiftEnd gamma) n unU2ByCases (unG2 n y)
 
   -- U1 taken back, as U2
   unfoldable pub unU1ByCases : ℕ → Frac
-  unU1ByCases = lowsByCases (unlift beta) (unliftEnd beta) n unU2ByCases unP2ByCases
+  unU1ByCases = lowsByCases (inverseLift beta) (inverseLiftEnd beta) n unU2ByCases unP2ByCases
 
   -- P1 taken back, as P2
   unfoldable pub unP1ByCases : ℕ → Frac
-  unP1ByCases = highsByCases (unlift alpha) (unliftEnd alpha) n unU1ByCases unP2ByCases
+  unP1ByCases = highsByCases (inverseLift alpha) (inverseLiftEnd alpha) n unU1ByCases unP2ByCases
 
   -- each value to its place
-  unfoldable pub backByCases : ℕ → Frac
-  backByCases = interleaved unU1ByCases unP1ByCases
+  unfoldable pub inverseByCases : ℕ → Frac
+  inverseByCases = interleaved unU1ByCases unP1ByCases

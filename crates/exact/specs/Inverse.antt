@@ -2,13 +2,13 @@
 -- both ways (InverseLaws), so that nothing of it need be taken on trust.
 use Prim.Native.Nat.{ℕ, _+_}
 use Rattle.lines.specs.Lines.{lows, onHighs, onLows, interleaved}
-use Rattle.lines.specs.Planes.{OnLine, OnPart, fromOne, columnsFirst, levelsBack}
+use Rattle.lines.specs.Planes.{OnLine, OnPart, fromOne, levelColumnsFirst, inverseLevels}
 use Rattle.exact.specs.Fractions.{Frac, _⊖_, _⊕_, _⊗_}
 use Rattle.exact.specs.Exact.{alpha, beta, gamma, delta, zeta, zetaInverse}
 
 -- own value less a constant times the sum of two neighbours
-unfoldable pub unlift : Frac → Frac → Frac → Frac → Frac
-unlift c own x y = own ⊖ c ⊗ (x ⊕ y)
+unfoldable pub inverseLift : Frac → Frac → Frac → Frac → Frac
+inverseLift c own x y = own ⊖ c ⊗ (x ⊕ y)
 
 -- One line of n values y, two or more, the lows first. Each stage reads what the one before left, with the edges of document 01.
 module _ (n : ℕ) (y : ℕ → Frac) where
@@ -21,25 +21,25 @@ module _ (n : ℕ) (y : ℕ → Frac) where
   unG2 i = zeta ⊗ y (lows n + i)
 
   unfoldable pub unU2 : ℕ → Frac
-  unU2 = onLows (unlift delta) n unG1 unG2
+  unU2 = onLows (inverseLift delta) n unG1 unG2
 
   unfoldable pub unP2 : ℕ → Frac
-  unP2 = onHighs (unlift gamma) n unU2 unG2
+  unP2 = onHighs (inverseLift gamma) n unU2 unG2
 
   unfoldable pub unU1 : ℕ → Frac
-  unU1 = onLows (unlift beta) n unU2 unP2
+  unU1 = onLows (inverseLift beta) n unU2 unP2
 
   unfoldable pub unP1 : ℕ → Frac
-  unP1 = onHighs (unlift alpha) n unU1 unP2
+  unP1 = onHighs (inverseLift alpha) n unU1 unP2
 
   -- each value to its place
-  unfoldable pub exactBackLong : ℕ → Frac
-  exactBackLong = interleaved unU1 unP1
+  unfoldable pub exactInverseLong : ℕ → Frac
+  exactInverseLong = interleaved unU1 unP1
 
 -- A pass undone. A single low value is the sample (document 02, job 6).
-unfoldable pub exactBack : OnLine Frac
-exactBack = fromOne (λ v. v) exactBackLong
+unfoldable pub exactInversePass : OnLine Frac
+exactInversePass = fromOne (λ v. v) exactInverseLong
 
 -- a plane of L levels: level L first, columns before rows
 unfoldable pub exactInverse : ℕ → OnPart Frac
-exactInverse = levelsBack (λ l. columnsFirst exactBack (λ low. exactBack))
+exactInverse = inverseLevels (λ l. levelColumnsFirst exactInversePass (λ low. exactInversePass))

@@ -4,7 +4,7 @@ use mathlib.Core.List.{List}
 use lib.IntN.{pos, _-ℤ_}
 use lib.ListN.{getD}
 use lib.Pow.{pow-pos}
-use Rattle.lines.specs.Planes.{Plane, rowsFirst, levels}
+use Rattle.lines.specs.Planes.{Plane, levelRowsFirst, levels}
 use Rattle.exact.specs.Fractions.{Frac}
 use Rattle.exact.specs.Exact.{exactPass}
 
@@ -14,4 +14,4 @@ exactSample pixels B w r c = record { num = pos (getD pixels (r * w + c) 0) -ℤ
 
 -- Each level works its rows, then its columns; each further level takes this transform's own low-low.
 unfoldable pub exactPlane : List ℕ → ℕ → ℕ → ℕ → ℕ → Plane Frac
-exactPlane pixels B L w h = levels (λ l. rowsFirst exactPass (λ low. exactPass)) L w h (exactSample pixels B w)
+exactPlane pixels B L w h = levels (λ l. levelRowsFirst exactPass (λ low. exactPass)) L w h (exactSample pixels B w)

@@ -13,8 +13,8 @@ use Rattle.lines.specs.Planes.{side, rowByRow}
 use Rattle.lines.specs.RowLaws.{place-in, rows-length, rows-at}
 use Rattle.width_table.specs.declared.WidthTable.{WidthTable}
 use Rattle.exact.specs.Picture.{exactPlane}
-use Rattle.pictures.specs.Pictures.{pixelsRight}
-use Rattle.pictures.specs.PictureLaws.{Room, sized, sized-then, sized-done, pixels-done, pixel-below}
+use Rattle.pictures.specs.Pictures.{pixelAnswer}
+use Rattle.pictures.specs.PictureLaws.{Room, roomAnswer, sized-then, sized-done, pixels-done, pixel-below}
 use Rattle.precision.specs.Verdict.{verdict, Accepted}
 use Rattle.irreversible.specs.Transforms.{fixedAfter, fixedPlane}
 use Rattle.irreversible.specs.Claims.{Picture, bitsPlane, Near, LevelInWidth}
@@ -28,9 +28,9 @@ module _ (t : WidthTable) (w h : ℕ) (pixels : List ℕ) (plane work : List ℤ
   accepted = then-done (verdict t) _ e .0
 
   -- the slices have room, and the pixels are right
-  judged : (sized w h (length pixels) (length plane) (length work) ≡ passed) × (pixelsRight (t .depth) w h pixels ≡ passed)
+  judged : (roomAnswer w h (length pixels) (length plane) (length work) ≡ passed) × (pixelAnswer (t .depth) w h pixels ≡ passed)
   unfolding fixedAnswer
-  judged = then-done (sized w h (length pixels) (length plane) (length work)) _ (sym (sized-then w h (length pixels) (length plane) (length work) _) ∙ then-done (verdict t) _ e .1)
+  judged = then-done (roomAnswer w h (length pixels) (length plane) (length work)) _ (sym (sized-then w h (length pixels) (length plane) (length work) _) ∙ then-done (verdict t) _ e .1)
 
   pub room : Room w h (length pixels) (length plane) (length work)
   room = sized-done w h (length pixels) (length plane) (length work) (judged .0)

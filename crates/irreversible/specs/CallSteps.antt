@@ -19,7 +19,7 @@ use Rattle.width_table.specs.Nodes.{Pass, Rows, LowColumns, HighColumns}
 use Rattle.lifting.specs.Patch.{at}
 use Rattle.lifting.specs.Runs.{as-type}
 use Rattle.lifting.specs.Kernels.{Part, rowOf, columnOf, columnsBy}
-use Rattle.pictures.specs.Pictures.{sided, holds, pixelsRight, zeroed}
+use Rattle.pictures.specs.Pictures.{sideAnswer, lengthAnswer, pixelAnswer, zeroed}
 use Rattle.lifting.specs.Strips.{pixelLine}
 use Rattle.pictures.specs.MemoryLaws.{loaded}
 use Rattle.precision.specs.Verdict.{verdict, Accepted}
@@ -33,33 +33,33 @@ use Rattle.irreversible.specs.LevelBits.{IsLevel}
 use Rattle.irreversible.specs.LevelsLaws.{After, after-none, safe-next, pixels-safe}
 
 -- the first w values of h rows can be worked by the row pass of level l, in a plane whose rows are W long
-pub record RowsReady (t : WidthTable) (l : ℕ) (plane tile : List ℤ) (W w h : ℕ) : Type 0 where
+pub record RowsReady (t : WidthTable) (l : ℕ) (plane buffer : List ℤ) (W w h : ℕ) : Type 0 where
   pub is-level : IsLevel t l
   pub part : Part plane W 0 w h
-  pub across : w ≤ length tile
+  pub across : w ≤ length buffer
   pub safe : (r : ℕ) → r < h → LineSafe t l Rows w (rowOf W 0 (at plane) r)
 
 -- w columns of h rows, from column `from` on, can be worked by a pass
-pub record ColumnsReady (t : WidthTable) (l : ℕ) (p : Pass) (plane tile : List ℤ) (W from w h : ℕ) : Type 0 where
+pub record ColumnsReady (t : WidthTable) (l : ℕ) (p : Pass) (plane buffer : List ℤ) (W from w h : ℕ) : Type 0 where
   pub is-level : IsLevel t l
   pub part : Part plane W from w h
-  pub down : h ≤ length tile
+  pub down : h ≤ length buffer
   pub safe : (j : ℕ) → j < w → LineSafe t l p h (columnOf W from (at plane) j)
 
 -- the columns of row-low, and then those of row-high
-pub record BothReady (t : WidthTable) (l : ℕ) (plane tile : List ℤ) (W w h : ℕ) : Type 0 where
+pub record BothReady (t : WidthTable) (l : ℕ) (plane buffer : List ℤ) (W w h : ℕ) : Type 0 where
   pub is-level : IsLevel t l
   pub part : Part plane W 0 w h
-  pub down : h ≤ length tile
+  pub down : h ≤ length buffer
   pub low : (j : ℕ) → j < lows w → LineSafe t l LowColumns h (columnOf W 0 (at plane) j)
   pub high : (j : ℕ) → j < highs w → LineSafe t l HighColumns h (columnOf W (lows w) (columnsBy (fixedLine t l LowColumns) W 0 (lows w) h (at plane)) j)
 
 -- a level can be worked: w columns and h rows at the front of a plane whose rows are W long
-pub record LevelReady (t : WidthTable) (l : ℕ) (plane tile : List ℤ) (W w h : ℕ) : Type 0 where
+pub record LevelReady (t : WidthTable) (l : ℕ) (plane buffer : List ℤ) (W w h : ℕ) : Type 0 where
   pub is-level : IsLevel t l
   pub part : Part plane W 0 w h
-  pub across : w ≤ length tile
-  pub down : h ≤ length tile
+  pub across : w ≤ length buffer
+  pub down : h ≤ length buffer
   pub safe : SafeLevel t l W w h (at plane)
 
 -- some of its columns
@@ -77,22 +77,22 @@ both-ready t l W w h x plane p q is-level part down safe e is = record {
 }
 
 -- a picture can be transformed
-pub record Ready (t : WidthTable) (pixels : List ℕ) (plane tile : List ℤ) (w h : ℕ) : Type 0 where
+pub record Ready (t : WidthTable) (pixels : List ℕ) (plane buffer : List ℤ) (w h : ℕ) : Type 0 where
   pub accepted : Accepted t
   pub picture : Picture t pixels w h
   pub first : w * h ≤ length pixels
   pub second : w * h ≤ length plane
-  pub third : w * h ≤ length tile
+  pub third : w * h ≤ length buffer
 
 -- a side is at most the area, and a row lies in the plane
-in-tile : (a b c : ℕ) → 1 ≤ b → a * b ≤ c → a ≤ c
-in-tile a b c one fits = omega (arith, mul-le-mul-right a one, mul-comm a b)
+in-buffer : (a b c : ℕ) → 1 ≤ b → a * b ≤ c → a ≤ c
+in-buffer a b c one fits = omega (arith, mul-le-mul-right a one, mul-comm a b)
 
 row-fits : (W H r w n : ℕ) → w ≤ W → r < H → W * H ≤ n → 0 + r * W + w ≤ n
 row-fits W H r w n a b d = omega (arith, mul-le-mul-right W b, mul-comm W H)
 
 -- each level in turn: k levels of what stood as x₀ are done, and the plane stands as x
-module _ (t : WidthTable) (pixels : List ℕ) (plane₀ tile₀ plane tile : List ℤ) (w h : ℕ) (ready : Ready t pixels plane₀ tile₀ w h) (same : length plane ≡ length plane₀) (same′ : length tile ≡ length tile₀)
+module _ (t : WidthTable) (pixels : List ℕ) (plane₀ buffer₀ plane buffer : List ℤ) (w h : ℕ) (ready : Ready t pixels plane₀ buffer₀ w h) (same : length plane ≡ length plane₀) (same′ : length buffer ≡ length buffer₀)
     (k : ℕ) (more : k < t .levels) (x₀ x : ℕ → ℤ) (after : After t pixels w h k x₀ x) where
   a : side k w ≤ w
   a = side-le k w
@@ -108,17 +108,17 @@ module _ (t : WidthTable) (pixels : List ℕ) (plane₀ tile₀ plane tile : Lis
       let p = ready .picture in
       record { narrow = omega (arith, a); few = omega (arith, b, p .height .1); wide = omega (arith, p .width .1); fits = λ r i. row-fits w h r (side k w) (length plane) a (omega (arith, b)) (omega (arith, ready .second)) }
 
-  across-fits : side k w ≤ length tile
-  across-fits = omega (arith, a, in-tile w h (length tile) (omega (arith, ready .picture .height .0)) (omega (arith, ready .third)))
+  across-fits : side k w ≤ length buffer
+  across-fits = omega (arith, a, in-buffer w h (length buffer) (omega (arith, ready .picture .height .0)) (omega (arith, ready .third)))
 
-  down-fits : side k h ≤ length tile
-  down-fits = omega (arith, b, in-tile h w (length tile) (omega (arith, ready .picture .width .0)) (omega (arith, ready .third, mul-comm w h)))
+  down-fits : side k h ≤ length buffer
+  down-fits = omega (arith, b, in-buffer h w (length buffer) (omega (arith, ready .picture .width .0)) (omega (arith, ready .third, mul-comm w h)))
 
   level-safe-next : SafeLevel t (suc k) w (side k w) (side k h) x
   level-safe-next = safe-next t pixels w h (ready .accepted) (ready .picture) k more x₀ x after
 
   -- the next level can be worked
-  pub level-ready : x ≡ at plane → LevelReady t (suc k) plane tile w (side k w) (side k h)
+  pub level-ready : x ≡ at plane → LevelReady t (suc k) plane buffer w (side k w) (side k h)
   level-ready e = record {
     is-level = is-level;
     part = part-fits;
@@ -128,32 +128,32 @@ module _ (t : WidthTable) (pixels : List ℕ) (plane₀ tile₀ plane tile : Lis
   }
 
 -- the first level can be worked from the pixels
-pub record FirstReady (t : WidthTable) (pixels : List ℕ) (plane tile : List ℤ) (w h : ℕ) : Type 0 where
+pub record FirstReady (t : WidthTable) (pixels : List ℕ) (plane buffer : List ℤ) (w h : ℕ) : Type 0 where
   pub is-level : IsLevel t 1
   pub part : Part plane w 0 w h
-  pub across : w ≤ length tile
-  pub down : h ≤ length tile
+  pub across : w ≤ length buffer
+  pub down : h ≤ length buffer
   pub on-pixels : (r : ℕ) → r < h → LineSafe t 1 Rows w (pixelLine pixels (2 ^ (t .depth - 1)) (r * w))
   pub safe : SafeLevel t 1 w w h (loaded pixels (2 ^ (t .depth - 1)) w h (at plane))
 
-pub first-ready : {t : WidthTable} {pixels : List ℕ} {plane tile : List ℤ} {w h : ℕ} → Ready t pixels plane tile w h → FirstReady t pixels plane tile w h
+pub first-ready : {t : WidthTable} {pixels : List ℕ} {plane buffer : List ℤ} {w h : ℕ} → Ready t pixels plane buffer w h → FirstReady t pixels plane buffer w h
 unfolding side
-first-ready {t} {pixels} {plane} {tile} {w} {h} ready =
+first-ready {t} {pixels} {plane} {buffer} {w} {h} ready =
     let x = loaded pixels (2 ^ (t .depth - 1)) w h (at plane) in
     let one : 0 < t .levels = form-levels t (promise t (ready .accepted) .form) .0 in
     let none = after-none t pixels w h (at plane) x (omega (arith, ready .picture .width .0)) refl in
     record {
-      is-level = is-level t pixels plane tile plane tile w h ready refl refl 0 one (at plane) x none;
-      part = part-fits t pixels plane tile plane tile w h ready refl refl 0 one (at plane) x none;
-      across = across-fits t pixels plane tile plane tile w h ready refl refl 0 one (at plane) x none;
-      down = down-fits t pixels plane tile plane tile w h ready refl refl 0 one (at plane) x none;
+      is-level = is-level t pixels plane buffer plane buffer w h ready refl refl 0 one (at plane) x none;
+      part = part-fits t pixels plane buffer plane buffer w h ready refl refl 0 one (at plane) x none;
+      across = across-fits t pixels plane buffer plane buffer w h ready refl refl 0 one (at plane) x none;
+      down = down-fits t pixels plane buffer plane buffer w h ready refl refl 0 one (at plane) x none;
       on-pixels = pixels-safe t pixels w h (ready .accepted) (ready .picture);
-      safe = level-safe-next t pixels plane tile plane tile w h ready refl refl 0 one (at plane) x none;
+      safe = level-safe-next t pixels plane buffer plane buffer w h ready refl refl 0 one (at plane) x none;
     }
 
 -- the answer, by the lengths of plane and work area
 unfoldable pub answerOf : WidthTable → ℕ → ℕ → List ℕ → ℕ → ℕ → Answer Unit
-answerOf t w h pixels b c = verdict t then sided w h then holds (w * h) (length pixels) then holds (w * h) b then holds (w * h) c then pixelsRight (t .depth) w h pixels
+answerOf t w h pixels b c = verdict t then sideAnswer w h then lengthAnswer (w * h) (length pixels) then lengthAnswer (w * h) b then lengthAnswer (w * h) c then pixelAnswer (t .depth) w h pixels
 
 module _ (t : WidthTable) (w h : ℕ) (pixels : List ℕ) (plane work : List ℤ) where
   -- the call's answer is that

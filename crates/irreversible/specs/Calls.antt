@@ -7,7 +7,7 @@ use Rattle.numbers.specs.Lists.{over}
 use Rattle.refusals.specs.Answers.{Answer, _then_, answered}
 use Rattle.lines.specs.Planes.{rowByRow}
 use Rattle.width_table.specs.declared.WidthTable.{WidthTable}
-use Rattle.pictures.specs.Pictures.{sided, holds, pixelsRight, zeroed}
+use Rattle.pictures.specs.Pictures.{sideAnswer, lengthAnswer, pixelAnswer, zeroed}
 use Rattle.precision.specs.Verdict.{verdict}
 use Rattle.irreversible.specs.Transforms.{fixedPlane}
 
@@ -16,11 +16,11 @@ module _ (t : WidthTable) (w h : ℕ) (pixels : List ℕ) (plane work : List ℤ
   unfoldable pub fixedAnswer : Answer Unit
   fixedAnswer =
       verdict t
-      then sided w h
-      then holds (w * h) (length pixels)
-      then holds (w * h) (length plane)
-      then holds (w * h) (length work)
-      then pixelsRight (t .depth) w h pixels
+      then sideAnswer w h
+      then lengthAnswer (w * h) (length pixels)
+      then lengthAnswer (w * h) (length plane)
+      then lengthAnswer (w * h) (length work)
+      then pixelAnswer (t .depth) w h pixels
 
   unfoldable pub fixedPlaneAfter : List ℤ
   fixedPlaneAfter = answered fixedAnswer (over (rowByRow w h (fixedPlane t pixels w h)) plane) plane

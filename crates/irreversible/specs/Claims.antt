@@ -10,7 +10,7 @@ use lib.ListN.{getD}
 use Rattle.exact.specs.Fractions.{Frac, _⊖_, neg, _<F_}
 use Rattle.width_table.specs.Nodes.{Node, G1, Pass, Rows, LowColumns, TableNode, nodeAt, columnPass, lastNode}
 use Rattle.lines.specs.Lines.{lows, Liftable}
-use Rattle.stages.specs.Fixed.{meant}
+use Rattle.stages.specs.Fixed.{fixedValue}
 use Rattle.irreversible.specs.Fixed.{valueAt, countAt}
 use Rattle.lines.specs.Planes.{Plane, side, rows}
 use Rattle.width_table.specs.declared.WidthTable.{WidthTable}
@@ -53,7 +53,7 @@ bitsPlane t w h r c =
 
 -- v / 2^f less the exact value lies above -2 times 2^-f and below 2 times 2^-f
 unfoldable pub Near : ℤ → ℕ → Frac → Type 0
-Near v f x = (neg (meant (pos 2) f) <F meant v f ⊖ x) × (meant v f ⊖ x <F meant (pos 2) f)
+Near v f x = (neg (fixedValue (pos 2) f) <F fixedValue v f ⊖ x) × (fixedValue v f ⊖ x <F fixedValue (pos 2) f)
 
 abbrev pub TwoSteps : Type 0
 TwoSteps =
@@ -64,14 +64,14 @@ TwoSteps =
 -- ---- second half: no value on the way leaves its width
 
 -- v from -2^(IB+f-1) to 2^(IB+f-1) - 1
-unfoldable pub Holds : ℕ → ℕ → ℤ → Type 0
-Holds IB f v = (negℤ (pos (2 ^ (IB + f - 1))) ≤ℤ v) × (v <ℤ pos (2 ^ (IB + f - 1)))
+unfoldable pub InNodeWidth : ℕ → ℕ → ℤ → Type 0
+InNodeWidth IB f v = (negℤ (pos (2 ^ (IB + f - 1))) ≤ℤ v) × (v <ℤ pos (2 ^ (IB + f - 1)))
 
 -- each value that a pass of level l over n samples v leaves: two samples or more in every node, a single one in G1 alone (document 02, job 6)
 pub record InWidth (t : WidthTable) (l : ℕ) (p : Pass) (n : ℕ) (v : ℕ → ℤ) : Type 0 where
   pub long : Liftable n → (i : Node) (k : ℕ) → k < countAt n i
-      → Holds (integerBits t l p i) (fractionBits t l p i) (valueAt (constantBits t) (productOf t l p) (inputBits t l p) (fractionBits t l p) n v i k)
-  pub single : n ≡ 1 → Holds (integerBits t l p G1) (fractionBits t l p G1) (fixedLine t l p n v 0)
+      → InNodeWidth (integerBits t l p i) (fractionBits t l p i) (valueAt (constantBits t) (productOf t l p) (inputBits t l p) (fractionBits t l p) n v i k)
+  pub single : n ≡ 1 → InNodeWidth (integerBits t l p G1) (fractionBits t l p G1) (fixedLine t l p n v 0)
 
 -- each value of level l, which is fed w columns and h rows of the plane p: in each row, and in each column of what the rows leave
 pub record LevelInWidth (t : WidthTable) (l w h : ℕ) (p : Plane ℤ) : Type 0 where

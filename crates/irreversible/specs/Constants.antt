@@ -15,7 +15,7 @@ use Rattle.numbers.specs.Abs.{abs-mul, abs-sub, abs-zero}
 use Rattle.exact.specs.Fractions.{Frac, _⊕_, _⊖_, _⊗_, neg, whole, magnitude, _<F_}
 use Rattle.width_table.specs.Nodes.{Node, P1, U1, P2, U2, G1, G2}
 use Rattle.exact.specs.Exact.{alpha, beta, gamma, delta, zeta, zetaInverse}
-use Rattle.stages.specs.Fixed.{meant, nearest}
+use Rattle.stages.specs.Fixed.{fixedValue, nearest}
 use Rattle.numbers.specs.Tests.{both}
 use Rattle.width_table.specs.Table.{maxConstantBits}
 
@@ -30,7 +30,7 @@ constantOf G2 = zetaInverse
 
 -- z / 2^F less the constant
 abbrev pub awayFrom : Frac → ℕ → ℤ → Frac
-awayFrom c F z = meant z F ⊖ c
+awayFrom c F z = fixedValue z F ⊖ c
 
 -- one computed test: all six constants, F from 1 to most
 clear : Frac → ℕ → Bool
@@ -65,8 +65,8 @@ unfolding clear
 half n F a b = ltb→lt _ _ (clear-at (constantOf n) maxConstantBits F a b (tested n))
 
 -- Twice the distance is strictly below 2^-F.
-pub no-tie : (n : Node) (F : ℕ) → 1 ≤ F → F ≤ maxConstantBits → whole (pos 2) ⊗ magnitude (awayFrom (constantOf n) F (nearest (constantOf n) F)) <F meant (pos 1) F
-unfolding _⊗_ _⊕_ neg whole magnitude meant
+pub no-tie : (n : Node) (F : ℕ) → 1 ≤ F → F ≤ maxConstantBits → whole (pos 2) ⊗ magnitude (awayFrom (constantOf n) F (nearest (constantOf n) F)) <F fixedValue (pos 1) F
+unfolding _⊗_ _⊕_ neg whole magnitude fixedValue
 no-tie n F a b = law _ (2 ^ F) (constantOf n .den) (pow-pos F) (half n F a b)
   where
     law : (e P d : ℕ) → 0 < P → 2 * e < d → pos (2 * e * P) <ℤ pos (1 * (1 * (P * d)))
@@ -74,7 +74,7 @@ no-tie n F a b = law _ (2 ^ F) (constantOf n .den) (pow-pos F) (half n F a b)
 
 -- Every other multiple of 2^-F is farther.
 pub is-nearest : (n : Node) (F : ℕ) → 1 ≤ F → F ≤ maxConstantBits → (z : ℤ) → ¬ (z ≡ nearest (constantOf n) F) → magnitude (awayFrom (constantOf n) F (nearest (constantOf n) F)) <F magnitude (awayFrom (constantOf n) F z)
-unfolding _⊕_ neg magnitude meant
+unfolding _⊕_ neg magnitude fixedValue
 is-nearest n F a b z other = farther (natAbs (at N)) (natAbs (at z)) (2 ^ F * D) (mul-pos (pow-pos F) (constantOf n .above)) (half n F a b) apart
   where
     D : ℕ

@@ -17,8 +17,8 @@ use Rattle.width_table.specs.Nodes.{Node, Pass, Rows, TableNode, columnPass}
 use Rattle.width_table.specs.Limits.{form-depth, form-levels, form-widths}
 use Rattle.lines.specs.Lines.{lows}
 use Rattle.exact.specs.Exact.{exactPass}
-use Rattle.stages.specs.Fixed.{meant}
-use Rattle.lines.specs.Planes.{Plane, OnLine, rows, columns, rowsFirst, levels, side}
+use Rattle.stages.specs.Fixed.{fixedValue}
+use Rattle.lines.specs.Planes.{Plane, OnLine, rows, columns, levelRowsFirst, levels, side}
 use Rattle.lines.specs.PlaneLaws.{rows-first-in, rows-first-keeps}
 use Rattle.width_table.specs.declared.WidthTable.{WidthTable}
 use Rattle.width_table.specs.Table.{maxFractionBits, integerBits, fractionBits, inputBits}
@@ -27,7 +27,7 @@ use Rattle.precision.specs.Verdict.{Accepted, AcceptPromise}
 use Rattle.exact.specs.Picture.{exactSample, exactPlane}
 use Rattle.pictures.specs.Pictures.{sample}
 use Rattle.irreversible.specs.Transforms.{fixedLine, fixedAfter, fixedPlane}
-use Rattle.irreversible.specs.Claims.{Picture, Strip, keptNode, bitsPlane, Near, TwoSteps, Holds, LevelInWidth, Widths}
+use Rattle.irreversible.specs.Claims.{Picture, Strip, keptNode, bitsPlane, Near, TwoSteps, InNodeWidth, LevelInWidth, Widths}
 use Rattle.precision.specs.Promise.{promise}
 use Rattle.exact.specs.FracLaws.{⊕-neg, ≈-sym, within-≈, within-zero}
 use Rattle.stages.specs.Sound.{Q, Good}
@@ -39,7 +39,7 @@ use Rattle.irreversible.specs.Subbands.{InPart, part-before, kept-in, ke
 
 module _ {A : Type 0} (row : ℕ → OnLine A) (column : ℕ → Bool → OnLine A) (k w h : ℕ) (p : Plane A) (r c : ℕ) where
   abbrev done : ℕ → Plane A
-  done j = levels (λ l. rowsFirst (row l) (column l)) j w h p
+  done j = levels (λ l. levelRowsFirst (row l) (column l)) j w h p
 
   level-in : InPart k w h r c → done (suc k) r c ≡ columns (λ c. column (suc k) (ltb c (lows (side k w)))) (side k h) (rows (row (suc k)) (side k w) (done k)) r c
   unfolding levels columns rows
@@ -63,7 +63,7 @@ pixel-law p H h = simp difs (omega arith)
 
 module _ (t : WidthTable) (ok : AcceptPromise t) (pixels : List ℕ) (w h : ℕ) (strip : Strip t pixels w h) where
   pub exactAfter : ℕ → Plane Frac
-  exactAfter k = levels (λ l. rowsFirst exactPass (λ low. exactPass)) k w h (exactSample pixels (t .depth) w)
+  exactAfter k = levels (λ l. levelRowsFirst exactPass (λ low. exactPass)) k w h (exactSample pixels (t .depth) w)
 
   -- the value at a place is good for a node
   GoodFor : TableNode → ℕ → ℕ → ℕ → Type 0
@@ -75,7 +75,7 @@ module _ (t : WidthTable) (ok : AcceptPromise t) (pixels : List ℕ) (w h : ℕ)
     outside : (r c : ℕ) → r < h → c < w → ¬ InPart k w h r c → GoodFor (keptNode k w h r c) k r c
 
   pixel-good : (r c : ℕ) → r < h → c < w → Good (record { range = 2 ^ 31; error = 0 }) (t .depth) (sample pixels (t .depth) w r c) (exactSample pixels (t .depth) w r c)
-  unfolding exactSample sample meant
+  unfolding exactSample sample fixedValue
   pixel-good r c i j =
       let p = getD pixels (r * w + c) 0 in
       let H = 2 ^ (t .depth - 1) in
@@ -84,7 +84,7 @@ module _ (t : WidthTable) (ok : AcceptPromise t) (pixels : List ℕ) (w h : ℕ)
       let s : natAbs (pos p -ℤ pos H) ≤ H = pixel-law p H (omega arith) in
       record {
         range = record { most = size-law (natAbs (pos p -ℤ pos H)) H (2 ^ t .depth) e s };
-        error = within-≈ (≈-sym (⊕-neg (meant (pos p -ℤ pos H) (t .depth)))) (within-zero 0 Q);
+        error = within-≈ (≈-sym (⊕-neg (fixedValue (pos p -ℤ pos H) (t .depth)))) (within-zero 0 Q);
       }
     where
       deeper : (d : ℕ) → 0 < d → d ≡ 1 + (d - 1)
@@ -159,7 +159,7 @@ module _ (t : WidthTable) (ok : AcceptPromise t) (pixels : List ℕ) (w h : ℕ)
       level-in-width t (suc k) (λ p n. form-widths t (ok .form) (suc k) (omega arith) i p n .2) (side k w) (side k h) (entering t (suc k)) (fixedAfter t k pixels w h) (exactAfter k) (λ r c a b. after k (omega arith) .inside r c (a, b))
       (λ p n. form-widths t (ok .form) (suc k) (omega arith) i p n .0) (λ p n. ok .fit (suc k) (omega arith) i p n)
 
-  kept-held : (r c : ℕ) → r < h → c < w → (let k = keptNode (t .levels) w h r c in Holds (integerBits t (k .level) (k .pass) (k .node)) (fractionBits t (k .level) (k .pass) (k .node)) (fixedPlane t pixels w h r c))
+  kept-held : (r c : ℕ) → r < h → c < w → (let k = keptNode (t .levels) w h r c in InNodeWidth (integerBits t (k .level) (k .pass) (k .node)) (fractionBits t (k .level) (k .pass) (k .node)) (fixedPlane t pixels w h r c))
   unfolding bitsPlane
   kept-held r c p q =
       let K = kept-everywhere (t .levels) w h r c (form-levels t (ok .form) .0) p q in
@@ -202,6 +202,6 @@ plane-good t ok pixels w h picture = good-plane t ok pixels w h (strip-of pictur
 
 -- Each coefficient of the plane is in the width of its kept node.
 pub kept-widths : (t : WidthTable) (pixels : List ℕ) (w h : ℕ) → Accepted t → Picture t pixels w h → (r c : ℕ) → r < h → c < w
-    → Holds (integerBits t (keptNode (t .levels) w h r c .level) (keptNode (t .levels) w h r c .pass) (keptNode (t .levels) w h r c .node))
+    → InNodeWidth (integerBits t (keptNode (t .levels) w h r c .level) (keptNode (t .levels) w h r c .pass) (keptNode (t .levels) w h r c .node))
     (fractionBits t (keptNode (t .levels) w h r c .level) (keptNode (t .levels) w h r c .pass) (keptNode (t .levels) w h r c .node)) (fixedPlane t pixels w h r c)
 kept-widths t pixels w h ok picture = kept-held t (promise t ok) pixels w h (strip-of picture)

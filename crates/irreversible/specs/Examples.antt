@@ -3,7 +3,7 @@ use mathlib.Core.List.{[], _∷_, _++_}
 use mathlib.Core.Path.{_≡_, refl}
 use lib.IntN.{pos, negsuc}
 use Rattle.lines.specs.Lines.{lowAfter, highBefore, highAfter, onHighs, onLows, lowsFirst}
-use Rattle.lines.specs.Planes.{fromOne, rows, columns, within, side, rowsFirst, levels, tabulate, rowByRow}
+use Rattle.lines.specs.Planes.{fromOne, rows, columns, within, side, levelRowsFirst, levels, tabulate, rowByRow}
 use Rattle.pictures.specs.Pictures.{sample}
 use Rattle.width_table.specs.WorkedTables.{usual}
 use Rattle.stages.specs.Fixed.{nearest, cut, cutProduct, step, scale}
@@ -15,5 +15,5 @@ use Rattle.irreversible.specs.Transforms.{fixedLine, fixedAfter, fixedPl
 pub strips :
     rowByRow 1 3 (fixedPlane (usual 2) (5 ∷ 7 ∷ 200 ∷ []) 1 3) ++ rowByRow 3 1 (fixedPlane (usual 2) (5 ∷ 7 ∷ 200 ∷ []) 3 1) ++ rowByRow 1 1 (fixedPlane (usual 2) (5 ∷ []) 1 1)
     ≡ negsuc 2 ∷ pos 2 ∷ negsuc 1 ∷ negsuc 2 ∷ pos 2 ∷ negsuc 1 ∷ negsuc 1 ∷ []
-unfolding rowByRow tabulate fixedPlane fixedAfter fixedLine fixedPass fixedLong fromOne atP1 atU1 atP2 atU2 atG1 atG2 onHighs onLows lowAfter highBefore highAfter lowsFirst levels rowsFirst within rows columns side sample productOf nearest cut cutProduct step scale
+unfolding rowByRow tabulate fixedPlane fixedAfter fixedLine fixedPass fixedLong fromOne atP1 atU1 atP2 atU2 atG1 atG2 onHighs onLows lowAfter highBefore highAfter lowsFirst levels levelRowsFirst within rows columns side sample productOf nearest cut cutProduct step scale
 strips = refl

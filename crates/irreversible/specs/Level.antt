@@ -14,10 +14,10 @@ use Rattle.width_table.specs.declared.WidthTable.{WidthTable}
 use Rattle.width_table.specs.Table.{maxFractionBits, constantBits, integerBits, fractionBits, inputBits}
 use Rattle.stages.specs.Rule.{Bound}
 use Rattle.table_meaning.specs.Products.{productOf}
-use Rattle.precision.specs.Bounds.{boundAt, rowBound, passBound}
+use Rattle.precision.specs.Bounds.{nodeBound, rowBound, passBound}
 use Rattle.irreversible.specs.Transforms.{fixedLine}
 use Rattle.irreversible.specs.Claims.{InWidth, LevelInWidth}
-use Rattle.irreversible.specs.Pass.{Small}
+use Rattle.irreversible.specs.Pass.{AtMost32}
 use Rattle.stages.specs.Sound.{Good}
 use Rattle.irreversible.specs.Pass.{pass-good, long-in-width, single-in-width}
 
@@ -37,7 +37,7 @@ unfolding rowX
 newX w h x = columns (λ c. exactPass) h (rowX w x)
 
 module _ (t : WidthTable) (l : ℕ) (bits : (p : Pass) (n : Node) → fractionBits t l p n ≤ maxFractionBits) (w h : ℕ) (b : Bound) (v : Plane ℤ) (x : Plane Frac) (given : (r c : ℕ) → r < h → c < w → Good b (inputBits t l Rows) (v r c) (x r c)) where
-  small : (p : Pass) → Small (fractionBits t l p)
+  small : (p : Pass) → AtMost32 (fractionBits t l p)
   small p n = omega (arith, bits p n)
 
   pub row-good : (r c : ℕ) → r < h → c < w → Good (rowBound t l b (lastNode (ltb c (lows w)))) (fractionBits t l Rows (lastNode (ltb c (lows w)))) (rowV t l w v r c) (rowX w x r c)
@@ -59,10 +59,10 @@ module _ (t : WidthTable) (l : ℕ) (bits : (p : Pass) (n : Node) → fractionBi
 
   -- each value on the way stays in its width
   module _ (some : (p : Pass) (n : Node) → 1 ≤ integerBits t l p n) (room : (p : Pass) (n : Node) → passBound t l b p n .range + passBound t l b p n .error + 2 ^ (32 - fractionBits t l p n) ≤ 2 ^ (integerBits t l p n - 1) * 2 ^ 32) where
-    line-in-width : (p : Pass) (c : Bound) → ((n : Node) → passBound t l b p n ≡ boundAt (constantBits t) (productOf t l p) (inputBits t l p) c (fractionBits t l p) n) → (n : ℕ) (y : ℕ → ℤ) (z : ℕ → Frac) → ((k : ℕ) → k < n → Good c (inputBits t l p) (y k) (z k)) → InWidth t l p n y
+    line-in-width : (p : Pass) (c : Bound) → ((n : Node) → passBound t l b p n ≡ nodeBound (constantBits t) (productOf t l p) (inputBits t l p) c (fractionBits t l p) n) → (n : ℕ) (y : ℕ → ℤ) (z : ℕ → Frac) → ((k : ℕ) → k < n → Good c (inputBits t l p) (y k) (z k)) → InWidth t l p n y
     unfolding fixedLine
     line-in-width p c e n y z g =
-        let fit : (i : Node) → boundAt (constantBits t) (productOf t l p) (inputBits t l p) c (fractionBits t l p) i .range + boundAt (constantBits t) (productOf t l p) (inputBits t l p) c (fractionBits t l p) i .error + 2 ^ (32 - fractionBits t l p i) ≤ 2 ^ (integerBits t l p i - 1) * 2 ^ 32 = λ i. subst (λ (q : Bound). q .range + q .error + 2 ^ (32 - fractionBits t l p i) ≤ 2 ^ (integerBits t l p i - 1) * 2 ^ 32) (e i) (room p i) in
+        let fit : (i : Node) → nodeBound (constantBits t) (productOf t l p) (inputBits t l p) c (fractionBits t l p) i .range + nodeBound (constantBits t) (productOf t l p) (inputBits t l p) c (fractionBits t l p) i .error + 2 ^ (32 - fractionBits t l p i) ≤ 2 ^ (integerBits t l p i - 1) * 2 ^ 32 = λ i. subst (λ (q : Bound). q .range + q .error + 2 ^ (32 - fractionBits t l p i) ≤ 2 ^ (integerBits t l p i - 1) * 2 ^ 32) (e i) (room p i) in
         record {
           long = long-in-width (constantBits t) (productOf t l p) (inputBits t l p) c (fractionBits t l p) n y z (small p) g (integerBits t l p) (some p) fit;
           single = single-in-width (constantBits t) (productOf t l p) (inputBits t l p) c (fractionBits t l p) n y z (small p) g (integerBits t l p) (some p) fit;

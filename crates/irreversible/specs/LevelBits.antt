@@ -26,7 +26,7 @@ cutBits true fp = fp
 cutBits false fp = maxProductBits
 
 -- no product has more bits than the limit, so that a stage by it is one whose product has no width
-cut-stage : (five : Bool) (fp : ℕ) (c : Frac) (F fm fo f : ℕ) → F ≤ maxConstantBits → fm ≤ maxFractionBits → stageOf (cutTo (cutBits five fp)) c F fm fo f ≡ stageOf (widthOf five fp) c F fm fo f
+cut-stage : (hasProducts : Bool) (fp : ℕ) (c : Frac) (F fm fo f : ℕ) → F ≤ maxConstantBits → fm ≤ maxFractionBits → stageOf (cutTo (cutBits hasProducts fp)) c F fm fo f ≡ stageOf (widthOf hasProducts fp) c F fm fo f
 cut-stage true fp c F fm fo f a b = refl
 cut-stage false fp c F fm fo f a b = step-of-wide maxProductBits (nearest c F) F fm fo f (omega arith)
 
@@ -37,7 +37,7 @@ pub record IsLevel (t : WidthTable) (l : ℕ) : Type 0 where
   pub most : l ≤ t .levels
 
 -- the product of a stage that lifts
-product-is : (t : WidthTable) (l : ℕ) (p : Pass) (n : Node) → nodeNumber n ≤ productsPerPass → productOf t l p n ≡ widthOf (t .five) (productWidth t l p n)
+product-is : (t : WidthTable) (l : ℕ) (p : Pass) (n : Node) → nodeNumber n ≤ productsPerPass → productOf t l p n ≡ widthOf (t .«has_products») (productWidth t l p n)
 unfolding productOf
 product-is t l p P1 i = refl
 product-is t l p U1 i = refl
@@ -66,12 +66,12 @@ module _ (t : WidthTable) where
         (same, subst (λ (x : ℕ). x ≤ maxFractionBits) (sym same) (form-widths t (promise t (ok .accepted) .form) l (ok .least) (ok .most) (passOf p) n .2))
 
     -- a stage by the bits that its product is cut to, whose width lies among the products' numbers
-    pub stage-at : (n : Node) → nodeNumber n ≤ productsPerPass → (m : ℕ) → m ≡ productPlace l p (nodeNumber n) → {w : ℕ} → w ≡ cutBits (t .five) (getD (t .products) m 0)
+    pub stage-at : (n : Node) → nodeNumber n ≤ productsPerPass → (m : ℕ) → m ≡ productPlace l p (nodeNumber n) → {w : ℕ} → w ≡ cutBits (t .«has_products») (getD (t .products) m 0)
         → (c : Frac) (F fm fo f : ℕ) → F ≤ maxConstantBits → fm ≤ maxFractionBits → stageOf (cutTo w) c F fm fo f ≡ stageOf (productOf t l (passOf p) n) c F fm fo f
     stage-at n lifts m e is c F fm fo f a b =
         let same = ap (λ (m : ℕ). getD (t .products) m 0) (e ∙ ap (λ (q : ℕ). productPlace l q (nodeNumber n)) (sym (pass-number p h))) in
-        ap (λ (w : ℕ). stageOf (cutTo w) c F fm fo f) (is ∙ ap (cutBits (t .five)) same)
-        ∙ cut-stage (t .five) (productWidth t l (passOf p) n) c F fm fo f a b
+        ap (λ (w : ℕ). stageOf (cutTo w) c F fm fo f) (is ∙ ap (cutBits (t .«has_products»)) same)
+        ∙ cut-stage (t .«has_products») (productWidth t l (passOf p) n) c F fm fo f a b
         ∙ ap (λ (q : Product). stageOf q c F fm fo f) (sym (product-is t l (passOf p) n lifts))
 
     -- f of what enters a pass

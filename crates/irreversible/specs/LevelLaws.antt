@@ -12,7 +12,7 @@ use Rattle.lines.specs.Lines.{lows, highs, Liftable, lowsFirst}
 use Rattle.lines.specs.LineLaws.{some-highs, Equal, first-equal, evens-equal, odds-equal}
 use Rattle.lines.specs.Neighbours.{on-highs-equal, on-lows-equal}
 use Rattle.lines.specs.OneLaws.{one-single, one-long, by-one}
-use Rattle.lines.specs.Planes.{Plane, rows, columns, within, rowsFirst}
+use Rattle.lines.specs.Planes.{Plane, rows, columns, within, levelRowsFirst}
 use Rattle.lines.specs.PlaneLaws.{by-part, within-in, within-below, within-beyond}
 use Rattle.width_table.specs.Nodes.{Node, P1, U1, P2, U2, G1, G2, Pass, Rows, LowColumns, HighColumns, columnPass, lastNode}
 use Rattle.width_table.specs.declared.WidthTable.{WidthTable}
@@ -25,7 +25,7 @@ use Rattle.stages.specs.Fixed.{cut, step, scale}
 use Rattle.table_meaning.specs.Products.{productOf}
 use Rattle.irreversible.specs.Fixed.{atP1, atU1, atP2, atU2, atG1, atG2, valueAt, countAt, fixedLong, fixedPass}
 use Rattle.irreversible.specs.Transforms.{fixedLine, fixedLevel}
-use Rattle.irreversible.specs.Sized.{SizedTo, LineSizedTo, Sized, LineSized, LevelSized}
+use Rattle.irreversible.specs.Magnitudes.{BelowPower, LineBelowPower, BelowPower10, LineBelowPower10, LevelBelowPower10}
 use Rattle.irreversible.specs.KernelLaws.{kernelOf, singleFor}
 use Rattle.irreversible.specs.SafeLaws.{Limits, kernel-safe, single-safe}
 
@@ -83,7 +83,7 @@ pub record LineSafe (t : WidthTable) (l : ℕ) (p : Pass) (n : ℕ) (x : ℕ →
   pub single : n < 2 → (k : ℕ) → k < n → FactorSafe (singleFor t l p) (x k)
 
 -- it is where the line's values are sized
-pub line-safe : (t : WidthTable) (l : ℕ) → BitsRight t l → (p : Pass) (n : ℕ) (v : ℕ → ℤ) → LineSized t l p n v → ((k : ℕ) → k < n → Sized (inputBits t l p) (v k)) → (x : ℕ → ℤ) → ((k : ℕ) → k < n → x k ≡ v k) → LineSafe t l p n x
+pub line-safe : (t : WidthTable) (l : ℕ) → BitsRight t l → (p : Pass) (n : ℕ) (v : ℕ → ℤ) → LineBelowPower10 t l p n v → ((k : ℕ) → k < n → BelowPower10 (inputBits t l p) (v k)) → (x : ℕ → ℤ) → ((k : ℕ) → k < n → x k ≡ v k) → LineSafe t l p n x
 unfolding kernelOf fixedLine fixedPass
 line-safe t l bits p n v inside given x same =
     let F = constantBits t in
@@ -92,16 +92,16 @@ line-safe t l bits p n v inside given x same =
     let f = fractionBits t l p in
     record {
       long = λ works. kernel-safe F fp fi f (bits p) n x works
-          (λ k h. subst (Sized fi) (sym (same k h)) (given k h))
-          (λ i k h. subst (Sized (f i)) (sym (value-same F fp fi f n x v works same i k h)) (inside .long works i k h));
+          (λ k h. subst (BelowPower10 fi) (sym (same k h)) (given k h))
+          (λ i k h. subst (BelowPower10 (f i)) (sym (value-same F fp fi f n x v works same i k h)) (inside .long works i k h));
       single = λ one k h.
           let z : 0 ≡ k = omega arith in
-          let left : Sized (f G1) (cut fi (f G1) (v k)) = subst (Sized (f G1)) (ap (λ (j : ℕ). fixedLine t l p n v j) z ∙ one-single (cut fi (f G1)) (fixedLong F fp fi f) n v k one) (inside .single (omega arith)) in
+          let left : BelowPower10 (f G1) (cut fi (f G1) (v k)) = subst (BelowPower10 (f G1)) (ap (λ (j : ℕ). fixedLine t l p n v j) z ∙ one-single (cut fi (f G1)) (fixedLong F fp fi f) n v k one) (inside .single (omega arith)) in
           subst (FactorSafe (singleFor t l p)) (sym (same k h)) (single-safe fi (f G1) (bits p .enters) (bits p .fractions G1) (v k) (given k h) left);
     }
 
 -- what a pass leaves has the bits of its last nodes
-pub line-sized : (e : ℕ) (t : WidthTable) (l : ℕ) (p : Pass) (n : ℕ) (v : ℕ → ℤ) → LineSizedTo e t l p n v → (k : ℕ) → k < n → SizedTo e (fractionBits t l p (lastNode (ltb k (lows n)))) (fixedLine t l p n v k)
+pub line-sized : (e : ℕ) (t : WidthTable) (l : ℕ) (p : Pass) (n : ℕ) (v : ℕ → ℤ) → LineBelowPower e t l p n v → (k : ℕ) → k < n → BelowPower e (fractionBits t l p (lastNode (ltb k (lows n)))) (fixedLine t l p n v k)
 unfolding fixedLine fixedPass fixedLong lowsFirst
 line-sized e t l p n v inside k h =
     let F = constantBits t in
@@ -111,10 +111,10 @@ line-sized e t l p n v inside k h =
     by-one _ n
     (λ one.
     let z : 0 ≡ k = omega arith in
-    subst (λ (q : Bool). SizedTo e (f (lastNode q)) (fixedLine t l p n v k)) (sym (ltb-true k (lows n) (omega arith)))
-    (subst (λ (j : ℕ). SizedTo e (f G1) (fixedLine t l p n v j)) z (inside .single (omega arith))))
-    (λ works. subst (SizedTo e (f (lastNode (ltb k (lows n))))) (sym (one-long (cut fi (f G1)) (fixedLong F fp fi f) n v k works))
-    (by-ltb (λ q. SizedTo e (f (lastNode q)) (elim q [ true ↦ atG1 F fp fi f n v k | false ↦ atG2 F fp fi f n v (k - lows n) ])) k (lows n)
+    subst (λ (q : Bool). BelowPower e (f (lastNode q)) (fixedLine t l p n v k)) (sym (ltb-true k (lows n) (omega arith)))
+    (subst (λ (j : ℕ). BelowPower e (f G1) (fixedLine t l p n v j)) z (inside .single (omega arith))))
+    (λ works. subst (BelowPower e (f (lastNode (ltb k (lows n))))) (sym (one-long (cut fi (f G1)) (fixedLong F fp fi f) n v k works))
+    (by-ltb (λ q. BelowPower e (f (lastNode q)) (elim q [ true ↦ atG1 F fp fi f n v k | false ↦ atG2 F fp fi f n v (k - lows n) ])) k (lows n)
     (λ i. inside .long works G1 k i)
     (λ i. inside .long works G2 (k - lows n) (omega arith))))
 
@@ -182,7 +182,7 @@ module _ (t : WidthTable) (l W H w h : ℕ) (inW : w ≤ W) (inH : h ≤ H) (x :
 
   -- after all columns: the level
   planes : (r c : ℕ) → columnsPlane (fixedLine t l HighColumns) (lows w) (highs w) h lowPlane r c ≡ fixedLevel t l w h p r c
-  unfolding rowsFirst lowPlane columns
+  unfolding levelRowsFirst lowPlane columns
   planes = by-part (λ r c. columnsPlane (fixedLine t l HighColumns) (lows w) (highs w) h lowPlane r c ≡ fixedLevel t l w h p r c) w h
       (λ r c i j. by-ltb (λ q. columnsPlane (fixedLine t l HighColumns) (lows w) (highs w) h lowPlane r c ≡ fixedLine t l (columnPass q) h (λ m. rows (fixedLine t l Rows) w p m c) r) c (lows w)
       (λ a. columns-left (fixedLine t l HighColumns) (lows w) (highs w) h lowPlane r c a ∙ columns-in (fixedLine t l LowColumns) 0 (lows w) h rowPlane r c i (omega arith) (omega arith) ∙ column-is LowColumns _ r c i (λ m b. row-is m c b j))
@@ -199,18 +199,18 @@ module _ (t : WidthTable) (l W H w h : ℕ) (inW : w ≤ W) (inH : h ≤ H) (x :
   pub level-beyond : (q : ℕ) → W * H ≤ q → levelWorked t l W w h x q ≡ x q
   level-beyond q far = columns-beyond (fixedLine t l HighColumns) W H (lows w) (highs w) h (lowed t l W w h x) (omega arith) inH q far ∙ columns-beyond (fixedLine t l LowColumns) W H 0 (lows w) h (rowed t l W w h x) (omega arith) inH q far ∙ rows-beyond (fixedLine t l Rows) W H w h x inW inH q far
 
-  module _ (bits : BitsRight t l) (inside : LevelSized t l w h p) where
+  module _ (bits : BitsRight t l) (inside : LevelBelowPower10 t l w h p) where
     -- the bits that enter a column
-    column-sized : (c : ℕ) → c < w → (q : Bool) → ltb c (lows w) ≡ q → (r : ℕ) → r < h → Sized (inputBits t l (columnPass q)) (rows (fixedLine t l Rows) w p r c)
+    column-sized : (c : ℕ) → c < w → (q : Bool) → ltb c (lows w) ≡ q → (r : ℕ) → r < h → BelowPower10 (inputBits t l (columnPass q)) (rows (fixedLine t l Rows) w p r c)
     unfolding rows
-    column-sized c j true e r i = subst (λ (q : Bool). Sized (fractionBits t l Rows (lastNode q)) (fixedLine t l Rows w (λ k. p r k) c)) e (line-sized 10 t l Rows w (λ k. p r k) (inside .inRows r i) c j)
-    column-sized c j false e r i = subst (λ (q : Bool). Sized (fractionBits t l Rows (lastNode q)) (fixedLine t l Rows w (λ k. p r k) c)) e (line-sized 10 t l Rows w (λ k. p r k) (inside .inRows r i) c j)
+    column-sized c j true e r i = subst (λ (q : Bool). BelowPower10 (fractionBits t l Rows (lastNode q)) (fixedLine t l Rows w (λ k. p r k) c)) e (line-sized 10 t l Rows w (λ k. p r k) (inside .inRows r i) c j)
+    column-sized c j false e r i = subst (λ (q : Bool). BelowPower10 (fractionBits t l Rows (lastNode q)) (fixedLine t l Rows w (λ k. p r k) c)) e (line-sized 10 t l Rows w (λ k. p r k) (inside .inRows r i) c j)
 
     -- a column that holds what the rows left
     column-safe : (c : ℕ) → c < w → (q : Bool) → ltb c (lows w) ≡ q → (v : ℕ → ℤ) → ((r : ℕ) → r < h → v r ≡ rows (fixedLine t l Rows) w p r c) → LineSafe t l (columnPass q) h v
     column-safe c j q e v same =
         line-safe t l bits (columnPass q) h (λ r. rows (fixedLine t l Rows) w p r c)
-        (subst (λ (b : Bool). LineSized t l (columnPass b) h (λ r. rows (fixedLine t l Rows) w p r c)) e (inside .inColumns c j)) (column-sized c j q e) v same
+        (subst (λ (b : Bool). LineBelowPower10 t l (columnPass b) h (λ r. rows (fixedLine t l Rows) w p r c)) e (inside .inColumns c j)) (column-sized c j q e) v same
 
     -- Every pass is safe.
     pub level-safe : SafeLevel t l W w h x

@@ -20,7 +20,7 @@ use Rattle.precision.specs.Verdict.{Accepted, AcceptPromise}
 use Rattle.precision.specs.Promise.{promise}
 use Rattle.irreversible.specs.Transforms.{fixedAfter, fixedPlane}
 use Rattle.irreversible.specs.Claims.{Picture}
-use Rattle.irreversible.specs.SizedLaws.{sized}
+use Rattle.irreversible.specs.MagnitudeLaws.{below-power-10}
 use Rattle.irreversible.specs.LevelLaws.{BitsRight, LineSafe, levelWorked, SafeLevel, level-stands, level-beyond, line-safe, level-safe}
 
 -- the limits of a level of an accepted table
@@ -62,14 +62,14 @@ module _ (t : WidthTable) (pixels : List ℕ) (w h : ℕ) (accepted : Accepted t
   pub safe-next : SafeLevel t (suc k) w (side k w) (side k h) x
   safe-next =
       level-safe t (suc k) w h (side k w) (side k h) (side-le k w) (side-le k h) x (fixedAfter t k pixels w h) (after .stands)
-      (bits-right t (promise t accepted) (suc k) (omega arith) more) (sized t pixels w h accepted picture k more)
+      (bits-right t (promise t accepted) (suc k) (omega arith) more) (below-power-10 t pixels w h accepted picture k more)
 
 -- the rows of level 1 are safe on the pixels
 pub pixels-safe : (t : WidthTable) (pixels : List ℕ) (w h : ℕ) → Accepted t → Picture t pixels w h → (r : ℕ) → r < h → LineSafe t 1 Rows w (pixelLine pixels (2 ^ (t .depth - 1)) (r * w))
 unfolding fixedAfter levels side sample
 pixels-safe t pixels w h accepted picture r i =
     let ok = promise t accepted in
-    let s = sized t pixels w h accepted picture 0 (form-levels t (ok .form) .0) in
+    let s = below-power-10 t pixels w h accepted picture 0 (form-levels t (ok .form) .0) in
     line-safe t 1 (bits-right t ok 1 (omega arith) (form-levels t (ok .form) .0)) Rows w (sample pixels (t .depth) w r) (s .inRows r i) (λ c j. s .given r c i j) _ (λ c j. refl)
 
 -- all levels

@@ -6,7 +6,7 @@
 --   Transforms   the plane of a picture under a table
 --   Claims       demand 3 as two statements: TwoSteps and Widths
 --   Calls        the 9/7 call: the answer, and each lent slice afterwards
---   Sized        values below 2^10 in magnitude, and below 2^4 at level 1: what holds of each value on the way
+--   Magnitudes   values below 2^10 in magnitude, and below 2^4 at level 1: what holds of each value on the way
 -- Proved of them:
 --   Demand3      two-steps : TwoSteps, widths : Widths; two-steps-strip, widths-strip: the same of strips of any size
 --   CallLaws     call-near, call-widths: demand 3 of every call that is not refused
@@ -20,7 +20,7 @@
 --   Narrow       eleven-bits: range and error of every node of an accepted table leave room in eleven integer bits
 --                five-bits: those of level 1 in five
 --                least-bits: what the columns of its level l leave has at least 2 l integer bits
---   SizedLaws    sized, first-sized: so each value on the way is below 2^10 in magnitude, and each one of level 1 below 2^4
+--   MagnitudeLaws  sized, first-sized: so each value on the way is below 2^10 in magnitude, and each one of level 1 below 2^4
 -- Proofs: Pass (by the rule of the crate stages, which is sound), Level lead to Demand3, in this order.
 -- For the code, which works lines by the kernels of the lifting crate:
 --   StepLaws     a stage as a step or a scaling of that crate, whatever the width of its product
@@ -36,7 +36,7 @@ pub mod Cases
 pub mod Transforms
 pub mod Claims
 pub mod Calls
-pub mod Sized
+pub mod Magnitudes
 pub mod Pass
 pub mod Level
 pub mod Subbands
@@ -44,7 +44,7 @@ pub mod Demand3
 pub mod Constants
 pub mod Sizes
 pub mod Narrow
-pub mod SizedLaws
+pub mod MagnitudeLaws
 pub mod CallLaws
 pub mod CaseLaws
 pub mod Unchanged

@@ -18,8 +18,8 @@ use Rattle.exact.specs.Fractions.{upDiv}
 use Rattle.stages.specs.Stages.{Side, low, stage, forward, Product}
 use Rattle.stages.specs.Gains.{Source, samples, node, gain}
 use Rattle.stages.specs.Rule as Rule
-use Rattle.stages.specs.Rule.{Bound, timesGain, together, singleError, brought, rangeAt}
-use Rattle.stages.specs.Held.{weighed, nodesBring}
+use Rattle.stages.specs.Rule.{Bound, timesGain, together, singleError, inputPart, rangeAt}
+use Rattle.stages.specs.ValueLaws.{weighed, nodesPart}
 use Rattle.stages.specs.RuleLaws.{times-least, times-grows, ownAt, error-sum}
 use Rattle.stages.specs.GainTable.{forwardGains, forwardSource, forward-gain}
 use Rattle.stages.specs.ForwardLaws.{single-least}
@@ -29,7 +29,7 @@ use Rattle.width_table.specs.Numbered.{nodeOf}
 use Rattle.width_table.specs.declared.WidthTable.{WidthTable}
 use Rattle.width_table.specs.Table.{maxLevels, constantBits, integerBits, fractionBits, inputBits}
 use Rattle.table_meaning.specs.Products.{productOf}
-use Rattle.precision.specs.Bounds.{boundAfter, boundAt, rowBound, passBound, entering, boundOf}
+use Rattle.precision.specs.Bounds.{boundAfter, nodeBound, rowBound, passBound, entering, boundOf}
 use Rattle.precision.specs.Verdict.{keptAt, AcceptPromise}
 
 -- ---- products by gains
@@ -149,8 +149,8 @@ gain-under n i h = rw (gain-to n i h, gain-to (last n) i h) (leb→le (gainTo n 
 
 module _ (F : Node → ℕ) (fp : Node → Product) (fi : ℕ) (b : Bound) (f : Node → ℕ) where
   -- the error of a single sample is never the larger one
-  node-is : (n : Node) → boundAt F fp fi b f n ≡ boundAfter F fp fi b f (sideOf n) (suc (stageOf n))
-  unfolding boundAt Rule.boundAt
+  node-is : (n : Node) → nodeBound F fp fi b f n ≡ boundAfter F fp fi b f (sideOf n) (suc (stageOf n))
+  unfolding nodeBound Rule.sideBound
   node-is P1 = refl
   node-is U1 = refl
   node-is P2 = refl
@@ -161,18 +161,18 @@ module _ (F : Node → ℕ) (fp : Node → Product) (fi : ℕ) (b : Bound) (f : 
       ap (λ (x : ℕ). record { range = long .range; error = x }) e
   node-is G2 = refl
 
-  node-range : (n : Node) → boundAt F fp fi b f n .range ≡ timesGain (b .range) (gainTo n 0)
-  unfolding Rule.boundAt rangeAt brought
+  node-range : (n : Node) → nodeBound F fp fi b f n .range ≡ timesGain (b .range) (gainTo n 0)
+  unfolding Rule.sideBound rangeAt inputPart
   node-range n = ap (λ (c : Bound). c .range) (node-is n) ∙ ap (timesGain (b .range)) (gain-to n 0 (omega arith))
 
   own : ℕ → ℕ
   own = ownAt forward (together b) (λ i. F (nodeOf (suc i))) (λ i. fp (nodeOf (suc i))) (λ s. fi) (λ i. f (nodeOf (suc i)))
 
-  node-error : (n : Node) → boundAt F fp fi b f n .error ≡ timesGain (b .error) (gain forward (sideOf n) (suc (stageOf n)) samples) + nodesBring forward (sideOf n) (suc (stageOf n)) own (suc (stageOf n))
-  unfolding Rule.boundAt brought own
+  node-error : (n : Node) → nodeBound F fp fi b f n .error ≡ timesGain (b .error) (gain forward (sideOf n) (suc (stageOf n)) samples) + nodesPart forward (sideOf n) (suc (stageOf n)) own (suc (stageOf n))
+  unfolding Rule.sideBound inputPart own
   node-error n = ap (λ (c : Bound). c .error) (node-is n) ∙ error-sum forward (together b) _ _ _ _ (sideOf n) (suc (stageOf n))
 
-  error-under : (n : Node) → boundAt F fp fi b f n .error ≤ 3 * boundAt F fp fi b f (last n) .error
+  error-under : (n : Node) → nodeBound F fp fi b f n .error ≤ 3 * nodeBound F fp fi b f (last n) .error
   error-under n =
       let to : Node → Source → ℕ = λ m i. gain forward (sideOf m) (suc (stageOf m)) i in
       omega (
@@ -185,7 +185,7 @@ module _ (F : Node → ℕ) (fp : Node → Product) (fi : ℕ) (b : Bound) (f : 
       )
 
   -- what enters is in what the pass leaves
-  enters-under : (q : Bool) → b .error ≤ boundAt F fp fi b f (lastNode q) .error
+  enters-under : (q : Bool) → b .error ≤ nodeBound F fp fi b f (lastNode q) .error
   enters-under q = omega (arith, node-error (lastNode q), times-least (b .error) (gain forward (sideOf (lastNode q)) (suc (stageOf (lastNode q))) samples) (omega (arith, gain-to (lastNode q) 0 (omega arith), large q)))
     where
       large : (q : Bool) → 65536 ≤ gainTo (lastNode q) 0
@@ -201,7 +201,7 @@ module _ (t : WidthTable) (l : ℕ) (b : Bound) where
   given LowColumns = rowBound t l b G1
   given HighColumns = rowBound t l b G2
 
-  pass-is : (p : Pass) → passBound t l b p ≡ boundAt (constantBits t) (productOf t l p) (inputBits t l p) (given p) (fractionBits t l p)
+  pass-is : (p : Pass) → passBound t l b p ≡ nodeBound (constantBits t) (productOf t l p) (inputBits t l p) (given p) (fractionBits t l p)
   unfolding passBound rowBound
   pass-is Rows = refl
   pass-is LowColumns = refl
@@ -318,8 +318,8 @@ pub eleven-bits : (t : WidthTable) → AcceptPromise t → (l : ℕ) → 1 ≤ l
     → boundOf t (nodeAt l p n) .range + boundOf t (nodeAt l p n) .error + 2 ^ (32 - fractionBits t l p n) ≤ 2 ^ 10 * 2 ^ 32
 unfolding boundOf
 eleven-bits t ok l a b p n =
-    let five : l ≤ maxLevels = omega (arith, form-levels t (ok .form) .1) in
-    omega (arith, step-most (fractionBits t l p n), range-most t l five p n, largest-small, pass-error t l (entering t l) p n, last-most t ok l a b p (isLow n))
+    let hasProducts : l ≤ maxLevels = omega (arith, form-levels t (ok .form) .1) in
+    omega (arith, step-most (fractionBits t l p n), range-most t l hasProducts p n, largest-small, pass-error t l (entering t l) p n, last-most t ok l a b p (isLow n))
 
 -- what enters a level
 pub enters-eleven : (t : WidthTable) → AcceptPromise t → (l : ℕ) → 1 ≤ l → l ≤ t .levels

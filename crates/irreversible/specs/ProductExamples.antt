@@ -5,7 +5,7 @@ use mathlib.Core.List.{List, [], _∷_}
 use lib.IntN.{ℤ, pos, negℤ}
 use Rattle.exact.specs.Exact.{alpha}
 use Rattle.lines.specs.Lines.{lowAfter, highBefore, highAfter, onHighs, onLows, lowsFirst}
-use Rattle.lines.specs.Planes.{fromOne, rows, columns, within, side, rowsFirst, levels, tabulate, rowByRow}
+use Rattle.lines.specs.Planes.{fromOne, rows, columns, within, side, levelRowsFirst, levels, tabulate, rowByRow}
 use Rattle.width_table.specs.declared.WidthTable.{WidthTable}
 use Rattle.pictures.specs.Pictures.{sample}
 use Rattle.stages.specs.Stages.{uncut, cutTo}
@@ -44,5 +44,5 @@ pub planes :
     ∷ (m 1 ∷ pos 3 ∷ m 3 ∷ pos 1 ∷ pos 0 ∷ pos 0 ∷ [])
     ∷ (m 1 ∷ pos 3 ∷ m 3 ∷ pos 1 ∷ pos 0 ∷ m 1 ∷ [])
     ∷ []
-unfolding rowByRow tabulate fixedPlane fixedAfter fixedLine fixedPass fixedLong fromOne atP1 atU1 atP2 atU2 atG1 atG2 onHighs onLows lowAfter highBefore highAfter lowsFirst levels rowsFirst within rows columns side sample productOf nearest cut cutProduct step scale
+unfolding rowByRow tabulate fixedPlane fixedAfter fixedLine fixedPass fixedLong fromOne atP1 atU1 atP2 atU2 atG1 atG2 onHighs onLows lowAfter highBefore highAfter lowsFirst levels levelRowsFirst within rows columns side sample productOf nearest cut cutProduct step scale
 planes = refl

@@ -1,4 +1,4 @@
--- Where the values of a pass are sized (Sized), every number on the way fits its machine type (`kernel-safe`).
+-- Where the values of a pass are sized (BelowPower10), every number on the way fits its machine type (`kernel-safe`).
 use Prim.Native.Nat.{ℕ, _+_, _*_, _-_, _^_, _<_, _≤_, max}
 use mathlib.Core.Bool.{Bool, true, false}
 use mathlib.Core.Path.{_≡_, sym, _∙_, ap, subst}
@@ -26,7 +26,7 @@ use Rattle.stages.specs.Fixed.{nearest, cut, step, scale}
 use Rattle.irreversible.specs.Fixed.{valueAt, countAt, atP1, atU1, atP2, atU2, atG1, atG2}
 use Rattle.irreversible.specs.Constants.{constantOf}
 use Rattle.irreversible.specs.Sizes.{floor-size, product-size}
-use Rattle.irreversible.specs.Sized.{Sized}
+use Rattle.irreversible.specs.Magnitudes.{BelowPower10}
 use Rattle.irreversible.specs.StepLaws.{stepTop, onceOf, cutOf, stepOf, factorOf, by-together, step-applied, scale-applied, singleOf, single-applied}
 use Rattle.irreversible.specs.KernelLaws.{stageOf, scalingOf, kernelFrom, sU1, sP2, sU2, sG1, sG2, first-highs, first-lows, second-highs, second-lows}
 use Rattle.width_table.specs.Table.{maxConstantBits, maxFractionBits}
@@ -38,10 +38,10 @@ pow-up i j h = pow-le-pow-right (omega arith) h
 -- ---- sizes
 
 -- below 2^10 at f fractional bits: with less room, and as what 32 bits hold
-sized-most : (f : ℕ) (v : ℤ) → Sized f v → natAbs v ≤ 2 ^ (11 + f)
+sized-most : (f : ℕ) (v : ℤ) → BelowPower10 f v → natAbs v ≤ 2 ^ (11 + f)
 sized-most f v h = le-trans (le-of-lt h) (pow-up (10 + f) (11 + f) (omega arith))
 
-sized-fits : (f : ℕ) (v : ℤ) → f ≤ maxFractionBits → Sized f v → SFits w32 v
+sized-fits : (f : ℕ) (v : ℤ) → f ≤ maxFractionBits → BelowPower10 f v → SFits w32 v
 sized-fits f v few h = record { sfits = mag-of-abs v (lt-of-lt-of-le h (pow-up (10 + f) 31 (omega arith))) }
 
 -- at most 2^62
@@ -61,8 +61,8 @@ swap : (k P s : ℤ) → k *ℤ s *ℤ P ≡ k *ℤ P *ℤ s
 swap = by-dif _ λ a b. by-dif _ λ c d. by-dif _ λ e f. simp difs (omega arith)
 
 -- the negative of a number is as large
-turned-size : (b : ℕ) (z : ℤ) → natAbs z ≤ b → natAbs (pos 0 -ℤ z) ≤ b
-turned-size b = by-dif _ λ a a'. simp difs (omega arith)
+signed-sum-size : (b : ℕ) (z : ℤ) → natAbs z ≤ b → natAbs (pos 0 -ℤ z) ≤ b
+signed-sum-size b = by-dif _ λ a a'. simp difs (omega arith)
 
 -- ---- one stage
 
@@ -83,8 +83,8 @@ constant-fits n F ok = fits-64 (13 + F) _ (omega (arith, ok .1)) (constant-small
 constant-size : (n : Node) (F fm top : ℕ) → ConstantBits F → F + fm ≤ top → top ≤ 44 → natAbs (nearest (constantOf n) F *ℤ pos (2 ^ (top - (F + fm)))) ≤ 2 ^ 57
 constant-size n F fm top ok a b = times-size (13 + F) (top - (F + fm)) 57 (nearest (constantOf n) F) (pos (2 ^ (top - (F + fm)))) (constant-small n F ok) (le-refl _) (omega (arith, ok .1))
 
-pub constant-raised : (n : Node) (F fm top : ℕ) → ConstantBits F → F + fm ≤ top → top ≤ 44 → SFits w64 (nearest (constantOf n) F *ℤ pos (2 ^ (top - (F + fm))))
-constant-raised n F fm top ok a b = fits-64 57 _ (omega arith) (constant-size n F fm top ok a b)
+pub constant-scaled-up : (n : Node) (F fm top : ℕ) → ConstantBits F → F + fm ≤ top → top ≤ 44 → SFits w64 (nearest (constantOf n) F *ℤ pos (2 ^ (top - (F + fm))))
+constant-scaled-up n F fm top ok a b = fits-64 57 _ (omega arith) (constant-size n F fm top ok a b)
 
 module _ (n : Node) (F fm : ℕ) (const : ConstantBits F) (small : fm ≤ maxFractionBits) where
   -- a constant times a sum, at top bits
@@ -94,17 +94,17 @@ module _ (n : Node) (F fm : ℕ) (const : ConstantBits F) (small : fm ≤ maxFra
       (times-size (13 + F + fm) (top - (F + fm)) 57 (nearest (constantOf n) F *ℤ (x +ℤ y)) (pos (2 ^ (top - (F + fm)))) (product-size n F fm (const .0) (const .1) small x y hx hy) (le-refl _) (omega arith))
 
   -- the neighbours' sum and its negative fit an i32
-  sides-safe : (x y : ℤ) → Sized fm x → Sized fm y → SumSafe x y
+  sides-safe : (x y : ℤ) → BelowPower10 fm x → BelowPower10 fm y → SumSafe x y
   sides-safe x y hx hy = record {
     sum = record { sfits = mag-of-abs (x +ℤ y) small-sum };
-    turned = record { sfits = mag-of-abs (pos 0 -ℤ (x +ℤ y)) (lt-of-le-of-lt (turned-size _ (x +ℤ y) (le-refl _)) small-sum) };
+    negated = record { sfits = mag-of-abs (pos 0 -ℤ (x +ℤ y)) (lt-of-le-of-lt (signed-sum-size _ (x +ℤ y) (le-refl _)) small-sum) };
   }
     where
       small-sum : natAbs (x +ℤ y) < 2 ^ 31
       small-sum = lt-of-le-of-lt (abs-add x y) (omega (arith, hx, hy, pow-up (10 + fm) 30 (omega arith)))
 
   module _ (f : ℕ) (less : f ≤ maxFractionBits) where
-    module _ (fo : ℕ) (low : fo ≤ maxFractionBits) (own x y : ℤ) (ho : Sized fo own) (hx : Sized fm x) (hy : Sized fm y) where
+    module _ (fo : ℕ) (low : fo ≤ maxFractionBits) (own x y : ℤ) (ho : BelowPower10 fo own) (hx : BelowPower10 fm x) (hy : BelowPower10 fm y) where
       -- a step with one cut whose operands and result are sized
       once-safe : SFits w32 (applied (onceOf (nearest (constantOf n) F) F fm fo f) own x y) → Safe (onceOf (nearest (constantOf n) F) F fm fo f) own x y
       unfolding onceOf
@@ -122,13 +122,13 @@ module _ (n : Node) (F fm : ℕ) (const : ConstantBits F) (small : fm ≤ maxFra
             right = fits-64 57 B (omega arith) b;
             both = fits-64 58 (A +ℤ B) (omega arith) (le-trans (abs-add-≤ A B a b) (omega arith));
             doubled = fits-64 58 _ (omega arith) (times-size 1 57 58 (pos 2) (nearest (constantOf n) F *ℤ pos (2 ^ (top - (F + fm)))) (omega arith) (constant-size n F fm top const (omega arith) (omega arith)) (omega arith));
-            risen = λ r e. risen-fits r (omega arith);
+            scaled-up = λ r e. scaled-up-fits r (omega arith);
             result = fits;
           }
         where
           -- the own value at the node's bits
-          risen-fits : (r : ℕ) → fo + r ≡ f → SFits w32 (own *ℤ pos (2 ^ r))
-          risen-fits r e = fits-32 (own *ℤ pos (2 ^ r)) (times-size (10 + fo) r 30 own (pos (2 ^ r)) (le-of-lt ho) (le-refl _) (omega arith))
+          scaled-up-fits : (r : ℕ) → fo + r ≡ f → SFits w32 (own *ℤ pos (2 ^ r))
+          scaled-up-fits r e = fits-32 (own *ℤ pos (2 ^ r)) (times-size (10 + fo) r 30 own (pos (2 ^ r)) (le-of-lt ho) (le-refl _) (omega arith))
 
       -- one whose product is cut first: it leaves at most 2^13
       cut-safe : (fp : ℕ) → fp < F + fm → fp < max fo f → SFits w32 (applied (cutOf fp (nearest (constantOf n) F) F fm fo f) own x y) → Safe (cutOf fp (nearest (constantOf n) F) F fm fo f) own x y
@@ -158,7 +158,7 @@ module _ (n : Node) (F fm : ℕ) (const : ConstantBits F) (small : fm ≤ maxFra
           }
 
       -- a stage, whatever the width of its product
-      pub step-safe : (p : Product) → Sized f (step p (constantOf n) F fm fo f own x y) → Safe (stageOf p (constantOf n) F fm fo f) own x y
+      pub step-safe : (p : Product) → BelowPower10 f (step p (constantOf n) F fm fo f own x y) → Safe (stageOf p (constantOf n) F fm fo f) own x y
       unfolding stepOf
       step-safe p h = by-product p (subst (λ (z : ℤ). SFits w32 z) (sym (step-applied p (constantOf n) F fm fo f own x y)) (sized-fits f _ less h))
         where
@@ -170,7 +170,7 @@ module _ (n : Node) (F fm : ℕ) (const : ConstantBits F) (small : fm ≤ maxFra
               by-together (λ q. SFits w32 (applied (s q) own x y) → Safe (s q) own x y) fp (F + fm) fo f (λ i. once-safe) (λ i j l. once-safe) (λ i j. cut-safe fp i j)
 
     -- a scaling likewise
-    pub scale-safe : (x : ℤ) → Sized fm x → Sized f (scale (constantOf n) F fm f x) → FactorSafe (scalingOf (constantOf n) F fm f) x
+    pub scale-safe : (x : ℤ) → BelowPower10 fm x → BelowPower10 f (scale (constantOf n) F fm f x) → FactorSafe (scalingOf (constantOf n) F fm f) x
     unfolding factorOf
     scale-safe x hx h =
         let top : ℕ = max (F + fm) f in
@@ -181,7 +181,7 @@ module _ (n : Node) (F fm : ℕ) (const : ConstantBits F) (small : fm ≤ maxFra
         }
 
 -- a single sample likewise
-pub single-safe : (fi f : ℕ) → fi ≤ maxFractionBits → f ≤ maxFractionBits → (x : ℤ) → Sized fi x → Sized f (cut fi f x) → FactorSafe (singleOf fi f) x
+pub single-safe : (fi f : ℕ) → fi ≤ maxFractionBits → f ≤ maxFractionBits → (x : ℤ) → BelowPower10 fi x → BelowPower10 f (cut fi f x) → FactorSafe (singleOf fi f) x
 unfolding singleOf
 single-safe fi f few less x hx h = record {
   short = omega arith;
@@ -198,13 +198,13 @@ pub record Limits (F : Node → ℕ) (fi : ℕ) (f : Node → ℕ) : Type 0 wher
   pub enters : fi ≤ maxFractionBits
 
 module _ (F : Node → ℕ) (fp : Node → Product) (fi : ℕ) (f : Node → ℕ) (ok : Limits F fi f) (n : ℕ) (x : ℕ → ℤ) (works : Liftable n)
-    (given : (k : ℕ) → k < n → Sized fi (x k))
-    (inside : (i : Node) (k : ℕ) → k < countAt n i → Sized (f i) (valueAt F fp fi f n x i k)) where
+    (given : (k : ℕ) → k < n → BelowPower10 fi (x k))
+    (inside : (i : Node) (k : ℕ) → k < countAt n i → BelowPower10 (f i) (valueAt F fp fi f n x i k)) where
   -- the stages, with the limits of the pass
-  lifts : (i : Node) (fm : ℕ) → fm ≤ maxFractionBits → (fo : ℕ) → fo ≤ maxFractionBits → (own a b : ℤ) → Sized fo own → Sized fm a → Sized fm b → Sized (f i) (step (fp i) (constantOf i) (F i) fm fo (f i) own a b) → Safe (stageOf (fp i) (constantOf i) (F i) fm fo (f i)) own a b
+  lifts : (i : Node) (fm : ℕ) → fm ≤ maxFractionBits → (fo : ℕ) → fo ≤ maxFractionBits → (own a b : ℤ) → BelowPower10 fo own → BelowPower10 fm a → BelowPower10 fm b → BelowPower10 (f i) (step (fp i) (constantOf i) (F i) fm fo (f i) own a b) → Safe (stageOf (fp i) (constantOf i) (F i) fm fo (f i)) own a b
   lifts i fm p fo q own a b ho ha hb = step-safe i (F i) fm (ok .constants i) p (f i) (ok .fractions i) fo q own a b ho ha hb (fp i)
 
-  scales : (i : Node) (fm : ℕ) → fm ≤ maxFractionBits → (a : ℤ) → Sized fm a → Sized (f i) (scale (constantOf i) (F i) fm (f i) a) → FactorSafe (scalingOf (constantOf i) (F i) fm (f i)) a
+  scales : (i : Node) (fm : ℕ) → fm ≤ maxFractionBits → (a : ℤ) → BelowPower10 fm a → BelowPower10 (f i) (scale (constantOf i) (F i) fm (f i) a) → FactorSafe (scalingOf (constantOf i) (F i) fm (f i)) a
   scales i fm p a = scale-safe i (F i) fm (ok .constants i) p (f i) (ok .fractions i) a
 
   -- every stage of the pass

@@ -51,8 +51,8 @@ two-at c (suc k) F a b h = go (decLt F (suc k)) (λ i. two-at c k F a i (parts .
 
 -- ---- powers of two
 
-raised : (a i j s : ℕ) → a ≤ 2 ^ i → i + j ≤ s → a * 2 ^ j ≤ 2 ^ s
-raised a i j s h k = le-trans (mul-le-mul-right (2 ^ j) h) (subst (λ (t : ℕ). t ≤ 2 ^ s) (pow-add 2 i j) (pow-le-pow-right (omega arith) k))
+scaledUp : (a i j s : ℕ) → a ≤ 2 ^ i → i + j ≤ s → a * 2 ^ j ≤ 2 ^ s
+scaledUp a i j s h k = le-trans (mul-le-mul-right (2 ^ j) h) (subst (λ (t : ℕ). t ≤ 2 ^ s) (pow-add 2 i j) (pow-le-pow-right (omega arith) k))
 
 product : (a b i j s : ℕ) → a ≤ 2 ^ i → b ≤ 2 ^ j → i + j ≤ s → a * b ≤ 2 ^ s
 product a b i j s h k l = le-trans (mul-le-mul h k) (subst (λ (t : ℕ). t ≤ 2 ^ s) (pow-add 2 i j) (pow-le-pow-right (omega arith) l))
@@ -113,8 +113,8 @@ module _ (n : Node) (F fm : ℕ) (some : 1 ≤ F) (most : F ≤ maxConstantBits)
   sum-size p fo small' own x y ho hx hy =
       le-trans (abs-add A B)
       (twice (natAbs A) (natAbs B) 57
-      (subst (λ (t : ℕ). t ≤ 2 ^ 57) (sym (abs-mul own (pos (2 ^ (full - fo))))) (raised (natAbs own) (11 + fo) (full - fo) 57 ho (omega (arith, bits-most p (F + fm)))))
-      (subst (λ (t : ℕ). t ≤ 2 ^ 57) (sym (abs-mul K (pos (2 ^ (full - bits))))) (raised (natAbs K) (13 + bits) (full - bits) 57 (cut-size p x y hx hy) (omega (arith, bits-most p (F + fm))))))
+      (subst (λ (t : ℕ). t ≤ 2 ^ 57) (sym (abs-mul own (pos (2 ^ (full - fo))))) (scaledUp (natAbs own) (11 + fo) (full - fo) 57 ho (omega (arith, bits-most p (F + fm)))))
+      (subst (λ (t : ℕ). t ≤ 2 ^ 57) (sym (abs-mul K (pos (2 ^ (full - bits))))) (scaledUp (natAbs K) (13 + bits) (full - bits) 57 (cut-size p x y hx hy) (omega (arith, bits-most p (F + fm))))))
     where
       bits : ℕ
       bits = productBits p (F + fm)

@@ -130,9 +130,9 @@ cut-law : (own K A B P : ℤ) → (own *ℤ A +ℤ K *ℤ B) *ℤ P ≡ A *ℤ P
 cut-law own K A B P = let ρ : List ℤ = own ∷ K ∷ A ∷ B ∷ P ∷ [] in ring ρ (search (terms, vars ρ) depth 30) (search (terms, vars ρ) depth 30) tt
 
 -- a sum whose product has p bits, raised to the bits of own value and node, which are more, and cut to f
-sum-raised : (own K : ℤ) (fo f p : ℕ) → p < max fo f → cut (max fo p) f (own *ℤ pos (2 ^ (max fo p - fo)) +ℤ K *ℤ pos (2 ^ (max fo p - p))) ≡ floorDiv (pos (2 ^ (max fo f - fo)) *ℤ own +ℤ pos (2 ^ (max fo f - p)) *ℤ K) (2 ^ (max fo f - f))
+sum-scaled-up : (own K : ℤ) (fo f p : ℕ) → p < max fo f → cut (max fo p) f (own *ℤ pos (2 ^ (max fo p - fo)) +ℤ K *ℤ pos (2 ^ (max fo p - p))) ≡ floorDiv (pos (2 ^ (max fo f - fo)) *ℤ own +ℤ pos (2 ^ (max fo f - p)) *ℤ K) (2 ^ (max fo f - f))
 unfolding cut
-sum-raised own K fo f p more =
+sum-scaled-up own K fo f p more =
     let full : ℕ = max fo p in
     let top : ℕ = max fo f in
     ap₂ (λ (z : ℤ) (b : ℕ). floorDiv z (2 ^ b))
@@ -149,7 +149,7 @@ cut-applied fp c F fm fo f own x y less more =
     let e : min fp full ≡ fp = omega arith in
     sym (ap (λ (p : ℕ). cut (max fo p) f (own *ℤ pos (2 ^ (max fo p - fo)) +ℤ cut full p W *ℤ pos (2 ^ (max fo p - p)))) e
     ∙ ap (λ (K : ℤ). cut (max fo fp) f (own *ℤ pos (2 ^ (max fo fp - fo)) +ℤ K *ℤ pos (2 ^ (max fo fp - fp)))) (cut-lossy full fp W less)
-    ∙ sum-raised own (floorDiv W (2 ^ (full - fp))) fo f fp more)
+    ∙ sum-scaled-up own (floorDiv W (2 ^ (full - fp))) fo f fp more)
 
 -- the two cases of the definition
 pub by-together : (P : Bool → Type 0) (fp full fo f : ℕ) → (full ≤ fp → P true) → (fp < full → fo ≤ fp → f ≤ fp → P true) → (fp < full → fp < max fo f → P false) → P (cutTogether (cutTo fp) full fo f)

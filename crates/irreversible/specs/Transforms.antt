@@ -3,7 +3,7 @@
 use Prim.Native.Nat.{ℕ}
 use mathlib.Core.List.{List}
 use lib.IntN.{ℤ}
-use Rattle.lines.specs.Planes.{Plane, OnLine, OnPart, rowsFirst, levels}
+use Rattle.lines.specs.Planes.{Plane, OnLine, OnPart, levelRowsFirst, levels}
 use Rattle.width_table.specs.Nodes.{Pass, Rows, columnPass}
 use Rattle.width_table.specs.declared.WidthTable.{WidthTable}
 use Rattle.width_table.specs.Table.{constantBits, fractionBits, inputBits}
@@ -17,7 +17,7 @@ fixedLine t l p = fixedPass (constantBits t) (productOf t l p) (inputBits t l p)
 
 -- a level: the rows, then the columns, those of row-low and of row-high by passes of their own
 abbrev pub fixedLevel : WidthTable → ℕ → OnPart ℤ
-fixedLevel t l = rowsFirst (fixedLine t l Rows) (λ low. fixedLine t l (columnPass low))
+fixedLevel t l = levelRowsFirst (fixedLine t l Rows) (λ low. fixedLine t l (columnPass low))
 
 -- the plane after levels 1 to k; a pixel enters as an integer with B fractional bits
 unfoldable pub fixedAfter : WidthTable → ℕ → List ℕ → ℕ → ℕ → Plane ℤ

@@ -8,7 +8,7 @@ use lib.IntN.{ℤ, pos, _+ℤ_, _*ℤ_}
 use Rattle.exact.specs.Fractions.{Frac}
 use Rattle.exact.specs.Exact.{alpha, beta, gamma, delta, zeta, zetaInverse}
 use Rattle.lines.specs.Lines.{onHighs, onLows, lowsFirst}
-use Rattle.lines.specs.Planes.{Plane, OnLine, fromOne, rowsFirst, levels}
+use Rattle.lines.specs.Planes.{Plane, OnLine, fromOne, levelRowsFirst, levels}
 use Rattle.width_table.specs.Nodes.{Node, P1, U1, P2, U2, G1, G2, Pass, Rows, columnPass}
 use Rattle.width_table.specs.declared.WidthTable.{WidthTable}
 use Rattle.width_table.specs.Table.{constantBits, fractionBits, inputBits}
@@ -49,7 +49,7 @@ unfoldable pub uncutLine : WidthTable → ℕ → Pass → OnLine ℤ
 uncutLine t l p = uncutPass (constantBits t) (inputBits t l p) (fractionBits t l p)
 
 unfoldable pub uncutAfter : WidthTable → ℕ → List ℕ → ℕ → ℕ → Plane ℤ
-uncutAfter t k pixels w h = levels (λ l. rowsFirst (uncutLine t l Rows) (λ low. uncutLine t l (columnPass low))) k w h (sample pixels (t .depth) w)
+uncutAfter t k pixels w h = levels (λ l. levelRowsFirst (uncutLine t l Rows) (λ low. uncutLine t l (columnPass low))) k w h (sample pixels (t .depth) w)
 
 unfoldable pub uncutPlane : WidthTable → List ℕ → ℕ → ℕ → Plane ℤ
 uncutPlane t pixels w h = uncutAfter t (t .levels) pixels w h
@@ -61,11 +61,11 @@ uncut-pass : (F : Node → ℕ) (fi : ℕ) (f : Node → ℕ) → fixedPass F (�
 unfolding fixedPass fixedLong atP1 atU1 atP2 atU2 atG1 atG2 step cutProduct uncutPass uncutLong uncutP1 uncutU1 uncutP2 uncutU2 uncutStep
 uncut-pass F fi f = refl
 
-line-uncut : (t : WidthTable) → t .five ≡ false → fixedLine t ≡ uncutLine t
+line-uncut : (t : WidthTable) → t .«has_products» ≡ false → fixedLine t ≡ uncutLine t
 unfolding fixedLine uncutLine
 line-uncut t e = fun-ext λ l. fun-ext λ p. ap (λ (fp : Node → Product). fixedPass (constantBits t) fp (inputBits t l p) (fractionBits t l p)) (none-cut t l p e) ∙ uncut-pass (constantBits t) (inputBits t l p) (fractionBits t l p)
 
 -- Without tag 5 a table gives its old coefficients.
-pub old-coefficients : (t : WidthTable) (pixels : List ℕ) (w h : ℕ) → t .five ≡ false → fixedPlane t pixels w h ≡ uncutPlane t pixels w h
+pub old-coefficients : (t : WidthTable) (pixels : List ℕ) (w h : ℕ) → t .«has_products» ≡ false → fixedPlane t pixels w h ≡ uncutPlane t pixels w h
 unfolding fixedPlane fixedAfter uncutPlane uncutAfter
-old-coefficients t pixels w h e = ap (λ (line : ℕ → Pass → OnLine ℤ). levels (λ l. rowsFirst (line l Rows) (λ low. line l (columnPass low))) (t .levels) w h (sample pixels (t .depth) w)) (line-uncut t e)
+old-coefficients t pixels w h e = ap (λ (line : ℕ → Pass → OnLine ℤ). levels (λ l. levelRowsFirst (line l Rows) (λ low. line l (columnPass low))) (t .levels) w h (sample pixels (t .depth) w)) (line-uncut t e)

@@ -55,7 +55,7 @@ pub fn power(bits: u8) -> i64
 }
 
 // A number over a power of 2, rounded down.
-pub fn lowered(z: i64, cut: u8) -> i64
+pub fn floor_shifted(z: i64, cut: u8) -> i64
     requires { ⌜ cut < 64 ⌝ }
     ensures { λ r. ⌜ r ≡ floorDiv z (2 ^ cut) ⌝ }
 {
@@ -69,7 +69,7 @@ fn nearest_at(node: u8, bits: u8) -> i64
 {
     let cut = FINE_BITS - bits;
     let half = power(cut - 1);
-    lowered(FINE[node as usize - 1] + half, cut)
+    floor_shifted(FINE[node as usize - 1] + half, cut)
 }
 
 // The larger of two.
@@ -204,7 +204,7 @@ pub fn stages_of(table: WidthTable, level: u8, pass: u8) -> Stages
     let from = width_table::product_place(level, pass, WidthTable::P1);
     let constants = table.constants;
     let nodes = table.nodes;
-    let cuts = table.five;
+    let cuts = table.has_products;
     let products = table.products;
     let p1 = nodes[at + 1];
     let u1 = nodes[at + 3];
@@ -227,10 +227,10 @@ pub fn stages_of(table: WidthTable, level: u8, pass: u8) -> Stages
     let low = scaling(WidthTable::G1, constants[4], u2, g1);
     let high = scaling(WidthTable::G2, constants[5], p2, g2);
     Stages {
-        first: lifting::quickest_pair(first),
-        second: lifting::quickest_pair(second),
-        low: lifting::quickest_factor(low),
-        high: lifting::quickest_factor(high),
+        first: lifting::fastest_pair(first),
+        second: lifting::fastest_pair(second),
+        low: lifting::fastest_factor(low),
+        high: lifting::fastest_factor(high),
     }
 }
 
@@ -272,7 +272,7 @@ pub fn single_of(table: WidthTable, level: u8, pass: u8) -> Factor
 {
     let enters = table.input_bits(level, pass);
     let kept = table.fraction_bits(level, pass, WidthTable::G1);
-    lifting::quickest_factor(single_factor(enters, kept))
+    lifting::fastest_factor(single_factor(enters, kept))
 }
 
 // The rows of a level: the first w values of h rows of a plane whose rows are `stride` long.
@@ -280,12 +280,12 @@ fn work_rows(
     table: WidthTable,
     level: u8,
     plane: &mut [i32],
-    tile: &mut [i32],
+    buffer: &mut [i32],
     stride: usize,
     w: usize,
     h: usize,
 )
-    requires { ⌜ RowsReady table level (now plane) (now tile) stride w h ⌝ }
+    requires { ⌜ RowsReady table level (now plane) (now buffer) stride w h ⌝ }
     ensures { λ _. ⌜ at (now (plane .exit)) ≡ rowed table level stride w h (at (now (plane .entry))) ⌝ }
 {
     if w < 2 {
@@ -295,7 +295,7 @@ fn work_rows(
     }
     lifting::rows(
         plane,
-        tile,
+        buffer,
         stride,
         w,
         h,
@@ -309,13 +309,13 @@ fn columns_by(
     level: u8,
     pass: u8,
     plane: &mut [i32],
-    tile: &mut [i32],
+    buffer: &mut [i32],
     stride: usize,
     from: usize,
     w: usize,
     h: usize,
 )
-    requires { ⌜ ColumnsReady table level (passOf pass) (now plane) (now tile) stride from w h × IsPass pass ⌝ }
+    requires { ⌜ ColumnsReady table level (passOf pass) (now plane) (now buffer) stride from w h × IsPass pass ⌝ }
     ensures { λ _. ⌜ at (now (plane .exit)) ≡ columnsBy (fixedLine table level (passOf pass)) stride from w h (at (now (plane .entry))) ⌝ }
 {
     if h < 2 {
@@ -325,7 +325,7 @@ fn columns_by(
     }
     lifting::columns(
         plane,
-        tile,
+        buffer,
         stride,
         from,
         w,
@@ -339,12 +339,12 @@ fn work_columns(
     table: WidthTable,
     level: u8,
     plane: &mut [i32],
-    tile: &mut [i32],
+    buffer: &mut [i32],
     stride: usize,
     w: usize,
     h: usize,
 )
-    requires { ⌜ BothReady table level (now plane) (now tile) stride w h ⌝ }
+    requires { ⌜ BothReady table level (now plane) (now buffer) stride w h ⌝ }
     ensures { λ _. ⌜ at (now (plane .exit)) ≡ columned table level stride w h (at (now (plane .entry))) ⌝ }
 {
     let low = (w + 1) / 2;
@@ -353,7 +353,7 @@ fn work_columns(
         level,
         WidthTable::LOW_COLUMNS,
         plane,
-        tile,
+        buffer,
         stride,
         0,
         low,
@@ -364,7 +364,7 @@ fn work_columns(
         level,
         WidthTable::HIGH_COLUMNS,
         plane,
-        tile,
+        buffer,
         stride,
         low,
         w / 2,
@@ -377,16 +377,16 @@ fn work_level(
     table: WidthTable,
     level: u8,
     plane: &mut [i32],
-    tile: &mut [i32],
+    buffer: &mut [i32],
     stride: usize,
     w: usize,
     h: usize,
 )
-    requires { ⌜ LevelReady table level (now plane) (now tile) stride w h ⌝ }
+    requires { ⌜ LevelReady table level (now plane) (now buffer) stride w h ⌝ }
     ensures { λ _. ⌜ at (now (plane .exit)) ≡ levelWorked table level stride w h (at (now (plane .entry))) ⌝ }
 {
-    work_rows(table, level, plane, tile, stride, w, h);
-    work_columns(table, level, plane, tile, stride, w, h);
+    work_rows(table, level, plane, buffer, stride, w, h);
+    work_columns(table, level, plane, buffer, stride, w, h);
 }
 
 // The rows of the first level, from the pixels.
@@ -394,21 +394,21 @@ fn pixel_rows(
     table: WidthTable,
     pixels: &[u16],
     plane: &mut [i32],
-    tile: &mut [i32],
+    buffer: &mut [i32],
     w: usize,
     h: usize,
 )
-    requires { ⌜ Ready table (now pixels) (now plane) (now tile) w h ⌝ }
+    requires { ⌜ Ready table (now pixels) (now plane) (now buffer) w h ⌝ }
     ensures { λ _. ⌜ at (now (plane .exit)) ≡ rowed table 1 w w h (loaded (now (pixels .entry)) (2 ^ (table .depth - 1)) w h (at (now (plane .entry)))) ⌝ }
 {
     let middle = pictures::middle(table.depth);
     if w < 2 {
         lifting::put_pixels(pixels, middle, plane, w * h);
-        work_rows(table, 1, plane, tile, w, w, h);
+        work_rows(table, 1, plane, buffer, w, w, h);
         return;
     }
     let kernel = kernel_of(table, 1, WidthTable::ROWS);
-    lifting::pixel_rows(pixels, middle, plane, tile, w, h, kernel);
+    lifting::pixel_rows(pixels, middle, plane, buffer, w, h, kernel);
 }
 
 // The first level, whose rows are those of the picture.
@@ -416,15 +416,15 @@ fn first_level(
     table: WidthTable,
     pixels: &[u16],
     plane: &mut [i32],
-    tile: &mut [i32],
+    buffer: &mut [i32],
     w: usize,
     h: usize,
 )
-    requires { ⌜ Ready table (now pixels) (now plane) (now tile) w h ⌝ }
+    requires { ⌜ Ready table (now pixels) (now plane) (now buffer) w h ⌝ }
     ensures { λ _. ⌜ at (now (plane .exit)) ≡ levelWorked table 1 w w h (loaded (now (pixels .entry)) (2 ^ (table .depth - 1)) w h (at (now (plane .entry)))) ⌝ }
 {
-    pixel_rows(table, pixels, plane, tile, w, h);
-    work_columns(table, 1, plane, tile, w, w, h);
+    pixel_rows(table, pixels, plane, buffer, w, h);
+    work_columns(table, 1, plane, buffer, w, w, h);
 }
 
 // The plane of a picture.
@@ -432,19 +432,19 @@ fn transform(
     table: WidthTable,
     pixels: &[u16],
     plane: &mut [i32],
-    tile: &mut [i32],
+    buffer: &mut [i32],
     w: usize,
     h: usize,
 )
-    requires { ⌜ Ready table (now pixels) (now plane) (now tile) w h ⌝ }
+    requires { ⌜ Ready table (now pixels) (now plane) (now buffer) w h ⌝ }
     ensures { λ _. ⌜ now (plane .exit) ≡ over (rowByRow w h (fixedPlane table (now (pixels .entry)) w h)) (now (plane .entry)) ⌝ }
 {
     let levels = table.levels;
-    first_level(table, pixels, plane, tile, w, h);
+    first_level(table, pixels, plane, buffer, w, h);
     let mut across = (w + 1) / 2;
     let mut down = (h + 1) / 2;
     for k in 1..levels {
-        work_level(table, k + 1, plane, tile, w, across, down);
+        work_level(table, k + 1, plane, buffer, w, across, down);
         across = (across + 1) / 2;
         down = (down + 1) / 2;
     }

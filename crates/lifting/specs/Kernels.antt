@@ -12,8 +12,8 @@ use Rattle.lifting.specs.declared.Step.{Step}
 use Rattle.lifting.specs.declared.Factor.{Factor}
 use Rattle.lifting.specs.declared.Pair.{Pair}
 use Rattle.lifting.specs.declared.Kernel.{Kernel}
-use Rattle.lifting.specs.declared.Kernel.the-variants.{One, Two, Undo}
-use Rattle.lifting.specs.Steps.{applied, Safe, Same, scaledBy, FactorSafe, SameFactor}
+use Rattle.lifting.specs.declared.Kernel.the-variants.{One, Two, Inverse}
+use Rattle.lifting.specs.Steps.{applied, Safe, SameStep, scaledBy, FactorSafe, SameFactor}
 use Rattle.lifting.specs.Runs.{as-type}
 use Rattle.lifting.specs.PatchLines.{lineAt, patchLines}
 use Rattle.lifting.specs.Passes.{evens, odds, liftedHighs, liftedLows, SafePair}
@@ -36,23 +36,23 @@ module _ (first second : Pair) (n : ℕ) (x : ℕ → ℤ) where
 -- ---- a pair of steps undone: the lows, then the highs, then each to its place
 
 module _ (pair : Pair) (n : ℕ) (y : ℕ → ℤ) where
-  abbrev pub lowsUndone : ℕ → ℤ
-  lowsUndone = onLows (applied (pair .lows)) n y (λ i. y (lows n + i))
+  abbrev pub lowsInverted : ℕ → ℤ
+  lowsInverted = onLows (applied (pair .lows)) n y (λ i. y (lows n + i))
 
-  abbrev pub highsUndone : ℕ → ℤ
-  highsUndone = onHighs (applied (pair .highs)) n lowsUndone (λ i. y (lows n + i))
+  abbrev pub highsInverted : ℕ → ℤ
+  highsInverted = onHighs (applied (pair .highs)) n lowsInverted (λ i. y (lows n + i))
 
 -- what a kernel makes of a line of n values
 unfoldable pub worked : Kernel → ℕ → (ℕ → ℤ) → ℕ → ℤ
 worked (One pair) n x = lowsFirst n (liftedLows pair n (evens x) (odds x)) (liftedHighs pair n (evens x) (odds x))
 worked (Two first second low high) n x = lowsFirst n (λ i. scaledBy low (secondLows first second n x i)) (λ i. scaledBy high (secondHighs first second n x i))
-worked (Undo pair) n x = interleaved (lowsUndone pair n x) (highsUndone pair n x)
+worked (Inverse pair) n x = interleaved (lowsInverted pair n x) (highsInverted pair n x)
 
 -- a kernel that is worked forward
 abbrev pub forwards : Kernel → Bool
 forwards (One pair) = true
 forwards (Two first second low high) = true
-forwards (Undo pair) = false
+forwards (Inverse pair) = false
 
 abbrev pub Forward : Kernel → Type 0
 Forward k = T (forwards k)
@@ -65,14 +65,14 @@ pub record SafeTwo (first second : Pair) (low high : Factor) (n : ℕ) (x : ℕ 
   pub at-lows : (i : ℕ) → i < lows n → FactorSafe low (secondLows first second n x i)
   pub at-highs : (i : ℕ) → i < highs n → FactorSafe high (secondHighs first second n x i)
 
-pub record SafeUndo (pair : Pair) (n : ℕ) (y : ℕ → ℤ) : Type 0 where
+pub record SafeInverse (pair : Pair) (n : ℕ) (y : ℕ → ℤ) : Type 0 where
   pub on-lows : (i : ℕ) → i < lows n → onLows (Safe (pair .lows)) n y (λ i. y (lows n + i)) i
-  pub on-highs : (i : ℕ) → i < highs n → onHighs (Safe (pair .highs)) n (lowsUndone pair n y) (λ i. y (lows n + i)) i
+  pub on-highs : (i : ℕ) → i < highs n → onHighs (Safe (pair .highs)) n (lowsInverted pair n y) (λ i. y (lows n + i)) i
 
 abbrev pub SafeKernel : Kernel → ℕ → (ℕ → ℤ) → Type 0
 SafeKernel (One pair) n x = SafePair pair n (evens x) (odds x)
 SafeKernel (Two first second low high) n x = SafeTwo first second low high n x
-SafeKernel (Undo pair) n x = SafeUndo pair n x
+SafeKernel (Inverse pair) n x = SafeInverse pair n x
 
 -- r does what k does, wherever k may be used
 pub record SameKernel (k r : Kernel) : Type 0 where
@@ -85,10 +85,10 @@ as-it-is k = record { same = refl; way = λ h. h; safe = λ n x h. h }
 
 -- the steps of r do what those of p do
 pub record SamePair (p r : Pair) : Type 0 where
-  pub on-highs : Same (p .highs) (r .highs)
-  pub on-lows : Same (p .lows) (r .lows)
+  pub on-highs : SameStep (p .highs) (r .highs)
+  pub on-lows : SameStep (p .lows) (r .lows)
 
-same-applied : {s r : Step} → Same s r → applied r ≡ applied s
+same-applied : {s r : Step} → SameStep s r → applied r ≡ applied s
 same-applied e = fun-ext λ own. fun-ext λ x. fun-ext λ y. e .same own x y
 
 same-scaled : {g r : Factor} → SameFactor g r → scaledBy r ≡ scaledBy g

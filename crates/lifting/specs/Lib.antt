@@ -5,7 +5,7 @@
 --   Runs       a step at each place of a run
 --   Tiles      a step at each high or low of the columns of a tile; a tile filled with lines; a row
 -- Proved of them:
---   Turns, TileRuns   a turn of a run on signed numbers; a step at a tile's highs or lows by runs
+--   SignedRuns, TileRuns   a turn of a run on signed numbers; a step at a tile's highs or lows by runs
 --   Raise      steps and scalings by unsigned numbers
 --   RaisedCut  the same of steps whose product is cut first
 --   Ends       the reduced equations at an end of a line are the step there
@@ -15,11 +15,11 @@ pub mod Patch
 pub mod Runs
 pub mod PatchLines
 pub mod Passes
-pub mod Tiles
+pub mod Buffers
 pub mod Kernels
-pub mod Raise
-pub mod RaisedCut
+pub mod Bias
+pub mod BiasedCut
 pub mod Ends
 pub mod Strips
-pub mod Turns
-pub mod TileRuns
+pub mod SignedRuns
+pub mod BufferRuns

@@ -17,25 +17,25 @@ use Rattle.lifting.specs.PatchLines.{lineAt, Lying, patchLines, packed-i
 use Rattle.lifting.specs.Runs.{as-type}
 use Rattle.lifting.specs.Passes.{Liftable, evens, odds}
 use Rattle.lifting.specs.Kernels.{worked, SafeKernel, Part, rowOf, columnOf, rowsBy, columnsBy}
-use Rattle.lifting.specs.Tiles.{Tile, column, highColumn, sizes, Held}
+use Rattle.lifting.specs.Buffers.{Buffer, column, highColumn, sizes, BufferHolds}
 
 -- n lines of s values in the plane, line i from place from + i * stride on, and a tile with room for them
-pub record Strip (plane tile : List ℤ) (stride from s n : ℕ) : Type 0 where
+pub record StripRoom (plane buffer : List ℤ) (stride from s n : ℕ) : Type 0 where
   pub lines : Lying plane from stride n s
   pub some : 1 ≤ s
   pub two : Liftable n
-  pub room : n * s ≤ length tile
+  pub room : n * s ≤ length buffer
 
 -- the tile y holds lines, split, that are safe for a kernel
 pub record Ready (k : Kernel) (s n : ℕ) (y : ℕ → ℤ) : Type 0 where
   pub line : ℕ → ℕ → ℤ
-  pub held : Held s n (λ j. evens (line j)) (λ j. odds (line j)) y
+  pub held : BufferHolds s n (λ j. evens (line j)) (λ j. odds (line j)) y
   pub safe : (j : ℕ) → j < s → SafeKernel k n (line j)
 
 -- z is the plane x with a strip in it: the lines that the tile y holds, worked
 abbrev pub Finished : Kernel → ℕ → ℕ → ℕ → ℕ → (ℕ → ℤ) → (ℕ → ℤ) → (ℕ → ℤ) → Type 0
 Finished k stride from s n y x z =
-    (line : ℕ → ℕ → ℤ) → Held s n (λ j. evens (line j)) (λ j. odds (line j)) y → z ≡ patchLines (lineAt from stride) s n (λ i j. worked k n (line j) i) x
+    (line : ℕ → ℕ → ℤ) → BufferHolds s n (λ j. evens (line j)) (λ j. odds (line j)) y → z ≡ patchLines (lineAt from stride) s n (λ i j. worked k n (line j) i) x
 
 -- pixels from a place on, each less the middle of its range
 abbrev pub pixelLine : List ℕ → ℕ → ℕ → ℕ → ℤ
@@ -45,7 +45,7 @@ pub pixel-at : (pixels : List ℕ) (middle a b i j : ℕ) → a + i ≡ b + j �
 pixel-at pixels middle a b i j e = ap (λ (k : ℕ). pos (getD pixels k 0) -ℤ pos middle) e
 
 -- the same strip, of slices as long
-pub strip-of : {plane tile : List ℤ} {stride from s n : ℕ} → Strip plane tile stride from s n → (p t : List ℤ) → length p ≡ length plane → length t ≡ length tile → Strip p t stride from s n
+pub strip-of : {plane buffer : List ℤ} {stride from s n : ℕ} → StripRoom plane buffer stride from s n → (p t : List ℤ) → length p ≡ length plane → length t ≡ length buffer → StripRoom p t stride from s n
 strip-of on p t e f = record {
   lines = record { some = on .lines .some; narrow = on .lines .narrow; few = on .lines .few; fits = λ r h. omega (arith, on .lines .fits r h) };
   some = on .some;
@@ -53,12 +53,12 @@ strip-of on p t e f = record {
   room = omega (arith, on .room);
 }
 
-pub tile-of : {plane tile : List ℤ} {stride from s n : ℕ} → Strip plane tile stride from s n → (t : List ℤ) → length t ≡ length tile → Tile t s n
-tile-of on t e = record { two = on .two; few = on .lines .few; room = omega (arith, on .room) }
+pub buffer-of : {plane buffer : List ℤ} {stride from s n : ℕ} → StripRoom plane buffer stride from s n → (t : List ℤ) → length t ≡ length buffer → Buffer t s n
+buffer-of on t e = record { two = on .two; few = on .lines .few; room = omega (arith, on .room) }
 
 -- the tile's lines, and some of them
-pub tile-lines : {plane tile : List ℤ} {stride from s n : ℕ} → Strip plane tile stride from s n → (t : List ℤ) → length t ≡ length tile → Lying t 0 s n s
-tile-lines {s} {n} on t e = record {
+pub buffer-lines : {plane buffer : List ℤ} {stride from s n : ℕ} → StripRoom plane buffer stride from s n → (t : List ℤ) → length t ≡ length buffer → Lying t 0 s n s
+buffer-lines {s} {n} on t e = record {
   some = on .lines .some;
   few = on .lines .few;
   narrow = omega arith;
@@ -66,15 +66,15 @@ tile-lines {s} {n} on t e = record {
 }
 
 -- lines 2 i and 2 i + 1 in the plane, and where they go in the tile
-pub record Two (plane tile : List ℤ) (stride from s n i : ℕ) : Type 0 where
+pub record Two (plane buffer : List ℤ) (stride from s n i : ℕ) : Type 0 where
   pub even : lineAt from stride (2 * i) ≡ from + 2 * i * stride
   pub odd : lineAt from stride (2 * i + 1) ≡ from + 2 * i * stride + stride
   pub both : from + 2 * i * stride + stride + s ≤ length plane
   pub apart : s ≤ stride
   pub low : i * s + s ≤ lows n * s
-  pub high : lows n * s + (i * s + s) ≤ length tile
+  pub high : lows n * s + (i * s + s) ≤ length buffer
 
-pub two-lines : {plane tile : List ℤ} {stride from s n : ℕ} → Strip plane tile stride from s n → (i : ℕ) → i < highs n → Two plane tile stride from s n i
+pub two-lines : {plane buffer : List ℤ} {stride from s n : ℕ} → StripRoom plane buffer stride from s n → (i : ℕ) → i < highs n → Two plane buffer stride from s n i
 two-lines {stride} {from} {s} {n} on i h =
     let o : (2 * i + 1) * stride ≡ 2 * i * stride + stride = omega arith in
     let f = on .lines .fits (2 * i + 1) (omega arith) in record {
@@ -87,12 +87,12 @@ two-lines {stride} {from} {s} {n} on i h =
     }
 
 -- the last line, which has no other beside it
-pub record Last (plane tile : List ℤ) (stride from s n : ℕ) : Type 0 where
+pub record Last (plane buffer : List ℤ) (stride from s n : ℕ) : Type 0 where
   pub there : from + 2 * highs n * stride + s ≤ length plane
   pub low : highs n * s + s ≡ lows n * s
-  pub high : lows n * s ≤ length tile
+  pub high : lows n * s ≤ length buffer
 
-pub last-line : {plane tile : List ℤ} {stride from s n : ℕ} → Strip plane tile stride from s n → highs n < lows n → Last plane tile stride from s n
+pub last-line : {plane buffer : List ℤ} {stride from s n : ℕ} → StripRoom plane buffer stride from s n → highs n < lows n → Last plane buffer stride from s n
 last-line {stride} {from} {s} {n} on h = record {
   there = on .lines .fits (2 * highs n) (omega arith);
   low = omega (arith, sizes s n (on .two) .odd h);
@@ -113,15 +113,15 @@ some-lines {l} {from} {stride} {n} {m} lie k count b one h e = record {
   fits = λ i p. omega (arith, lines-after from stride k b i e, lie .fits (k + i) (omega arith));
 }
 
-pub plane-lines : {plane tile : List ℤ} {stride from s n : ℕ} → Strip plane tile stride from s n → (p : List ℤ) → length p ≡ length plane → Lying p from stride n s
-plane-lines {tile} on p e = strip-of on p tile e refl .lines
+pub plane-lines : {plane buffer : List ℤ} {stride from s n : ℕ} → StripRoom plane buffer stride from s n → (p : List ℤ) → length p ≡ length plane → Lying p from stride n s
+plane-lines {buffer} on p e = strip-of on p buffer e refl .lines
 
 -- a strip whose stride is 1 has one column
-pub one-column : {plane tile : List ℤ} {stride from s n : ℕ} → Strip plane tile stride from s n → stride ≡ 1 → s ≡ 1
+pub one-column : {plane buffer : List ℤ} {stride from s n : ℕ} → StripRoom plane buffer stride from s n → stride ≡ 1 → s ≡ 1
 one-column on e = omega (arith, on .lines .narrow, on .some)
 
-pub as-row : {plane tile : List ℤ} {stride from s n : ℕ} → Strip plane tile stride from s n → stride ≡ 1 → Strip plane tile 1 from 1 n
-as-row {plane} {tile} {from} {n} on e = as-type (λ u. Strip plane tile (e u) from (one-column on e u) n) on
+pub as-row : {plane buffer : List ℤ} {stride from s n : ℕ} → StripRoom plane buffer stride from s n → stride ≡ 1 → StripRoom plane buffer 1 from 1 n
+as-row {plane} {buffer} {from} {n} on e = as-type (λ u. StripRoom plane buffer (e u) from (one-column on e u) n) on
 
 -- the lines of the lows, then those of the highs
 pub both-halves : {A : Type 0} (from stride s n : ℕ) (new low high : ℕ → ℕ → A) (x y z : ℕ → A) → y ≡ patchLines (lineAt from stride) s (lows n) low x
@@ -259,7 +259,7 @@ enough-room t h s l =
     omega (arith, div-mul-le-self t h)
 
 -- the s columns after the first d, as a strip
-pub part-strip : {plane : List ℤ} {stride from w h : ℕ} → Part plane stride from w h → Liftable h → (p t : List ℤ) → length p ≡ length plane → (d s : ℕ) → 1 ≤ s → d + s ≤ w → h * s ≤ length t → Strip p t stride (from + d) s h
+pub part-strip : {plane : List ℤ} {stride from w h : ℕ} → Part plane stride from w h → Liftable h → (p t : List ℤ) → length p ≡ length plane → (d s : ℕ) → 1 ≤ s → d + s ≤ w → h * s ≤ length t → StripRoom p t stride (from + d) s h
 part-strip part two p t e d s some among room = record {
   lines = record { some = omega (arith, two); few = omega (arith, part .few); narrow = omega (arith, part .narrow); fits = λ r l. omega (arith, part .fits r l) };
   some = some;

@@ -7,42 +7,42 @@ ghost use lib.IntN.{pos, natAbs, _+ℤ_, _-ℤ_, _*ℤ_};
 ghost use mir.Syntax.{w32, w64};
 ghost use mir.Val.{SFits};
 ghost use Rattle.lines.specs.Lines.{interleaved};
-ghost use Rattle.lifting.specs.Steps.{applied, ended, PlainStep, Safe, Same, SumSafe, turnedSum, signed, raisedStep, scaledBy, FactorSafe, SameFactor};
-ghost use Rattle.lifting.specs.Raise.{raised};
-ghost use Rattle.lifting.specs.RaisedCut.{joined, JoinSafe};
+ghost use Rattle.lifting.specs.Steps.{applied, ended, PlainStep, Safe, SameStep, SumSafe, signedSum, signed, biasedStep, scaledBy, FactorSafe, SameFactor};
+ghost use Rattle.lifting.specs.Bias.{biased};
+ghost use Rattle.lifting.specs.BiasedCut.{joined, JoinSafe};
 ghost use Rattle.lifting.specs.Patch.{at, Free, patch};
 ghost use Rattle.lifting.specs.Runs.{ran, Runs, SafeRun};
 ghost use Rattle.lifting.specs.PatchLines.{lineAt, patchLines, Lying};
 ghost use Rattle.lifting.specs.Passes.{evens, odds, Liftable};
-ghost use Rattle.lifting.specs.Tiles.{Tile, column, highColumn, highsDone, lowsDone, AtHighs, AtLows, liftedTile, unliftedTile, LiftSafe, UnliftSafe, Held};
+ghost use Rattle.lifting.specs.Buffers.{Buffer, column, highColumn, highsDone, lowsDone, AtHighs, AtLows, liftedBuffer, inverseLiftedBuffer, LiftSafe, InverseLiftSafe, BufferHolds};
 ghost use Rattle.lifting.specs.Kernels.{worked, Forward, SafeKernel, SamePair, Part, rowOf, columnOf, rowsWorked, columnsWorked};
-ghost use Rattle.lifting.specs.Strips.{Strip, Ready, Finished, pixelLine};
+ghost use Rattle.lifting.specs.Strips.{StripRoom, Ready, Finished, pixelLine};
 
-// A lifting step: what it makes of a value and two neighbours is `applied` of specs/Steps. `Near` and `Far` are the forms in which a
+// A lifting step: what it makes of a value and two neighbours is `applied` of specs/Steps. `Separate` and `Combined` are the forms in which a
 // scaled step is run: by products of unsigned numbers, the neighbours' sum turned where the constant is negative. `Cut` cuts the product by
-// itself, first; `RaisedCut` is the form in which it is run.
+// itself, first; `BiasedCut` is the form in which it is run.
 pub enum Step {
     Predict,
     Update,
-    Unpredict,
-    Unupdate,
+    InversePredict,
+    InverseUpdate,
     Scaled {
         k: u32,
         c: i64,
         cut: u32,
     },
-    Near {
+    Separate {
         down: bool,
         rise: u32,
         c: u32,
         base: u64,
         cut: u32,
     },
-    Far {
+    Combined {
         down: bool,
         k: u32,
         c: u32,
-        pad: u64,
+        offset: u64,
         base: u64,
         cut: u32,
     },
@@ -53,11 +53,11 @@ pub enum Step {
         up: u32,
         cut: u32,
     },
-    RaisedCut {
+    BiasedCut {
         down: bool,
         k: u32,
         c: u32,
-        pad: u64,
+        offset: u64,
         first: u32,
         up: u32,
         base: u64,
@@ -65,15 +65,15 @@ pub enum Step {
     },
 }
 
-// A scaling by a constant: `scaledBy` of specs/Steps. `Raised` is the form in which it is run.
+// A scaling by a constant: `scaledBy` of specs/Steps. `Biased` is the form in which it is run.
 pub enum Factor {
     Plain {
         c: i64,
         cut: u32,
     },
-    Raised {
+    Biased {
         c: u32,
-        pad: u64,
+        offset: u64,
         base: u64,
         cut: u32,
     },
@@ -97,7 +97,7 @@ pub enum Kernel {
         high: Factor,
     },
     // a pair undone
-    Undo(Pair),
+    Inverse(Pair),
 }
 
 // ---- one value
@@ -119,17 +119,17 @@ pub fn updated(own: i32, x: i32, y: i32) -> i32
 }
 
 // What undoes `predicted`.
-fn unpredicted(own: i32, x: i32, y: i32) -> i32
-    requires { ⌜ Safe Step.Unpredict own x y ⌝ }
-    ensures { λ r. ⌜ r ≡ applied Step.Unpredict own x y ⌝ }
+fn inverse_predicted(own: i32, x: i32, y: i32) -> i32
+    requires { ⌜ Safe Step.InversePredict own x y ⌝ }
+    ensures { λ r. ⌜ r ≡ applied Step.InversePredict own x y ⌝ }
 {
     own + ((x + y) >> 1)
 }
 
 // What undoes `updated`.
-fn unupdated(own: i32, x: i32, y: i32) -> i32
-    requires { ⌜ Safe Step.Unupdate own x y ⌝ }
-    ensures { λ r. ⌜ r ≡ applied Step.Unupdate own x y ⌝ }
+fn inverse_updated(own: i32, x: i32, y: i32) -> i32
+    requires { ⌜ Safe Step.InverseUpdate own x y ⌝ }
+    ensures { λ r. ⌜ r ≡ applied Step.InverseUpdate own x y ⌝ }
 {
     own - ((x + y + 2) >> 2)
 }
@@ -212,22 +212,22 @@ fn cut_of(k: u32, c: i64, first: u32, up: u32, cut: u32, own: i32, x: i32, y: i3
 }
 
 // z + 2 ^ 31
-pub fn raise(z: i32) -> u32
-    ensures { λ r. ⌜ r ≡ raised z ⌝ }
+pub fn bias(z: i32) -> u32
+    ensures { λ r. ⌜ r ≡ biased z ⌝ }
 {
     ((z as i64) + 2147483648) as u32
 }
 
 // A product of 32-bit numbers, and pad more.
-fn fused(c: u32, s: u32, pad: u64) -> u64
-    requires { ⌜ c * s + pad < 18446744073709551616 ⌝ }
-    ensures { λ r. ⌜ r ≡ c * s + pad ⌝ }
+fn fused(c: u32, s: u32, offset: u64) -> u64
+    requires { ⌜ c * s + offset < 18446744073709551616 ⌝ }
+    ensures { λ r. ⌜ r ≡ c * s + offset ⌝ }
 {
-    (c as u64) * (s as u64) + pad
+    (c as u64) * (s as u64) + offset
 }
 
 // t shifted to the right, less base.
-fn settled(t: u64, cut: u32, base: u64) -> i64
+fn shifted_unbiased(t: u64, cut: u32, base: u64) -> i64
     requires { ⌜ (cut < 64) × (t / 2 ^ cut < 9223372036854775808) × (base < 9223372036854775808) ⌝ }
     ensures { λ r. ⌜ r ≡ pos (t / 2 ^ cut) -ℤ pos base ⌝ }
 {
@@ -251,7 +251,7 @@ fn moved(own: i32, z: i64) -> i32
 }
 
 // A value times a power of two.
-fn risen(own: i32, rise: u32) -> i32
+fn scaled_up(own: i32, rise: u32) -> i32
     requires { ⌜ (rise < 32) × SFits w32 (own *ℤ pos (2 ^ rise)) ⌝ }
     ensures { λ r. ⌜ r ≡ own *ℤ pos (2 ^ rise) ⌝ }
 {
@@ -259,87 +259,87 @@ fn risen(own: i32, rise: u32) -> i32
 }
 
 // A sum of two neighbours; its negative where the constant is negative.
-fn turned(down: bool, x: i32, y: i32) -> i32
+fn signed_sum(down: bool, x: i32, y: i32) -> i32
     requires { ⌜ SumSafe x y ⌝ }
-    ensures { λ r. ⌜ r ≡ turnedSum down x y ⌝ }
+    ensures { λ r. ⌜ r ≡ signedSum down x y ⌝ }
 {
     let sum = x + y;
     if down { 0 - sum } else { sum }
 }
 
 // The product of a constant and a raised sum, and pad more.
-fn product(down: bool, c: u32, pad: u64, x: i32, y: i32) -> u64
-    requires { ⌜ SumSafe x y × (c < 2147483648) × (pad ≤ 4611686018427387904) ⌝ }
-    ensures { λ r. ⌜ (r ≡ c * raised (turnedSum down x y) + pad) × (r ≤ 13835058055282163712) ⌝ }
+fn product(down: bool, c: u32, offset: u64, x: i32, y: i32) -> u64
+    requires { ⌜ SumSafe x y × (c < 2147483648) × (offset ≤ 4611686018427387904) ⌝ }
+    ensures { λ r. ⌜ (r ≡ c * biased (signedSum down x y) + offset) × (r ≤ 13835058055282163712) ⌝ }
 {
-    fused(c, raise(turned(down, x, y)), pad)
+    fused(c, bias(signed_sum(down, x, y)), offset)
 }
 
-// The step `Near`: the own value is taken out of the cut.
-fn near_of(down: bool, rise: u32, c: u32, base: u64, cut: u32, own: i32, x: i32, y: i32) -> i32
-    requires { ⌜ Safe (Step.Near down rise c base cut) own x y ⌝ }
-    ensures { λ r. ⌜ r ≡ applied (Step.Near down rise c base cut) own x y ⌝ }
+// The step `Separate`: the own value is taken out of the cut.
+fn separate_of(down: bool, rise: u32, c: u32, base: u64, cut: u32, own: i32, x: i32, y: i32) -> i32
+    requires { ⌜ Safe (Step.Separate down rise c base cut) own x y ⌝ }
+    ensures { λ r. ⌜ r ≡ applied (Step.Separate down rise c base cut) own x y ⌝ }
 {
-    let part = settled(product(down, c, 0, x, y), cut, base);
-    moved(risen(own, rise), part)
+    let part = shifted_unbiased(product(down, c, 0, x, y), cut, base);
+    moved(scaled_up(own, rise), part)
 }
 
-// The step `Far`: the own value is cut with the product.
-fn far_of(
+// The step `Combined`: the own value is cut with the product.
+fn combined_of(
     down: bool,
     k: u32,
     c: u32,
-    pad: u64,
+    offset: u64,
     base: u64,
     cut: u32,
     own: i32,
     x: i32,
     y: i32,
 ) -> i32
-    requires { ⌜ Safe (Step.Far down k c pad base cut) own x y ⌝ }
-    ensures { λ r. ⌜ r ≡ applied (Step.Far down k c pad base cut) own x y ⌝ }
+    requires { ⌜ Safe (Step.Combined down k c offset base cut) own x y ⌝ }
+    ensures { λ r. ⌜ r ≡ applied (Step.Combined down k c offset base cut) own x y ⌝ }
 {
-    let part = product(down, c, pad, x, y);
-    narrow(settled(fused(1u32 << k, raise(own), part), cut, base))
+    let part = product(down, c, offset, x, y);
+    narrow(shifted_unbiased(fused(1u32 << k, bias(own), part), cut, base))
 }
 
-// Both, by number: `raisedStep` of specs/Steps.
-fn raised_of(
-    near: bool,
+// Both, by number: `biasedStep` of specs/Steps.
+fn biased_of(
+    separate: bool,
     down: bool,
     by: u32,
     c: u32,
-    pad: u64,
+    offset: u64,
     base: u64,
     cut: u32,
     own: i32,
     x: i32,
     y: i32,
 ) -> i32
-    requires { ⌜ Safe (raisedStep near down by c pad base cut) own x y ⌝ }
-    ensures { λ r. ⌜ r ≡ applied (raisedStep near down by c pad base cut) own x y ⌝ }
+    requires { ⌜ Safe (biasedStep separate down by c offset base cut) own x y ⌝ }
+    ensures { λ r. ⌜ r ≡ applied (biasedStep separate down by c offset base cut) own x y ⌝ }
 {
-    if near {
-        near_of(down, by, c, base, cut, own, x, y)
+    if separate {
+        separate_of(down, by, c, base, cut, own, x, y)
     } else {
-        far_of(down, by, c, pad, base, cut, own, x, y)
+        combined_of(down, by, c, offset, base, cut, own, x, y)
     }
 }
 
 // A number shifted to the right, and no further back to the left.
-fn recut(t: u64, first: u32, up: u32) -> u64
+fn realigned(t: u64, first: u32, up: u32) -> u64
     requires { ⌜ (first < 64) × (up ≤ first) ⌝ }
     ensures { λ r. ⌜ (r ≡ t / 2 ^ first * 2 ^ up) × (r ≤ t) ⌝ }
 {
     (t >> first) << up
 }
 
-// The step `RaisedCut`.
-fn raised_cut_of(
+// The step `BiasedCut`.
+fn biased_cut_of(
     down: bool,
     k: u32,
     c: u32,
-    pad: u64,
+    offset: u64,
     first: u32,
     up: u32,
     base: u64,
@@ -348,11 +348,11 @@ fn raised_cut_of(
     x: i32,
     y: i32,
 ) -> i32
-    requires { ⌜ Safe (Step.RaisedCut down k c pad first up base cut) own x y ⌝ }
-    ensures { λ r. ⌜ r ≡ applied (Step.RaisedCut down k c pad first up base cut) own x y ⌝ }
+    requires { ⌜ Safe (Step.BiasedCut down k c offset first up base cut) own x y ⌝ }
+    ensures { λ r. ⌜ r ≡ applied (Step.BiasedCut down k c offset first up base cut) own x y ⌝ }
 {
-    let part = recut(product(down, c, pad, x, y), first, up);
-    narrow(settled(fused(1u32 << k, raise(own), part), cut, base))
+    let part = realigned(product(down, c, offset, x, y), first, up);
+    narrow(shifted_unbiased(fused(1u32 << k, bias(own), part), cut, base))
 }
 
 // One step of one value, not in a raised form.
@@ -363,8 +363,8 @@ fn apply(step: Step, own: i32, x: i32, y: i32) -> i32
     match step {
         Step::Predict => predicted(own, x, y),
         Step::Update => updated(own, x, y),
-        Step::Unpredict => unpredicted(own, x, y),
-        Step::Unupdate => unupdated(own, x, y),
+        Step::InversePredict => inverse_predicted(own, x, y),
+        Step::InverseUpdate => inverse_updated(own, x, y),
         Step::Scaled { k, c, cut } => scaled_of(k, c, cut, own, x, y),
         Step::Cut {
             k,
@@ -396,17 +396,17 @@ pub fn updated_end(own: i32, x: i32) -> i32
 }
 
 // What undoes `predicted_end`.
-fn unpredicted_end(own: i32, x: i32) -> i32
-    requires { ⌜ Safe Step.Unpredict own x x ⌝ }
-    ensures { λ r. ⌜ r ≡ ended Step.Unpredict own x ⌝ }
+fn inverse_predicted_end(own: i32, x: i32) -> i32
+    requires { ⌜ Safe Step.InversePredict own x x ⌝ }
+    ensures { λ r. ⌜ r ≡ ended Step.InversePredict own x ⌝ }
 {
     own + x
 }
 
 // What undoes `updated_end`.
-fn unupdated_end(own: i32, x: i32) -> i32
-    requires { ⌜ Safe Step.Unupdate own x x ⌝ }
-    ensures { λ r. ⌜ r ≡ ended Step.Unupdate own x ⌝ }
+fn inverse_updated_end(own: i32, x: i32) -> i32
+    requires { ⌜ Safe Step.InverseUpdate own x x ⌝ }
+    ensures { λ r. ⌜ r ≡ ended Step.InverseUpdate own x ⌝ }
 {
     own - ((x + 1) >> 1)
 }
@@ -446,17 +446,17 @@ fn apply_end(step: Step, own: i32, x: i32) -> i32
     match step {
         Step::Predict => predicted_end(own, x),
         Step::Update => updated_end(own, x),
-        Step::Unpredict => unpredicted_end(own, x),
-        Step::Unupdate => unupdated_end(own, x),
+        Step::InversePredict => inverse_predicted_end(own, x),
+        Step::InverseUpdate => inverse_updated_end(own, x),
         Step::Scaled { k, c, cut } => scaled_end(k, c, cut, own, x),
-        Step::Near {
+        Step::Separate {
             down,
             rise,
             c,
             cut,
             ..
         } => scaled_end(cut + rise, signed_of(down, c), cut, own, x),
-        Step::Far {
+        Step::Combined {
             down,
             k,
             c,
@@ -470,7 +470,7 @@ fn apply_end(step: Step, own: i32, x: i32) -> i32
             up,
             cut,
         } => cut_end(k, c, first, up, cut, own, x),
-        Step::RaisedCut {
+        Step::BiasedCut {
             down,
             k,
             c,
@@ -493,11 +493,11 @@ fn scaled_by(c: i64, cut: u32, x: i32) -> i32
 }
 
 // The same of raised values.
-fn raised_by(c: u32, pad: u64, base: u64, cut: u32, x: i32) -> i32
-    requires { ⌜ FactorSafe (Factor.Raised c pad base cut) x ⌝ }
-    ensures { λ r. ⌜ r ≡ scaledBy (Factor.Raised c pad base cut) x ⌝ }
+fn biased_by(c: u32, offset: u64, base: u64, cut: u32, x: i32) -> i32
+    requires { ⌜ FactorSafe (Factor.Biased c offset base cut) x ⌝ }
+    ensures { λ r. ⌜ r ≡ scaledBy (Factor.Biased c offset base cut) x ⌝ }
 {
-    narrow(settled(fused(c, raise(x), pad), cut, base))
+    narrow(shifted_unbiased(fused(c, bias(x), offset), cut, base))
 }
 
 // ---- one run
@@ -515,31 +515,31 @@ fn run(buf: &mut [i32], t: usize, a: usize, b: usize, n: usize, step: Step)
 }
 
 // A run of a raised step. Each call with a constant in place of a flag is compiled to a loop of its own.
-fn raised_run(
+fn biased_run(
     buf: &mut [i32],
     t: usize,
     a: usize,
     b: usize,
     n: usize,
-    near: bool,
+    separate: bool,
     down: bool,
     by: u32,
     c: u32,
-    pad: u64,
+    offset: u64,
     base: u64,
     cut: u32,
 )
     requires { ⌜ Runs (now buf) t a b n ⌝ }
-    requires { ⌜ SafeRun (raisedStep near down by c pad base cut) t a b n (at (now buf)) ⌝ }
-    ensures { λ _. ⌜ at (now (buf .exit)) ≡ ran (applied (raisedStep near down by c pad base cut)) t a b n (at (now (buf .entry))) ⌝ }
+    requires { ⌜ SafeRun (biasedStep separate down by c offset base cut) t a b n (at (now buf)) ⌝ }
+    ensures { λ _. ⌜ at (now (buf .exit)) ≡ ran (applied (biasedStep separate down by c offset base cut)) t a b n (at (now (buf .entry))) ⌝ }
 {
     for j in 0..n {
-        let v = raised_of(
-            near,
+        let v = biased_of(
+            separate,
             down,
             by,
             c,
-            pad,
+            offset,
             base,
             cut,
             buf[t + j],
@@ -550,8 +550,8 @@ fn raised_run(
     }
 }
 
-// A run of the step `Near`.
-fn near_run(
+// A run of the step `Separate`.
+fn separate_run(
     buf: &mut [i32],
     t: usize,
     a: usize,
@@ -564,24 +564,24 @@ fn near_run(
     cut: u32,
 )
     requires { ⌜ Runs (now buf) t a b n ⌝ }
-    requires { ⌜ SafeRun (Step.Near down rise c base cut) t a b n (at (now buf)) ⌝ }
-    ensures { λ _. ⌜ at (now (buf .exit)) ≡ ran (applied (Step.Near down rise c base cut)) t a b n (at (now (buf .entry))) ⌝ }
+    requires { ⌜ SafeRun (Step.Separate down rise c base cut) t a b n (at (now buf)) ⌝ }
+    ensures { λ _. ⌜ at (now (buf .exit)) ≡ ran (applied (Step.Separate down rise c base cut)) t a b n (at (now (buf .entry))) ⌝ }
 {
     if rise == 0 {
         if down {
-            raised_run(buf, t, a, b, n, true, true, 0, c, 0, base, cut);
+            biased_run(buf, t, a, b, n, true, true, 0, c, 0, base, cut);
         } else {
-            raised_run(buf, t, a, b, n, true, false, 0, c, 0, base, cut);
+            biased_run(buf, t, a, b, n, true, false, 0, c, 0, base, cut);
         }
     } else if down {
-        raised_run(buf, t, a, b, n, true, true, rise, c, 0, base, cut);
+        biased_run(buf, t, a, b, n, true, true, rise, c, 0, base, cut);
     } else {
-        raised_run(buf, t, a, b, n, true, false, rise, c, 0, base, cut);
+        biased_run(buf, t, a, b, n, true, false, rise, c, 0, base, cut);
     }
 }
 
-// A run of the step `Far`.
-fn far_run(
+// A run of the step `Combined`.
+fn combined_run(
     buf: &mut [i32],
     t: usize,
     a: usize,
@@ -590,23 +590,23 @@ fn far_run(
     down: bool,
     k: u32,
     c: u32,
-    pad: u64,
+    offset: u64,
     base: u64,
     cut: u32,
 )
     requires { ⌜ Runs (now buf) t a b n ⌝ }
-    requires { ⌜ SafeRun (Step.Far down k c pad base cut) t a b n (at (now buf)) ⌝ }
-    ensures { λ _. ⌜ at (now (buf .exit)) ≡ ran (applied (Step.Far down k c pad base cut)) t a b n (at (now (buf .entry))) ⌝ }
+    requires { ⌜ SafeRun (Step.Combined down k c offset base cut) t a b n (at (now buf)) ⌝ }
+    ensures { λ _. ⌜ at (now (buf .exit)) ≡ ran (applied (Step.Combined down k c offset base cut)) t a b n (at (now (buf .entry))) ⌝ }
 {
     if down {
-        raised_run(buf, t, a, b, n, false, true, k, c, pad, base, cut);
+        biased_run(buf, t, a, b, n, false, true, k, c, offset, base, cut);
     } else {
-        raised_run(buf, t, a, b, n, false, false, k, c, pad, base, cut);
+        biased_run(buf, t, a, b, n, false, false, k, c, offset, base, cut);
     }
 }
 
-// A run of the step `RaisedCut`.
-fn raised_cut_run(
+// A run of the step `BiasedCut`.
+fn biased_cut_run(
     buf: &mut [i32],
     t: usize,
     a: usize,
@@ -615,22 +615,22 @@ fn raised_cut_run(
     down: bool,
     k: u32,
     c: u32,
-    pad: u64,
+    offset: u64,
     first: u32,
     up: u32,
     base: u64,
     cut: u32,
 )
     requires { ⌜ Runs (now buf) t a b n ⌝ }
-    requires { ⌜ SafeRun (Step.RaisedCut down k c pad first up base cut) t a b n (at (now buf)) ⌝ }
-    ensures { λ _. ⌜ at (now (buf .exit)) ≡ ran (applied (Step.RaisedCut down k c pad first up base cut)) t a b n (at (now (buf .entry))) ⌝ }
+    requires { ⌜ SafeRun (Step.BiasedCut down k c offset first up base cut) t a b n (at (now buf)) ⌝ }
+    ensures { λ _. ⌜ at (now (buf .exit)) ≡ ran (applied (Step.BiasedCut down k c offset first up base cut)) t a b n (at (now (buf .entry))) ⌝ }
 {
     for j in 0..n {
-        let v = raised_cut_of(
+        let v = biased_cut_of(
             down,
             k,
             c,
-            pad,
+            offset,
             first,
             up,
             base,
@@ -653,20 +653,20 @@ fn signed_cut_run(
     down: bool,
     k: u32,
     c: u32,
-    pad: u64,
+    offset: u64,
     first: u32,
     up: u32,
     base: u64,
     cut: u32,
 )
     requires { ⌜ Runs (now buf) t a b n ⌝ }
-    requires { ⌜ SafeRun (Step.RaisedCut down k c pad first up base cut) t a b n (at (now buf)) ⌝ }
-    ensures { λ _. ⌜ at (now (buf .exit)) ≡ ran (applied (Step.RaisedCut down k c pad first up base cut)) t a b n (at (now (buf .entry))) ⌝ }
+    requires { ⌜ SafeRun (Step.BiasedCut down k c offset first up base cut) t a b n (at (now buf)) ⌝ }
+    ensures { λ _. ⌜ at (now (buf .exit)) ≡ ran (applied (Step.BiasedCut down k c offset first up base cut)) t a b n (at (now (buf .entry))) ⌝ }
 {
     if down {
-        raised_cut_run(buf, t, a, b, n, true, k, c, pad, first, up, base, cut);
+        biased_cut_run(buf, t, a, b, n, true, k, c, offset, first, up, base, cut);
     } else {
-        raised_cut_run(buf, t, a, b, n, false, k, c, pad, first, up, base, cut);
+        biased_cut_run(buf, t, a, b, n, false, k, c, offset, first, up, base, cut);
     }
 }
 
@@ -680,24 +680,24 @@ fn cut_run(
     down: bool,
     k: u32,
     c: u32,
-    pad: u64,
+    offset: u64,
     first: u32,
     up: u32,
     base: u64,
     cut: u32,
 )
     requires { ⌜ Runs (now buf) t a b n ⌝ }
-    requires { ⌜ SafeRun (Step.RaisedCut down k c pad first up base cut) t a b n (at (now buf)) ⌝ }
-    ensures { λ _. ⌜ at (now (buf .exit)) ≡ ran (applied (Step.RaisedCut down k c pad first up base cut)) t a b n (at (now (buf .entry))) ⌝ }
+    requires { ⌜ SafeRun (Step.BiasedCut down k c offset first up base cut) t a b n (at (now buf)) ⌝ }
+    ensures { λ _. ⌜ at (now (buf .exit)) ≡ ran (applied (Step.BiasedCut down k c offset first up base cut)) t a b n (at (now (buf .entry))) ⌝ }
 {
     if cut == 0 {
         if k == 0 {
-            signed_cut_run(buf, t, a, b, n, down, 0, c, pad, first, up, base, 0);
+            signed_cut_run(buf, t, a, b, n, down, 0, c, offset, first, up, base, 0);
         } else {
-            signed_cut_run(buf, t, a, b, n, down, k, c, pad, first, up, base, 0);
+            signed_cut_run(buf, t, a, b, n, down, k, c, offset, first, up, base, 0);
         }
     } else {
-        signed_cut_run(buf, t, a, b, n, down, k, c, pad, first, up, base, cut);
+        signed_cut_run(buf, t, a, b, n, down, k, c, offset, first, up, base, cut);
     }
 }
 
@@ -723,24 +723,24 @@ pub fn lift_run(buf: &mut [i32], t: usize, a: usize, b: usize, n: usize, step: S
     match step {
         Step::Predict => run(buf, t, a, b, n, Step::Predict),
         Step::Update => run(buf, t, a, b, n, Step::Update),
-        Step::Unpredict => run(buf, t, a, b, n, Step::Unpredict),
-        Step::Unupdate => run(buf, t, a, b, n, Step::Unupdate),
+        Step::InversePredict => run(buf, t, a, b, n, Step::InversePredict),
+        Step::InverseUpdate => run(buf, t, a, b, n, Step::InverseUpdate),
         Step::Scaled { k, c, cut } => run(buf, t, a, b, n, Step::Scaled { k, c, cut }),
-        Step::Near {
+        Step::Separate {
             down,
             rise,
             c,
             base,
             cut,
-        } => near_run(buf, t, a, b, n, down, rise, c, base, cut),
-        Step::Far {
+        } => separate_run(buf, t, a, b, n, down, rise, c, base, cut),
+        Step::Combined {
             down,
             k,
             c,
-            pad,
+            offset,
             base,
             cut,
-        } => far_run(buf, t, a, b, n, down, k, c, pad, base, cut),
+        } => combined_run(buf, t, a, b, n, down, k, c, offset, base, cut),
         Step::Cut {
             k,
             c,
@@ -748,16 +748,16 @@ pub fn lift_run(buf: &mut [i32], t: usize, a: usize, b: usize, n: usize, step: S
             up,
             cut,
         } => run(buf, t, a, b, n, cut_step(k, c, first, up, cut)),
-        Step::RaisedCut {
+        Step::BiasedCut {
             down,
             k,
             c,
-            pad,
+            offset,
             first,
             up,
             base,
             cut,
-        } => cut_run(buf, t, a, b, n, down, k, c, pad, first, up, base, cut),
+        } => cut_run(buf, t, a, b, n, down, k, c, offset, first, up, base, cut),
     }
 }
 
@@ -796,12 +796,12 @@ fn multiple(total: u64, cut: u32) -> u64
     (total >> cut) + 1
 }
 
-// A scaled step in the form `Near`.
-fn near(down: bool, rise: u32, c: u32, cut: u32) -> Step
+// A scaled step in the form `Separate`.
+fn separate(down: bool, rise: u32, c: u32, cut: u32) -> Step
     requires { ⌜ (1 ≤ cut) × (cut ≤ 31) × (rise < 32) × (c < 2147483648) ⌝ }
-    ensures { λ r. ⌜ Same (Step.Scaled (cut + rise) (signed down c) cut) r ⌝ }
+    ensures { λ r. ⌜ SameStep (Step.Scaled (cut + rise) (signed down c) cut) r ⌝ }
 {
-    Step::Near {
+    Step::Separate {
         down,
         rise,
         c,
@@ -810,18 +810,18 @@ fn near(down: bool, rise: u32, c: u32, cut: u32) -> Step
     }
 }
 
-// A scaled step in the form `Far`.
-fn far(down: bool, k: u32, c: u32, cut: u32) -> Step
+// A scaled step in the form `Combined`.
+fn combined(down: bool, k: u32, c: u32, cut: u32) -> Step
     requires { ⌜ (1 ≤ cut) × (cut ≤ 61) × (k ≤ 30) × (c < 2147483648) ⌝ }
-    ensures { λ r. ⌜ Same (Step.Scaled k (signed down c) cut) r ⌝ }
+    ensures { λ r. ⌜ SameStep (Step.Scaled k (signed down c) cut) r ⌝ }
 {
     let total = (power(k) + (c as u64)) * 2147483648;
     let base = multiple(total, cut);
-    Step::Far {
+    Step::Combined {
         down,
         k,
         c,
-        pad: base * power(cut) - total,
+        offset: base * power(cut) - total,
         base,
         cut,
     }
@@ -829,7 +829,7 @@ fn far(down: bool, k: u32, c: u32, cut: u32) -> Step
 
 // A scaled step in the form in which it is run.
 fn quick(k: u32, c: i64, cut: u32) -> Step
-    ensures { λ r. ⌜ Same (Step.Scaled k c cut) r ⌝ }
+    ensures { λ r. ⌜ SameStep (Step.Scaled k c cut) r ⌝ }
 {
     let f = size(c);
     if 2147483647 < f {
@@ -843,7 +843,7 @@ fn quick(k: u32, c: i64, cut: u32) -> Step
     }
     if k <= 30 {
         if k < cut {
-            return far(c < 0, k, f, cut);
+            return combined(c < 0, k, f, cut);
         }
     }
     if k < cut {
@@ -855,21 +855,21 @@ fn quick(k: u32, c: i64, cut: u32) -> Step
     if 31 < k - cut {
         return Step::Scaled { k, c, cut };
     }
-    near(c < 0, k - cut, f, cut)
+    separate(c < 0, k - cut, f, cut)
 }
 
-// The step `Cut` in the form `RaisedCut`.
-fn raised_cut(down: bool, k: u32, c: u32, first: u32, up: u32, cut: u32) -> Step
+// The step `Cut` in the form `BiasedCut`.
+fn biased_cut(down: bool, k: u32, c: u32, first: u32, up: u32, cut: u32) -> Step
     requires { ⌜ (k ≤ 30) × (c < 268435456) × (up ≤ first) × (first + cut ≤ 58) × (cut ≤ 31) ⌝ }
-    ensures { λ r. ⌜ Same (Step.Cut k (signed down c) first up cut) r ⌝ }
+    ensures { λ r. ⌜ SameStep (Step.Cut k (signed down c) first up cut) r ⌝ }
 {
     let total = (c as u64) * 2147483648;
     let m = multiple(total, first + cut);
-    Step::RaisedCut {
+    Step::BiasedCut {
         down,
         k,
         c,
-        pad: m * power(first + cut) - total,
+        offset: m * power(first + cut) - total,
         first,
         up,
         base: power(31 + k - cut) + m * power(up),
@@ -879,7 +879,7 @@ fn raised_cut(down: bool, k: u32, c: u32, first: u32, up: u32, cut: u32) -> Step
 
 // The step `Cut` in the form in which it is run.
 fn quick_cut(k: u32, c: i64, first: u32, up: u32, cut: u32) -> Step
-    ensures { λ r. ⌜ Same (Step.Cut k c first up cut) r ⌝ }
+    ensures { λ r. ⌜ SameStep (Step.Cut k c first up cut) r ⌝ }
 {
     let f = size(c);
     if f < 268435456 {
@@ -887,7 +887,7 @@ fn quick_cut(k: u32, c: i64, first: u32, up: u32, cut: u32) -> Step
             if up <= first {
                 if cut <= 31 {
                     if first <= 58 - cut {
-                        return raised_cut(c < 0, k, f, first, up, cut);
+                        return biased_cut(c < 0, k, f, first, up, cut);
                     }
                 }
             }
@@ -903,8 +903,8 @@ fn quick_cut(k: u32, c: i64, first: u32, up: u32, cut: u32) -> Step
 }
 
 // The form in which a step is run.
-fn quickest(step: Step) -> Step
-    ensures { λ r. ⌜ Same step r ⌝ }
+fn fastest(step: Step) -> Step
+    ensures { λ r. ⌜ SameStep step r ⌝ }
 {
     match step {
         Step::Scaled { k, c, cut } => quick(k, c, cut),
@@ -938,16 +938,16 @@ fn quick_factor(c: i64, cut: u32) -> Factor
     }
     let total = (f as u64) * 2147483648;
     let base = multiple(total, cut);
-    Factor::Raised {
+    Factor::Biased {
         c: f,
-        pad: base * power(cut) - total,
+        offset: base * power(cut) - total,
         base,
         cut,
     }
 }
 
 // The form in which a scaling is run.
-pub fn quickest_factor(g: Factor) -> Factor
+pub fn fastest_factor(g: Factor) -> Factor
     ensures { λ r. ⌜ SameFactor g r ⌝ }
 {
     match g {
@@ -957,14 +957,14 @@ pub fn quickest_factor(g: Factor) -> Factor
 }
 
 // The forms in which a pair is run.
-pub fn quickest_pair(pair: Pair) -> Pair
+pub fn fastest_pair(pair: Pair) -> Pair
     ensures { λ r. ⌜ SamePair pair r ⌝ }
 {
     let highs = pair.highs;
     let lows = pair.lows;
     Pair {
-        highs: quickest(highs),
-        lows: quickest(lows),
+        highs: fastest(highs),
+        lows: fastest(lows),
     }
 }
 
@@ -994,23 +994,23 @@ fn plain_scale_run(src: &[i32], from: usize, dst: &mut [i32], to: usize, n: usiz
 }
 
 // The same by raised values.
-fn raised_scale_run(
+fn biased_scale_run(
     src: &[i32],
     from: usize,
     dst: &mut [i32],
     to: usize,
     n: usize,
     c: u32,
-    pad: u64,
+    offset: u64,
     base: u64,
     cut: u32,
 )
     requires { ⌜ (from + n ≤ length (now src)) × (to + n ≤ length (now dst)) ⌝ }
-    requires { ⌜ ((j : ℕ) → j < n → FactorSafe (Factor.Raised c pad base cut) (at (now src) (from + j))) ⌝ }
-    ensures { λ _. ⌜ at (now (dst .exit)) ≡ patch to n (λ j. scaledBy (Factor.Raised c pad base cut) (at (now (src .entry)) (from + j))) (at (now (dst .entry))) ⌝ }
+    requires { ⌜ ((j : ℕ) → j < n → FactorSafe (Factor.Biased c offset base cut) (at (now src) (from + j))) ⌝ }
+    ensures { λ _. ⌜ at (now (dst .exit)) ≡ patch to n (λ j. scaledBy (Factor.Biased c offset base cut) (at (now (src .entry)) (from + j))) (at (now (dst .entry))) ⌝ }
 {
     for j in 0..n {
-        let v = raised_by(c, pad, base, cut, src[from + j]);
+        let v = biased_by(c, offset, base, cut, src[from + j]);
         dst[to + j] = v;
     }
 }
@@ -1023,9 +1023,12 @@ pub fn scale_run(src: &[i32], from: usize, dst: &mut [i32], to: usize, n: usize,
 {
     match g {
         Factor::Plain { c, cut } => plain_scale_run(src, from, dst, to, n, c, cut),
-        Factor::Raised { c, pad, base, cut } => {
-            raised_scale_run(src, from, dst, to, n, c, pad, base, cut)
-        }
+        Factor::Biased {
+            c,
+            offset,
+            base,
+            cut,
+        } => { biased_scale_run(src, from, dst, to, n, c, offset, base, cut) }
     }
 }
 
@@ -1042,13 +1045,21 @@ fn plain_scale_here(buf: &mut [i32], from: usize, n: usize, c: i64, cut: u32)
 }
 
 // The same by raised values.
-fn raised_scale_here(buf: &mut [i32], from: usize, n: usize, c: u32, pad: u64, base: u64, cut: u32)
+fn biased_scale_here(
+    buf: &mut [i32],
+    from: usize,
+    n: usize,
+    c: u32,
+    offset: u64,
+    base: u64,
+    cut: u32,
+)
     requires { ⌜ from + n ≤ length (now buf) ⌝ }
-    requires { ⌜ ((j : ℕ) → j < n → FactorSafe (Factor.Raised c pad base cut) (at (now buf) (from + j))) ⌝ }
-    ensures { λ _. ⌜ at (now (buf .exit)) ≡ patch from n (λ j. scaledBy (Factor.Raised c pad base cut) (at (now (buf .entry)) (from + j))) (at (now (buf .entry))) ⌝ }
+    requires { ⌜ ((j : ℕ) → j < n → FactorSafe (Factor.Biased c offset base cut) (at (now buf) (from + j))) ⌝ }
+    ensures { λ _. ⌜ at (now (buf .exit)) ≡ patch from n (λ j. scaledBy (Factor.Biased c offset base cut) (at (now (buf .entry)) (from + j))) (at (now (buf .entry))) ⌝ }
 {
     for j in 0..n {
-        let v = raised_by(c, pad, base, cut, buf[from + j]);
+        let v = biased_by(c, offset, base, cut, buf[from + j]);
         buf[from + j] = v;
     }
 }
@@ -1061,71 +1072,74 @@ pub fn scale_here(buf: &mut [i32], from: usize, n: usize, g: Factor)
 {
     match g {
         Factor::Plain { c, cut } => plain_scale_here(buf, from, n, c, cut),
-        Factor::Raised { c, pad, base, cut } => {
-            raised_scale_here(buf, from, n, c, pad, base, cut)
-        }
+        Factor::Biased {
+            c,
+            offset,
+            base,
+            cut,
+        } => { biased_scale_here(buf, from, n, c, offset, base, cut) }
     }
 }
 
 // ---- a tile
 
 // A step at each high of each column of a tile of n lines of s values.
-fn on_highs(tile: &mut [i32], s: usize, n: usize, step: Step)
-    requires { ⌜ Tile (now tile) s n ⌝ }
-    requires { ⌜ AtHighs (Safe step) s n (at (now tile)) ⌝ }
-    ensures { λ _. ⌜ at (now (tile .exit)) ≡ highsDone (applied step) s n (at (now (tile .entry))) ⌝ }
+fn on_highs(buffer: &mut [i32], s: usize, n: usize, step: Step)
+    requires { ⌜ Buffer (now buffer) s n ⌝ }
+    requires { ⌜ AtHighs (Safe step) s n (at (now buffer)) ⌝ }
+    ensures { λ _. ⌜ at (now (buffer .exit)) ≡ highsDone (applied step) s n (at (now (buffer .entry))) ⌝ }
 {
     let low = (n + 1) / 2;
     let top = low * s;
     let most = (low - 1) * s;
-    lift_run(tile, top, 0, s, most, step);
+    lift_run(buffer, top, 0, s, most, step);
     // the last high of an even length: source document 003, equation 4; 004, equation 5
     if low - 1 < n / 2 {
-        end_run(tile, top + most, most, s, step);
+        end_run(buffer, top + most, most, s, step);
     }
 }
 
 // A step at each low.
-fn on_lows(tile: &mut [i32], s: usize, n: usize, step: Step)
-    requires { ⌜ Tile (now tile) s n ⌝ }
-    requires { ⌜ AtLows (Safe step) s n (at (now tile)) ⌝ }
-    ensures { λ _. ⌜ at (now (tile .exit)) ≡ lowsDone (applied step) s n (at (now (tile .entry))) ⌝ }
+fn on_lows(buffer: &mut [i32], s: usize, n: usize, step: Step)
+    requires { ⌜ Buffer (now buffer) s n ⌝ }
+    requires { ⌜ AtLows (Safe step) s n (at (now buffer)) ⌝ }
+    ensures { λ _. ⌜ at (now (buffer .exit)) ≡ lowsDone (applied step) s n (at (now (buffer .entry))) ⌝ }
 {
     let low = (n + 1) / 2;
     let high = n / 2;
     let top = low * s;
     let most = (high - 1) * s;
     // the first low: source document 003, equation 3; 004, equation 4
-    end_run(tile, 0, top, s, step);
-    lift_run(tile, s, top, top + s, most, step);
+    end_run(buffer, 0, top, s, step);
+    lift_run(buffer, s, top, top + s, most, step);
     // the last low of an odd length: source document 004, equation 6
     if high < low {
-        end_run(tile, high * s, top + most, s, step);
+        end_run(buffer, high * s, top + most, s, step);
     }
 }
 
 // A pair: the highs, then the lows.
-fn lift(tile: &mut [i32], s: usize, n: usize, pair: Pair)
-    requires { ⌜ Tile (now tile) s n ⌝ }
-    requires { ⌜ LiftSafe pair s n (at (now tile)) ⌝ }
-    ensures { λ _. ⌜ at (now (tile .exit)) ≡ liftedTile pair s n (at (now (tile .entry))) ⌝ }
+fn lift(buffer: &mut [i32], s: usize, n: usize, pair: Pair)
+    requires { ⌜ Buffer (now buffer) s n ⌝ }
+    requires { ⌜ LiftSafe pair s n (at (now buffer)) ⌝ }
+    ensures { λ _. ⌜ at (now (buffer .exit)) ≡ liftedBuffer pair s n (at (now (buffer .entry))) ⌝ }
 {
     let highs = pair.highs;
     let lows = pair.lows;
-    on_highs(tile, s, n, highs);
-    on_lows(tile, s, n, lows);
+    on_highs(buffer, s, n, highs);
+    on_lows(buffer, s, n, lows);
 }
 
 // A pair undone: the lows, then the highs.
-fn unlift(tile: &mut [i32], s: usize, n: usize, pair: Pair)
-    requires { ⌜ Tile (now tile) s n ⌝ }
-    requires { ⌜ UnliftSafe pair s n (at (now tile)) ⌝ }
-    ensures { λ _. ⌜ at (now (tile .exit)) ≡ unliftedTile pair s n (at (now (tile .entry))) ⌝ }
+fn inverse_lift(buffer: &mut [i32], s: usize, n: usize, pair: Pair)
+    requires { ⌜ Buffer (now buffer) s n ⌝ }
+    requires { ⌜ InverseLiftSafe pair s n (at (now buffer)) ⌝ }
+    ensures { λ _. ⌜ at (now (buffer .exit)) ≡ inverseLiftedBuffer pair s n (at (now (buffer .entry))) ⌝ }
 {
     let highs = pair.highs;
     let lows = pair.lows;
-    on_lows(tile, s, n, lows);
-    on_highs(tile, s, n, highs);
+    on_lows(buffer, s, n, lows);
+    on_highs(buffer, s, n, highs);
 }
 
 // ---- lines in and out
@@ -1204,9 +1218,9 @@ fn copy_pair(src: &[i32], a: usize, b: usize, dst: &mut [i32], c: usize, d: usiz
 }
 
 // The strip's lines go to the tile, the even ones first.
-fn split_lines(plane: &[i32], tile: &mut [i32], stride: usize, from: usize, s: usize, n: usize)
-    requires { ⌜ Strip (now plane) (now tile) stride from s n ⌝ }
-    ensures { λ _. ⌜ Held s n (λ j. evens (columnOf stride from (at (now (plane .entry))) j)) (λ j. odds (columnOf stride from (at (now (plane .entry))) j)) (at (now (tile .exit))) ⌝ }
+fn split_lines(plane: &[i32], buffer: &mut [i32], stride: usize, from: usize, s: usize, n: usize)
+    requires { ⌜ StripRoom (now plane) (now buffer) stride from s n ⌝ }
+    ensures { λ _. ⌜ BufferHolds s n (λ j. evens (columnOf stride from (at (now (plane .entry))) j)) (λ j. odds (columnOf stride from (at (now (plane .entry))) j)) (at (now (buffer .exit))) ⌝ }
 {
     let low = (n + 1) / 2;
     let high = n / 2;
@@ -1214,17 +1228,17 @@ fn split_lines(plane: &[i32], tile: &mut [i32], stride: usize, from: usize, s: u
     for i in 0..high {
         let a = from + 2 * i * stride;
         let c = i * s;
-        copy_pair(plane, a, a + stride, tile, c, top + c, s);
+        copy_pair(plane, a, a + stride, buffer, c, top + c, s);
     }
     if high < low {
-        copy_run(plane, from + 2 * high * stride, tile, high * s, s);
+        copy_run(plane, from + 2 * high * stride, buffer, high * s, s);
     }
 }
 
 // The tile's lines go to the strip's, those of the lows to the even ones.
-fn merge_lines(tile: &[i32], plane: &mut [i32], stride: usize, from: usize, s: usize, n: usize)
-    requires { ⌜ Strip (now plane) (now tile) stride from s n ⌝ }
-    ensures { λ _. ⌜ at (now (plane .exit)) ≡ patchLines (lineAt from stride) s n (λ i j. interleaved (column s (at (now (tile .entry))) j) (highColumn s n (at (now (tile .entry))) j) i) (at (now (plane .entry))) ⌝ }
+fn merge_lines(buffer: &[i32], plane: &mut [i32], stride: usize, from: usize, s: usize, n: usize)
+    requires { ⌜ StripRoom (now plane) (now buffer) stride from s n ⌝ }
+    ensures { λ _. ⌜ at (now (plane .exit)) ≡ patchLines (lineAt from stride) s n (λ i j. interleaved (column s (at (now (buffer .entry))) j) (highColumn s n (at (now (buffer .entry))) j) i) (at (now (plane .entry))) ⌝ }
 {
     let low = (n + 1) / 2;
     let high = n / 2;
@@ -1232,33 +1246,33 @@ fn merge_lines(tile: &[i32], plane: &mut [i32], stride: usize, from: usize, s: u
     for i in 0..high {
         let a = from + 2 * i * stride;
         let c = i * s;
-        copy_pair(tile, c, top + c, plane, a, a + stride, s);
+        copy_pair(buffer, c, top + c, plane, a, a + stride, s);
     }
     if high < low {
-        copy_run(tile, high * s, plane, from + 2 * high * stride, s);
+        copy_run(buffer, high * s, plane, from + 2 * high * stride, s);
     }
 }
 
 // The same two, with a loop of its own for a row.
-fn split(plane: &[i32], tile: &mut [i32], stride: usize, from: usize, s: usize, n: usize)
-    requires { ⌜ Strip (now plane) (now tile) stride from s n ⌝ }
-    ensures { λ _. ⌜ Held s n (λ j. evens (columnOf stride from (at (now (plane .entry))) j)) (λ j. odds (columnOf stride from (at (now (plane .entry))) j)) (at (now (tile .exit))) ⌝ }
+fn split(plane: &[i32], buffer: &mut [i32], stride: usize, from: usize, s: usize, n: usize)
+    requires { ⌜ StripRoom (now plane) (now buffer) stride from s n ⌝ }
+    ensures { λ _. ⌜ BufferHolds s n (λ j. evens (columnOf stride from (at (now (plane .entry))) j)) (λ j. odds (columnOf stride from (at (now (plane .entry))) j)) (at (now (buffer .exit))) ⌝ }
 {
     if stride == 1 {
-        split_lines(plane, tile, 1, from, 1, n);
+        split_lines(plane, buffer, 1, from, 1, n);
     } else {
-        split_lines(plane, tile, stride, from, s, n);
+        split_lines(plane, buffer, stride, from, s, n);
     }
 }
 
-fn merge(tile: &[i32], plane: &mut [i32], stride: usize, from: usize, s: usize, n: usize)
-    requires { ⌜ Strip (now plane) (now tile) stride from s n ⌝ }
-    ensures { λ _. ⌜ at (now (plane .exit)) ≡ patchLines (lineAt from stride) s n (λ i j. interleaved (column s (at (now (tile .entry))) j) (highColumn s n (at (now (tile .entry))) j) i) (at (now (plane .entry))) ⌝ }
+fn merge(buffer: &[i32], plane: &mut [i32], stride: usize, from: usize, s: usize, n: usize)
+    requires { ⌜ StripRoom (now plane) (now buffer) stride from s n ⌝ }
+    ensures { λ _. ⌜ at (now (plane .exit)) ≡ patchLines (lineAt from stride) s n (λ i j. interleaved (column s (at (now (buffer .entry))) j) (highColumn s n (at (now (buffer .entry))) j) i) (at (now (plane .entry))) ⌝ }
 {
     if stride == 1 {
-        merge_lines(tile, plane, 1, from, 1, n);
+        merge_lines(buffer, plane, 1, from, 1, n);
     } else {
-        merge_lines(tile, plane, stride, from, s, n);
+        merge_lines(buffer, plane, stride, from, s, n);
     }
 }
 
@@ -1267,25 +1281,25 @@ fn merge(tile: &[i32], plane: &mut [i32], stride: usize, from: usize, s: usize, 
 // A tile that holds lines, worked by a pair on their way into the plane.
 fn finish_one(
     plane: &mut [i32],
-    tile: &mut [i32],
+    buffer: &mut [i32],
     stride: usize,
     from: usize,
     s: usize,
     n: usize,
     pair: Pair,
 )
-    requires { ⌜ Strip (now plane) (now tile) stride from s n ⌝ }
-    requires { ⌜ Ready (Kernel.One pair) s n (at (now tile)) ⌝ }
-    ensures { λ _. ⌜ Finished (Kernel.One pair) stride from s n (at (now (tile .entry))) (at (now (plane .entry))) (at (now (plane .exit))) ⌝ }
+    requires { ⌜ StripRoom (now plane) (now buffer) stride from s n ⌝ }
+    requires { ⌜ Ready (Kernel.One pair) s n (at (now buffer)) ⌝ }
+    ensures { λ _. ⌜ Finished (Kernel.One pair) stride from s n (at (now (buffer .entry))) (at (now (plane .entry))) (at (now (plane .exit))) ⌝ }
 {
-    lift(tile, s, n, pair);
-    copy_lines(tile, 0, s, plane, from, stride, n, s);
+    lift(buffer, s, n, pair);
+    copy_lines(buffer, 0, s, plane, from, stride, n, s);
 }
 
 // The same, by two pairs and a scaling.
 fn finish_two(
     plane: &mut [i32],
-    tile: &mut [i32],
+    buffer: &mut [i32],
     stride: usize,
     from: usize,
     s: usize,
@@ -1295,16 +1309,16 @@ fn finish_two(
     low: Factor,
     high: Factor,
 )
-    requires { ⌜ Strip (now plane) (now tile) stride from s n ⌝ }
-    requires { ⌜ Ready (Kernel.Two first second low high) s n (at (now tile)) ⌝ }
-    ensures { λ _. ⌜ Finished (Kernel.Two first second low high) stride from s n (at (now (tile .entry))) (at (now (plane .entry))) (at (now (plane .exit))) ⌝ }
+    requires { ⌜ StripRoom (now plane) (now buffer) stride from s n ⌝ }
+    requires { ⌜ Ready (Kernel.Two first second low high) s n (at (now buffer)) ⌝ }
+    ensures { λ _. ⌜ Finished (Kernel.Two first second low high) stride from s n (at (now (buffer .entry))) (at (now (plane .entry))) (at (now (plane .exit))) ⌝ }
 {
-    lift(tile, s, n, first);
-    lift(tile, s, n, second);
+    lift(buffer, s, n, first);
+    lift(buffer, s, n, second);
     let half = (n + 1) / 2;
-    scale_lines(tile, 0, plane, from, stride, half, s, low);
+    scale_lines(buffer, 0, plane, from, stride, half, s, low);
     scale_lines(
-        tile,
+        buffer,
         half * s,
         plane,
         from + half * stride,
@@ -1318,84 +1332,84 @@ fn finish_two(
 // The same, by a kernel that is worked forward.
 fn finish(
     plane: &mut [i32],
-    tile: &mut [i32],
+    buffer: &mut [i32],
     stride: usize,
     from: usize,
     s: usize,
     n: usize,
     kernel: Kernel,
 )
-    requires { ⌜ Strip (now plane) (now tile) stride from s n × Forward kernel ⌝ }
-    requires { ⌜ Ready kernel s n (at (now tile)) ⌝ }
-    ensures { λ _. ⌜ Finished kernel stride from s n (at (now (tile .entry))) (at (now (plane .entry))) (at (now (plane .exit))) ⌝ }
+    requires { ⌜ StripRoom (now plane) (now buffer) stride from s n × Forward kernel ⌝ }
+    requires { ⌜ Ready kernel s n (at (now buffer)) ⌝ }
+    ensures { λ _. ⌜ Finished kernel stride from s n (at (now (buffer .entry))) (at (now (plane .entry))) (at (now (plane .exit))) ⌝ }
 {
     match kernel {
-        Kernel::One(pair) => finish_one(plane, tile, stride, from, s, n, pair),
+        Kernel::One(pair) => finish_one(plane, buffer, stride, from, s, n, pair),
         Kernel::Two {
             first,
             second,
             low,
             high,
-        } => finish_two(plane, tile, stride, from, s, n, first, second, low, high),
-        Kernel::Undo(_) => {}
+        } => finish_two(plane, buffer, stride, from, s, n, first, second, low, high),
+        Kernel::Inverse(_) => {}
     }
 }
 
 // The strip, worked forward through the tile.
 fn strip_forward(
     plane: &mut [i32],
-    tile: &mut [i32],
+    buffer: &mut [i32],
     stride: usize,
     from: usize,
     s: usize,
     n: usize,
     kernel: Kernel,
 )
-    requires { ⌜ Strip (now plane) (now tile) stride from s n × Forward kernel ⌝ }
+    requires { ⌜ StripRoom (now plane) (now buffer) stride from s n × Forward kernel ⌝ }
     requires { ⌜ ((j : ℕ) → j < s → SafeKernel kernel n (columnOf stride from (at (now plane)) j)) ⌝ }
     ensures { λ _. ⌜ at (now (plane .exit)) ≡ columnsWorked kernel stride from s n (at (now (plane .entry))) ⌝ }
 {
-    split(plane, tile, stride, from, s, n);
-    finish(plane, tile, stride, from, s, n, kernel);
+    split(plane, buffer, stride, from, s, n);
+    finish(plane, buffer, stride, from, s, n, kernel);
 }
 
 // The strip, a pair undone.
-fn strip_undo(
+fn strip_inverse(
     plane: &mut [i32],
-    tile: &mut [i32],
+    buffer: &mut [i32],
     stride: usize,
     from: usize,
     s: usize,
     n: usize,
     pair: Pair,
 )
-    requires { ⌜ Strip (now plane) (now tile) stride from s n ⌝ }
-    requires { ⌜ ((j : ℕ) → j < s → SafeKernel (Kernel.Undo pair) n (columnOf stride from (at (now plane)) j)) ⌝ }
-    ensures { λ _. ⌜ at (now (plane .exit)) ≡ columnsWorked (Kernel.Undo pair) stride from s n (at (now (plane .entry))) ⌝ }
+    requires { ⌜ StripRoom (now plane) (now buffer) stride from s n ⌝ }
+    requires { ⌜ ((j : ℕ) → j < s → SafeKernel (Kernel.Inverse pair) n (columnOf stride from (at (now plane)) j)) ⌝ }
+    ensures { λ _. ⌜ at (now (plane .exit)) ≡ columnsWorked (Kernel.Inverse pair) stride from s n (at (now (plane .entry))) ⌝ }
 {
-    copy_lines(plane, from, stride, tile, 0, s, n, s);
-    unlift(tile, s, n, pair);
-    merge(tile, plane, stride, from, s, n);
+    copy_lines(plane, from, stride, buffer, 0, s, n, s);
+    inverse_lift(buffer, s, n, pair);
+    merge(buffer, plane, stride, from, s, n);
 }
 
 // The strip, worked through the tile.
 fn strip(
     plane: &mut [i32],
-    tile: &mut [i32],
+    buffer: &mut [i32],
     stride: usize,
     from: usize,
     s: usize,
     n: usize,
     kernel: Kernel,
 )
-    requires { ⌜ Strip (now plane) (now tile) stride from s n ⌝ }
+    requires { ⌜ StripRoom (now plane) (now buffer) stride from s n ⌝ }
     requires { ⌜ ((j : ℕ) → j < s → SafeKernel kernel n (columnOf stride from (at (now plane)) j)) ⌝ }
     ensures { λ _. ⌜ at (now (plane .exit)) ≡ columnsWorked kernel stride from s n (at (now (plane .entry))) ⌝ }
 {
     match kernel {
-        Kernel::Undo(pair) => strip_undo(plane, tile, stride, from, s, n, pair),
-        Kernel::One(_) => strip_forward(plane, tile, stride, from, s, n, kernel),
-        Kernel::Two { .. } => strip_forward(plane, tile, stride, from, s, n, kernel),
+        Kernel::Inverse(pair) => strip_inverse(plane, buffer, stride, from, s, n, pair),
+        Kernel::One(_) => strip_forward(plane, buffer, stride, from, s, n, kernel),
+        Kernel::Two { .. } => strip_forward(plane, buffer, stride, from, s, n, kernel),
     }
 }
 
@@ -1409,27 +1423,27 @@ pub fn centred(pixel: u16, middle: u16) -> i32
 }
 
 // One pixel goes to the tile.
-fn put_pixel(pixels: &[u16], from: usize, tile: &mut [i32], to: usize, middle: u16)
-    requires { ⌜ (from < length (now pixels)) × (to < length (now tile)) ⌝ }
-    ensures { λ _. ⌜ at (now (tile .exit)) ≡ patch to 1 (pixelLine (now (pixels .entry)) middle from) (at (now (tile .entry))) ⌝ }
+fn put_pixel(pixels: &[u16], from: usize, buffer: &mut [i32], to: usize, middle: u16)
+    requires { ⌜ (from < length (now pixels)) × (to < length (now buffer)) ⌝ }
+    ensures { λ _. ⌜ at (now (buffer .exit)) ≡ patch to 1 (pixelLine (now (pixels .entry)) middle from) (at (now (buffer .entry))) ⌝ }
 {
-    tile[to] = centred(pixels[from], middle);
+    buffer[to] = centred(pixels[from], middle);
 }
 
 // n pixels go to the tile, the even ones first.
-fn split_pixels(pixels: &[u16], from: usize, tile: &mut [i32], n: usize, middle: u16)
-    requires { ⌜ (n < 2 ^ 31) × (from + n ≤ length (now pixels)) × (n ≤ length (now tile)) ⌝ }
-    ensures { λ _. ⌜ Held 1 n (λ j. evens (pixelLine (now (pixels .entry)) middle from)) (λ j. odds (pixelLine (now (pixels .entry)) middle from)) (at (now (tile .exit))) ⌝ }
+fn split_pixels(pixels: &[u16], from: usize, buffer: &mut [i32], n: usize, middle: u16)
+    requires { ⌜ (n < 2 ^ 31) × (from + n ≤ length (now pixels)) × (n ≤ length (now buffer)) ⌝ }
+    ensures { λ _. ⌜ BufferHolds 1 n (λ j. evens (pixelLine (now (pixels .entry)) middle from)) (λ j. odds (pixelLine (now (pixels .entry)) middle from)) (at (now (buffer .exit))) ⌝ }
 {
     let low = (n + 1) / 2;
     let high = n / 2;
     for i in 0..high {
         let a = from + 2 * i;
-        put_pixel(pixels, a, tile, i, middle);
-        put_pixel(pixels, a + 1, tile, low + i, middle);
+        put_pixel(pixels, a, buffer, i, middle);
+        put_pixel(pixels, a + 1, buffer, low + i, middle);
     }
     if high < low {
-        put_pixel(pixels, from + 2 * high, tile, high, middle);
+        put_pixel(pixels, from + 2 * high, buffer, high, middle);
     }
 }
 
@@ -1491,63 +1505,77 @@ pub fn pixel_rows(
     pixels: &[u16],
     middle: u16,
     plane: &mut [i32],
-    tile: &mut [i32],
+    buffer: &mut [i32],
     w: usize,
     h: usize,
     kernel: Kernel,
 )
-    requires { ⌜ Part (now plane) w 0 w h × Liftable w × (w ≤ length (now tile)) × Forward kernel × (w * h ≤ length (now pixels)) ⌝ }
+    requires { ⌜ Part (now plane) w 0 w h × Liftable w × (w ≤ length (now buffer)) × Forward kernel × (w * h ≤ length (now pixels)) ⌝ }
     requires { ⌜ ((r : ℕ) → r < h → SafeKernel kernel w (pixelLine (now pixels) middle (r * w))) ⌝ }
     ensures plane { λ _. ⌜ at (now (plane .exit)) ≡ patchLines (lineAt 0 w) w h (λ r. worked kernel w (pixelLine (now (pixels .entry)) middle (r * w))) (at (now (plane .entry))) ⌝ }
-    ensures tile { λ _. ⌜ Free (now (tile .entry)) (now (tile .exit)) ⌝ }
+    ensures buffer { λ _. ⌜ Free (now (buffer .entry)) (now (buffer .exit)) ⌝ }
 {
     for r in 0..h {
         let from = r * w;
-        split_pixels(pixels, from, tile, w, middle);
-        finish(plane, tile, 1, from, 1, w, kernel);
+        split_pixels(pixels, from, buffer, w, middle);
+        finish(plane, buffer, 1, from, 1, w, kernel);
     }
 }
 
 // The first w values of each of h rows, row r starting at r * stride, a pair undone in place through the tile.
-fn undo_rows(plane: &mut [i32], tile: &mut [i32], stride: usize, w: usize, h: usize, pair: Pair)
-    requires { ⌜ Part (now plane) stride 0 w h × Liftable w × (w ≤ length (now tile)) ⌝ }
-    requires { ⌜ ((r : ℕ) → r < h → SafeKernel (Kernel.Undo pair) w (rowOf stride 0 (at (now plane)) r)) ⌝ }
-    ensures { λ _. ⌜ at (now (plane .exit)) ≡ rowsWorked (Kernel.Undo pair) stride w h (at (now (plane .entry))) ⌝ }
+fn inverse_rows(
+    plane: &mut [i32],
+    buffer: &mut [i32],
+    stride: usize,
+    w: usize,
+    h: usize,
+    pair: Pair,
+)
+    requires { ⌜ Part (now plane) stride 0 w h × Liftable w × (w ≤ length (now buffer)) ⌝ }
+    requires { ⌜ ((r : ℕ) → r < h → SafeKernel (Kernel.Inverse pair) w (rowOf stride 0 (at (now plane)) r)) ⌝ }
+    ensures { λ _. ⌜ at (now (plane .exit)) ≡ rowsWorked (Kernel.Inverse pair) stride w h (at (now (plane .entry))) ⌝ }
 {
     for r in 0..h {
-        strip_undo(plane, tile, 1, r * stride, 1, w, pair);
+        strip_inverse(plane, buffer, 1, r * stride, 1, w, pair);
     }
 }
 
 // The same by a kernel that is worked forward.
 fn forward_rows(
     plane: &mut [i32],
-    tile: &mut [i32],
+    buffer: &mut [i32],
     stride: usize,
     w: usize,
     h: usize,
     kernel: Kernel,
 )
-    requires { ⌜ Part (now plane) stride 0 w h × Liftable w × (w ≤ length (now tile)) × Forward kernel ⌝ }
+    requires { ⌜ Part (now plane) stride 0 w h × Liftable w × (w ≤ length (now buffer)) × Forward kernel ⌝ }
     requires { ⌜ ((r : ℕ) → r < h → SafeKernel kernel w (rowOf stride 0 (at (now plane)) r)) ⌝ }
     ensures { λ _. ⌜ at (now (plane .exit)) ≡ rowsWorked kernel stride w h (at (now (plane .entry))) ⌝ }
 {
     for r in 0..h {
-        strip_forward(plane, tile, 1, r * stride, 1, w, kernel);
+        strip_forward(plane, buffer, 1, r * stride, 1, w, kernel);
     }
 }
 
 // The first w values of each of h rows, row r starting at r * stride, worked in place through the tile. Which way is told once.
-pub fn rows(plane: &mut [i32], tile: &mut [i32], stride: usize, w: usize, h: usize, kernel: Kernel)
-    requires { ⌜ Part (now plane) stride 0 w h × Liftable w × (w ≤ length (now tile)) ⌝ }
+pub fn rows(
+    plane: &mut [i32],
+    buffer: &mut [i32],
+    stride: usize,
+    w: usize,
+    h: usize,
+    kernel: Kernel,
+)
+    requires { ⌜ Part (now plane) stride 0 w h × Liftable w × (w ≤ length (now buffer)) ⌝ }
     requires { ⌜ ((r : ℕ) → r < h → SafeKernel kernel w (rowOf stride 0 (at (now plane)) r)) ⌝ }
     ensures plane { λ _. ⌜ at (now (plane .exit)) ≡ rowsWorked kernel stride w h (at (now (plane .entry))) ⌝ }
-    ensures tile { λ _. ⌜ Free (now (tile .entry)) (now (tile .exit)) ⌝ }
+    ensures buffer { λ _. ⌜ Free (now (buffer .entry)) (now (buffer .exit)) ⌝ }
 {
     match kernel {
-        Kernel::Undo(pair) => undo_rows(plane, tile, stride, w, h, pair),
-        Kernel::One(_) => forward_rows(plane, tile, stride, w, h, kernel),
-        Kernel::Two { .. } => forward_rows(plane, tile, stride, w, h, kernel),
+        Kernel::Inverse(pair) => inverse_rows(plane, buffer, stride, w, h, pair),
+        Kernel::One(_) => forward_rows(plane, buffer, stride, w, h, kernel),
+        Kernel::Two { .. } => forward_rows(plane, buffer, stride, w, h, kernel),
     }
 }
 
@@ -1564,23 +1592,23 @@ pub fn smaller(a: usize, b: usize) -> usize
 // w columns of h rows, from column `from` on, worked in place through the tile, strip by strip.
 pub fn columns(
     plane: &mut [i32],
-    tile: &mut [i32],
+    buffer: &mut [i32],
     stride: usize,
     from: usize,
     w: usize,
     h: usize,
     kernel: Kernel,
 )
-    requires { ⌜ Part (now plane) stride from w h × Liftable h × (h ≤ length (now tile)) ⌝ }
+    requires { ⌜ Part (now plane) stride from w h × Liftable h × (h ≤ length (now buffer)) ⌝ }
     requires { ⌜ ((j : ℕ) → j < w → SafeKernel kernel h (columnOf stride from (at (now plane)) j)) ⌝ }
     ensures plane { λ _. ⌜ at (now (plane .exit)) ≡ columnsWorked kernel stride from w h (at (now (plane .entry))) ⌝ }
-    ensures tile { λ _. ⌜ Free (now (tile .entry)) (now (tile .exit)) ⌝ }
+    ensures buffer { λ _. ⌜ Free (now (buffer .entry)) (now (buffer .exit)) ⌝ }
 {
-    let most = smaller(STRIP, tile.len() / h);
+    let most = smaller(STRIP, buffer.len() / h);
     let mut done = 0;
     while done < w {
         let s = smaller(most, w - done);
-        strip(plane, tile, stride, from + done, s, h, kernel);
+        strip(plane, buffer, stride, from + done, s, h, kernel);
         done += s;
     }
 }

@@ -11,7 +11,7 @@ use Rattle.lines.specs.Lines.{lows, highs, Liftable, lowAfter, highBefor
 use Rattle.lines.specs.LineLaws.{some-highs}
 use Rattle.lines.specs.Mirror.{mirrored, mirror, low-after, high-after}
 use Rattle.lines.specs.Neighbours.{low-after-in, high-before-in, high-after-in, high-before-next}
-use Rattle.lines.specs.BackLaws.{Same}
+use Rattle.lines.specs.InverseLaws.{Equivalence}
 use Rattle.lines.specs.Cases.{Neighbours, one, two, ofHigh, ofLow, byCase, highsByCases, lowsByCases}
 
 -- the places before and after
@@ -63,21 +63,21 @@ low-mirrored n (suc i) works h =
 -- ---- a filter by cases is the filter
 
 -- a step makes alike values of alike values
-pub record Respects {A : Type 0} (R : A → A → Type 0) (step : A → A → A → A) : Type 0 where
+pub record Congruence {A : Type 0} (R : A → A → Type 0) (step : A → A → A → A) : Type 0 where
   pub alike : {o o' x x' y y' : A} → R o o' → R x x' → R y y' → R (step o x y) (step o' x' y')
 
-pub respects-equal : {A : Type 0} (step : A → A → A → A) → Respects (_≡_ {A = A}) step
-respects-equal step = record { alike = λ a b c. λ u. step (a u) (b u) (c u) }
+pub congruence-equal : {A : Type 0} (step : A → A → A → A) → Congruence (_≡_ {A = A}) step
+congruence-equal step = record { alike = λ a b c. λ u. step (a u) (b u) (c u) }
 
 -- the reduced equation is the step of one neighbour twice
 abbrev pub Reduced : {A : Type 0} → (A → A → Type 0) → (A → A → A → A) → (A → A → A) → Type 0
 Reduced {A} R step end = (own x : A) → R (end own x) (step own x x)
 
 -- what is read by cases, l and h, is alike to what is read by the neighbours of Lines, m and g
-module _ {A : Type 0} {R : A → A → Type 0} (e : Same R) {step : A → A → A → A} {end : A → A → A} (respects : Respects R step) (reduced : Reduced R step end) where
+module _ {A : Type 0} {R : A → A → Type 0} (e : Equivalence R) {step : A → A → A → A} {end : A → A → A} (respects : Congruence R step) (reduced : Reduced R step end) where
   -- at places of neighbours p
   by-case : (p : Neighbours) (own : A) (x : ℕ → A) → R (byCase step end own x p) (step own (x (before p)) (x (after p)))
-  by-case (two j k) own x = e .same (step own (x j) (x k))
+  by-case (two j k) own x = e .reflexive (step own (x j) (x k))
   by-case (one j) own x = reduced own (x j)
 
   module _ (n : ℕ) (works : Liftable n) {l h m g : ℕ → A} (at-lows : (i : ℕ) → i < lows n → R (l i) (m i)) (at-highs : (i : ℕ) → i < highs n → R (h i) (g i)) where
@@ -85,14 +85,14 @@ module _ {A : Type 0} {R : A → A → Type 0} (e : Same R) {step : A → A → 
     unfolding highsByCases onHighs
     highs-are i p =
         let s = high-sides n i p in
-        e .next (by-case (ofHigh n i) (h i) l)
+        e .transitive (by-case (ofHigh n i) (h i) l)
         (respects .alike (at-highs i p) (subst (λ (k : ℕ). R (l k) (m i)) (sym (s .0)) (at-lows i (omega arith))) (subst (λ (k : ℕ). R (l k) (m (lowAfter n i))) (sym (s .1)) (at-lows (lowAfter n i) (low-after-in n i p))))
 
     pub lows-are : (i : ℕ) → i < lows n → R (lowsByCases step end n l h i) (onLows step n m g i)
     unfolding lowsByCases onLows
     lows-are i p =
         let s = low-sides n i works p in
-        e .next (by-case (ofLow n i) (l i) h)
+        e .transitive (by-case (ofLow n i) (l i) h)
         (respects .alike (at-lows i p) (subst (λ (k : ℕ). R (h k) (g (highBefore i))) (sym (s .0)) (at-highs (highBefore i) (high-before-in n i (some-highs n works) p)))
         (subst (λ (k : ℕ). R (h k) (g (highAfter n i))) (sym (s .1)) (at-highs (highAfter n i) (high-after-in n i (some-highs n works) p))))
 

@@ -9,7 +9,7 @@
 --   CaseLaws   the neighbours by cases are the mirrored ones; a filter by cases is the filter
 --   PlaneLaws  inside and outside of a part; sides of the low-low parts
 --   RowLaws    elements of a plane in memory
---   BackLaws   where each pass is undone, a level is, and so are the levels
+--   InverseLaws  where each pass is undone, a level is, and so are the levels
 --   OneLaws    passes from length 1: a single sample, or two and more
 --   LongLaws   sides that were admitted before job 6: nothing changes
 pub mod Lines
@@ -20,7 +20,7 @@ pub mod LineLaws
 pub mod Neighbours
 pub mod PlaneLaws
 pub mod RowLaws
-pub mod BackLaws
+pub mod InverseLaws
 pub mod OneLaws
 pub mod LongLaws
 pub mod CaseLaws

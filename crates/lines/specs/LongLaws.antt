@@ -1,5 +1,5 @@
 -- Nothing changes where it was admitted before document 02's job 6: of a side greater than 2^(L-1) each level works two samples or more
--- (`long-sides`), and there the levels from one sample on are those of the papers' equations (`levels-long`, `levelsBack-long`).
+-- (`long-sides`), and there the levels from one sample on are those of the papers' equations (`levels-long`, `inverseLevels-long`).
 use Prim.Native.Nat.{ℕ, zero, suc, _+_, _-_, _^_, _<_, _≤_}
 use mathlib.Core.Bool.{Bool}
 use mathlib.Core.Path.{_≡_, refl, _∙_, ap, subst}
@@ -7,7 +7,7 @@ use native.Mathlib.Omega.{arith}
 use lib.Dec.{ltb}
 use lib.Pow.{pow-pos}
 use Rattle.lines.specs.Lines.{lows, Liftable}
-use Rattle.lines.specs.Planes.{Plane, OnLine, OnPart, fromOne, rows, columns, within, rowsFirst, columnsFirst, side, levels, levelsBack}
+use Rattle.lines.specs.Planes.{Plane, OnLine, OnPart, fromOne, rows, columns, within, levelRowsFirst, levelColumnsFirst, side, levels, inverseLevels}
 use Rattle.lines.specs.OneLaws.{long-line}
 
 -- each level works two samples or more of a side
@@ -30,12 +30,12 @@ long-sides L n h k i =
 
 -- a level of lines of two samples or more
 module _ {A : Type 0} (rowSingle : A → A) (row : OnLine A) (columnSingle : Bool → A → A) (column : Bool → OnLine A) (w h : ℕ) (wide : Liftable w) (tall : Liftable h) (p : Plane A) where
-  pub rows-first-long : rowsFirst (fromOne rowSingle row) (λ low. fromOne (columnSingle low) (column low)) w h p ≡ rowsFirst row column w h p
-  unfolding rowsFirst rows columns
+  pub rows-first-long : levelRowsFirst (fromOne rowSingle row) (λ low. fromOne (columnSingle low) (column low)) w h p ≡ levelRowsFirst row column w h p
+  unfolding levelRowsFirst rows columns
   rows-first-long = λ i. within w h (λ r c. long-line (columnSingle (ltb c (lows w))) (column (ltb c (lows w))) h tall i (λ k. long-line rowSingle row w wide i (λ m. p k m) c) r) p
 
-  pub columns-first-long : columnsFirst (fromOne rowSingle row) (λ low. fromOne (columnSingle low) (column low)) w h p ≡ columnsFirst row column w h p
-  unfolding columnsFirst rows columns
+  pub columns-first-long : levelColumnsFirst (fromOne rowSingle row) (λ low. fromOne (columnSingle low) (column low)) w h p ≡ levelColumnsFirst row column w h p
+  unfolding levelColumnsFirst rows columns
   columns-first-long = λ i. within w h (λ r c. long-line rowSingle row w wide i (λ k. long-line (columnSingle (ltb k (lows w))) (column (ltb k (lows w))) h tall i (λ m. p m k) r) c) p
 
 -- levels that are the same at lengths from 2
@@ -47,9 +47,9 @@ module _ {A : Type 0} (one long : ℕ → OnPart A) (same : (l w h : ℕ) → Li
       same (suc k) (side k w) (side k h) (wide k (omega arith)) (tall k (omega arith)) (levels one k w h p)
       ∙ ap (long (suc k) (side k w) (side k h)) (levels-long k w h (λ j i. wide j (omega arith)) (λ j i. tall j (omega arith)) p)
 
-  pub levelsBack-long : (L w h : ℕ) → Long L w → Long L h → (p : Plane A) → levelsBack one L w h p ≡ levelsBack long L w h p
-  unfolding levelsBack
-  levelsBack-long zero w h wide tall p = refl
-  levelsBack-long (suc k) w h wide tall p =
-      ap (levelsBack one k w h) (same (suc k) (side k w) (side k h) (wide k (omega arith)) (tall k (omega arith)) p)
-      ∙ levelsBack-long k w h (λ j i. wide j (omega arith)) (λ j i. tall j (omega arith)) (long (suc k) (side k w) (side k h) p)
+  pub inverseLevels-long : (L w h : ℕ) → Long L w → Long L h → (p : Plane A) → inverseLevels one L w h p ≡ inverseLevels long L w h p
+  unfolding inverseLevels
+  inverseLevels-long zero w h wide tall p = refl
+  inverseLevels-long (suc k) w h wide tall p =
+      ap (inverseLevels one k w h) (same (suc k) (side k w) (side k h) (wide k (omega arith)) (tall k (omega arith)) p)
+      ∙ inverseLevels-long k w h (λ j i. wide j (omega arith)) (λ j i. tall j (omega arith)) (long (suc k) (side k w) (side k h) p)

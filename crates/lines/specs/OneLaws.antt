@@ -6,7 +6,7 @@ use lib.Dec.{ltb}
 use Rattle.numbers.specs.Tests.{by-ltb, ltb-true, ltb-false}
 use Rattle.lines.specs.Lines.{Liftable}
 use Rattle.lines.specs.Planes.{OnLine, fromOne}
-use Rattle.lines.specs.BackLaws.{Same, Taken, Undoes}
+use Rattle.lines.specs.InverseLaws.{Equivalence, LeftInverse, Inverses}
 
 module _ {A : Type 0} (single : A → A) (long : OnLine A) (n : ℕ) where
   module _ (x : ℕ → A) (k : ℕ) where
@@ -33,9 +33,9 @@ pub by-one : (P : Type 0) (n : ℕ) → (n < 2 → P) → (Liftable n → P) →
 by-one P n one more = by-ltb (λ t. P) n 2 one (λ h. more (record { least = h }))
 
 -- A pass over two samples or more, and what undoes it; where each lets a single sample through as it is, the same holds from length 1.
-module _ {A : Type 0} {R : A → A → Type 0} (e : Same R) where
+module _ {A : Type 0} {R : A → A → Type 0} (e : Equivalence R) where
   is : {x y : A} → x ≡ y → R x y
-  is {x} q = subst (λ (z : A). R x z) q (e .same x)
+  is {x} q = subst (λ (z : A). R x z) q (e .reflexive x)
 
   abbrev through : OnLine A → OnLine A
   through = fromOne (λ a. a)
@@ -46,18 +46,18 @@ module _ {A : Type 0} {R : A → A → Type 0} (e : Same R) where
     Reads = (n : ℕ) → Liftable n → (x y : ℕ → A) → ((k : ℕ) → k < n → R (x k) (y k)) → (k : ℕ) → k < n → R (pass n x k) (pass n y k)
 
     -- it is taken back
-    abbrev pub TakenBack : OnLine A → Type 0
-    TakenBack undo = (n : ℕ) → Liftable n → (x : ℕ → A) (k : ℕ) → k < n → R (undo n (pass n x) k) (x k)
+    abbrev pub LeftInverseLong : OnLine A → Type 0
+    LeftInverseLong inverse = (n : ℕ) → Liftable n → (x : ℕ → A) (k : ℕ) → k < n → R (inverse n (pass n x) k) (x k)
 
-  one-taken : (pass undo : OnLine A) → Reads pass → Reads undo → TakenBack pass undo → Taken R (through pass) (through undo)
-  one-taken pass undo reads undo-reads taken = record {
+  one-left-inverse : (pass inverse : OnLine A) → Reads pass → Reads inverse → LeftInverseLong pass inverse → LeftInverse R (through pass) (through inverse)
+  one-left-inverse pass inverse reads inverse-reads left-inverse = record {
     reads = λ n x y same k i. by-one (R (through pass n x k) (through pass n y k)) n
-        (λ j. e .next (is (one-single (λ a. a) pass n x k j)) (e .next (same k i) (e .back (is (one-single (λ a. a) pass n y k j)))))
-        (λ j. e .next (is (one-long (λ a. a) pass n x k j)) (e .next (reads n j x y same k i) (e .back (is (one-long (λ a. a) pass n y k j)))));
-    taken = λ n x k i. by-one (R (through undo n (through pass n x) k) (x k)) n
-        (λ j. e .next (is (one-single (λ a. a) undo n (through pass n x) k j)) (is (one-single (λ a. a) pass n x k j)))
-        (λ j. e .next (is (one-long (λ a. a) undo n (through pass n x) k j)) (e .next (undo-reads n j (through pass n x) (pass n x) (λ m q. is (one-long (λ a. a) pass n x m j)) k i) (taken n j x k i)));
+        (λ j. e .transitive (is (one-single (λ a. a) pass n x k j)) (e .transitive (same k i) (e .symmetric (is (one-single (λ a. a) pass n y k j)))))
+        (λ j. e .transitive (is (one-long (λ a. a) pass n x k j)) (e .transitive (reads n j x y same k i) (e .symmetric (is (one-long (λ a. a) pass n y k j)))));
+    left-inverse = λ n x k i. by-one (R (through inverse n (through pass n x) k) (x k)) n
+        (λ j. e .transitive (is (one-single (λ a. a) inverse n (through pass n x) k j)) (is (one-single (λ a. a) pass n x k j)))
+        (λ j. e .transitive (is (one-long (λ a. a) inverse n (through pass n x) k j)) (e .transitive (inverse-reads n j (through pass n x) (pass n x) (λ m q. is (one-long (λ a. a) pass n x m j)) k i) (left-inverse n j x k i)));
   }
 
-  pub one-undoes : (pass undo : OnLine A) → Reads pass → Reads undo → TakenBack pass undo → TakenBack undo pass → Undoes R (through pass) (through undo)
-  one-undoes pass undo reads undo-reads undone redone = record { there = one-taken pass undo reads undo-reads undone; back = one-taken undo pass undo-reads reads redone }
+  pub one-inverses : (pass inverse : OnLine A) → Reads pass → Reads inverse → LeftInverseLong pass inverse → LeftInverseLong inverse pass → Inverses R (through pass) (through inverse)
+  one-inverses pass inverse reads inverse-reads leftInverse rightInverse = record { there = one-left-inverse pass inverse reads inverse-reads leftInverse; back = one-left-inverse inverse pass inverse-reads reads rightInverse }

@@ -7,7 +7,7 @@ use native.Mathlib.Omega.{arith}
 use lib.Dec.{T, ltb, ltb→lt, nltb→le}
 use Rattle.numbers.specs.Tests.{and-true, and-false-l, and-false-r}
 use Rattle.lines.specs.Lines.{lows}
-use Rattle.lines.specs.Planes.{Plane, OnLine, OnPart, rows, columns, within, side, rowsFirst, columnsFirst}
+use Rattle.lines.specs.Planes.{Plane, OnLine, OnPart, rows, columns, within, side, levelRowsFirst, levelColumnsFirst}
 
 abbrev pick : {A : Type 0} → A → A → Bool → A
 pick a b t = elim t [ true ↦ a | false ↦ b ]
@@ -31,20 +31,20 @@ pub record Keeps {A : Type 0} (level : OnPart A) : Type 0 where
   pub beyond : (w h : ℕ) (p : Plane A) (r c : ℕ) → w ≤ c → level w h p r c ≡ p r c
 
 module _ {A : Type 0} (row : OnLine A) (column : Bool → OnLine A) where
-  pub rows-first-in : (w h : ℕ) (p : Plane A) (r c : ℕ) → r < h → c < w → rowsFirst row column w h p r c ≡ column (ltb c (lows w)) h (λ k. row w (p k) c) r
-  unfolding rowsFirst columns rows
+  pub rows-first-in : (w h : ℕ) (p : Plane A) (r c : ℕ) → r < h → c < w → levelRowsFirst row column w h p r c ≡ column (ltb c (lows w)) h (λ k. row w (p k) c) r
+  unfolding levelRowsFirst columns rows
   rows-first-in w h p r c i j = within-in w h (λ r c. column (ltb c (lows w)) h (λ k. row w (p k) c) r) p r c i j
 
-  pub rows-first-keeps : Keeps (rowsFirst row column)
-  unfolding rowsFirst
+  pub rows-first-keeps : Keeps (levelRowsFirst row column)
+  unfolding levelRowsFirst
   rows-first-keeps = record { below = λ w h p r c i. within-below w h _ p r c i; beyond = λ w h p r c j. within-beyond w h _ p r c j }
 
-  pub columns-first-in : (w h : ℕ) (p : Plane A) (r c : ℕ) → r < h → c < w → columnsFirst row column w h p r c ≡ row w (λ k. column (ltb k (lows w)) h (λ m. p m k) r) c
-  unfolding columnsFirst columns rows
+  pub columns-first-in : (w h : ℕ) (p : Plane A) (r c : ℕ) → r < h → c < w → levelColumnsFirst row column w h p r c ≡ row w (λ k. column (ltb k (lows w)) h (λ m. p m k) r) c
+  unfolding levelColumnsFirst columns rows
   columns-first-in w h p r c i j = within-in w h (λ r c. row w (λ k. column (ltb k (lows w)) h (λ m. p m k) r) c) p r c i j
 
-  pub columns-first-keeps : Keeps (columnsFirst row column)
-  unfolding columnsFirst
+  pub columns-first-keeps : Keeps (levelColumnsFirst row column)
+  unfolding levelColumnsFirst
   columns-first-keeps = record { below = λ w h p r c i. within-below w h _ p r c i; beyond = λ w h p r c j. within-beyond w h _ p r c j }
 
 -- a place lies in a part of a plane or outside it

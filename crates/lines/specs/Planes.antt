@@ -42,12 +42,12 @@ OnPart A = ℕ → ℕ → Plane A → Plane A
 -- A level of a row's pass and a column's. A column's pass goes by whether it holds row-low values.
 module _ {A : Type 0} (row : OnLine A) (column : Bool → OnLine A) where
   -- the rows of the part, then its columns
-  unfoldable pub rowsFirst : OnPart A
-  rowsFirst w h p = within w h (columns (λ c. column (ltb c (lows w))) h (rows row w p)) p
+  unfoldable pub levelRowsFirst : OnPart A
+  levelRowsFirst w h p = within w h (columns (λ c. column (ltb c (lows w))) h (rows row w p)) p
 
   -- the columns, then the rows
-  unfoldable pub columnsFirst : OnPart A
-  columnsFirst w h p = within w h (rows row w (columns (λ c. column (ltb c (lows w))) h p)) p
+  unfoldable pub levelColumnsFirst : OnPart A
+  levelColumnsFirst w h p = within w h (rows row w (columns (λ c. column (ltb c (lows w))) h p)) p
 
 -- Levels count from 1; each works the part that those before it left as low-low.
 module _ {A : Type 0} (level : ℕ → OnPart A) where
@@ -57,9 +57,9 @@ module _ {A : Type 0} (level : ℕ → OnPart A) where
   levels (suc k) w h p = level (suc k) (side k w) (side k h) (levels k w h p)
 
   -- levels k to 1: the way back begins with the last
-  unfoldable pub levelsBack : ℕ → OnPart A
-  levelsBack zero w h p = p
-  levelsBack (suc k) w h p = levelsBack k w h (level (suc k) (side k w) (side k h) p)
+  unfoldable pub inverseLevels : ℕ → OnPart A
+  inverseLevels zero w h p = p
+  inverseLevels (suc k) w h p = inverseLevels k w h (level (suc k) (side k w) (side k h) p)
 
 -- f 0, f 1, .., f (n - 1)
 unfoldable pub tabulate : {A : Type 0} → ℕ → (ℕ → A) → List A

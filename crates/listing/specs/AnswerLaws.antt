@@ -16,10 +16,10 @@ use Rattle.refusals.specs.AnswerLaws.{asks-right, then-right, answered-done}
 use Rattle.lines.specs.Planes.{Plane, rowByRow}
 use Rattle.lines.specs.RowLaws.{place-in, rows-length, rows-at, tabulate-same}
 use Rattle.width_table.specs.Table.{depthRight, levelsRight}
-use Rattle.pictures.specs.Pictures.{pixelsRight, sample, planeOf}
-use Rattle.pictures.specs.PictureLaws.{sized, sized-then, sized-right, over-take}
-use Rattle.reversible.specs.Reversible.{columnsThenRows, forward}
-use Rattle.reversible.specs.Calls.{limited, forwardAnswer, forwardPlane}
+use Rattle.pictures.specs.Pictures.{pixelAnswer, sample, planeOf}
+use Rattle.pictures.specs.PictureLaws.{roomAnswer, sized-then, sized-right, over-take}
+use Rattle.reversible.specs.Reversible.{columnsFirst, forward}
+use Rattle.reversible.specs.Calls.{limitAnswer, forwardAnswer, forwardPlane}
 use Rattle.listing.specs.declared.Head.{Head}
 use Rattle.listing.specs.Listing.{line, rowLines, refusedLine, headBytes, maxPixels, maxInput, maxText, copyDepth, copyLevels, copyWidth, copyHeight, copySize, copyPixels, copyForm, copyAnswer, headIn, headText, copyLines, copyText, listed}
 use Rattle.listing.specs.InputLaws.{Formed, form-done, pixels-length, form-too-long, why-same}
@@ -37,7 +37,7 @@ module _ (bytes : List ℕ) where
 
   -- what the forward call judges of an input of a right form
   abbrev pub verdict : Answer Unit
-  verdict = pixelsRight (copyDepth bytes) (copyWidth bytes) (copyHeight bytes) (copyPixels bytes)
+  verdict = pixelAnswer (copyDepth bytes) (copyWidth bytes) (copyHeight bytes) (copyPixels bytes)
 
   pub forward-judges : (plane work : List ℤ) → Formed bytes → maxPixels ≤ length plane → maxPixels ≤ length work
       → forwardAnswer (copyDepth bytes) (copyLevels bytes) (copyWidth bytes) (copyHeight bytes) (copyPixels bytes) plane work ≡ verdict
@@ -45,9 +45,9 @@ module _ (bytes : List ℕ) where
   forward-judges plane work f p q =
       let e = count f in
       let z = f .few in
-      then-right (limited (copyDepth bytes) (copyLevels bytes)) _ (asks-right (depthRight (copyDepth bytes) && levelsRight (copyLevels bytes)) _ _ (f .limited))
+      then-right (limitAnswer (copyDepth bytes) (copyLevels bytes)) _ (asks-right (depthRight (copyDepth bytes) && levelsRight (copyLevels bytes)) _ _ (f .limited))
       ∙ sized-then (copyWidth bytes) (copyHeight bytes) (length (copyPixels bytes)) (length plane) (length work) _
-      ∙ then-right (sized (copyWidth bytes) (copyHeight bytes) (length (copyPixels bytes)) (length plane) (length work)) _
+      ∙ then-right (roomAnswer (copyWidth bytes) (copyHeight bytes) (length (copyPixels bytes)) (length plane) (length work)) _
       (sized-right _ _ _ _ _ (record { wide = f .wide; tall = f .tall; first = omega arith; second = omega arith; third = omega arith }))
 
   -- ---- the text of each answer
@@ -61,7 +61,7 @@ module _ (bytes : List ℕ) where
   text-refused r e v = ap (λ (o : Answer Unit). copyLines bytes (o then verdict)) e ∙ ap (copyLines bytes) v
 
   pub text-done : copyForm bytes ≡ passed → verdict ≡ passed
-      → copyText bytes ≡ headText (headIn bytes) ++ rowLines (copyWidth bytes) (forward columnsThenRows (copyLevels bytes) (copyWidth bytes) (copyHeight bytes) (sample (copyPixels bytes) (copyDepth bytes) (copyWidth bytes))) 0 (copyHeight bytes)
+      → copyText bytes ≡ headText (headIn bytes) ++ rowLines (copyWidth bytes) (forward columnsFirst (copyLevels bytes) (copyWidth bytes) (copyHeight bytes) (sample (copyPixels bytes) (copyDepth bytes) (copyWidth bytes))) 0 (copyHeight bytes)
   unfolding copyText copyAnswer copyLines
   text-done e v = ap (λ (o : Answer Unit). copyLines bytes (o then verdict)) e ∙ ap (copyLines bytes) v
 
@@ -81,7 +81,7 @@ rows-written w h q l old some e = rows-agree w (planeOf w l) q 0 h (λ r c i j.
 -- ---- the call's answer
 
 plane-written : (B L w h : ℕ) (pixels : List ℕ) (plane work : List ℤ) → forwardAnswer B L w h pixels plane work ≡ passed
-    → forwardPlane columnsThenRows B L w h pixels plane work ≡ over (rowByRow w h (forward columnsThenRows L w h (sample pixels B w))) plane
+    → forwardPlane columnsFirst B L w h pixels plane work ≡ over (rowByRow w h (forward columnsFirst L w h (sample pixels B w))) plane
 unfolding forwardPlane
 plane-written B L w h pixels plane work e = answered-done _ _ e
 
@@ -105,11 +105,11 @@ module _ (bytes : List ℕ) (head : Head) (is : head ≡ headIn bytes) (right : 
     pub refused-text : (r : Reason) → o ≡ refused r → refusedLine (r .0) ≡ copyText bytes
     refused-text r e = sym (text-refused bytes r right (sym judged ∙ e))
 
-    pub plane-text : (new : List ℤ) → new ≡ forwardPlane columnsThenRows (head .depth) (head .levels) (head .w) (head .h) (take (head .w * head .h) after) plane work → o ≡ passed
+    pub plane-text : (new : List ℤ) → new ≡ forwardPlane columnsFirst (head .depth) (head .levels) (head .w) (head .h) (take (head .w * head .h) after) plane work → o ≡ passed
         → headText head ++ rowLines (head .w) (planeOf (head .w) new) 0 (head .h) ≡ copyText bytes
     plane-text new e d =
         let v : verdict bytes ≡ passed = sym judged ∙ d in
-        let written = e ∙ (λ i. forwardPlane columnsThenRows (is i .depth) (is i .levels) (is i .w) (is i .h) (same-pixels i) plane work)
+        let written = e ∙ (λ i. forwardPlane columnsFirst (is i .depth) (is i .levels) (is i .w) (is i .h) (same-pixels i) plane work)
         ∙ plane-written _ _ _ _ _ _ _ (forward-judges bytes plane work formed for-plane for-work ∙ v) in
         (λ i. headText (is i) ++ rowLines (is i .w) (planeOf (is i .w) new) 0 (is i .h))
         ∙ ap (λ (t : List ℕ). headText (headIn bytes) ++ t) (rows-written (copyWidth bytes) (copyHeight bytes) _ new plane (formed .wide .0) written)

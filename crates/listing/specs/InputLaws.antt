@@ -12,7 +12,7 @@ use lib.Seq.{getD-drop, getD-take}
 use Rattle.refusals.specs.Answers.{Reason, Answer, done, refused, passed, asks, _then_}
 use Rattle.refusals.specs.AnswerLaws.{asks-done, then-done}
 use Rattle.width_table.specs.Table.{depthRight, levelsRight}
-use Rattle.pictures.specs.Pictures.{sideRight, Admitted, sided, holds}
+use Rattle.pictures.specs.Pictures.{sideRight, Admitted, sideAnswer, lengthAnswer}
 use Rattle.pictures.specs.PictureLaws.{sided-done, holds-done}
 use Rattle.listing.specs.Listing.{pairs, headBytes, maxPixels, maxInput, copyDepth, copyLevels, copyWidth, copyHeight, copySize, copyPixels, copyForm}
 
@@ -58,11 +58,11 @@ abbrev limits : List ℕ → Bool
 limits bytes = depthRight (copyDepth bytes) && levelsRight (copyLevels bytes)
 
 abbrev sizes : List ℕ → Answer Unit
-sizes bytes = sided (copyWidth bytes) (copyHeight bytes) then holds (copySize bytes) maxPixels
+sizes bytes = sideAnswer (copyWidth bytes) (copyHeight bytes) then lengthAnswer (copySize bytes) maxPixels
 
 pub sizes-done : (bytes : List ℕ) → sizes bytes ≡ passed → Admitted (copyWidth bytes) × Admitted (copyHeight bytes) × (copySize bytes ≤ maxPixels)
 sizes-done bytes e =
-    let s = then-done (sided (copyWidth bytes) (copyHeight bytes)) _ e in
+    let s = then-done (sideAnswer (copyWidth bytes) (copyHeight bytes)) _ e in
     let d = sided-done _ _ (s .0) in
     (d .0, d .1, holds-done _ _ (s .1))
 
@@ -72,7 +72,7 @@ body bytes = asks (leb (2 * copySize bytes) (length bytes - headBytes)) 1 (asks 
 
 module _ (bytes : List ℕ) where
   in-parts : copyForm bytes ≡ asks (leb headBytes (length bytes)) 1 (asks (limits bytes) 4 (sizes bytes then body bytes))
-  unfolding copyForm sided holds
+  unfolding copyForm sideAnswer lengthAnswer
   in-parts = ap (λ (o : Answer Unit). asks (leb headBytes (length bytes)) 1 (asks (limits bytes) 4 o))
       (apart (sideRight (copyWidth bytes) && sideRight (copyHeight bytes)) (leb (copySize bytes) maxPixels) (body bytes))
 
@@ -157,7 +157,7 @@ pub why-same : (bytes : List ℕ) (n : ℕ) → headBytes ≤ n → whyLong (tak
 why-same bytes n h = λ i. refusalOf (depthRight (same 0 (omega arith) i) && levelsRight (same 1 (omega arith) i))
     (let w = same 2 (omega arith) i * 256 + same 3 (omega arith) i in
     let h = same 4 (omega arith) i * 256 + same 5 (omega arith) i in
-    sided w h then holds (w * h) maxPixels)
+    sideAnswer w h then lengthAnswer (w * h) maxPixels)
   where
     same : (k : ℕ) → k < headBytes → getD (take n bytes) k 0 ≡ getD bytes k 0
     same k g = getD-take n bytes k 0 (omega arith)

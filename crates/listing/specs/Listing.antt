@@ -8,8 +8,8 @@ use lib.IntN.{ℤ, pos, negsuc}
 use Rattle.refusals.specs.Answers.{Answer, done, refused, passed, asks, _then_}
 use Rattle.lines.specs.Planes.{Plane, tabulate}
 use Rattle.width_table.specs.Table.{depthRight, levelsRight}
-use Rattle.pictures.specs.Pictures.{sideRight, pixelsRight, sample}
-use Rattle.reversible.specs.Reversible.{columnsThenRows, forward}
+use Rattle.pictures.specs.Pictures.{sideRight, pixelAnswer, sample}
+use Rattle.reversible.specs.Reversible.{columnsFirst, forward}
 use Rattle.listing.specs.declared.Head.{Head}
 
 -- ---- text
@@ -121,7 +121,7 @@ module _ (bytes : List ℕ) where
 
   -- then 10
   unfoldable pub copyAnswer : Answer Unit
-  copyAnswer = copyForm then pixelsRight copyDepth copyWidth copyHeight copyPixels
+  copyAnswer = copyForm then pixelAnswer copyDepth copyWidth copyHeight copyPixels
 
   -- B, L, width and height together
   abbrev pub headIn : Head
@@ -129,7 +129,7 @@ module _ (bytes : List ℕ) where
 
   -- the lines of an answer: the head and the plane's rows, or the refusal
   unfoldable pub copyLines : Answer Unit → List ℕ
-  copyLines (done x) = headText headIn ++ rowLines copyWidth (forward columnsThenRows copyLevels copyWidth copyHeight (sample copyPixels copyDepth copyWidth)) 0 copyHeight
+  copyLines (done x) = headText headIn ++ rowLines copyWidth (forward columnsFirst copyLevels copyWidth copyHeight (sample copyPixels copyDepth copyWidth)) 0 copyHeight
   copyLines (refused r) = refusedLine (r .0)
 
   -- what the program prints

@@ -7,7 +7,7 @@ ghost use lib.IntN.{natAbs};
 ghost use Rattle.numbers.specs.Lists.{over};
 ghost use Rattle.refusals.specs.Answers.{passed, _then_};
 ghost use Rattle.refusals.specs.Told.{toldRefusal, told};
-ghost use Rattle.pictures.specs.Pictures.{sided, holds, planeOf};
+ghost use Rattle.pictures.specs.Pictures.{sideAnswer, lengthAnswer, planeOf};
 ghost use Rattle.listing.specs.Listing.{numberBytes, maxNumber, headBytes, headNumbers, natural, decimal, line, rowLines, refusedWord, refusedLine, copyPixels, copyForm, headIn, headText, copyText, listed, maxPixels, maxInput};
 ghost use Rattle.listing.specs.Writing.{Put};
 ghost use Rattle.listing.specs.AnswerLaws.{Memory};
@@ -141,7 +141,7 @@ fn two(high: u8, low: u8) -> u16
     (high as u16) * 256 + (low as u16)
 }
 
-// The pixels of an input that holds n of them and no more.
+// The pixels of an input that lengthAnswer n of them and no more.
 fn read_pixels(bytes: &[u8], pixels: &mut [u16], n: usize)
     requires { ⌜ (length (now bytes) ≡ headBytes + 2 * n) × (n ≤ length (now pixels)) ⌝ }
     ensures { λ _. ⌜ now (pixels .exit) ≡ over (copyPixels (now (bytes .entry))) (now (pixels .entry)) ⌝ }
@@ -176,7 +176,7 @@ fn head_of(bytes: &[u8]) -> Head
 
 // Refusals 8 and 9: admitted sides, and no more pixels than there is memory for.
 fn size_right(w: usize, h: usize) -> Outcome
-    ensures { λ r. ⌜ told r ≡ sided w h then holds (w * h) maxPixels ⌝ }
+    ensures { λ r. ⌜ told r ≡ sideAnswer w h then lengthAnswer (w * h) maxPixels ⌝ }
 {
     match sides_right(w, h) {
         Outcome::Refused(why) => Outcome::Refused(why),

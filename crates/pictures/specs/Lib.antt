@@ -3,10 +3,10 @@
 -- Proved of them:
 --   PictureLaws   what these refusals say where they are not given
 --   PixelLaws     these refusals as the code of src/ finds them
---   Looks         what a look over values tells
+--   RangeChecks   what a look over values tells
 --   MemoryLaws    a plane in memory while kernels work its rows and columns
 pub mod Pictures
 pub mod PictureLaws
 pub mod PixelLaws
 pub mod MemoryLaws
-pub mod Looks
+pub mod RangeChecks

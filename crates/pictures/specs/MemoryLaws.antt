@@ -23,7 +23,7 @@ use Rattle.lines.specs.PlaneLaws.{by-part, within-in, within-below, within-beyo
 use Rattle.lines.specs.RowLaws.{place-in, rows-length, rows-at}
 use Rattle.lifting.specs.declared.Pair.{Pair}
 use Rattle.lifting.specs.declared.Kernel.{Kernel}
-use Rattle.lifting.specs.declared.Kernel.the-variants.{One, Two, Undo}
+use Rattle.lifting.specs.declared.Kernel.the-variants.{One, Two, Inverse}
 use Rattle.lifting.specs.Steps.{applied, scaledBy}
 use Rattle.lifting.specs.Passes.{liftedHighs, liftedLows}
 use Rattle.lifting.specs.Patch.{at, patch, patch-in, patch-above, patch-ext, patch-set}
@@ -63,7 +63,7 @@ worked-same (Two first second low high) n works x y e =
     let mid = lifted-same first n works (evens-equal n e) (odds-equal n e) in
     let new = lifted-same second n works (mid .0) (mid .1) in
     first-equal n (λ i p. ap (scaledBy low) (new .0 i p)) (λ i p. ap (scaledBy high) (new .1 i p))
-worked-same (Undo pair) n works x y e =
+worked-same (Inverse pair) n works x y e =
     let h = highs-equal n e in
     let l = on-lows-equal n (lows-equal n e) h (applied (pair .lows)) (some-highs n works) in
     interleaved-equal n l (on-highs-equal n l h (applied (pair .highs)))

@@ -23,16 +23,16 @@ abbrev pub Admitted : ℕ → Type 0
 Admitted n = (1 ≤ n) × (n ≤ maxSide)
 
 -- 8: both sides are admitted.
-unfoldable pub sided : ℕ → ℕ → Answer Unit
-sided w h = asks (sideRight w && sideRight h) 8 passed
+unfoldable pub sideAnswer : ℕ → ℕ → Answer Unit
+sideAnswer w h = asks (sideRight w && sideRight h) 8 passed
 
--- 9: a lent slice of k elements holds n.
-unfoldable pub holds : ℕ → ℕ → Answer Unit
-holds n k = asks (leb n k) 9 passed
+-- 9: a lent slice of k elements lengthAnswer n.
+unfoldable pub lengthAnswer : ℕ → ℕ → Answer Unit
+lengthAnswer n k = asks (leb n k) 9 passed
 
 -- 10: the first w * h pixels are below 2^B.
-unfoldable pub pixelsRight : ℕ → ℕ → ℕ → List ℕ → Answer Unit
-pixelsRight B w h pixels = asks (every (λ p. ltb p (2 ^ B)) (take (w * h) pixels)) 10 passed
+unfoldable pub pixelAnswer : ℕ → ℕ → ℕ → List ℕ → Answer Unit
+pixelAnswer B w h pixels = asks (every (λ p. ltb p (2 ^ B)) (take (w * h) pixels)) 10 passed
 
 -- Pixels lie row by row. A pixel p enters as p - 2^(B-1).
 unfoldable pub sample : List ℕ → ℕ → ℕ → Plane ℤ

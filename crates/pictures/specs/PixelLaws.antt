@@ -14,7 +14,7 @@ use lib.Seq.{take-suc, take-all}
 use Rattle.numbers.specs.Tests.{every, by-ltb}
 use Rattle.refusals.specs.Answers.{refused, passed, asks}
 use Rattle.pictures.specs.PictureLaws.{sided-done}
-use Rattle.pictures.specs.Pictures.{maxSide, sideRight, sided, holds, pixelsRight}
+use Rattle.pictures.specs.Pictures.{maxSide, sideRight, sideAnswer, lengthAnswer, pixelAnswer}
 
 -- 1, shifted
 pub one-shifted : (k w : ℕ) → 1 + k ≤ w → (1 * 2 ^ k) % 2 ^ w ≡ 2 ^ k
@@ -37,27 +37,27 @@ side-short n h = sym (ap (λ (t : Bool). leb 1 n && t) (le-leb n maxSide h) ∙ 
     and-true false = refl
 
 -- two sides make a size that fits a machine word
-pub size-fits : (w h : ℕ) → sided w h ≡ passed → w * h ≤ 16777216
+pub size-fits : (w h : ℕ) → sideAnswer w h ≡ passed → w * h ≤ 16777216
 size-fits w h e = let d = sided-done w h e in mul-le-mul (d .0 .1) (d .1 .1)
 
 -- ---- refusals 8 and 9
 
 module _ (w h : ℕ) where
-  asked : (s t : Bool) → sideRight w ≡ s → sideRight h ≡ t → sided w h ≡ asks (s && t) 8 passed
-  unfolding sided
+  asked : (s t : Bool) → sideRight w ≡ s → sideRight h ≡ t → sideAnswer w h ≡ asks (s && t) 8 passed
+  unfolding sideAnswer
   asked s t d e = λ j. asks (d j && e j) 8 passed
 
-  pub wide-wrong : sideRight w ≡ false → sided w h ≡ refused (8, [])
+  pub wide-wrong : sideRight w ≡ false → sideAnswer w h ≡ refused (8, [])
   wide-wrong d = asked false (sideRight h) d refl
 
-  pub tall-wrong : sideRight w ≡ true → sideRight h ≡ false → sided w h ≡ refused (8, [])
+  pub tall-wrong : sideRight w ≡ true → sideRight h ≡ false → sideAnswer w h ≡ refused (8, [])
   tall-wrong d e = asked true false d e
 
-  pub both-right : sideRight w ≡ true → sideRight h ≡ true → sided w h ≡ passed
+  pub both-right : sideRight w ≡ true → sideRight h ≡ true → sideAnswer w h ≡ passed
   both-right d e = asked true true d e
 
-pub slice-short : (n k : ℕ) → k < n → holds n k ≡ refused (9, [])
-unfolding holds
+pub slice-short : (n k : ℕ) → k < n → lengthAnswer n k ≡ refused (9, [])
+unfolding lengthAnswer
 slice-short n k h = ap (λ (t : Bool). asks t 9 passed) (lt-leb n k h)
 
 -- ---- refusal 10
@@ -101,12 +101,12 @@ pub largest-all : (l : List ℕ) (i m : ℕ) → Largest (take i l) m → length
 largest-all l i m is h b s = ap (every (λ p. ltb p b)) (sym (take-all i l h)) ∙ is b s
 
 module _ (B w h m : ℕ) (pixels : List ℕ) (is : Largest (take (w * h) pixels) m) where
-  judged : (t : Bool) → ltb m (2 ^ B) ≡ t → pixelsRight B w h pixels ≡ asks t 10 passed
-  unfolding pixelsRight
+  judged : (t : Bool) → ltb m (2 ^ B) ≡ t → pixelAnswer B w h pixels ≡ asks t 10 passed
+  unfolding pixelAnswer
   judged t e = ap (λ (t : Bool). asks t 10 passed) (is (2 ^ B) (pow-pos B) ∙ e)
 
-  pub pixels-small : m < 2 ^ B → pixelsRight B w h pixels ≡ passed
+  pub pixels-small : m < 2 ^ B → pixelAnswer B w h pixels ≡ passed
   pixels-small q = judged true (lt-ltb _ _ q)
 
-  pub pixel-large : 2 ^ B ≤ m → pixelsRight B w h pixels ≡ refused (10, [])
+  pub pixel-large : 2 ^ B ≤ m → pixelAnswer B w h pixels ≡ refused (10, [])
   pixel-large q = judged false (le-ltb _ _ q)

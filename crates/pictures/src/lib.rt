@@ -9,9 +9,9 @@ ghost use Rattle.lifting.specs.PatchLines.{lineAt};
 ghost use Rattle.lifting.specs.Kernels.{rowOf};
 ghost use Rattle.refusals.specs.Answers.{_then_};
 ghost use Rattle.refusals.specs.Told.{told};
-ghost use Rattle.pictures.specs.Pictures.{maxSide, sideRight, sided, holds, pixelsRight, zeroed};
+ghost use Rattle.pictures.specs.Pictures.{maxSide, sideRight, sideAnswer, lengthAnswer, pixelAnswer, zeroed};
 ghost use Rattle.pictures.specs.PixelLaws.{Largest};
-ghost use Rattle.pictures.specs.Looks.{Tells, Between, OfBits, aboveLeast};
+ghost use Rattle.pictures.specs.RangeChecks.{Tells, Between, OfBits, aboveLeast};
 use refusals::Outcome;
 use refusals::Refusal;
 
@@ -30,7 +30,7 @@ pub fn side_admitted(side: usize) -> bool
 
 // Refusal 8.
 pub fn sides_right(w: usize, h: usize) -> Outcome
-    ensures { λ r. ⌜ told r ≡ sided w h ⌝ }
+    ensures { λ r. ⌜ told r ≡ sideAnswer w h ⌝ }
 {
     if side_admitted(w) {} else {
         return Outcome::Refused(Refusal::SideNotAdmitted);
@@ -43,7 +43,7 @@ pub fn sides_right(w: usize, h: usize) -> Outcome
 
 // Refusal 9, for a slice of so many elements that is to hold n.
 pub fn slice_holds(n: usize, length: usize) -> Outcome
-    ensures { λ r. ⌜ told r ≡ holds n length ⌝ }
+    ensures { λ r. ⌜ told r ≡ lengthAnswer n length ⌝ }
 {
     if length < n {
         return Outcome::Refused(Refusal::SliceTooShort);
@@ -53,7 +53,7 @@ pub fn slice_holds(n: usize, length: usize) -> Outcome
 
 // Refusals 8 and 9, for three slices of so many elements.
 pub fn room_right(w: usize, h: usize, first: usize, second: usize, third: usize) -> Outcome
-    ensures { λ r. ⌜ told r ≡ sided w h then holds (w * h) first then holds (w * h) second then holds (w * h) third ⌝ }
+    ensures { λ r. ⌜ told r ≡ sideAnswer w h then lengthAnswer (w * h) first then lengthAnswer (w * h) second then lengthAnswer (w * h) third ⌝ }
 {
     match sides_right(w, h) {
         Outcome::Refused(why) => Outcome::Refused(why),
@@ -89,7 +89,7 @@ fn largest(pixels: &[u16]) -> u16
 // Refusal 10: looks at all of the first w * h pixels.
 pub fn pixels_right(depth: u8, w: usize, h: usize, pixels: &[u16]) -> Outcome
     requires { ⌜ (depth ≤ maxDepth) × (w ≤ maxSide) × (h ≤ maxSide) × (w * h ≤ length (now pixels)) ⌝ }
-    ensures { λ r. ⌜ told r ≡ pixelsRight depth w h (now (pixels .entry)) ⌝ }
+    ensures { λ r. ⌜ told r ≡ pixelAnswer depth w h (now (pixels .entry)) ⌝ }
 {
     let n = w * h;
     let most = largest(&pixels[..n]);
@@ -169,7 +169,7 @@ pub fn part_between(
 fn above(v: i32, top: u32) -> u32
     ensures { λ r. ⌜ r ≡ aboveLeast top v ⌝ }
 {
-    let bits = std::num::wrapping_add_u32(lifting::raise(v), 2147483648);
+    let bits = std::num::wrapping_add_u32(lifting::bias(v), 2147483648);
     std::num::wrapping_add_u32(bits, top)
 }
 

@@ -9,12 +9,12 @@ use Rattle.stages.specs.Stages.{low, high, Product}
 use Rattle.stages.specs.Rule as Rule
 use Rattle.stages.specs.Rule.{Bound, singleError}
 use Rattle.stages.specs.ForwardLaws.{single-least}
-use Rattle.width_table.specs.Nodes.{Node, P1, U1, P2, U2, G1, G2, Pass, Rows, LowColumns, HighColumns, TableNode, bookOrder}
+use Rattle.width_table.specs.Nodes.{Node, P1, U1, P2, U2, G1, G2, Pass, Rows, LowColumns, HighColumns, TableNode, tableOrder}
 use Rattle.width_table.specs.Numbered.{nodeOf}
 use Rattle.width_table.specs.declared.WidthTable.{WidthTable}
 use Rattle.width_table.specs.Table.{constantBits, integerBits, fractionBits, inputBits, formRight}
 use Rattle.table_meaning.specs.Products.{productOf}
-use Rattle.precision.specs.Bounds.{boundAfter, boundAt, rowBound, passBound, entering, boundOf}
+use Rattle.precision.specs.Bounds.{boundAfter, nodeBound, rowBound, passBound, entering, boundOf}
 use Rattle.precision.specs.Verdict.{keptAt, placeNumbers, judgedBy, judged, firstRefusal, verdict}
 
 -- ---- the rule before, word by word as in Bounds and Verdict
@@ -54,7 +54,7 @@ firstBefore t [] = passed
 firstBefore t (p ∷ ps) = judgedBefore t p then firstBefore t ps
 
 unfoldable pub verdictBefore : WidthTable → Answer Unit
-verdictBefore t = asks (formRight t) 4 (firstBefore t (bookOrder (t .levels)))
+verdictBefore t = asks (formRight t) 4 (firstBefore t (tableOrder (t .levels)))
 
 -- ---- no verdict changes
 
@@ -64,8 +64,8 @@ SameVerdict = (t : WidthTable) → verdict t ≡ verdictBefore t
 
 -- the larger error of G1 is always the one on longer lines
 module _ (F : Node → ℕ) (fp : Node → Product) (fi : ℕ) (b : Bound) (f : Node → ℕ) where
-  pub same-bound : (n : Node) → boundAt F fp fi b f n ≡ longBound F fp fi b f n
-  unfolding boundAt longBound Rule.boundAt
+  pub same-bound : (n : Node) → nodeBound F fp fi b f n ≡ longBound F fp fi b f n
+  unfolding nodeBound longBound Rule.sideBound
   same-bound P1 = refl
   same-bound U1 = refl
   same-bound P2 = refl
@@ -76,7 +76,7 @@ module _ (F : Node → ℕ) (fp : Node → Product) (fi : ℕ) (b : Bound) (f : 
       ap (λ (x : ℕ). record { range = long .range; error = x }) e
   same-bound G2 = refl
 
-same-at : (F : Node → ℕ) (fp : Node → Product) (fi : ℕ) (f : Node → ℕ) {b c : Bound} → b ≡ c → boundAt F fp fi b f ≡ longBound F fp fi c f
+same-at : (F : Node → ℕ) (fp : Node → Product) (fi : ℕ) (f : Node → ℕ) {b c : Bound} → b ≡ c → nodeBound F fp fi b f ≡ longBound F fp fi c f
 same-at F fp fi f {b} e = fun-ext (same-bound F fp fi b f) ∙ ap (λ (x : Bound). longBound F fp fi x f) e
 
 module _ (t : WidthTable) (l : ℕ) {b c : Bound} (e : b ≡ c) where
@@ -113,4 +113,4 @@ same-first t (p ∷ ps) = ap₂ (λ (a b : Answer Unit). a then b) (same-judged 
 
 pub same-verdict : SameVerdict
 unfolding verdict verdictBefore
-same-verdict t = ap (asks (formRight t) 4) (same-first t (bookOrder (t .levels)))
+same-verdict t = ap (asks (formRight t) 4) (same-first t (tableOrder (t .levels)))

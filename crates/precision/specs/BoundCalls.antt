@@ -5,7 +5,7 @@ use mathlib.Core.List.{List}
 use lib.ListN.{take}
 use Rattle.refusals.specs.Answers.{Answer, asks, answered}
 use Rattle.width_table.specs.declared.WidthTable.{WidthTable}
-use Rattle.width_table.specs.Nodes.{nodesPerPass, nodesPerLevel, TableNode, nodeAt, bookOrder}
+use Rattle.width_table.specs.Nodes.{nodesPerPass, nodesPerLevel, TableNode, nodeAt, tableOrder}
 use Rattle.width_table.specs.Numbered.{nodeOf, passOf}
 use Rattle.width_table.specs.Table.{formRight}
 use Rattle.width_table.specs.Changes.{hasNode}
@@ -15,11 +15,11 @@ use Rattle.precision.specs.Verdict.{firstRefusal}
 
 -- The nodes of a table of L levels that come before a node in book order. Level, pass and node count from 1.
 abbrev pub nodesBefore : ℕ → ℕ → ℕ → ℕ → List TableNode
-nodesBefore L level pass node = take ((level - 1) * nodesPerLevel + ((pass - 1) * nodesPerPass + (node - 1))) (bookOrder L)
+nodesBefore L level pass node = take ((level - 1) * nodesPerLevel + ((pass - 1) * nodesPerPass + (node - 1))) (tableOrder L)
 
 -- 4 for the form and for a node that the table lacks, then 6 or 7 of the nodes before it
-unfoldable pub boundable : WidthTable → ℕ → ℕ → ℕ → Answer Unit
-boundable t level pass node =
+unfoldable pub boundAnswer : WidthTable → ℕ → ℕ → ℕ → Answer Unit
+boundAnswer t level pass node =
     asks (formRight t) 4
     (asks (hasNode (t .levels) level pass node) 4
     (firstRefusal t (nodesBefore (t .levels) level pass node)))
@@ -30,7 +30,7 @@ boundNumbered t level pass node = boundOf t (nodeAt level (passOf pass) (nodeOf 
 
 -- range and error of the node where the call is done, else zeros
 abbrev pub rangeTold : WidthTable → ℕ → ℕ → ℕ → ℕ
-rangeTold t level pass node = answered (boundable t level pass node) (boundNumbered t level pass node .range) 0
+rangeTold t level pass node = answered (boundAnswer t level pass node) (boundNumbered t level pass node .range) 0
 
 abbrev pub errorTold : WidthTable → ℕ → ℕ → ℕ → ℕ
-errorTold t level pass node = answered (boundable t level pass node) (boundNumbered t level pass node .error) 0
+errorTold t level pass node = answered (boundAnswer t level pass node) (boundNumbered t level pass node .error) 0

@@ -14,27 +14,27 @@ use Rattle.table_meaning.specs.Products.{productOf}
 module _ (F : Node → ℕ) (fp : Node → Product) (fi : ℕ) (b : Bound) (f : Node → ℕ) where
   -- of a side after m stages; stage i leaves node i + 1
   abbrev pub boundAfter : Side → ℕ → Bound
-  boundAfter = Rule.boundAt forward (together b) (λ i. F (nodeOf (suc i))) (λ i. fp (nodeOf (suc i))) (λ s. fi) (λ i. f (nodeOf (suc i)))
+  boundAfter = Rule.sideBound forward (together b) (λ i. F (nodeOf (suc i))) (λ i. fp (nodeOf (suc i))) (λ s. fi) (λ i. f (nodeOf (suc i)))
 
   -- of each node. On a line of one sample (document 02, job 6) G1 has the input's error plus 2^-f where f is below the input's bits; its error
   -- is the larger one.
-  unfoldable pub boundAt : Node → Bound
-  boundAt P1 = boundAfter high 1
-  boundAt U1 = boundAfter low 2
-  boundAt P2 = boundAfter high 3
-  boundAt U2 = boundAfter low 4
-  boundAt G1 = record { range = boundAfter low 5 .range; error = max (boundAfter low 5 .error) (singleError fi b (f G1)) }
-  boundAt G2 = boundAfter high 6
+  unfoldable pub nodeBound : Node → Bound
+  nodeBound P1 = boundAfter high 1
+  nodeBound U1 = boundAfter low 2
+  nodeBound P2 = boundAfter high 3
+  nodeBound U2 = boundAfter low 4
+  nodeBound G1 = record { range = boundAfter low 5 .range; error = max (boundAfter low 5 .error) (singleError fi b (f G1)) }
+  nodeBound G2 = boundAfter high 6
 
 -- The nodes of each pass of level l, where b bounds what enters the level. Columns take range and error of the G node that feeds them.
 module _ (t : WidthTable) (l : ℕ) (b : Bound) where
   unfoldable pub rowBound : Node → Bound
-  rowBound = boundAt (constantBits t) (productOf t l Rows) (inputBits t l Rows) b (fractionBits t l Rows)
+  rowBound = nodeBound (constantBits t) (productOf t l Rows) (inputBits t l Rows) b (fractionBits t l Rows)
 
   unfoldable pub passBound : Pass → Node → Bound
   passBound Rows = rowBound
-  passBound LowColumns = boundAt (constantBits t) (productOf t l LowColumns) (inputBits t l LowColumns) (rowBound G1) (fractionBits t l LowColumns)
-  passBound HighColumns = boundAt (constantBits t) (productOf t l HighColumns) (inputBits t l HighColumns) (rowBound G2) (fractionBits t l HighColumns)
+  passBound LowColumns = nodeBound (constantBits t) (productOf t l LowColumns) (inputBits t l LowColumns) (rowBound G1) (fractionBits t l LowColumns)
+  passBound HighColumns = nodeBound (constantBits t) (productOf t l HighColumns) (inputBits t l HighColumns) (rowBound G2) (fractionBits t l HighColumns)
 
 -- What enters a level: level 1 starts with range 1/2 and error 0, later levels take the low-low of the level before. (Level 0 is none.)
 unfoldable pub entering : WidthTable → ℕ → Bound

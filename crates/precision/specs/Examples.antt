@@ -4,27 +4,27 @@ use mathlib.Core.List.{List, [], _∷_, _++_, map}
 use mathlib.Core.Path.{_≡_, refl, ap}
 use native.Mathlib.Omega.{arith}
 use lib.ListN.{getD}
-use Rattle.exact.specs.Fractions.{_⊕_, _⊗_, whole, magnitude, upDiv, wholesOf}
+use Rattle.exact.specs.Fractions.{_⊕_, _⊗_, whole, magnitude, upDiv, roundedUp}
 use Rattle.numbers.specs.Tests.{every}
 use Rattle.exact.specs.Exact.{lift}
 use Rattle.width_table.specs.declared.WidthTable.{WidthTable}
-use Rattle.width_table.specs.Nodes.{bookOrder}
+use Rattle.width_table.specs.Nodes.{tableOrder}
 use Rattle.width_table.specs.Table.{maxLevels, formRight}
 use Rattle.width_table.specs.WorkedTables.{repeat, four, noProducts, usual, narrow, rough, wide, holding, cut, stray}
 use Rattle.stages.specs.Stages.{made, bits}
-use Rattle.stages.specs.Gains.{gain, exactGain, sumFrom, sumTo, inputAnswer, nodeAnswer, held}
+use Rattle.stages.specs.Gains.{gain, exactGain, sumFrom, sumTo, inputAnswer, nodeAnswer, valuesAfter}
 use Rattle.stages.specs.Rule as Rule
 use Rattle.table_meaning.specs.Products.{productOf}
 use Rattle.precision.specs.Bounds
 use Rattle.refusals.specs.Answers.{Answer, passed, refused}
 use Rattle.precision.specs.Verdict.{judged, firstRefusal, verdict, Accepted}
-use Rattle.precision.specs.BoundCalls.{boundable, rangeTold, errorTold}
+use Rattle.precision.specs.BoundCalls.{boundAnswer, rangeTold, errorTold}
 
 -- computed once for all
 verdicts :
     verdict (usual 1) ∷ verdict (usual 2) ∷ verdict (usual 3) ∷ verdict (usual 4) ∷ verdict (usual 5) ∷ verdict narrow ∷ verdict rough ∷ verdict wide ∷ []
     ≡ passed ∷ passed ∷ passed ∷ passed ∷ passed ∷ refused (6, 1 ∷ 1 ∷ 1 ∷ []) ∷ refused (7, 1 ∷ 2 ∷ 5 ∷ []) ∷ refused (4, []) ∷ []
-unfolding verdict formRight every firstRefusal judged Bounds.boundOf Bounds.entering Bounds.passBound Bounds.rowBound Bounds.boundAt productOf Rule.boundAt Rule.rangeAt Rule.errorAt Rule.owns Rule.ownsBring Rule.ownFrom Rule.brought Rule.ownLift Rule.productLoss Rule.ownScale Rule.loss Rule.timesGain bits upDiv gain exactGain sumFrom sumTo inputAnswer nodeAnswer held made wholesOf lift _⊕_ _⊗_ whole magnitude
+unfolding verdict formRight every firstRefusal judged Bounds.boundOf Bounds.entering Bounds.passBound Bounds.rowBound Bounds.nodeBound productOf Rule.sideBound Rule.rangeAt Rule.errorAt Rule.owns Rule.stagesPart Rule.ownErrorOf Rule.inputPart Rule.ownLift Rule.productLoss Rule.ownScale Rule.loss Rule.timesGain bits upDiv gain exactGain sumFrom sumTo inputAnswer nodeAnswer valuesAfter made roundedUp lift _⊕_ _⊗_ whole magnitude
 verdicts = refl
 
 abbrev nth : ℕ → List (Answer Unit) → Answer Unit
@@ -54,13 +54,13 @@ wide-refused = ap (nth 7) verdicts
 
 -- answer, range and error of a node of `narrow`
 abbrev told : ℕ → ℕ → ℕ → Answer Unit × ℕ × ℕ
-told level pass node = (boundable narrow level pass node, rangeTold narrow level pass node, errorTold narrow level pass node)
+told level pass node = (boundAnswer narrow level pass node, rangeTold narrow level pass node, errorTold narrow level pass node)
 
 -- The first refused node has its bound told, no node after it; a table of one level lacks level 2.
 bounds-told :
     told 1 1 1 ∷ told 1 1 2 ∷ told 2 1 1 ∷ []
     ≡ (passed, 8959885312, 4224) ∷ (refused (6, 1 ∷ 1 ∷ 1 ∷ []), 0, 0) ∷ (refused (4, []), 0, 0) ∷ []
-unfolding boundable formRight every firstRefusal judged Bounds.boundOf Bounds.entering Bounds.passBound Bounds.rowBound Bounds.boundAt productOf Rule.boundAt Rule.rangeAt Rule.errorAt Rule.owns Rule.ownsBring Rule.ownFrom Rule.brought Rule.ownLift Rule.productLoss Rule.ownScale Rule.loss Rule.timesGain bits upDiv gain exactGain sumFrom sumTo inputAnswer nodeAnswer held made wholesOf lift _⊕_ _⊗_ whole magnitude
+unfolding boundAnswer formRight every firstRefusal judged Bounds.boundOf Bounds.entering Bounds.passBound Bounds.rowBound Bounds.nodeBound productOf Rule.sideBound Rule.rangeAt Rule.errorAt Rule.owns Rule.stagesPart Rule.ownErrorOf Rule.inputPart Rule.ownLift Rule.productLoss Rule.ownScale Rule.loss Rule.timesGain bits upDiv gain exactGain sumFrom sumTo inputAnswer nodeAnswer valuesAfter made roundedUp lift _⊕_ _⊗_ whole magnitude
 bounds-told = refl
 
 -- ---- widths of products (document 02, job 7)
@@ -72,7 +72,7 @@ cut-verdicts :
     ∷ verdict (holding (usual 1) (repeat 4 (four 44) ++ noProducts 3 ++ repeat 2 (four 0))) ∷ verdict stray ∷ []
     ≡ passed ∷ refused (7, 1 ∷ 2 ∷ 5 ∷ []) ∷ passed ∷ refused (7, 5 ∷ 2 ∷ 5 ∷ []) ∷ refused (7, 1 ∷ 2 ∷ 6 ∷ []) ∷ passed ∷ refused (4, [])
     ∷ refused (4, []) ∷ refused (4, []) ∷ []
-unfolding verdict formRight every firstRefusal judged Bounds.boundOf Bounds.entering Bounds.passBound Bounds.rowBound Bounds.boundAt productOf Rule.boundAt Rule.rangeAt Rule.errorAt Rule.owns Rule.ownsBring Rule.ownFrom Rule.brought Rule.ownLift Rule.productLoss Rule.ownScale Rule.loss Rule.timesGain bits upDiv gain exactGain sumFrom sumTo inputAnswer nodeAnswer held made wholesOf lift _⊕_ _⊗_ whole magnitude
+unfolding verdict formRight every firstRefusal judged Bounds.boundOf Bounds.entering Bounds.passBound Bounds.rowBound Bounds.nodeBound productOf Rule.sideBound Rule.rangeAt Rule.errorAt Rule.owns Rule.stagesPart Rule.ownErrorOf Rule.inputPart Rule.ownLift Rule.productLoss Rule.ownScale Rule.loss Rule.timesGain bits upDiv gain exactGain sumFrom sumTo inputAnswer nodeAnswer valuesAfter made roundedUp lift _⊕_ _⊗_ whole magnitude
 cut-verdicts = refl
 
 -- So tables with tag 5 are accepted, and refused.
@@ -85,7 +85,7 @@ cut-refused = ap (nth 1) cut-verdicts
 -- The errors of all nodes of one level, in book order: without tag 5; with 44 bits, the same; with 40 to 43, where each product that is cut
 -- loses one unit of 2^-32; with 5 to 8.
 abbrev errors : WidthTable → List ℕ
-errors t = map (λ p. Bounds.boundOf t p .error) (bookOrder (t .levels))
+errors t = map (λ p. Bounds.boundOf t p .error) (tableOrder (t .levels))
 
 pub cut-errors :
     errors (usual 1) ∷ errors (cut 1 (four 44)) ∷ errors (cut 1 (40 ∷ 41 ∷ 42 ∷ 43 ∷ [])) ∷ errors (cut 1 (5 ∷ 6 ∷ 7 ∷ 8 ∷ [])) ∷ []
@@ -94,5 +94,5 @@ pub cut-errors :
     ∷ (4224 ∷ 5080 ∷ 16686 ∷ 23004 ∷ 30650 ∷ 18747 ∷ 132228 ∷ 49802 ∷ 82544 ∷ 76852 ∷ 1073830387 ∷ 1073813891 ∷ 82550 ∷ 32574 ∷ 57286 ∷ 56419 ∷ 1073806885 ∷ 1073791904 ∷ [])
     ∷ (134217856 ∷ 81332781 ∷ 286275837 ∷ 312459157 ∷ 359207981 ∷ 249026793 ∷ 1632931304 ∷ 599350152 ∷ 1044091200 ∷ 922423131 ∷ 2134164604 ∷ 1981958800 ∷ 1173225427 ∷ 440456870 ∷ 811643919 ∷ 735326962 ∷ 1919077546 ∷ 1779761921 ∷ [])
     ∷ []
-unfolding Bounds.boundOf Bounds.entering Bounds.passBound Bounds.rowBound Bounds.boundAt productOf Rule.boundAt Rule.rangeAt Rule.errorAt Rule.owns Rule.ownsBring Rule.ownFrom Rule.brought Rule.ownLift Rule.productLoss Rule.ownScale Rule.loss Rule.timesGain bits upDiv gain exactGain sumFrom sumTo inputAnswer nodeAnswer held made wholesOf lift _⊕_ _⊗_ whole magnitude
+unfolding Bounds.boundOf Bounds.entering Bounds.passBound Bounds.rowBound Bounds.nodeBound productOf Rule.sideBound Rule.rangeAt Rule.errorAt Rule.owns Rule.stagesPart Rule.ownErrorOf Rule.inputPart Rule.ownLift Rule.productLoss Rule.ownScale Rule.loss Rule.timesGain bits upDiv gain exactGain sumFrom sumTo inputAnswer nodeAnswer valuesAfter made roundedUp lift _⊕_ _⊗_ whole magnitude
 cut-errors = refl

@@ -20,10 +20,10 @@ use Rattle.width_table.specs.Limits.{in-nodes, form-constants, form-widths, con
 use Rattle.stages.specs.Stages.{Product, cutTo}
 use Rattle.stages.specs.Rule.{timesGain, ownLift, ownScale}
 use Rattle.table_meaning.specs.Products.{productOf}
-use Rattle.precision.specs.Bounds.{boundAt, rowBound, passBound, boundOf}
+use Rattle.precision.specs.Bounds.{nodeBound, rowBound, passBound, boundOf}
 use Rattle.precision.specs.Verdict.{fits, keptColumn, keptAt, judged, firstRefusal}
 use Rattle.precision.specs.Promise.{each-accepts}
-use Rattle.precision.specs.Places.{places, mostFitting, gainAt, carriedTo, multiplied, other, fed, bitsOf, ownFrom, ownErrorOf, ownHere, ownsOf, ownBy, asHeld, judgedAs, boundOfNode, At, Limited, Read, Enters, Holds}
+use Rattle.precision.specs.Places.{places, mostFitting, gainAt, carriedTo, multiplied, other, fed, bitsOf, ownErrorAt, ownErrorOf, ownHere, ownsOf, ownBy, asHeld, judgedAs, boundOfNode, At, Limited, Read, Enters, BoundsOf}
 use Rattle.precision.specs.ProductReads.{own-number}
 use Rattle.width_table.specs.Numbered.{nodeOf, passOf, IsNode, IsPass, IsProduct, node-number, pass-number}
 use Rattle.precision.specs.PlaceLaws.{largest, by-place, multiplied-place, gain-most, times-small, carried-start, carried-next, carried-small, own-is, range-is, error-is, total-is, own-small, owns-most}
@@ -93,7 +93,7 @@ module _ {t : WidthTable} {l p : ℕ} {w : Widths} (h : Read t l p w) where
   }
 
   pub own-read : (k : ℕ) → IsNode k → (r : ℕ) → ownBy w k r ≡ ownErrorOf t l (passOf p) k r
-  unfolding ownBy ownFrom
+  unfolding ownBy ownErrorAt
   own-read k i r =
       let c = constant-are k i .0 in
       let m = bits-are (multiplied k) (multiplied-place k i) .0 in
@@ -121,7 +121,7 @@ module _ {t : WidthTable} {l p : ℕ} {w : Widths} (h : Read t l p w) where
 
 -- ---- what is computed for a pass
 
-bound-fed : (t : WidthTable) (l : ℕ) (p : Pass) (n : Node) → boundOf t (nodeAt l p n) ≡ boundAt (constantBits t) (productOf t l p) (inputBits t l p) (fed t l p) (fractionBits t l p) n
+bound-fed : (t : WidthTable) (l : ℕ) (p : Pass) (n : Node) → boundOf t (nodeAt l p n) ≡ nodeBound (constantBits t) (productOf t l p) (inputBits t l p) (fed t l p) (fractionBits t l p) n
 unfolding boundOf passBound rowBound
 bound-fed t l Rows n = refl
 bound-fed t l LowColumns n = refl
@@ -197,7 +197,7 @@ module _ {t : WidthTable} {l p : ℕ} {b : Code.Bound} (h : Enters t l p b) wher
       ∙ ap (bound _) (error-is (constantBits t) (productOf t l P) (inputBits t l P) (fed t l P) (fractionBits t l P) k i)
       ∙ ap asHeld (sym (bound-fed t l P (nodeOf k)))
 
-  pub all-held : (x : PassBounds) → Read t l p (x .widths) → Carries (b .range) (x .ranges) → Errors t l p places (x .errors) → Holds t l p x
+  pub all-held : (x : PassBounds) → Read t l p (x .widths) → Carries (b .range) (x .ranges) → Errors t l p places (x .errors) → BoundsOf t l p x
   all-held x w r e = record {
     widths = w;
     is = λ k i. (λ u. bound (r k (inside k i) u) (e k (inside k i) u)) ∙ bound-is k i;

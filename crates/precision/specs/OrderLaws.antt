@@ -12,14 +12,14 @@ use lib.Seq.{take-suc, take-all, take-add, take-take, take-append-le, take-appen
 use Rattle.refusals.specs.Answers.{Reason, Answer, done, refused, passed, _then_, answered}
 use Rattle.refusals.specs.AnswerLaws.{asks-wrong, asks-right, then-right, then-refused}
 use Rattle.width_table.specs.declared.WidthTable.{WidthTable}
-use Rattle.width_table.specs.Nodes.{Node, P1, G1, G2, nodesPerPass, nodesPerLevel, Pass, Rows, LowColumns, HighColumns, TableNode, nodeAt, passNodes, levelNodes, bookOrder}
+use Rattle.width_table.specs.Nodes.{Node, P1, G1, G2, nodesPerPass, nodesPerLevel, Pass, Rows, LowColumns, HighColumns, TableNode, nodeAt, passNodes, levelNodes, tableOrder}
 use Rattle.width_table.specs.Numbered.{nodeOf, passOf, IsNode, IsPass}
 use Rattle.width_table.specs.Table.{formRight}
 use Rattle.width_table.specs.Changes.{hasNode}
 use Rattle.stages.specs.Rule.{Bound}
 use Rattle.precision.specs.Bounds.{entering, boundOf}
 use Rattle.precision.specs.Verdict.{judged, firstRefusal, verdict}
-use Rattle.precision.specs.BoundCalls.{nodesBefore, boundable}
+use Rattle.precision.specs.BoundCalls.{nodesBefore, boundAnswer}
 use Rattle.precision.specs.Promise.{refusal-++}
 use Rattle.precision.specs.Places.{mostFitting, asHeld, fed, fedAfter, At, Enters, Reached}
 use Rattle.precision.specs.PlaceLaws.{by-place}
@@ -53,40 +53,40 @@ node-next t l p k h e =
 
 -- ---- book order
 
-book-length : (L : ℕ) → length (bookOrder L) ≡ L * nodesPerLevel
+book-length : (L : ℕ) → length (tableOrder L) ≡ L * nodesPerLevel
 book-length zero = refl
-book-length (suc L) = length-append (bookOrder L) (levelNodes (suc L)) ∙ omega (arith, book-length L)
+book-length (suc L) = length-append (tableOrder L) (levelNodes (suc L)) ∙ omega (arith, book-length L)
 
-book-part : (k L : ℕ) → k ≤ L → take (k * nodesPerLevel) (bookOrder L) ≡ bookOrder k
-book-part k zero h = let z : k ≡ 0 = omega arith in subst (λ (k : ℕ). take (k * nodesPerLevel) [] ≡ bookOrder k) (sym z) refl
+book-part : (k L : ℕ) → k ≤ L → take (k * nodesPerLevel) (tableOrder L) ≡ tableOrder k
+book-part k zero h = let z : k ≡ 0 = omega arith in subst (λ (k : ℕ). take (k * nodesPerLevel) [] ≡ tableOrder k) (sym z) refl
 book-part k (suc L) h = go (decLt k (suc L)) (book-part k L)
   where
-    go : Dec (k < suc L) → (k ≤ L → take (k * nodesPerLevel) (bookOrder L) ≡ bookOrder k) → take (k * nodesPerLevel) (bookOrder (suc L)) ≡ bookOrder k
-    go (yes i) before = take-append-le (k * nodesPerLevel) (bookOrder L) (levelNodes (suc L)) (omega (arith, book-length L)) ∙ before (omega arith)
+    go : Dec (k < suc L) → (k ≤ L → take (k * nodesPerLevel) (tableOrder L) ≡ tableOrder k) → take (k * nodesPerLevel) (tableOrder (suc L)) ≡ tableOrder k
+    go (yes i) before = take-append-le (k * nodesPerLevel) (tableOrder L) (levelNodes (suc L)) (omega (arith, book-length L)) ∙ before (omega arith)
     go (no i) before =
         let z : k ≡ suc L = omega arith in
-        subst (λ (j : ℕ). take (k * nodesPerLevel) (bookOrder (suc L)) ≡ bookOrder j) (sym z) (take-all (k * nodesPerLevel) (bookOrder (suc L)) (omega (arith, book-length (suc L))))
+        subst (λ (j : ℕ). take (k * nodesPerLevel) (tableOrder (suc L)) ≡ tableOrder j) (sym z) (take-all (k * nodesPerLevel) (tableOrder (suc L)) (omega (arith, book-length (suc L))))
 
-book-next : (t : WidthTable) (k : ℕ) → firstRefusal t (bookOrder k) ≡ passed → firstRefusal t (bookOrder (k + 1)) ≡ firstRefusal t (levelNodes (k + 1))
+book-next : (t : WidthTable) (k : ℕ) → firstRefusal t (tableOrder k) ≡ passed → firstRefusal t (tableOrder (k + 1)) ≡ firstRefusal t (levelNodes (k + 1))
 book-next t k e =
-    subst (λ (j : ℕ). firstRefusal t (bookOrder j) ≡ firstRefusal t (levelNodes j)) (sym (add-one k))
-    (refusal-++ t (bookOrder k) (levelNodes (suc k)) ∙ then-right _ _ e)
+    subst (λ (j : ℕ). firstRefusal t (tableOrder j) ≡ firstRefusal t (levelNodes j)) (sym (add-one k))
+    (refusal-++ t (tableOrder k) (levelNodes (suc k)) ∙ then-right _ _ e)
 
-pub level-accepted : (t : WidthTable) (k : ℕ) → firstRefusal t (bookOrder k) ≡ passed → firstRefusal t (levelNodes (k + 1)) ≡ passed → firstRefusal t (bookOrder (k + 1)) ≡ passed
+pub level-accepted : (t : WidthTable) (k : ℕ) → firstRefusal t (tableOrder k) ≡ passed → firstRefusal t (levelNodes (k + 1)) ≡ passed → firstRefusal t (tableOrder (k + 1)) ≡ passed
 level-accepted t k d e = book-next t k d ∙ e
 
-pub level-refused : (t : WidthTable) (r : Reason) (k m : ℕ) → k < m → firstRefusal t (bookOrder k) ≡ passed → firstRefusal t (levelNodes (k + 1)) ≡ refused r → firstRefusal t (bookOrder m) ≡ refused r
+pub level-refused : (t : WidthTable) (r : Reason) (k m : ℕ) → k < m → firstRefusal t (tableOrder k) ≡ passed → firstRefusal t (levelNodes (k + 1)) ≡ refused r → firstRefusal t (tableOrder m) ≡ refused r
 level-refused t r k m h d e =
     sym (ap (firstRefusal t) (book-part m m (omega arith)))
-    ∙ stays t r (bookOrder m) ((k + 1) * nodesPerLevel) (m * nodesPerLevel) (omega arith) (ap (firstRefusal t) (book-part (k + 1) m (omega arith)) ∙ book-next t k d ∙ e)
+    ∙ stays t r (tableOrder m) ((k + 1) * nodesPerLevel) (m * nodesPerLevel) (omega arith) (ap (firstRefusal t) (book-part (k + 1) m (omega arith)) ∙ book-next t k d ∙ e)
 
 -- the part that ends in level k + 1
-level-part : (k L n : ℕ) → suc k ≤ L → n ≤ nodesPerLevel → take (k * nodesPerLevel + n) (bookOrder L) ≡ bookOrder k ++ take n (levelNodes (suc k))
+level-part : (k L n : ℕ) → suc k ≤ L → n ≤ nodesPerLevel → take (k * nodesPerLevel + n) (tableOrder L) ≡ tableOrder k ++ take n (levelNodes (suc k))
 level-part k L n h i =
-    sym (take-take (k * nodesPerLevel + n) (suc k * nodesPerLevel) (bookOrder L) (omega arith))
+    sym (take-take (k * nodesPerLevel + n) (suc k * nodesPerLevel) (tableOrder L) (omega arith))
     ∙ ap (take (k * nodesPerLevel + n)) (book-part (suc k) L h)
-    ∙ ap (λ (m : ℕ). take (m + n) (bookOrder (suc k))) (sym (book-length k))
-    ∙ take-append-add (bookOrder k) (levelNodes (suc k)) n
+    ∙ ap (λ (m : ℕ). take (m + n) (tableOrder (suc k))) (sym (book-length k))
+    ∙ take-append-add (tableOrder k) (levelNodes (suc k)) n
 
 -- the part of a level that ends in pass p
 pass-part : (l p n : ℕ) → IsPass p → n ≤ nodesPerPass → take ((p - 1) * nodesPerPass + n) (levelNodes l) ≡ take ((p - 1) * nodesPerPass) (levelNodes l) ++ take n (passNodes l (passOf p))
@@ -99,17 +99,17 @@ pass-part l p n i h =
     refl p i)
 
 -- Before a node come the levels before its own, in its level the passes before its own, and in its pass the nodes before it.
-pub before-is : (t : WidthTable) (l p : ℕ) → At t l p → (n : ℕ) → IsNode n → firstRefusal t (nodesBefore (t .levels) l p n) ≡ firstRefusal t (bookOrder (l - 1)) then firstRefusal t (take ((p - 1) * nodesPerPass) (levelNodes l)) then firstRefusal t (take (n - 1) (passNodes l (passOf p)))
+pub before-is : (t : WidthTable) (l p : ℕ) → At t l p → (n : ℕ) → IsNode n → firstRefusal t (nodesBefore (t .levels) l p n) ≡ firstRefusal t (tableOrder (l - 1)) then firstRefusal t (take ((p - 1) * nodesPerPass) (levelNodes l)) then firstRefusal t (take (n - 1) (passNodes l (passOf p)))
 before-is t zero p h n i = absurd (omega (arith, h .level-from))
 before-is t (suc k) p h n i =
     let z : suc k - 1 ≡ k = omega arith in
     subst
-    (λ (m : ℕ). firstRefusal t (take (m * nodesPerLevel + ((p - 1) * nodesPerPass + (n - 1))) (bookOrder (t .levels))) ≡ firstRefusal t (bookOrder m) then firstRefusal t (take ((p - 1) * nodesPerPass) (levelNodes (suc k))) then firstRefusal t (take (n - 1) (passNodes (suc k) (passOf p))))
+    (λ (m : ℕ). firstRefusal t (take (m * nodesPerLevel + ((p - 1) * nodesPerPass + (n - 1))) (tableOrder (t .levels))) ≡ firstRefusal t (tableOrder m) then firstRefusal t (take ((p - 1) * nodesPerPass) (levelNodes (suc k))) then firstRefusal t (take (n - 1) (passNodes (suc k) (passOf p))))
     (sym z)
     (ap (firstRefusal t) (level-part k (t .levels) ((p - 1) * nodesPerPass + (n - 1)) (h .level-to) (omega (arith, h .pass)))
-    ∙ refusal-++ t (bookOrder k) _
-    ∙ ap (λ (ps : List TableNode). firstRefusal t (bookOrder k) then firstRefusal t ps) (pass-part (suc k) p (n - 1) (h .pass) (omega arith))
-    ∙ ap (λ (o : Answer Unit). firstRefusal t (bookOrder k) then o) (refusal-++ t (take ((p - 1) * nodesPerPass) (levelNodes (suc k))) _))
+    ∙ refusal-++ t (tableOrder k) _
+    ∙ ap (λ (ps : List TableNode). firstRefusal t (tableOrder k) then firstRefusal t ps) (pass-part (suc k) p (n - 1) (h .pass) (omega arith))
+    ∙ ap (λ (o : Answer Unit). firstRefusal t (tableOrder k) then o) (refusal-++ t (take ((p - 1) * nodesPerPass) (levelNodes (suc k))) _))
 
 -- ---- into a pass
 
@@ -190,7 +190,7 @@ pub not-formed : (t : WidthTable) → formRight t ≡ false → verdict t ≡ re
 unfolding verdict
 not-formed t e = asks-wrong (formRight t) _ _ e
 
-pub formed : (t : WidthTable) → formRight t ≡ true → verdict t ≡ firstRefusal t (bookOrder (t .levels))
+pub formed : (t : WidthTable) → formRight t ≡ true → verdict t ≡ firstRefusal t (tableOrder (t .levels))
 unfolding verdict
 formed t e = asks-right (formRight t) _ _ (subst T (sym e) tt)
 
@@ -203,10 +203,10 @@ tells b {u} {v} {answer} {range} {error} e = subst (λ (o : Answer Unit). Tells 
 
 -- the answer on a node, by where the first refusal stands
 module _ {t : WidthTable} {l p : ℕ} (h : At t l p) (n : ℕ) (i : IsNode n) where
-  pub level-refuses : (r : Reason) → firstRefusal t (bookOrder (l - 1)) ≡ refused r → firstRefusal t (nodesBefore (t .levels) l p n) ≡ refused r
+  pub level-refuses : (r : Reason) → firstRefusal t (tableOrder (l - 1)) ≡ refused r → firstRefusal t (nodesBefore (t .levels) l p n) ≡ refused r
   level-refuses r e = before-is t l p h n i ∙ then-refused _ _ r e
 
-  module _ (levels : firstRefusal t (bookOrder (l - 1)) ≡ passed) where
+  module _ (levels : firstRefusal t (tableOrder (l - 1)) ≡ passed) where
     pub pass-refuses : (r : Reason) → firstRefusal t (take ((p - 1) * nodesPerPass) (levelNodes l)) ≡ refused r → firstRefusal t (nodesBefore (t .levels) l p n) ≡ refused r
     pass-refuses r e = before-is t l p h n i ∙ then-right _ _ levels ∙ then-refused _ _ r e
 
@@ -214,15 +214,15 @@ module _ {t : WidthTable} {l p : ℕ} (h : At t l p) (n : ℕ) (i : IsNode n) wh
     node-answers o passes e = before-is t l p h n i ∙ then-right _ _ levels ∙ then-right _ _ passes ∙ e
 
 module _ (t : WidthTable) (l p n : ℕ) where
-  pub bound-not-formed : formRight t ≡ false → boundable t l p n ≡ refused (4, [])
-  unfolding boundable
+  pub bound-not-formed : formRight t ≡ false → boundAnswer t l p n ≡ refused (4, [])
+  unfolding boundAnswer
   bound-not-formed e = asks-wrong (formRight t) _ _ e
 
   module _ (f : formRight t ≡ true) where
-    pub bound-lacks : hasNode (t .levels) l p n ≡ false → boundable t l p n ≡ refused (4, [])
-    unfolding boundable
+    pub bound-lacks : hasNode (t .levels) l p n ≡ false → boundAnswer t l p n ≡ refused (4, [])
+    unfolding boundAnswer
     bound-lacks e = asks-right (formRight t) _ _ (subst T (sym f) tt) ∙ asks-wrong (hasNode (t .levels) l p n) _ _ e
 
-    pub bound-has : hasNode (t .levels) l p n ≡ true → boundable t l p n ≡ firstRefusal t (nodesBefore (t .levels) l p n)
-    unfolding boundable
+    pub bound-has : hasNode (t .levels) l p n ≡ true → boundAnswer t l p n ≡ firstRefusal t (nodesBefore (t .levels) l p n)
+    unfolding boundAnswer
     bound-has e = asks-right (formRight t) _ _ (subst T (sym f) tt) ∙ asks-right (hasNode (t .levels) l p n) _ _ (subst T (sym e) tt)

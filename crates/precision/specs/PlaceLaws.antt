@@ -16,11 +16,11 @@ use Rattle.stages.specs.GainTable.{forwardGains}
 use Rattle.stages.specs.ForwardLaws as Forward
 use Rattle.stages.specs.Rule as Rule
 use Rattle.stages.specs.Rule.{Bound, together, timesGain, loss, productLoss, ownLift, ownScale}
-use Rattle.stages.specs.Held.{weighed}
+use Rattle.stages.specs.ValueLaws.{weighed}
 use Rattle.stages.specs.RuleLaws as RuleLaws
 use Rattle.stages.specs.RuleLaws.{timesGain-zero, timesGain-none, timesGain-one, bound-start, bound-kept}
-use Rattle.precision.specs.Bounds.{boundAt}
-use Rattle.precision.specs.Places.{places, mostFitting, gainAt, carriedTo, multiplied, other, bitsAt, ownAt, totalAt, ownFrom, ownsBelow}
+use Rattle.precision.specs.Bounds.{nodeBound}
+use Rattle.precision.specs.Places.{places, mostFitting, gainAt, carriedTo, multiplied, other, bitsAt, ownAt, totalAt, ownErrorAt, ownsBelow}
 use Rattle.width_table.specs.Numbered.{nodeOf, IsNode}
 
 -- an own error is at most this: 7.5 times mostFitting
@@ -109,16 +109,16 @@ module _ (F : Node → ℕ) (fp : Node → Product) (fi : ℕ) (b : Bound) (f : 
   fs i = f (nodeOf (suc i))
 
   -- the first stage multiplies the input, and G2 what P2 left
-  pub own-is : (k : ℕ) → IsNode k → ownAt F fp fi b f k ≡ ownFrom F fp fi b f k (totalAt F fp fi b f (multiplied k))
-  unfolding ownAt ownFrom totalAt boundAt bits RuleLaws.ownAt Rule.ownFrom Rule.boundAt
+  pub own-is : (k : ℕ) → IsNode k → ownAt F fp fi b f k ≡ ownErrorAt F fp fi b f k (totalAt F fp fi b f (multiplied k))
+  unfolding ownAt ownErrorAt totalAt nodeBound bits RuleLaws.ownAt Rule.ownErrorOf Rule.sideBound
   own-is =
       by-place _
       (ap (λ (x : Bound). ownLift (fps 0) (Fs 0) fi fi (fs 0) (x .range + x .error)) (bound-start forward (together b) Fs fps (λ s. fi) fs low))
       refl refl refl refl
       (ap (λ (x : Bound). ownScale (Fs 5) (fs 2) (fs 5) (x .range + x .error)) (bound-kept forward (together b) Fs fps (λ s. fi) fs 4 high refl ∙ bound-kept forward (together b) Fs fps (λ s. fi) fs 3 high refl))
 
-  pub range-is : (k : ℕ) → IsNode k → timesGain (b .range) (gainAt 0 k) ≡ boundAt F fp fi b f (nodeOf k) .range
-  unfolding boundAt Rule.boundAt
+  pub range-is : (k : ℕ) → IsNode k → timesGain (b .range) (gainAt 0 k) ≡ nodeBound F fp fi b f (nodeOf k) .range
+  unfolding nodeBound Rule.sideBound
   range-is = by-place _ (at 1 (lit≤ tt)) (at 2 (lit≤ tt)) (at 3 (lit≤ tt)) (at 4 (lit≤ tt)) (at 5 (lit≤ tt)) (at 6 (lit≤ tt))
     where
       at : (k : ℕ) → k < places → timesGain (b .range) (gainAt 0 k) ≡ Rule.rangeAt forward (together b) Fs fps (λ s. fi) fs (stage forward (k - 1) .side) k
@@ -128,8 +128,8 @@ module _ (F : Node → ℕ) (fp : Node → Product) (fi : ℕ) (b : Bound) (f : 
   error-at : (k : ℕ) → k < places → Rule.errorAt forward (together b) Fs fps (λ s. fi) fs (stage forward (k - 1) .side) k ≡ timesGain (b .error) (gainAt 0 k) + weighed (λ i. gainAt (suc i) k) (RuleLaws.ownAt forward (together b) Fs fps (λ s. fi) fs) k
   error-at = Forward.error-at b Fs fps fi fs
 
-  pub error-is : (k : ℕ) → IsNode k → carriedTo (ownsBelow F fp fi b f places) k places ≡ boundAt F fp fi b f (nodeOf k) .error
-  unfolding carriedTo ownsBelow ownAt boundAt Rule.boundAt weighed
+  pub error-is : (k : ℕ) → IsNode k → carriedTo (ownsBelow F fp fi b f places) k places ≡ nodeBound F fp fi b f (nodeOf k) .error
+  unfolding carriedTo ownsBelow ownAt nodeBound Rule.sideBound weighed
   error-is =
       by-place _
       (simp timesGain-none (omega (arith, error-at 1 (lit≤ tt))))
@@ -141,7 +141,7 @@ module _ (F : Node → ℕ) (fp : Node → Product) (fi : ℕ) (b : Bound) (f : 
 
   -- what the places below k carry to the place that k multiplies
   pub total-is : (k : ℕ) → IsNode k → timesGain (b .range) (gainAt 0 (multiplied k)) + carriedTo (ownsBelow F fp fi b f k) (multiplied k) places ≡ totalAt F fp fi b f (multiplied k)
-  unfolding carriedTo ownsBelow ownAt totalAt boundAt Rule.boundAt weighed
+  unfolding carriedTo ownsBelow ownAt totalAt nodeBound Rule.sideBound weighed
   total-is =
       by-place _
       (simp (timesGain-zero, timesGain-one) (omega arith))
@@ -188,8 +188,8 @@ product-loss-most (cutTo fp) full = go (ltb fp full)
     go true = up-most (2 ^ 32) fp
     go false = lit≤ tt
 
-pub own-half : (F : Node → ℕ) (fp : Node → Product) (fi : ℕ) (b : Bound) (f : Node → ℕ) (k r : ℕ) → 1 ≤ F (nodeOf k) → 2 * ownFrom F fp fi b f k r ≤ r + 1 + 4 * 2 ^ 32
-unfolding ownFrom ownLift ownScale
+pub own-half : (F : Node → ℕ) (fp : Node → Product) (fi : ℕ) (b : Bound) (f : Node → ℕ) (k r : ℕ) → 1 ≤ F (nodeOf k) → 2 * ownErrorAt F fp fi b f k r ≤ r + 1 + 4 * 2 ^ 32
+unfolding ownErrorAt ownLift ownScale
 own-half F fp fi b f k r h = go (ltb k (nodeNumber G1))
   where
     -- of the product before its cut

@@ -16,7 +16,7 @@ use Rattle.stages.specs.GainTable.{forwardGains}
 use Rattle.stages.specs.RuleLaws as RuleLaws
 use Rattle.stages.specs.Rule.{Bound, together, timesGain, ownLift, ownScale}
 use Rattle.table_meaning.specs.Products.{productOf}
-use Rattle.precision.specs.Bounds.{boundAt, boundOf, entering}
+use Rattle.precision.specs.Bounds.{nodeBound, boundOf, entering}
 use Rattle.precision.specs.declared.Bound as Code
 use Rattle.precision.specs.declared.PassBounds.{PassBounds}
 use Rattle.precision.specs.declared.Widths.{Widths}
@@ -65,11 +65,11 @@ module _ (F : Node → ℕ) (fp : Node → Product) (fi : ℕ) (b : Bound) (f : 
   -- range plus error of a place
   unfoldable pub totalAt : ℕ → ℕ
   totalAt zero = b .range + b .error
-  totalAt (suc k) = boundAt F fp fi b f (nodeOf (suc k)) .range + boundAt F fp fi b f (nodeOf (suc k)) .error
+  totalAt (suc k) = nodeBound F fp fi b f (nodeOf (suc k)) .range + nodeBound F fp fi b f (nodeOf (suc k)) .error
 
   -- the own error of place k where r is the range plus error of the value that it multiplies
-  unfoldable pub ownFrom : ℕ → ℕ → ℕ
-  ownFrom k r = elim (ltb k (nodeNumber G1)) [
+  unfoldable pub ownErrorAt : ℕ → ℕ → ℕ
+  ownErrorAt k r = elim (ltb k (nodeNumber G1)) [
     | true ↦ ownLift (fp (nodeOf k)) (F (nodeOf k)) (bitsAt (multiplied k)) (bitsAt (other k)) (bitsAt k) r
     | false ↦ ownScale (F (nodeOf k)) (bitsAt (multiplied k)) (bitsAt k) r
   ]
@@ -101,7 +101,7 @@ module _ (t : WidthTable) (l : ℕ) (p : Pass) where
   bitsOf = bitsAt (constantBits t) (productOf t l p) (inputBits t l p) (fed t l p) (fractionBits t l p)
 
   abbrev pub ownErrorOf : ℕ → ℕ → ℕ
-  ownErrorOf = ownFrom (constantBits t) (productOf t l p) (inputBits t l p) (fed t l p) (fractionBits t l p)
+  ownErrorOf = ownErrorAt (constantBits t) (productOf t l p) (inputBits t l p) (fed t l p) (fractionBits t l p)
 
   abbrev pub ownHere : ℕ → ℕ
   ownHere = ownAt (constantBits t) (productOf t l p) (inputBits t l p) (fed t l p) (fractionBits t l p)
@@ -161,7 +161,7 @@ pub record Enters (t : WidthTable) (l p : ℕ) (b : Code.Bound) : Type 0 where
   pub small : b .range + b .error ≤ mostFitting
 
 -- the program holds the pass's widths, and the bounds of its nodes
-pub record Holds (t : WidthTable) (l p : ℕ) (b : PassBounds) : Type 0 where
+pub record BoundsOf (t : WidthTable) (l p : ℕ) (b : PassBounds) : Type 0 where
   pub widths : Read t l p (b .widths)
   pub is : (k : ℕ) → IsNode k → heldAt b k ≡ boundOfNode t l p k
   pub small : (k : ℕ) → IsNode k → heldAt b k .range + heldAt b k .error ≤ mostTotal

@@ -30,25 +30,25 @@ by-product P a b c d (suc (suc (suc (suc (suc k))))) i = absurd (omega arith)
 
 module _ {t : WidthTable} {l p : ℕ} (h : At t l p) (k : ℕ) (i : IsProduct k) where
   -- the number by the table's own
-  cut-is : cutAt t l p k ≡ elim (t .five) [ true ↦ productWidth t l (passOf p) (nodeOf k) | false ↦ maxProductBits ]
+  cut-is : cutAt t l p k ≡ elim (t .«has_products») [ true ↦ productWidth t l (passOf p) (nodeOf k) | false ↦ maxProductBits ]
   cut-is = cut-read t (h .form) l (h .level-from) (h .level-to) p k (h .pass) i .0
 
   -- what the program reads where the table has tag 5
-  pub cut-held : t .five ≡ true → (m : ℕ) → m ≡ productPlace l p k → getD (t .products) m 0 ≡ cutAt t l p k
+  pub cut-held : t .«has_products» ≡ true → (m : ℕ) → m ≡ productPlace l p k → getD (t .products) m 0 ≡ cutAt t l p k
   cut-held e m is =
       ap (λ (m : ℕ). getD (t .products) m 0) is
       ∙ sym (λ u. getD (t .products) (productPlace l (pass-number p (h .pass) u) (node-number k (omega arith, omega arith) u)) 0)
-      ∙ sym (cut-is ∙ ap (λ (five : Bool). elim five [ true ↦ productWidth t l (passOf p) (nodeOf k) | false ↦ maxProductBits ]) e)
+      ∙ sym (cut-is ∙ ap (λ (hasProducts : Bool). elim hasProducts [ true ↦ productWidth t l (passOf p) (nodeOf k) | false ↦ maxProductBits ]) e)
 
-  product-is : productOf t l (passOf p) (nodeOf k) ≡ widthOf (t .five) (productWidth t l (passOf p) (nodeOf k))
+  product-is : productOf t l (passOf p) (nodeOf k) ≡ widthOf (t .«has_products») (productWidth t l (passOf p) (nodeOf k))
   unfolding productOf
-  product-is = by-product (λ k. productOf t l (passOf p) (nodeOf k) ≡ widthOf (t .five) (productWidth t l (passOf p) (nodeOf k))) refl refl refl refl k i
+  product-is = by-product (λ k. productOf t l (passOf p) (nodeOf k) ≡ widthOf (t .«has_products») (productWidth t l (passOf p) (nodeOf k))) refl refl refl refl k i
 
   -- whatever is the same for no width and for the limit
   pub as-number : {A : Type 0} (made : Product → A) → made (cutTo maxProductBits) ≡ made uncut → made (productOf t l (passOf p) (nodeOf k)) ≡ made (cutTo (cutAt t l p k))
-  as-number made e = ap made product-is ∙ go (t .five) ∙ ap (λ (n : ℕ). made (cutTo n)) (sym cut-is)
+  as-number made e = ap made product-is ∙ go (t .«has_products») ∙ ap (λ (n : ℕ). made (cutTo n)) (sym cut-is)
     where
-      go : (five : Bool) → made (widthOf five (productWidth t l (passOf p) (nodeOf k))) ≡ made (cutTo (elim five [ true ↦ productWidth t l (passOf p) (nodeOf k) | false ↦ maxProductBits ]))
+      go : (hasProducts : Bool) → made (widthOf hasProducts (productWidth t l (passOf p) (nodeOf k))) ≡ made (cutTo (elim hasProducts [ true ↦ productWidth t l (passOf p) (nodeOf k) | false ↦ maxProductBits ]))
       go true = refl
       go false = sym e
 

@@ -6,7 +6,7 @@ use mathlib.Core.Path.{_≡_, refl, _∙_, ap}
 use native.Mathlib.Omega.{arith}
 use lib.Dec.{T, leb→le, le→leb, ltb→lt, lt→ltb}
 use Rattle.numbers.specs.Lists.{In, here, there}
-use Rattle.width_table.specs.Nodes.{Node, P1, U1, P2, U2, G1, G2, Pass, Rows, LowColumns, HighColumns, TableNode, nodeAt, passNodes, levelNodes, bookOrder}
+use Rattle.width_table.specs.Nodes.{Node, P1, U1, P2, U2, G1, G2, Pass, Rows, LowColumns, HighColumns, TableNode, nodeAt, passNodes, levelNodes, tableOrder}
 use Rattle.width_table.specs.declared.WidthTable.{WidthTable}
 use Rattle.refusals.specs.Answers.{Answer, passed, _then_}
 use Rattle.refusals.specs.AnswerLaws.{asks-done, asks-right, then-done, then-assoc, then-right}
@@ -61,10 +61,10 @@ each-node : (P : TableNode → Type 0) (l : ℕ) (p : Pass) → ((n : Node) → 
 each-node P l p f = (f P1, (f U1, (f P2, (f U2, (f G1, (f G2, tt))))))
 
 -- what holds of each pass and node of levels 1 to L holds in book order
-each-order : (P : TableNode → Type 0) (L : ℕ) → ((l : ℕ) → 1 ≤ l → l ≤ L → (p : Pass) (n : Node) → P (nodeAt l p n)) → Each P (bookOrder L)
+each-order : (P : TableNode → Type 0) (L : ℕ) → ((l : ℕ) → 1 ≤ l → l ≤ L → (p : Pass) (n : Node) → P (nodeAt l p n)) → Each P (tableOrder L)
 each-order P zero f = tt
 each-order P (suc k) f =
-    each-++ P (bookOrder k) (levelNodes (suc k)) (each-order P k (λ l a b. f l a (omega arith)))
+    each-++ P (tableOrder k) (levelNodes (suc k)) (each-order P k (λ l a b. f l a (omega arith)))
     (each-++ P (passNodes l Rows) (passNodes l LowColumns ++ passNodes l HighColumns) (each-node P l Rows (at Rows)) (each-++ P (passNodes l LowColumns) (passNodes l HighColumns) (each-node P l LowColumns (at LowColumns)) (each-node P l HighColumns (at HighColumns))))
   where
     l : ℕ
@@ -90,7 +90,7 @@ module _ (t : WidthTable) (ok : AcceptPromise t) where
   -- The judge accepts by these rules and by nothing else.
   pub accept : Accepted t
   unfolding verdict
-  accept = asks-right (formRight t) _ _ (ok .form) ∙ all-accept t (bookOrder (t .levels)) (each-order (λ p. judged t p ≡ passed) (t .levels) node-ok)
+  accept = asks-right (formRight t) _ _ (ok .form) ∙ all-accept t (tableOrder (t .levels)) (each-order (λ p. judged t p ≡ passed) (t .levels) node-ok)
 
 -- the verdict on two stretches, one after the other
 pub refusal-++ : (t : WidthTable) (ps qs : List TableNode) → firstRefusal t (ps ++ qs) ≡ firstRefusal t ps then firstRefusal t qs

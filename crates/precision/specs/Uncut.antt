@@ -8,16 +8,16 @@ use Rattle.refusals.specs.Answers.{Answer, passed, asks, _then_}
 use Rattle.stages.specs.Stages.{Side, low, high, forward, uncut}
 use Rattle.stages.specs.Rule.{Bound, together, singleError}
 use Rattle.stages.specs.UncutRule.{oldBoundAt, old-bound}
-use Rattle.width_table.specs.Nodes.{Node, P1, U1, P2, U2, G1, G2, Pass, Rows, LowColumns, HighColumns, TableNode, bookOrder}
+use Rattle.width_table.specs.Nodes.{Node, P1, U1, P2, U2, G1, G2, Pass, Rows, LowColumns, HighColumns, TableNode, tableOrder}
 use Rattle.width_table.specs.Changes.{hasNode}
 use Rattle.width_table.specs.Numbered.{nodeOf}
 use Rattle.width_table.specs.declared.WidthTable.{WidthTable}
 use Rattle.width_table.specs.Table.{constantBits, integerBits, fractionBits, inputBits, formRight}
 use Rattle.table_meaning.specs.Products.{productOf}
 use Rattle.table_meaning.specs.ProductLaws.{none-cut}
-use Rattle.precision.specs.Bounds.{boundAfter, boundAt, rowBound, passBound, entering, boundOf}
+use Rattle.precision.specs.Bounds.{boundAfter, nodeBound, rowBound, passBound, entering, boundOf}
 use Rattle.precision.specs.Verdict.{keptAt, placeNumbers, judgedBy, judged, firstRefusal, verdict}
-use Rattle.precision.specs.BoundCalls.{nodesBefore, boundable}
+use Rattle.precision.specs.BoundCalls.{nodesBefore, boundAnswer}
 
 -- ---- the analysis before, word by word as in Bounds, Verdict and BoundCalls
 
@@ -58,7 +58,7 @@ oldFirst t [] = passed
 oldFirst t (p ∷ ps) = oldJudged t p then oldFirst t ps
 
 unfoldable pub oldVerdict : WidthTable → Answer Unit
-oldVerdict t = asks (formRight t) 4 (oldFirst t (bookOrder (t .levels)))
+oldVerdict t = asks (formRight t) 4 (oldFirst t (tableOrder (t .levels)))
 
 -- the call that tells a bound
 unfoldable pub oldBoundable : WidthTable → ℕ → ℕ → ℕ → Answer Unit
@@ -73,8 +73,8 @@ module _ (F : Node → ℕ) (fi : ℕ) (b : Bound) (f : Node → ℕ) where
   after-same : (s : Side) (m : ℕ) → boundAfter F (λ n. uncut) fi b f s m ≡ oldAfter F fi b f s m
   after-same = old-bound forward (together b) (λ i. F (nodeOf (suc i))) (λ s. fi) (λ i. f (nodeOf (suc i)))
 
-  at-same : (n : Node) → boundAt F (λ n. uncut) fi b f n ≡ oldAt F fi b f n
-  unfolding boundAt oldAt
+  at-same : (n : Node) → nodeBound F (λ n. uncut) fi b f n ≡ oldAt F fi b f n
+  unfolding nodeBound oldAt
   at-same P1 = after-same high 1
   at-same U1 = after-same low 2
   at-same P2 = after-same high 3
@@ -82,10 +82,10 @@ module _ (F : Node → ℕ) (fi : ℕ) (b : Bound) (f : Node → ℕ) where
   at-same G1 = ap (λ (x : Bound). record { range = x .range; error = max (x .error) (singleError fi b (f G1)) }) (after-same low 5)
   at-same G2 = after-same high 6
 
-module _ (t : WidthTable) (e : t .five ≡ false) where
-  pass-at : (l : ℕ) (p : Pass) (n : Node) {b b′ : Bound} → b ≡ b′ → boundAt (constantBits t) (productOf t l p) (inputBits t l p) b (fractionBits t l p) n ≡ oldAt (constantBits t) (inputBits t l p) b′ (fractionBits t l p) n
+module _ (t : WidthTable) (e : t .«has_products» ≡ false) where
+  pass-at : (l : ℕ) (p : Pass) (n : Node) {b b′ : Bound} → b ≡ b′ → nodeBound (constantBits t) (productOf t l p) (inputBits t l p) b (fractionBits t l p) n ≡ oldAt (constantBits t) (inputBits t l p) b′ (fractionBits t l p) n
   pass-at l p n {b′ = b′} q =
-      (λ u. boundAt (constantBits t) (none-cut t l p e u) (inputBits t l p) (q u) (fractionBits t l p) n)
+      (λ u. nodeBound (constantBits t) (none-cut t l p e u) (inputBits t l p) (q u) (fractionBits t l p) n)
       ∙ at-same (constantBits t) (inputBits t l p) b′ (fractionBits t l p) n
 
   pass-same : (l : ℕ) (p : Pass) (n : Node) {b b′ : Bound} → b ≡ b′ → passBound t l b p n ≡ oldPass t l b′ p n
@@ -118,9 +118,9 @@ module _ (t : WidthTable) (e : t .five ≡ false) where
   -- And the table has its old verdict.
   pub old-verdict : verdict t ≡ oldVerdict t
   unfolding verdict oldVerdict
-  old-verdict = ap (asks (formRight t) 4) (first-same (bookOrder (t .levels)))
+  old-verdict = ap (asks (formRight t) 4) (first-same (tableOrder (t .levels)))
 
-  pub old-boundable : (level pass node : ℕ) → boundable t level pass node ≡ oldBoundable t level pass node
-  unfolding boundable oldBoundable
+  pub old-boundable : (level pass node : ℕ) → boundAnswer t level pass node ≡ oldBoundable t level pass node
+  unfolding boundAnswer oldBoundable
   old-boundable level pass node =
       ap (λ (o : Answer Unit). asks (formRight t) 4 (asks (hasNode (t .levels) level pass node) 4 o)) (first-same (nodesBefore (t .levels) level pass node))

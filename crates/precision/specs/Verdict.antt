@@ -6,7 +6,7 @@ use mathlib.Core.Path.{_≡_}
 use lib.Dec.{T, leb, ltb, eqb}
 use Rattle.refusals.specs.Answers.{Answer, passed, asks, asksGiving, _then_}
 use Rattle.width_table.specs.declared.WidthTable.{WidthTable}
-use Rattle.width_table.specs.Nodes.{Node, P1, U1, P2, U2, G1, G2, Pass, Rows, LowColumns, HighColumns, TableNode, nodeAt, passNumber, nodeNumber, bookOrder}
+use Rattle.width_table.specs.Nodes.{Node, P1, U1, P2, U2, G1, G2, Pass, Rows, LowColumns, HighColumns, TableNode, nodeAt, passNumber, nodeNumber, tableOrder}
 use Rattle.width_table.specs.Table.{integerBits, fractionBits, formRight}
 use Rattle.stages.specs.Rule.{Bound}
 use Rattle.precision.specs.Bounds.{boundOf}
@@ -54,7 +54,7 @@ firstRefusal t (p ∷ ps) = judged t p then firstRefusal t ps
 
 -- Form comes first (4), then the nodes in book order (6 and 7 as one step).
 unfoldable pub verdict : WidthTable → Answer Unit
-verdict t = asks (formRight t) 4 (firstRefusal t (bookOrder (t .levels)))
+verdict t = asks (formRight t) 4 (firstRefusal t (tableOrder (t .levels)))
 
 abbrev pub Accepted : WidthTable → Type 0
 Accepted t = verdict t ≡ passed

@@ -14,16 +14,16 @@ ghost use Rattle.stages.specs.GainTable.{forwardGains};
 ghost use Rattle.stages.specs.Stages.{cutTo};
 ghost use Rattle.stages.specs.Rule.{timesGain, loss, productLoss, ownLift, ownScale};
 ghost use Rattle.precision.specs.Verdict.{keptAt, firstRefusal, verdict};
-ghost use Rattle.precision.specs.Places.{places, mostTotal, asHeld, gainAt, multiplied, other, ownBy, heldAt, judgedAs, fedAfter, At, Limited, Read, Enters, Holds, Reached};
+ghost use Rattle.precision.specs.Places.{places, mostTotal, asHeld, gainAt, multiplied, other, ownBy, heldAt, judgedAs, fedAfter, At, Limited, Read, Enters, BoundsOf, Reached};
 ghost use Rattle.width_table.specs.Numbered.{nodeOf, passOf, IsNode, IsPass, IsProduct};
 ghost use Rattle.width_table.specs.Readers.{cutAt};
 ghost use Rattle.precision.specs.PlaceLaws.{largest, largestGain};
 ghost use Rattle.precision.specs.Bounds.{entering, boundOf};
-ghost use Rattle.precision.specs.BoundCalls.{nodesBefore, boundable, boundNumbered, rangeTold, errorTold};
+ghost use Rattle.precision.specs.BoundCalls.{nodesBefore, boundAnswer, boundNumbered, rangeTold, errorTold};
 ghost use Rattle.refusals.specs.Answers.{passed, refused, answered};
 ghost use Rattle.refusals.specs.Told.{toldRefusal, told};
 ghost use Rattle.width_table.specs.Table.{maxConstantBits, maxIntegerBits, maxFractionBits, maxProductBits, formRight};
-ghost use Rattle.width_table.specs.Nodes.{G1, G2, nodesPerPass, passNumber, passesPerLevel, Rows, nodeAt, passNodes, levelNodes, bookOrder};
+ghost use Rattle.width_table.specs.Nodes.{G1, G2, nodesPerPass, passNumber, passesPerLevel, Rows, nodeAt, passNodes, levelNodes, tableOrder};
 
 // Range and error of a place.
 struct Bound {
@@ -163,7 +163,7 @@ fn products_of(table: WidthTable, level: u8, pass: u8) -> [u8; WidthTable::PRODU
     requires { ⌜ At table level pass ⌝ }
     ensures { λ r. ⌜ ((k : ℕ) → IsProduct k → getD r (k - 1) 0 ≡ cutAt table level pass k) ⌝ }
 {
-    if table.five {} else {
+    if table.has_products {} else {
         return [WidthTable::MAX_PRODUCT_BITS; WidthTable::PRODUCTS as usize];
     }
     let at = width_table::product_place(level, pass, WidthTable::P1);
@@ -255,7 +255,7 @@ struct PassBounds {
 // The bounds of a pass. What enters it is carried to each place, and so is each node's own error once those before it are.
 fn pass_bounds(table: WidthTable, level: u8, pass: u8, input: Bound) -> PassBounds
     requires { ⌜ Enters table level pass input ⌝ }
-    ensures { λ r. ⌜ Holds table level pass r ⌝ }
+    ensures { λ r. ⌜ BoundsOf table level pass r ⌝ }
 {
     let widths = widths_of(table, level, pass);
     let zeros = [0u64; Bound::PLACES as usize];
@@ -326,7 +326,7 @@ fn judge_bound(bound: Bound, integer: u8, fraction: u8, kept: bool, place: NodeP
 
 // The verdict on the first nodes of a pass, as many as `count` says; the first refusal first.
 fn judge_nodes(table: WidthTable, level: u8, pass: u8, bounds: PassBounds, count: u8) -> Outcome
-    requires { ⌜ Holds table level pass bounds ⌝ }
+    requires { ⌜ BoundsOf table level pass bounds ⌝ }
     requires { ⌜ count < places ⌝ }
     ensures { λ r. ⌜ told r ≡ firstRefusal table (take count (passNodes level (passOf pass))) ⌝ }
 {
@@ -439,7 +439,7 @@ fn enter_pass(table: WidthTable, level: u8, done: u8, input: Bound) -> Entered
 // Into the rows of the level that follows the first `done` levels. The first level starts with range 1/2 and no error.
 fn enter_level(table: WidthTable, done: u8) -> Entered
     requires { ⌜ T (formRight table) × (done ≤ table .levels) ⌝ }
-    ensures outcome { λ r. ⌜ told (r .outcome) ≡ firstRefusal table (bookOrder done) ⌝ }
+    ensures outcome { λ r. ⌜ told (r .outcome) ≡ firstRefusal table (tableOrder done) ⌝ }
     ensures bound { λ r. ⌜ (told (r .outcome) ≡ passed → Reached (entering table (done + 1)) (r .bound)) ⌝ }
 {
     let mut input = Bound {
@@ -531,7 +531,7 @@ fn bound_in(table: WidthTable, level: u8, pass: u8, node: u8) -> BoundAnswer
 
 // Range and error of a node: 4 where the form is not right or the table lacks the node, then 6 or 7 of the nodes before it.
 pub fn bound_of(table: WidthTable, level: u8, pass: u8, node: u8) -> BoundAnswer
-    ensures outcome { λ r. ⌜ told (r .outcome) ≡ boundable table level pass node ⌝ }
+    ensures outcome { λ r. ⌜ told (r .outcome) ≡ boundAnswer table level pass node ⌝ }
     ensures range { λ r. ⌜ r .range ≡ rangeTold table level pass node ⌝ }
     ensures error { λ r. ⌜ r .error ≡ errorTold table level pass node ⌝ }
 {

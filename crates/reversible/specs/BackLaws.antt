@@ -1,4 +1,4 @@
--- The way back in memory: what the code's looks tell, and when the answer is 11.
+-- The way inverse in memory: what the code's looks tell, and when the answer is 11.
 use Prim.Native.Nat.{ℕ, _+_, _*_, _<_, _≤_, _^_}
 use mathlib.Core.Bool.{Bool, true, false}
 use mathlib.Core.Path.{_≡_, sym, subst}
@@ -6,20 +6,20 @@ use native.Mathlib.Omega.{arith}
 use lib.Dec.{T}
 use lib.IntN.{ℤ, pos, natAbs, negℤ}
 use Rattle.numbers.specs.Abs.{abs-≤}
-use Rattle.lines.specs.Planes.{side, levelsBack}
+use Rattle.lines.specs.Planes.{side, inverseLevels}
 use Rattle.lines.specs.PlaneLaws.{side-le, Agree}
 use Rattle.lifting.specs.Kernels.{rowOf}
-use Rattle.pictures.specs.Looks.{Tells, Between}
-use Rattle.reversible.specs.Reversible.{Order, back}
-use Rattle.reversible.specs.LevelLaws.{Sized, planeAt}
+use Rattle.pictures.specs.RangeChecks.{Tells, Between}
+use Rattle.reversible.specs.Reversible.{Order, inverse}
+use Rattle.reversible.specs.LevelLaws.{BoundedPart, planeAt}
 use Rattle.reversible.specs.LoopLaws.{BackLeft, back-part}
-use Rattle.reversible.specs.Needs.{LevelsRoom}
+use Rattle.reversible.specs.Preconditions.{LevelsRoom}
 
--- ---- the answer of all levels back
+-- ---- the answer of all levels inverse
 
 pub record BackDone (order : Order) (L w h : ℕ) (x y : ℕ → ℤ) (r : Bool) : Type 0 where
-  pub done : T r → Agree w h (planeAt w y) (back order L w h (planeAt w x))
-  pub none : Sized (2 ^ 11) w h (back order L w h (planeAt w x)) → T r
+  pub done : T r → Agree w h (planeAt w y) (inverse order L w h (planeAt w x))
+  pub none : BoundedPart (2 ^ 11) w h (inverse order L w h (planeAt w x)) → T r
 
 -- a size as a look sees it
 pub sized-between : (n : ℕ) (z : ℤ) → natAbs z ≤ n → Between (negℤ (pos n)) (pos n) z
@@ -39,7 +39,7 @@ module _ (order : Order) {L w h n m : ℕ} (p : LevelsRoom L w h n m) (k : ℕ) 
   here : (i j : ℕ) → i * w + j ≡ 0 + i * w + j
   here i j = omega arith
 
-  pub look-small : T r → Sized largest (side k w) (side k h) (planeAt w y)
+  pub look-small : T r → BoundedPart largest (side k w) (side k h) (planeAt w y)
   look-small t a b e f = subst (λ (k : ℕ). natAbs (y k) ≤ largest) (sym (here a b)) (between-sized largest (rowOf w 0 y a b) (look .holds t a (omega arith) b (omega arith)))
 
   pub look-large : r ≡ false → BackDone order L w h x y false
@@ -51,5 +51,5 @@ module _ (order : Order) {L w h n m : ℕ} (p : LevelsRoom L w h n m) (k : ℕ) 
   }
 
 pub back-all : (order : Order) (L w h : ℕ) (x y : ℕ → ℤ) → BackLeft order L w h 0 x y → BackDone order L w h x y true
-unfolding back levelsBack
+unfolding inverse inverseLevels
 back-all order L w h x y f = record { done = λ t. f .left; none = λ s. tt }

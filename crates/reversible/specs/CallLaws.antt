@@ -1,5 +1,5 @@
 -- The claims of the 5/3 calls, proved, in either order of rows and columns: what a done call made or gave (`makes-copy`, `gives-picture`),
--- there and back (`there-and-back`), back and there (`back-and-there`), and when the way back is done, and when it is refused 11
+-- there and inverse (`there-and-back`), inverse and there (`back-and-there`), and when the way inverse is done, and when it is refused 11
 -- (`done-exactly`, `eleven-exactly`).
 use Prim.Native.Nat.{ℕ, _+_, _*_, _-_, _^_, _<_, _≤_}
 use mathlib.Core.Bool.{Bool, true, false, _&&_}
@@ -18,18 +18,18 @@ use Rattle.refusals.specs.AnswerLaws.{asks-done, asks-right, asks-wrong, asks-r
 use Rattle.lines.specs.PlaneLaws.{Agree}
 use Rattle.lines.specs.RowLaws.{place-in, rows-length, rows-same, rows-take, every-row, rows-map}
 use Rattle.width_table.specs.Table.{depthRight, levelsRight}
-use Rattle.pictures.specs.Pictures.{pixelsRight, sample, planeOf}
-use Rattle.pictures.specs.PictureLaws.{Room, sized, sized-then, sized-done, sized-right, pixels-done, pixel-below, over-take, over-length}
-use Rattle.reversible.specs.Reversible.{Order, forward, back}
+use Rattle.pictures.specs.Pictures.{pixelAnswer, sample, planeOf}
+use Rattle.pictures.specs.PictureLaws.{Room, roomAnswer, sized-then, sized-done, sized-right, pixels-done, pixel-below, over-take, over-length}
+use Rattle.reversible.specs.Reversible.{Order, forward, inverse}
 use Rattle.reversible.specs.ReversibleLaws.{take-add, forward-agrees}
 use Rattle.reversible.specs.Claims.{PixelsOf, copyOf, Copied, MakesCopy, ThereAndBack, GivesPicture, BackAndThere, ElevenExactly, DoneExactly}
 use Rattle.reversible.specs.PictureLaws.{goes-back, found-picture, found-plane, pixel-is, has-picture}
-use Rattle.reversible.specs.Calls.{limited, forwardAnswer, forwardPlane, pixelsBack, isPixel, hasPicture, backAllowed, backAnswer, backPixels}
+use Rattle.reversible.specs.Calls.{limitAnswer, forwardAnswer, forwardPlane, pixelsBack, isPixel, hasPicture, backAllowed, backAnswer, backPixels}
 
--- ---- there and back
+-- ---- there and inverse
 
-allowed : (B L w h a b c : ℕ) → T (depthRight B && levelsRight L) → Room w h a b c → limited B L then sized w h a b c ≡ passed
-allowed B L w h a b c d r = then-right (limited B L) _ (asks-right (depthRight B && levelsRight L) _ _ d) ∙ sized-right w h a b c r
+allowed : (B L w h a b c : ℕ) → T (depthRight B && levelsRight L) → Room w h a b c → limitAnswer B L then roomAnswer w h a b c ≡ passed
+allowed B L w h a b c d r = then-right (limitAnswer B L) _ (asks-right (depthRight B && levelsRight L) _ _ d) ∙ sized-right w h a b c r
 
 -- what a done forward call tells
 record ForwardDone (B L w h : ℕ) (pixels : List ℕ) (plane work : List ℤ) : Type 0 where
@@ -40,8 +40,8 @@ record ForwardDone (B L w h : ℕ) (pixels : List ℕ) (plane work : List ℤ) :
 forward-done : (B L w h : ℕ) (pixels : List ℕ) (plane work : List ℤ) → forwardAnswer B L w h pixels plane work ≡ passed → ForwardDone B L w h pixels plane work
 unfolding forwardAnswer
 forward-done B L w h pixels plane work e =
-    let a = then-done (limited B L) _ e in
-    let b = then-done (sized w h (length pixels) (length plane) (length work)) _ (sym (sized-then w h (length pixels) (length plane) (length work) _) ∙ a .1) in
+    let a = then-done (limitAnswer B L) _ e in
+    let b = then-done (roomAnswer w h (length pixels) (length plane) (length work)) _ (sym (sized-then w h (length pixels) (length plane) (length work) _) ∙ a .1) in
     record {
       limits = asks-done (depthRight B && levelsRight L) _ _ (a .0) .0;
       room = sized-done w h (length pixels) (length plane) (length work) (b .0);
@@ -71,7 +71,7 @@ module _ (order : Order) (B L w h : ℕ) (pixels : List ℕ) (plane work : List 
   front : copyOf order B L w h pixels ≡ take (w * h) made
   front = sym (ap (take (w * h)) is-over ∙ over-take (w * h) (copyOf order B L w h pixels) plane long)
 
-  value : (r c : ℕ) → r < h → c < w → back order L w h (planeOf w made) r c +ℤ pos (2 ^ (B - 1)) ≡ pos (getD pixels (r * w + c) 0)
+  value : (r c : ℕ) → r < h → c < w → inverse order L w h (planeOf w made) r c +ℤ pos (2 ^ (B - 1)) ≡ pos (getD pixels (r * w + c) 0)
   unfolding sample
   value r c i j =
       ap (λ (z : ℤ). z +ℤ pos (2 ^ (B - 1))) (goes-back order B L w h some-w made room-made (sample pixels B w) front r c i j)
@@ -82,13 +82,13 @@ module _ (order : Order) (B L w h : ℕ) (pixels : List ℕ) (plane work : List 
 
   has : T (hasPicture order B L w h made)
   unfolding hasPicture pixelsBack
-  has = every-row w h some-w (isPixel B) (λ r c. back order L w h (planeOf w made) r c +ℤ pos (2 ^ (B - 1)))
+  has = every-row w h some-w (isPixel B) (λ r c. inverse order L w h (planeOf w made) r c +ℤ pos (2 ^ (B - 1)))
       (λ r c i j. subst (λ (z : ℤ). T (isPixel B z)) (sym (value r c i j)) (pixel-is B (getD pixels (r * w + c) 0) (pixel-right r c i j)))
 
   same-pixels : map natAbs (pixelsBack order B L w h made) ≡ take (w * h) pixels
   unfolding pixelsBack
   same-pixels =
-      rows-map natAbs w h (λ r c. back order L w h (planeOf w made) r c +ℤ pos (2 ^ (B - 1)))
+      rows-map natAbs w h (λ r c. inverse order L w h (planeOf w made) r c +ℤ pos (2 ^ (B - 1)))
       ∙ rows-same w h some-w _ (λ r c. getD pixels (r * w + c) 0) (λ r c i j. ap natAbs (value r c i j))
       ∙ rows-take w h some-w pixels 0 (facts .room .first)
 
@@ -121,7 +121,7 @@ pub there-and-back : ThereAndBack
 there-and-back order B L w h pixels plane work e shown area rs ra =
     (goes-back-done order B L w h pixels plane work e shown area rs ra, goes-back-same order B L w h pixels plane work e shown area rs ra)
 
--- ---- back and there
+-- ---- inverse and there
 
 record BackDone (order : Order) (B L w h : ℕ) (plane : List ℤ) (pixels : List ℕ) (work : List ℤ) : Type 0 where
   limits : T (depthRight B && levelsRight L)
@@ -132,7 +132,7 @@ back-done : (order : Order) (B L w h : ℕ) (plane : List ℤ) (pixels : List �
 unfolding backAnswer backAllowed
 back-done order B L w h plane pixels work e =
     let a = then-done (backAllowed B L w h plane pixels work) _ e in
-    let b = then-done (limited B L) _ (a .0) in
+    let b = then-done (limitAnswer B L) _ (a .0) in
     record {
       limits = asks-done (depthRight B && levelsRight L) _ _ (b .0) .0;
       room = sized-done w h (length pixels) (length plane) (length work) (b .1);
@@ -183,13 +183,13 @@ module _ (order : Order) (B L w h : ℕ) (plane : List ℤ) (pixels : List ℕ) 
 
   module _ (out area : List ℤ) (ro : w * h ≤ length out) (ra : w * h ≤ length area) where
     comes-forward-done : forwardAnswer B L w h picture out area ≡ passed
-    unfolding forwardAnswer pixelsRight
+    unfolding forwardAnswer pixelAnswer
     comes-forward-done =
         let k = known in
-        let a = then-done (limited B L) _ (allowed B L w h (length picture) (length out) (length area) (k .limits) (record { wide = k .room .wide; tall = k .room .tall; first = room-picture; second = ro; third = ra })) in
-        then-right (limited B L) _ (a .0)
+        let a = then-done (limitAnswer B L) _ (allowed B L w h (length picture) (length out) (length area) (k .limits) (record { wide = k .room .wide; tall = k .room .tall; first = room-picture; second = ro; third = ra })) in
+        then-right (limitAnswer B L) _ (a .0)
         ∙ sized-then w h (length picture) (length out) (length area) _
-        ∙ then-right (sized w h (length picture) (length out) (length area)) _ (a .1)
+        ∙ then-right (roomAnswer w h (length picture) (length out) (length area)) _ (a .1)
         ∙ asks-right (every (λ p. ltb p (2 ^ B)) (take (w * h) picture)) _ _ (subst (λ (l : List ℕ). T (every (λ p. ltb p (2 ^ B)) l)) (sym front-came) (right-came .right))
 
     comes-forward-same : forwardPlane order B L w h picture out area ≡ over (take (w * h) plane) out
@@ -213,7 +213,7 @@ module _ (order : Order) (B L w h : ℕ) (plane : List ℤ) (pixels : List ℕ) 
 
   room-back : Room w h (length pixels) (length plane) (length work)
   unfolding backAllowed
-  room-back = sized-done w h (length pixels) (length plane) (length work) (then-done (limited B L) _ e .1)
+  room-back = sized-done w h (length pixels) (length plane) (length work) (then-done (limitAnswer B L) _ e .1)
 
   exactly : T (hasPicture order B L w h plane) ↔ Copied order B L w h plane
   exactly = has-picture order B L w h (room-back .wide .0) plane (room-back .second)

@@ -7,11 +7,11 @@ use Rattle.numbers.specs.Floor.{floorDiv, half-twice, quarter-twice}
 use Rattle.lines.specs.Lines.{lows, highs, Liftable, lowsFirst}
 use Rattle.lines.specs.Cases.{highsByCases, lowsByCases, ofHigh, ofLow}
 use Rattle.lines.specs.LineLaws.{Equal, first-equal, interleaved-equal}
-use Rattle.lines.specs.BackLaws.{equal}
+use Rattle.lines.specs.InverseLaws.{equal}
 use Rattle.lines.specs.OneLaws.{one-long}
-use Rattle.lines.specs.CaseLaws.{respects-equal, Reduced, highs-are, lows-are}
-use Rattle.reversible.specs.Reversible.{predict, update, unpredict, unupdate, high, low, reversibleLong, reversiblePass, lowBack, highBack, backLong, backPass}
-use Rattle.reversible.specs.Cases.{predictEnd, updateEnd, unpredictEnd, unupdateEnd, highByCases, lowByCases, passByCases, lowBackByCases, highBackByCases, backByCases}
+use Rattle.lines.specs.CaseLaws.{congruence-equal, Reduced, highs-are, lows-are}
+use Rattle.reversible.specs.Reversible.{predict, update, inversePredict, inverseUpdate, high, low, reversibleLong, reversiblePass, lowInverse, highInverse, inverseLong, inversePass}
+use Rattle.reversible.specs.Cases.{predictEnd, updateEnd, inversePredictEnd, inverseUpdateEnd, highByCases, lowByCases, passByCases, lowInverseByCases, highInverseByCases, inverseByCases}
 
 -- ---- the reduced equations
 
@@ -23,13 +23,13 @@ pub update-end : Reduced _≡_ update updateEnd
 unfolding update updateEnd
 update-end own y = ap (λ (z : ℤ). own +ℤ z) (sym (quarter-twice y))
 
-pub unpredict-end : Reduced _≡_ unpredict unpredictEnd
-unfolding unpredict unpredictEnd
-unpredict-end own x = ap (λ (z : ℤ). own +ℤ z) (sym (half-twice x))
+pub inverse-predict-end : Reduced _≡_ inversePredict inversePredictEnd
+unfolding inversePredict inversePredictEnd
+inverse-predict-end own x = ap (λ (z : ℤ). own +ℤ z) (sym (half-twice x))
 
-pub unupdate-end : Reduced _≡_ unupdate unupdateEnd
-unfolding unupdate unupdateEnd
-unupdate-end own y = ap (λ (z : ℤ). own -ℤ z) (sym (quarter-twice y))
+pub inverse-update-end : Reduced _≡_ inverseUpdate inverseUpdateEnd
+unfolding inverseUpdate inverseUpdateEnd
+inverse-update-end own y = ap (λ (z : ℤ). own -ℤ z) (sym (quarter-twice y))
 
 -- ---- the passes
 
@@ -37,11 +37,11 @@ module _ (n : ℕ) (works : Liftable n) where
   module _ (x : ℕ → ℤ) where
     high-is : Equal (highs n) (highByCases n x) (high n x)
     unfolding highByCases high
-    high-is = highs-are equal (respects-equal predict) predict-end n works (λ i p. refl) (λ i p. refl)
+    high-is = highs-are equal (congruence-equal predict) predict-end n works (λ i p. refl) (λ i p. refl)
 
     low-is : Equal (lows n) (lowByCases n x) (low n x)
     unfolding lowByCases low
-    low-is = lows-are equal (respects-equal update) update-end n works (λ i p. refl) high-is
+    low-is = lows-are equal (congruence-equal update) update-end n works (λ i p. refl) high-is
 
     -- forward: source document 004, equations 1, 2 and 4 to 6
     pub pass-is : Equal n (passByCases n x) (reversiblePass n x)
@@ -49,18 +49,18 @@ module _ (n : ℕ) (works : Liftable n) where
     pass-is k h = first-equal n low-is high-is k h ∙ sym (one-long (λ v. v) reversibleLong n x k works)
 
   module _ (y : ℕ → ℤ) where
-    low-back-is : Equal (lows n) (lowBackByCases n y) (lowBack n y)
-    unfolding lowBackByCases lowBack
-    low-back-is = lows-are equal (respects-equal unupdate) unupdate-end n works (λ i p. refl) (λ i p. refl)
+    low-back-is : Equal (lows n) (lowInverseByCases n y) (lowInverse n y)
+    unfolding lowInverseByCases lowInverse
+    low-back-is = lows-are equal (congruence-equal inverseUpdate) inverse-update-end n works (λ i p. refl) (λ i p. refl)
 
-    high-back-is : Equal (highs n) (highBackByCases n y) (highBack n y)
-    unfolding highBackByCases highBack
-    high-back-is = highs-are equal (respects-equal unpredict) unpredict-end n works low-back-is (λ i p. refl)
+    high-back-is : Equal (highs n) (highInverseByCases n y) (highInverse n y)
+    unfolding highInverseByCases highInverse
+    high-back-is = highs-are equal (congruence-equal inversePredict) inverse-predict-end n works low-back-is (λ i p. refl)
 
     -- back
-    pub back-is : Equal n (backByCases n y) (backPass n y)
-    unfolding backByCases backPass backLong
-    back-is k h = interleaved-equal n low-back-is high-back-is k h ∙ sym (one-long (λ v. v) backLong n y k works)
+    pub back-is : Equal n (inverseByCases n y) (inversePass n y)
+    unfolding inverseByCases inversePass inverseLong
+    back-is k h = interleaved-equal n low-back-is high-back-is k h ∙ sym (one-long (λ v. v) inverseLong n y k works)
 
 -- ---- the shortest lines, where the ends meet
 

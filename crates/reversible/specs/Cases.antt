@@ -5,7 +5,7 @@ use lib.IntN.{ℤ, pos, _+ℤ_, _-ℤ_}
 use Rattle.numbers.specs.Floor.{floorDiv}
 use Rattle.lines.specs.Lines.{lows, lowsFirst, interleaved}
 use Rattle.lines.specs.Cases.{highsByCases, lowsByCases}
-use Rattle.reversible.specs.Reversible.{predict, update, unpredict, unupdate}
+use Rattle.reversible.specs.Reversible.{predict, update, inversePredict, inverseUpdate}
 
 -- ---- forward
 
@@ -33,22 +33,22 @@ module _ (n : ℕ) (x : ℕ → ℤ) where
 -- ---- back, which the paper does not print: the same equations taken back are ours
 
 -- equation 5 taken back
-unfoldable pub unpredictEnd : ℤ → ℤ → ℤ
-unpredictEnd own x = own +ℤ x
+unfoldable pub inversePredictEnd : ℤ → ℤ → ℤ
+inversePredictEnd own x = own +ℤ x
 
 -- equations 4 and 6 taken back
-unfoldable pub unupdateEnd : ℤ → ℤ → ℤ
-unupdateEnd own y = own -ℤ floorDiv (y +ℤ pos 1) 2
+unfoldable pub inverseUpdateEnd : ℤ → ℤ → ℤ
+inverseUpdateEnd own y = own -ℤ floorDiv (y +ℤ pos 1) 2
 
 module _ (n : ℕ) (y : ℕ → ℤ) where
   -- equations 2, 4 and 6 taken back
-  unfoldable pub lowBackByCases : ℕ → ℤ
-  lowBackByCases = lowsByCases unupdate unupdateEnd n y (λ i. y (lows n + i))
+  unfoldable pub lowInverseByCases : ℕ → ℤ
+  lowInverseByCases = lowsByCases inverseUpdate inverseUpdateEnd n y (λ i. y (lows n + i))
 
   -- equations 1 and 5 taken back
-  unfoldable pub highBackByCases : ℕ → ℤ
-  highBackByCases = highsByCases unpredict unpredictEnd n lowBackByCases (λ i. y (lows n + i))
+  unfoldable pub highInverseByCases : ℕ → ℤ
+  highInverseByCases = highsByCases inversePredict inversePredictEnd n lowInverseByCases (λ i. y (lows n + i))
 
   -- each value to its place
-  unfoldable pub backByCases : ℕ → ℤ
-  backByCases = interleaved lowBackByCases highBackByCases
+  unfoldable pub inverseByCases : ℕ → ℤ
+  inverseByCases = interleaved lowInverseByCases highInverseByCases

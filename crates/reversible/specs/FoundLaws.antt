@@ -1,4 +1,4 @@
--- The way back ends: whether what came out are pixels (refusal 11), and what is written.
+-- The way inverse ends: whether what came out are pixels (refusal 11), and what is written.
 use Prim.Native.Nat.{ℕ, _+_, _*_, _-_, _/_, _%_, _<_, _≤_, _^_}
 use mathlib.Core.Bool.{Bool, true, false, not}
 use mathlib.Core.List.{List, map, _++_}
@@ -17,14 +17,14 @@ use Rattle.lines.specs.PlaneLaws.{Agree}
 use Rattle.lines.specs.RowLaws.{place-in, rows-length, rows-at, every-row, every-row-at}
 use Rattle.lifting.specs.Patch.{at, patch, patch-in, patch-above}
 use Rattle.pictures.specs.Pictures.{planeOf}
-use Rattle.pictures.specs.Looks.{Tells, Between, tells-same}
+use Rattle.pictures.specs.RangeChecks.{Tells, Between, tells-same}
 use Rattle.pictures.specs.MemoryLaws.{over-is}
-use Rattle.reversible.specs.Reversible.{Order, back}
+use Rattle.reversible.specs.Reversible.{Order, inverse}
 use Rattle.reversible.specs.ReversibleLaws.{back-agrees}
 use Rattle.reversible.specs.Calls.{pixelsBack, isPixel, hasPicture}
 use Rattle.reversible.specs.LevelLaws.{planeAt}
 use Rattle.reversible.specs.StepLaws.{middle}
-use Rattle.reversible.specs.Needs.{CallRoom}
+use Rattle.reversible.specs.Preconditions.{CallRoom}
 use Rattle.reversible.specs.BackLaws.{BackDone}
 use Rattle.width_table.specs.Table.{maxDepth}
 
@@ -63,7 +63,7 @@ module _ (B : ℕ) (some : 1 ≤ B) (few : B ≤ maxDepth) where
 pub by-place : (P : ℕ → Type 0) (w h : ℕ) → 1 ≤ w → ((r c : ℕ) → r < h → c < w → P (r * w + c)) → (k : ℕ) → k < w * h → P k
 by-place P w h some f k i = subst P (div-add-mod' k w) (f (k / w) (k % w) (div-lt-iff-lt-mul some .1 (subst (λ (n : ℕ). k < n) (mul-comm w h) i)) (mod-lt k some))
 
--- ---- the plane is taken back in values y: whether it has a picture, and what its pixels are
+-- ---- the plane is taken inverse in values y: whether it has a picture, and what its pixels are
 
 pub record Found (order : Order) (B L w h : ℕ) (plane : List ℤ) (y : ℕ → ℤ) (r : Bool) : Type 0 where
   pub answer : r ≡ hasPicture order B L w h plane
@@ -75,9 +75,9 @@ module _ (order : Order) {B L w h a b c : ℕ} (room : CallRoom B L w h a b c) (
   some-w = room .room .wide .0
 
   abbrev sampleAt : Plane ℤ
-  sampleAt = back order L w h (planeOf w plane)
+  sampleAt = inverse order L w h (planeOf w plane)
 
-  same : Agree w h (back order L w h (planeAt w mid)) sampleAt
+  same : Agree w h (inverse order L w h (planeAt w mid)) sampleAt
   same = back-agrees order L w h (planeAt w mid) (planeOf w plane)
       (λ r c i j. ap (λ (f : ℕ → ℤ). f (r * w + c)) copied ∙ ap (patch 0 (w * h) (at plane) x) (omega arith) ∙ patch-in 0 (w * h) (at plane) x (r * w + c) (place-in w h some-w r c i j))
 
@@ -144,7 +144,7 @@ module _ {order : Order} {B L w h n m k : ℕ} (room : CallRoom B L w h n m k) (
     (written : (λ k. getD after k 0) ≡ patch 0 (w * h) (λ k. natAbs (y k +ℤ pos (2 ^ (B - 1)))) (λ k. getD pixels k 0)) where
   new-length : length (map natAbs (pixelsBack order B L w h plane)) ≡ w * h
   unfolding pixelsBack
-  new-length = length-map (pixelsBack order B L w h plane) natAbs ∙ rows-length w h (room .room .wide .0) (λ r c. back order L w h (planeOf w plane) r c +ℤ pos (2 ^ (B - 1)))
+  new-length = length-map (pixelsBack order B L w h plane) natAbs ∙ rows-length w h (room .room .wide .0) (λ r c. inverse order L w h (planeOf w plane) r c +ℤ pos (2 ^ (B - 1)))
 
   pub taken : length pixels ≡ n → length after ≡ n → TakenBack order B L w h plane pixels after true
   taken e d = record {

@@ -6,19 +6,19 @@ use mathlib.Core.Path.{_≡_, refl, sym, _∙_, ap, subst}
 use native.Mathlib.Omega.{arith}
 use lib.IntN.{ℤ, natAbs}
 use Rattle.lines.specs.Lines.{Liftable}
-use Rattle.lines.specs.Planes.{Plane, OnLine, rows, within, rowsFirst, columnsFirst, levels, side}
+use Rattle.lines.specs.Planes.{Plane, OnLine, rows, within, levelRowsFirst, levelColumnsFirst, levels, side}
 use Rattle.lines.specs.PlaneLaws.{within-in, within-below, within-beyond, Keeps, rows-first-in, rows-first-keeps, columns-first-in, columns-first-keeps, by-part, side-le}
 use Rattle.lines.specs.OneLaws.{one-single, long-line}
 use Rattle.lifting.specs.declared.Kernel.{Kernel}
 use Rattle.lifting.specs.PatchLines.{lineAt, patchLines, lines-apart, lines-is}
 use Rattle.lifting.specs.Kernels.{worked, SafeKernel, rowOf, columnOf, rowsBy, columnsBy, rowsWorked, columnsWorked}
 use Rattle.pictures.specs.MemoryLaws.{Stands, Reads, one-reads, worked-same, rows-stand, columns-stand, rows-beyond, columns-beyond, columnsPlane, columns-in, columns-below, columns-right}
-use Rattle.reversible.specs.Reversible.{Order, columnsThenRows, rowsThenColumns, reversiblePass, forwardLevel, forward, backLevel}
-use Rattle.reversible.specs.Sizes.{workedFrom, forwardKernel, backKernel, forward-kernel, back-kernel, Grows, forward-grows, forward-safe, back-safe}
+use Rattle.reversible.specs.Reversible.{Order, columnsFirst, rowsFirst, reversiblePass, forwardLevel, forward, inverseLevel}
+use Rattle.reversible.specs.Sizes.{workedFrom, forwardKernel, inverseKernel, forward-kernel, back-kernel, Grows, forward-grows, forward-safe, back-safe}
 
 -- values of size b at most within w columns and h rows
-abbrev pub Sized : ℕ → ℕ → ℕ → Plane ℤ → Type 0
-Sized b w h p = (r c : ℕ) → r < h → c < w → natAbs (p r c) ≤ b
+abbrev pub BoundedPart : ℕ → ℕ → ℕ → Plane ℤ → Type 0
+BoundedPart b w h p = (r c : ℕ) → r < h → c < w → natAbs (p r c) ≤ b
 
 -- the plane that stands in memory in rows of W values
 abbrev pub planeAt : ℕ → (ℕ → ℤ) → Plane ℤ
@@ -64,24 +64,24 @@ module _ (pass : OnLine ℤ) (reads : Reads pass) (W H w h : ℕ) (in-w : w ≤ 
   abbrev columnPass : Bool → OnLine ℤ
   columnPass low = pass
 
-  rows-then-columns : Stands W H (columnsBy pass W 0 w h (rowsBy pass W w h x)) (rowsFirst pass columnPass w h p)
+  rows-then-columns : Stands W H (columnsBy pass W 0 w h (rowsBy pass W w h x)) (levelRowsFirst pass columnPass w h p)
   unfolding rows
   rows-then-columns r c i j =
       let q : Plane ℤ = within w h (rows pass w p) p in
       columns-stand pass reads W H 0 w h (rowsBy pass W w h x) q (omega arith) in-h (rows-stand pass reads W H w h x p in-w in-h stands) r c i j
-      ∙ by-part (λ r c. columnsPlane pass 0 w h q r c ≡ rowsFirst pass columnPass w h p r c) w h
+      ∙ by-part (λ r c. columnsPlane pass 0 w h q r c ≡ levelRowsFirst pass columnPass w h p r c) w h
       (λ r c i j. columns-in pass 0 w h q r c i (omega arith) (omega arith)
       ∙ reads h (λ m. q m c) (λ m. pass w (p m) c) (λ m a. within-in w h _ p m c a j) r i
       ∙ sym (rows-first-in pass columnPass w h p r c i j))
       (λ r c i. columns-below pass 0 w h q r c i ∙ within-below w h _ p r c i ∙ sym (rows-first-keeps pass columnPass .below w h p r c i))
       (λ r c j. columns-right pass 0 w h q r c (omega arith) ∙ within-beyond w h _ p r c j ∙ sym (rows-first-keeps pass columnPass .beyond w h p r c j)) r c
 
-  columns-then-rows : Stands W H (rowsBy pass W w h (columnsBy pass W 0 w h x)) (columnsFirst pass columnPass w h p)
+  columns-then-rows : Stands W H (rowsBy pass W w h (columnsBy pass W 0 w h x)) (levelColumnsFirst pass columnPass w h p)
   unfolding rows
   columns-then-rows r c i j =
       let q : Plane ℤ = columnsPlane pass 0 w h p in
       rows-stand pass reads W H w h (columnsBy pass W 0 w h x) q in-w in-h (columns-stand pass reads W H 0 w h x p (omega arith) in-h stands) r c i j
-      ∙ by-part (λ r c. within w h (rows pass w q) q r c ≡ columnsFirst pass columnPass w h p r c) w h
+      ∙ by-part (λ r c. within w h (rows pass w q) q r c ≡ levelColumnsFirst pass columnPass w h p r c) w h
       (λ r c i j. within-in w h _ q r c i j
       ∙ reads w (q r) (λ m. pass h (λ n. p n m) r) (λ m a. columns-in pass 0 w h p r m i (omega arith) (omega arith)) c j
       ∙ sym (columns-first-in pass columnPass w h p r c i j))
@@ -93,28 +93,28 @@ abbrev pub levelForward : ℕ → ℕ → ℕ → (ℕ → ℤ) → ℕ → ℤ
 levelForward W w h x = rowsFrom forwardKernel W w h (columnsFrom forwardKernel W w h x)
 
 -- a level back, of a copy of either order
-abbrev pub levelBack : Order → ℕ → ℕ → ℕ → (ℕ → ℤ) → ℕ → ℤ
-levelBack columnsThenRows W w h x = columnsFrom backKernel W w h (rowsFrom backKernel W w h x)
-levelBack rowsThenColumns W w h x = rowsFrom backKernel W w h (columnsFrom backKernel W w h x)
+abbrev pub levelInverse : Order → ℕ → ℕ → ℕ → (ℕ → ℤ) → ℕ → ℤ
+levelInverse columnsFirst W w h x = columnsFrom inverseKernel W w h (rowsFrom inverseKernel W w h x)
+levelInverse rowsFirst W w h x = rowsFrom inverseKernel W w h (columnsFrom inverseKernel W w h x)
 
 module _ (W H w h : ℕ) (in-w : w ≤ W) (in-h : h ≤ H) (x : ℕ → ℤ) where
   pub forward-beyond : (q : ℕ) → W * H ≤ q → levelForward W w h x q ≡ x q
   forward-beyond q i = rows-beyond (workedFrom forwardKernel) W H w h (columnsFrom forwardKernel W w h x) in-w in-h q i ∙ columns-beyond (workedFrom forwardKernel) W H 0 w h x (omega arith) in-h q i
 
   module _ (p : Plane ℤ) (stands : Stands W H x p) where
-    pub forward-stands : Stands W H (levelForward W w h x) (forwardLevel columnsThenRows w h p)
-    forward-stands = subst (λ (pass : OnLine ℤ). Stands W H (levelForward W w h x) (columnsFirst pass (λ low. pass) w h p)) forward-kernel
+    pub forward-stands : Stands W H (levelForward W w h x) (forwardLevel columnsFirst w h p)
+    forward-stands = subst (λ (pass : OnLine ℤ). Stands W H (levelForward W w h x) (levelColumnsFirst pass (λ low. pass) w h p)) forward-kernel
         (columns-then-rows (workedFrom forwardKernel) (from-reads forwardKernel) W H w h in-w in-h x p stands)
 
-    pub back-stands : (order : Order) → Stands W H (levelBack order W w h x) (backLevel order w h p)
-    back-stands columnsThenRows = subst (λ (pass : OnLine ℤ). Stands W H (levelBack columnsThenRows W w h x) (rowsFirst pass (λ low. pass) w h p)) back-kernel
-        (rows-then-columns (workedFrom backKernel) (from-reads backKernel) W H w h in-w in-h x p stands)
-    back-stands rowsThenColumns = subst (λ (pass : OnLine ℤ). Stands W H (levelBack rowsThenColumns W w h x) (columnsFirst pass (λ low. pass) w h p)) back-kernel
-        (columns-then-rows (workedFrom backKernel) (from-reads backKernel) W H w h in-w in-h x p stands)
+    pub back-stands : (order : Order) → Stands W H (levelInverse order W w h x) (inverseLevel order w h p)
+    back-stands columnsFirst = subst (λ (pass : OnLine ℤ). Stands W H (levelInverse columnsFirst W w h x) (levelRowsFirst pass (λ low. pass) w h p)) back-kernel
+        (rows-then-columns (workedFrom inverseKernel) (from-reads inverseKernel) W H w h in-w in-h x p stands)
+    back-stands rowsFirst = subst (λ (pass : OnLine ℤ). Stands W H (levelInverse rowsFirst W w h x) (levelColumnsFirst pass (λ low. pass) w h p)) back-kernel
+        (columns-then-rows (workedFrom inverseKernel) (from-reads inverseKernel) W H w h in-w in-h x p stands)
 
 -- ---- the steps fit
 
-module _ (W w h b : ℕ) (in-w : w ≤ W) (x : ℕ → ℤ) (small : Sized b w h (planeAt W x)) where
+module _ (W w h b : ℕ) (in-w : w ≤ W) (x : ℕ → ℤ) (small : BoundedPart b w h (planeAt W x)) where
   row-small : (r : ℕ) → r < h → (c : ℕ) → c < w → natAbs (rowOf W 0 x r c) ≤ b
   row-small r i c j = sized-as b _ _ (ap x (omega arith)) (small r c i j)
 
@@ -128,21 +128,21 @@ module _ (W w h b : ℕ) (in-w : w ≤ W) (x : ℕ → ℤ) (small : Sized b w h
     pub forward-columns-safe : Liftable h → (c : ℕ) → c < w → SafeKernel forwardKernel h (columnOf W 0 x c)
     forward-columns-safe tall c j = forward-safe h b (columnOf W 0 x c) tall (column-small c j) fits
 
-    pub back-rows-safe : Liftable w → (r : ℕ) → r < h → SafeKernel backKernel w (rowOf W 0 x r)
+    pub back-rows-safe : Liftable w → (r : ℕ) → r < h → SafeKernel inverseKernel w (rowOf W 0 x r)
     back-rows-safe wide r i = back-safe w b _ wide (row-small r i) fits
 
-    pub back-columns-safe : Liftable h → (c : ℕ) → c < w → SafeKernel backKernel h (columnOf W 0 x c)
+    pub back-columns-safe : Liftable h → (c : ℕ) → c < w → SafeKernel inverseKernel h (columnOf W 0 x c)
     back-columns-safe tall c j = back-safe h b _ tall (column-small c j) fits
 
   -- values after the first of a level's two passes, by a kernel that makes them at most m times as large
   module _ (k : Kernel) (m : ℕ) (grows : Grows m (workedFrom k)) where
-    pub rows-sized : Sized (m * b) w h (planeAt W (rowsFrom k W w h x))
+    pub rows-sized : BoundedPart (m * b) w h (planeAt W (rowsFrom k W w h x))
     unfolding rows
     rows-sized r c i j = sized-as (m * b) _ _
         (rows-stand (workedFrom k) (from-reads k) W h w h x (planeAt W x) in-w (omega arith) (λ r c i j. refl) r c i (omega arith) ∙ within-in w h _ _ r c i j)
         (grows w b (planeAt W x r) (λ n a. small r n i a) c j)
 
-    pub columns-sized : Sized (m * b) w h (planeAt W (columnsFrom k W w h x))
+    pub columns-sized : BoundedPart (m * b) w h (planeAt W (columnsFrom k W w h x))
     columns-sized r c i j = sized-as (m * b) _ _
         (columns-stand (workedFrom k) (from-reads k) W h 0 w h x (planeAt W x) (omega arith) (omega arith) (λ r c i j. refl) r c i (omega arith) ∙ columns-in (workedFrom k) 0 w h (planeAt W x) r c i (omega arith) (omega arith))
         (grows h b (λ n. planeAt W x n c) (λ n a. small n c a j) r i)
@@ -150,30 +150,30 @@ module _ (W w h b : ℕ) (in-w : w ≤ W) (x : ℕ → ℤ) (small : Sized b w h
 -- ---- how large a transform's values become
 
 forward-keeps : (order : Order) → Keeps (forwardLevel order)
-forward-keeps columnsThenRows = columns-first-keeps reversiblePass (λ low. reversiblePass)
-forward-keeps rowsThenColumns = rows-first-keeps reversiblePass (λ low. reversiblePass)
+forward-keeps columnsFirst = columns-first-keeps reversiblePass (λ low. reversiblePass)
+forward-keeps rowsFirst = rows-first-keeps reversiblePass (λ low. reversiblePass)
 
 pass-grows : Grows 2 reversiblePass
 pass-grows = subst (Grows 2) forward-kernel forward-grows
 
 -- within the part that a level works
-part-size : (order : Order) (w h b : ℕ) (p : Plane ℤ) → Sized b w h p → Sized (4 * b) w h (forwardLevel order w h p)
-part-size columnsThenRows w h b p s r c i j = sized-as (4 * b) _ _ (columns-first-in reversiblePass (λ low. reversiblePass) w h p r c i j)
+part-size : (order : Order) (w h b : ℕ) (p : Plane ℤ) → BoundedPart b w h p → BoundedPart (4 * b) w h (forwardLevel order w h p)
+part-size columnsFirst w h b p s r c i j = sized-as (4 * b) _ _ (columns-first-in reversiblePass (λ low. reversiblePass) w h p r c i j)
     (omega (arith, pass-grows w (2 * b) (λ k. reversiblePass h (λ m. p m k) r) (λ k a. pass-grows h b (λ m. p m k) (λ m e. s m k e a) r i) c j))
-part-size rowsThenColumns w h b p s r c i j = sized-as (4 * b) _ _ (rows-first-in reversiblePass (λ low. reversiblePass) w h p r c i j)
+part-size rowsFirst w h b p s r c i j = sized-as (4 * b) _ _ (rows-first-in reversiblePass (λ low. reversiblePass) w h p r c i j)
     (omega (arith, pass-grows h (2 * b) (λ m. reversiblePass w (p m) c) (λ m a. pass-grows w b (p m) (λ n e. s m n a e) c j) r i))
 
-level-size : (order : Order) (v u w h b : ℕ) → v ≤ w → u ≤ h → (p : Plane ℤ) → Sized b w h p → Sized (4 * b) w h (forwardLevel order v u p)
+level-size : (order : Order) (v u w h b : ℕ) → v ≤ w → u ≤ h → (p : Plane ℤ) → BoundedPart b w h p → BoundedPart (4 * b) w h (forwardLevel order v u p)
 level-size order v u w h b in-w in-h p s = by-part (λ r c. r < h → c < w → natAbs (forwardLevel order v u p r c) ≤ 4 * b) v u
     (λ r c i j x y. part-size order v u b p (λ m n a e. s m n (omega arith) (omega arith)) r c i j)
     (λ r c i x y. sized-as (4 * b) _ _ (forward-keeps order .below v u p r c i) (omega (arith, s r c x y)))
     (λ r c j x y. sized-as (4 * b) _ _ (forward-keeps order .beyond v u p r c j) (omega (arith, s r c x y)))
 
 -- samples of 12 bits: after k levels at most 2^11 * 4^k
-pub forward-sized : (order : Order) (w h k : ℕ) (p : Plane ℤ) → Sized (2 ^ 11) w h p → Sized (2 ^ 11 * 4 ^ k) w h (forward order k w h p)
+pub forward-sized : (order : Order) (w h k : ℕ) (p : Plane ℤ) → BoundedPart (2 ^ 11) w h p → BoundedPart (2 ^ 11 * 4 ^ k) w h (forward order k w h p)
 unfolding forward levels
 forward-sized order w h zero p s = s
 forward-sized order w h (suc k) p s =
-    let t : Sized (4 * (2 ^ 11 * 4 ^ k)) w h (forward order (suc k) w h p) =
+    let t : BoundedPart (4 * (2 ^ 11 * 4 ^ k)) w h (forward order (suc k) w h p) =
     level-size order (side k w) (side k h) w h (2 ^ 11 * 4 ^ k) (side-le k w) (side-le k h) (forward order k w h p) (forward-sized order w h k p s) in
     λ r c i j. omega (arith, t r c i j)

@@ -17,7 +17,7 @@
 --   Columns          the columns of a picture, line by line into the plane
 --   LevelLaws        a level in memory, forward and back, in either order
 --   LoopLaws         levels one after another in memory
---   Needs            what the functions ask of their callers
+--   Preconditions    what the functions ask of their callers
 --   StepLaws         samples in, levels, the work area cleared
 --   BackLaws         what the looks of the way back tell
 --   FoundLaws        its end: whether pixels came out, and what is written
@@ -35,7 +35,7 @@ pub mod Sizes
 pub mod LevelLaws
 pub mod Columns
 pub mod LoopLaws
-pub mod Needs
+pub mod Preconditions
 pub mod StepLaws
 pub mod BackLaws
 pub mod FoundLaws

@@ -1,9 +1,9 @@
 -- The order of a copy's levels as the code names it.
-use Rattle.reversible.specs.declared.First.{First}
-use Rattle.reversible.specs.declared.First.the-variants.{Columns, Rows}
-use Rattle.reversible.specs.Reversible.{Order, columnsThenRows, rowsThenColumns}
+use Rattle.reversible.specs.declared.CopyOrder.{CopyOrder}
+use Rattle.reversible.specs.declared.CopyOrder.the-variants.{ColumnsFirst, RowsFirst}
+use Rattle.reversible.specs.Reversible.{Order, columnsFirst, rowsFirst}
 
 -- what was worked first, then the other
-abbrev pub orderOf : First → Order
-orderOf Columns = columnsThenRows
-orderOf Rows = rowsThenColumns
+abbrev pub orderOf : CopyOrder → Order
+orderOf ColumnsFirst = columnsFirst
+orderOf RowsFirst = rowsFirst

@@ -1,10 +1,10 @@
--- The reversible 5/3 transform and its way back (document 01: the lifting; pictures and planes), in either order of rows and columns
+-- The reversible 5/3 transform and its way inverse (document 01: the lifting; pictures and planes), in either order of rows and columns
 -- (document 02, job 4). Values are whole numbers without limit.
 use Prim.Native.Nat.{ℕ, _+_, _*_}
 use lib.IntN.{ℤ, pos, _+ℤ_, _-ℤ_}
 use Rattle.numbers.specs.Floor.{floorDiv}
 use Rattle.lines.specs.Lines.{lows, onHighs, onLows, lowsFirst, interleaved}
-use Rattle.lines.specs.Planes.{OnLine, OnPart, fromOne, rowsFirst, columnsFirst, levels, levelsBack}
+use Rattle.lines.specs.Planes.{OnLine, OnPart, fromOne, levelRowsFirst, levelColumnsFirst, levels, inverseLevels}
 
 -- ---- forward: source document 004, equations 1 and 2
 
@@ -35,45 +35,45 @@ reversiblePass = fromOne (λ v. v) reversibleLong
 -- The order in which the levels of an exact copy were worked. New copies have the columns before the rows, as JPEG 2000 Part 1 has them
 -- (document 02, job 4); copies made earlier have the rows before the columns (document 01, pictures and planes).
 pub data Order : Type 0 where
-  columnsThenRows rowsThenColumns : Order
+  columnsFirst rowsFirst : Order
 
 -- a level worked in that order
 abbrev pub forwardLevel : Order → OnPart ℤ
-forwardLevel columnsThenRows = columnsFirst reversiblePass (λ low. reversiblePass)
-forwardLevel rowsThenColumns = rowsFirst reversiblePass (λ low. reversiblePass)
+forwardLevel columnsFirst = levelColumnsFirst reversiblePass (λ low. reversiblePass)
+forwardLevel rowsFirst = levelRowsFirst reversiblePass (λ low. reversiblePass)
 
 -- level 1 comes first; each works what those before it left as low-low
 unfoldable pub forward : Order → ℕ → OnPart ℤ
 forward order = levels (λ l. forwardLevel order)
 
--- ---- back: the same steps taken back, in reverse
+-- ---- inverse: the same steps taken inverse, in reverse
 
-unfoldable pub unpredict : ℤ → ℤ → ℤ → ℤ
-unpredict own x y = own +ℤ floorDiv (x +ℤ y) 2
+unfoldable pub inversePredict : ℤ → ℤ → ℤ → ℤ
+inversePredict own x y = own +ℤ floorDiv (x +ℤ y) 2
 
-unfoldable pub unupdate : ℤ → ℤ → ℤ → ℤ
-unupdate own x y = own -ℤ floorDiv (x +ℤ y +ℤ pos 2) 4
+unfoldable pub inverseUpdate : ℤ → ℤ → ℤ → ℤ
+inverseUpdate own x y = own -ℤ floorDiv (x +ℤ y +ℤ pos 2) 4
 
 -- one line of n values y, two or more, lows first: the lows, then the highs, then each to its place
 module _ (n : ℕ) (y : ℕ → ℤ) where
-  unfoldable pub lowBack : ℕ → ℤ
-  lowBack = onLows unupdate n y (λ i. y (lows n + i))
+  unfoldable pub lowInverse : ℕ → ℤ
+  lowInverse = onLows inverseUpdate n y (λ i. y (lows n + i))
 
-  unfoldable pub highBack : ℕ → ℤ
-  highBack = onHighs unpredict n lowBack (λ i. y (lows n + i))
+  unfoldable pub highInverse : ℕ → ℤ
+  highInverse = onHighs inversePredict n lowInverse (λ i. y (lows n + i))
 
-  unfoldable pub backLong : ℕ → ℤ
-  backLong = interleaved lowBack highBack
+  unfoldable pub inverseLong : ℕ → ℤ
+  inverseLong = interleaved lowInverse highInverse
 
--- A pass taken back. A single low value is the sample.
-unfoldable pub backPass : OnLine ℤ
-backPass = fromOne (λ v. v) backLong
+-- A pass taken inverse. A single low value is the sample.
+unfoldable pub inversePass : OnLine ℤ
+inversePass = fromOne (λ v. v) inverseLong
 
--- a level of a copy of that order taken back: new copies undo the rows first, copies made earlier the columns (document 02, job 4)
-abbrev pub backLevel : Order → OnPart ℤ
-backLevel columnsThenRows = rowsFirst backPass (λ low. backPass)
-backLevel rowsThenColumns = columnsFirst backPass (λ low. backPass)
+-- a level of a copy of that order taken inverse: new copies undo the rows first, copies made earlier the columns (document 02, job 4)
+abbrev pub inverseLevel : Order → OnPart ℤ
+inverseLevel columnsFirst = levelRowsFirst inversePass (λ low. inversePass)
+inverseLevel rowsFirst = levelColumnsFirst inversePass (λ low. inversePass)
 
 -- the last level comes first
-unfoldable pub back : Order → ℕ → OnPart ℤ
-back order = levelsBack (λ l. backLevel order)
+unfoldable pub inverse : Order → ℕ → OnPart ℤ
+inverse order = inverseLevels (λ l. inverseLevel order)

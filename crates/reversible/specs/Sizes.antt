@@ -15,14 +15,14 @@ use Rattle.lines.specs.LineLaws.{some-highs, first-low, first-high, even-place,
 use Rattle.lines.specs.Planes.{OnLine, fromOne}
 use Rattle.lines.specs.OneLaws.{one-single, one-long, by-one}
 use Rattle.lines.specs.Neighbours.{low-after-in, high-before-in, high-after-in}
-use Rattle.lifting.specs.declared.Step.the-variants.{Predict, Update, Unpredict, Unupdate}
+use Rattle.lifting.specs.declared.Step.the-variants.{Predict, Update, InversePredict, InverseUpdate}
 use Rattle.lifting.specs.declared.Pair.{Pair}
 use Rattle.lifting.specs.declared.Kernel.{Kernel}
-use Rattle.lifting.specs.declared.Kernel.the-variants.{One, Undo}
+use Rattle.lifting.specs.declared.Kernel.the-variants.{One, Inverse}
 use Rattle.lifting.specs.Steps.{applied, Safe, half, quarter}
 use Rattle.lifting.specs.Passes.{evens, odds}
-use Rattle.lifting.specs.Kernels.{worked, SafeKernel, lowsUndone, highsUndone}
-use Rattle.reversible.specs.Reversible.{predict, update, unpredict, unupdate, high, low, reversibleLong, reversiblePass, lowBack, highBack, backLong, backPass}
+use Rattle.lifting.specs.Kernels.{worked, SafeKernel, lowsInverted, highsInverted}
+use Rattle.reversible.specs.Reversible.{predict, update, inversePredict, inverseUpdate, high, low, reversibleLong, reversiblePass, lowInverse, highInverse, inverseLong, inversePass}
 
 -- ---- the kernels of the code are the passes
 
@@ -33,18 +33,18 @@ workedFrom k = fromOne (λ v. v) (worked k)
 abbrev pub forwardKernel : Kernel
 forwardKernel = One (record { highs = Predict; lows = Update })
 
-abbrev backPair : Pair
-backPair = record { highs = Unpredict; lows = Unupdate }
+abbrev inversePair : Pair
+inversePair = record { highs = InversePredict; lows = InverseUpdate }
 
-abbrev pub backKernel : Kernel
-backKernel = Undo backPair
+abbrev pub inverseKernel : Kernel
+inverseKernel = Inverse inversePair
 
 pub forward-kernel : workedFrom forwardKernel ≡ reversiblePass
 unfolding worked reversiblePass reversibleLong low high predict update
 forward-kernel = refl
 
-pub back-kernel : workedFrom backKernel ≡ backPass
-unfolding worked backPass backLong lowBack highBack unpredict unupdate
+pub back-kernel : workedFrom inverseKernel ≡ inversePass
+unfolding worked inversePass inverseLong lowInverse highInverse inversePredict inverseUpdate
 back-kernel = refl
 
 -- ---- steps
@@ -71,15 +71,15 @@ module _ (own x y : ℤ) (a b : ℕ) (ho : natAbs own ≤ a) where
     predict-size : natAbs (applied Predict own x y) ≤ a + b
     predict-size = omega (arith, abs-sub own (half (x +ℤ y)), halved)
 
-    unpredict-size : natAbs (applied Unpredict own x y) ≤ a + b
-    unpredict-size = omega (arith, abs-add own (half (x +ℤ y)), halved)
+    inverse-predict-size : natAbs (applied InversePredict own x y) ≤ a + b
+    inverse-predict-size = omega (arith, abs-add own (half (x +ℤ y)), halved)
 
     module _ (fits : a + 2 * b < 2 ^ 31) where
       predict-safe : Safe Predict own x y
       predict-safe = record { sides = small _ (omega (arith, abs-add x y)); result = small _ (omega (arith, predict-size)) }
 
-      unpredict-safe : Safe Unpredict own x y
-      unpredict-safe = record { sides = small _ (omega (arith, abs-add x y)); result = small _ (omega (arith, unpredict-size)) }
+      inverse-predict-safe : Safe InversePredict own x y
+      inverse-predict-safe = record { sides = small _ (omega (arith, abs-add x y)); result = small _ (omega (arith, inverse-predict-size)) }
 
   module _ (hx : natAbs x ≤ 2 * b) (hy : natAbs y ≤ 2 * b) where
     quartered : natAbs (quarter (x +ℤ y)) ≤ b
@@ -88,8 +88,8 @@ module _ (own x y : ℤ) (a b : ℕ) (ho : natAbs own ≤ a) where
     update-size : natAbs (applied Update own x y) ≤ a + b
     update-size = omega (arith, abs-add own (quarter (x +ℤ y)), quartered)
 
-    unupdate-size : natAbs (applied Unupdate own x y) ≤ a + b
-    unupdate-size = omega (arith, abs-sub own (quarter (x +ℤ y)), quartered)
+    inverse-update-size : natAbs (applied InverseUpdate own x y) ≤ a + b
+    inverse-update-size = omega (arith, abs-sub own (quarter (x +ℤ y)), quartered)
 
     module _ (fits : a + 4 * b + 2 < 2 ^ 31) where
       sums : SFits w32 (x +ℤ y) × SFits w32 (x +ℤ y +ℤ pos 2)
@@ -98,8 +98,8 @@ module _ (own x y : ℤ) (a b : ℕ) (ho : natAbs own ≤ a) where
       update-safe : Safe Update own x y
       update-safe = record { sides = sums .0; more = sums .1; result = small _ (omega (arith, update-size)) }
 
-      unupdate-safe : Safe Unupdate own x y
-      unupdate-safe = record { sides = sums .0; more = sums .1; result = small _ (omega (arith, unupdate-size)) }
+      inverse-update-safe : Safe InverseUpdate own x y
+      inverse-update-safe = record { sides = sums .0; more = sums .1; result = small _ (omega (arith, inverse-update-size)) }
 
 -- ---- lines of n values of size b at most, two or more
 
@@ -131,30 +131,30 @@ module _ (n b : ℕ) (x : ℕ → ℤ) (works : Liftable n) (le : (k : ℕ) → 
 
   -- back
   abbrev lowIn : ℕ → ℤ
-  lowIn = lowsUndone backPair n x
+  lowIn = lowsInverted inversePair n x
 
   abbrev highOut : ℕ → ℤ
-  highOut = highsUndone backPair n x
+  highOut = highsInverted inversePair n x
 
-  lowBack-size : (i : ℕ) → i < lows n → natAbs (lowIn i) ≤ 2 * b
+  lowInverse-size : (i : ℕ) → i < lows n → natAbs (lowIn i) ≤ 2 * b
   unfolding onLows
-  lowBack-size i h = omega (arith, unupdate-size (x i) (x (lows n + highBefore i)) (x (lows n + highAfter n i)) b b (le i (omega arith)) (omega (arith, le (lows n + highBefore i) (omega (arith, high-before-in n i (some-highs n works) h)))) (omega (arith, le (lows n + highAfter n i) (omega (arith, high-after-in n i (some-highs n works) h)))))
+  lowInverse-size i h = omega (arith, inverse-update-size (x i) (x (lows n + highBefore i)) (x (lows n + highAfter n i)) b b (le i (omega arith)) (omega (arith, le (lows n + highBefore i) (omega (arith, high-before-in n i (some-highs n works) h)))) (omega (arith, le (lows n + highAfter n i) (omega (arith, high-after-in n i (some-highs n works) h)))))
 
   highBack-size : (i : ℕ) → i < highs n → natAbs (highOut i) ≤ 3 * b
   unfolding onHighs
-  highBack-size i h = omega (arith, unpredict-size (x (lows n + i)) (lowIn i) (lowIn (lowAfter n i)) b (2 * b) (le (lows n + i) (omega arith)) (lowBack-size i (omega arith)) (lowBack-size (lowAfter n i) (low-after-in n i h)))
+  highBack-size i h = omega (arith, inverse-predict-size (x (lows n + i)) (lowIn i) (lowIn (lowAfter n i)) b (2 * b) (le (lows n + i) (omega arith)) (lowInverse-size i (omega arith)) (lowInverse-size (lowAfter n i) (low-after-in n i h)))
 
-  back-size : (k : ℕ) → k < n → natAbs (worked backKernel n x k) ≤ 3 * b
+  back-size : (k : ℕ) → k < n → natAbs (worked inverseKernel n x k) ≤ 3 * b
   unfolding worked
-  back-size = by-parity (λ k. natAbs (worked backKernel n x k) ≤ 3 * b) n
-      (λ i h. subst (λ (z : ℤ). natAbs z ≤ 3 * b) (sym (even-place lowIn highOut i)) (omega (arith, lowBack-size i h)))
+  back-size = by-parity (λ k. natAbs (worked inverseKernel n x k) ≤ 3 * b) n
+      (λ i h. subst (λ (z : ℤ). natAbs z ≤ 3 * b) (sym (even-place lowIn highOut i)) (omega (arith, lowInverse-size i h)))
       (λ i h. subst (λ (z : ℤ). natAbs z ≤ 3 * b) (sym (odd-place lowIn highOut i)) (highBack-size i h))
 
-  pub back-safe : 5 * b + 2 < 2 ^ 31 → SafeKernel backKernel n x
+  pub back-safe : 5 * b + 2 < 2 ^ 31 → SafeKernel inverseKernel n x
   unfolding onHighs onLows
   back-safe fits = record {
-    on-lows = λ i h. unupdate-safe (x i) (x (lows n + highBefore i)) (x (lows n + highAfter n i)) b b (le i (omega arith)) (omega (arith, le (lows n + highBefore i) (omega (arith, high-before-in n i (some-highs n works) h)))) (omega (arith, le (lows n + highAfter n i) (omega (arith, high-after-in n i (some-highs n works) h)))) (omega arith);
-    on-highs = λ i h. unpredict-safe (x (lows n + i)) (lowIn i) (lowIn (lowAfter n i)) b (2 * b) (le (lows n + i) (omega arith)) (lowBack-size i (omega arith)) (lowBack-size (lowAfter n i) (low-after-in n i h)) (omega arith);
+    on-lows = λ i h. inverse-update-safe (x i) (x (lows n + highBefore i)) (x (lows n + highAfter n i)) b b (le i (omega arith)) (omega (arith, le (lows n + highBefore i) (omega (arith, high-before-in n i (some-highs n works) h)))) (omega (arith, le (lows n + highAfter n i) (omega (arith, high-after-in n i (some-highs n works) h)))) (omega arith);
+    on-highs = λ i h. inverse-predict-safe (x (lows n + i)) (lowIn i) (lowIn (lowAfter n i)) b (2 * b) (le (lows n + i) (omega arith)) (lowInverse-size i (omega arith)) (lowInverse-size (lowAfter n i) (low-after-in n i h)) (omega arith);
   }
 
 -- ---- and from one value on: a pass makes values at most m times as large
@@ -171,5 +171,5 @@ module _ (k : Kernel) (m : ℕ) (some : 1 ≤ m) (grows : (n b : ℕ) (x : ℕ �
 pub forward-grows : Grows 2 (workedFrom forwardKernel)
 forward-grows = from-size forwardKernel 2 (omega arith) forward-size
 
-pub back-grows : Grows 3 (workedFrom backKernel)
-back-grows = from-size backKernel 3 (omega arith) back-size
+pub back-grows : Grows 3 (workedFrom inverseKernel)
+back-grows = from-size inverseKernel 3 (omega arith) back-size

@@ -14,11 +14,11 @@ use Rattle.lifting.specs.Patch.{at, patch-above}
 use Rattle.pictures.specs.Pictures.{sample}
 use Rattle.pictures.specs.PictureLaws.{pixel-below}
 use Rattle.pictures.specs.MemoryLaws.{loaded, stands-over}
-use Rattle.reversible.specs.Reversible.{columnsThenRows, forward}
+use Rattle.reversible.specs.Reversible.{columnsFirst, forward}
 use Rattle.reversible.specs.ReversibleLaws.{forward-agrees}
-use Rattle.reversible.specs.LevelLaws.{Sized, planeAt}
+use Rattle.reversible.specs.LevelLaws.{BoundedPart, planeAt}
 use Rattle.reversible.specs.LoopLaws.{ForwardDone}
-use Rattle.reversible.specs.Needs.{FirstRoom, ForwardRoom, lines-fit, levels-room, part-here, loaded-at, loaded-sized}
+use Rattle.reversible.specs.Preconditions.{FirstRoom, ForwardRoom, lines-fit, levels-room, part-here, loaded-at, loaded-sized}
 use Rattle.width_table.specs.Table.{maxDepth}
 
 -- a pixel less the middle
@@ -40,11 +40,11 @@ module _ {B L w h : ℕ} {pixels : List ℕ} {plane work : ℕ} (room : ForwardR
       omega (arith, sample-small (getD pixels k 0) (2 ^ (B - 1)) (omega arith))
 
   -- the first level has what it asks
-  pub first-room : (l : List ℤ) (tile : ℕ) → length l ≡ plane → w * h ≤ tile → FirstRoom B pixels l tile w h
-  first-room l tile e f =
+  pub first-room : (l : List ℤ) (buffer : ℕ) → length l ≡ plane → w * h ≤ buffer → FirstRoom B pixels l buffer w h
+  first-room l buffer e f =
       let p = room .call .room in record {
         picture = record { depth = room .call .depth; some = some-w; held = p .first; room = omega (arith, p .second); small = sample-fits };
-        part = part-here (levels-room (room .call) plane tile (p .second) f) 0 l w h e (sym (side-none w)) (sym (side-none h));
+        part = part-here (levels-room (room .call) plane buffer (p .second) f) 0 l w h e (sym (side-none w)) (sym (side-none h));
         row = omega (arith, lines-fit w h some-w (p .tall .0));
       }
 
@@ -52,13 +52,13 @@ module _ {B L w h : ℕ} {pixels : List ℕ} {plane work : ℕ} (room : ForwardR
   unfolding sample
   loaded-samples x = loaded-at pixels (2 ^ (B - 1)) w h x some-w
 
-  pub loaded-small : (x : ℕ → ℤ) → Sized (2 ^ 11) w h (planeAt w (loaded pixels (2 ^ (B - 1)) w h x))
+  pub loaded-small : (x : ℕ → ℤ) → BoundedPart (2 ^ 11) w h (planeAt w (loaded pixels (2 ^ (B - 1)) w h x))
   loaded-small x = loaded-sized (2 ^ 11) pixels (2 ^ (B - 1)) w h x some-w sample-fits
 
   -- a picture's plane, worked
   pub worked-plane : (l after : List ℤ) → ForwardDone w h L (loaded pixels (2 ^ (B - 1)) w h (at l)) (at after) → length l ≡ plane → length after ≡ plane
-      → after ≡ over (rowByRow w h (forward columnsThenRows L w h (sample pixels B w))) l
+      → after ≡ over (rowByRow w h (forward columnsFirst L w h (sample pixels B w))) l
   worked-plane l after done e f =
-      stands-over w h (forward columnsThenRows L w h (sample pixels B w)) l after some-w (omega (arith, room .call .room .second)) (omega arith)
-      (λ r c i j. done .stands r c i j ∙ forward-agrees columnsThenRows L w h (planeAt w (loaded pixels (2 ^ (B - 1)) w h (at l))) (sample pixels B w) (loaded-samples (at l)) r c i j)
+      stands-over w h (forward columnsFirst L w h (sample pixels B w)) l after some-w (omega (arith, room .call .room .second)) (omega arith)
+      (λ r c i j. done .stands r c i j ∙ forward-agrees columnsFirst L w h (planeAt w (loaded pixels (2 ^ (B - 1)) w h (at l))) (sample pixels B w) (loaded-samples (at l)) r c i j)
       (λ q far. done .beyond q far ∙ patch-above 0 (w * h) _ (at l) q (omega arith))

@@ -13,17 +13,17 @@ ghost use Rattle.lifting.specs.Patch.{at, patch};
 ghost use Rattle.lifting.specs.Steps.{applied, Safe};
 ghost use Rattle.lifting.specs.Strips.{pixelLine};
 ghost use Rattle.lifting.specs.Kernels.{columnsWorked};
-ghost use Rattle.pictures.specs.Pictures.{sided, holds, sample, zeroed};
-ghost use Rattle.pictures.specs.Looks.{Tells, Between};
+ghost use Rattle.pictures.specs.Pictures.{sideAnswer, lengthAnswer, sample, zeroed};
+ghost use Rattle.pictures.specs.RangeChecks.{Tells, Between};
 ghost use Rattle.pictures.specs.MemoryLaws.{loaded};
-ghost use Rattle.reversible.specs.Reversible.{columnsThenRows, rowsThenColumns, forward};
-ghost use Rattle.reversible.specs.Calls.{limited, forwardAnswer, forwardPlane, forwardWork, backAnswer, backPixels, backWork};
+ghost use Rattle.reversible.specs.Reversible.{columnsFirst, rowsFirst, forward};
+ghost use Rattle.reversible.specs.Calls.{limitAnswer, forwardAnswer, forwardPlane, forwardWork, backAnswer, backPixels, backWork};
 ghost use Rattle.reversible.specs.Orders.{orderOf};
 ghost use Rattle.reversible.specs.Sizes.{forwardKernel};
-ghost use Rattle.reversible.specs.LevelLaws.{rowsFrom, columnsFrom, levelForward, levelBack};
+ghost use Rattle.reversible.specs.LevelLaws.{rowsFrom, columnsFrom, levelForward, levelInverse};
 ghost use Rattle.reversible.specs.Columns.{highAt, lowAt, PixelRoom, HighsTo};
 ghost use Rattle.reversible.specs.LoopLaws.{ForwardDone};
-ghost use Rattle.reversible.specs.Needs.{RowsRoom, ColumnsRoom, LevelRoom, PictureRoom, FirstRoom, ForwardRoom, LevelsRoom, CallRoom};
+ghost use Rattle.reversible.specs.Preconditions.{RowsRoom, ColumnsRoom, LevelRoom, PictureRoom, FirstRoom, ForwardRoom, LevelsRoom, CallRoom};
 ghost use Rattle.reversible.specs.BackLaws.{BackDone};
 ghost use Rattle.reversible.specs.FoundLaws.{IsSample, Found, TakenBack};
 ghost use Rattle.width_table.specs.Table.{maxDepth};
@@ -47,15 +47,15 @@ const FORWARD_PASS: Kernel = Kernel::One(Pair {
     lows: Step::Update,
 });
 
-const BACK_PASS: Kernel = Kernel::Undo(Pair {
-    highs: Step::Unpredict,
-    lows: Step::Unupdate,
+const INVERSE_PASS: Kernel = Kernel::Inverse(Pair {
+    highs: Step::InversePredict,
+    lows: Step::InverseUpdate,
 });
 
 // What the levels of a copy worked first; `orderOf` of specs/Orders says the order.
-enum First {
-    Columns,
-    Rows,
+enum CopyOrder {
+    ColumnsFirst,
+    RowsFirst,
 }
 
 // Refusals 4, 8 and 9, for slices of so many elements.
@@ -68,7 +68,7 @@ fn allowed(
     second: usize,
     third: usize,
 ) -> Outcome
-    ensures { λ r. ⌜ told r ≡ limited depth levels then sided w h then holds (w * h) first then holds (w * h) second then holds (w * h) third ⌝ }
+    ensures { λ r. ⌜ told r ≡ limitAnswer depth levels then sideAnswer w h then lengthAnswer (w * h) first then lengthAnswer (w * h) second then lengthAnswer (w * h) third ⌝ }
 {
     if width_table::limits_right(depth, levels) {} else {
         return Outcome::Refused(Refusal::OutsideLimits);
@@ -77,41 +77,48 @@ fn allowed(
 }
 
 // The rows of a part by a kernel. A single value is not worked: it is its row's only low value (document 02, job 6).
-fn rows_from(plane: &mut [i32], tile: &mut [i32], stride: usize, w: usize, h: usize, kernel: Kernel)
-    requires { ⌜ RowsRoom kernel (now plane) (length (now tile)) stride w h ⌝ }
-    ensures { λ _. ⌜ at (now (plane .exit)) ≡ rowsFrom kernel stride w h (at (now (plane .entry))) ⌝ }
-{
-    if w < 2 {
-        return;
-    }
-    lifting::rows(plane, tile, stride, w, h, kernel);
-}
-
-// The columns likewise.
-fn columns_from(
+fn rows_from(
     plane: &mut [i32],
-    tile: &mut [i32],
+    buffer: &mut [i32],
     stride: usize,
     w: usize,
     h: usize,
     kernel: Kernel,
 )
-    requires { ⌜ ColumnsRoom kernel (now plane) (length (now tile)) stride w h ⌝ }
+    requires { ⌜ RowsRoom kernel (now plane) (length (now buffer)) stride w h ⌝ }
+    ensures { λ _. ⌜ at (now (plane .exit)) ≡ rowsFrom kernel stride w h (at (now (plane .entry))) ⌝ }
+{
+    if w < 2 {
+        return;
+    }
+    lifting::rows(plane, buffer, stride, w, h, kernel);
+}
+
+// The columns likewise.
+fn columns_from(
+    plane: &mut [i32],
+    buffer: &mut [i32],
+    stride: usize,
+    w: usize,
+    h: usize,
+    kernel: Kernel,
+)
+    requires { ⌜ ColumnsRoom kernel (now plane) (length (now buffer)) stride w h ⌝ }
     ensures { λ _. ⌜ at (now (plane .exit)) ≡ columnsFrom kernel stride w h (at (now (plane .entry))) ⌝ }
 {
     if h < 2 {
         return;
     }
-    lifting::columns(plane, tile, stride, 0, w, h, kernel);
+    lifting::columns(plane, buffer, stride, 0, w, h, kernel);
 }
 
 // One level forward, of a part of w columns and h rows: the columns, then the rows.
-fn level_forward(plane: &mut [i32], tile: &mut [i32], stride: usize, w: usize, h: usize)
-    requires { ⌜ LevelRoom (2 ^ 21) (now plane) (length (now tile)) stride w h ⌝ }
+fn level_forward(plane: &mut [i32], buffer: &mut [i32], stride: usize, w: usize, h: usize)
+    requires { ⌜ LevelRoom (2 ^ 21) (now plane) (length (now buffer)) stride w h ⌝ }
     ensures { λ _. ⌜ at (now (plane .exit)) ≡ levelForward stride w h (at (now (plane .entry))) ⌝ }
 {
-    columns_from(plane, tile, stride, w, h, FORWARD_PASS);
-    rows_from(plane, tile, stride, w, h, FORWARD_PASS);
+    columns_from(plane, buffer, stride, w, h, FORWARD_PASS);
+    rows_from(plane, buffer, stride, w, h, FORWARD_PASS);
 }
 
 // A line of n highs: the pixels from place `own` on, with the lines of lows beside them from `before` and `after` on. Source document
@@ -275,12 +282,12 @@ fn first_columns(pixels: &[u16], depth: u8, plane: &mut [i32], w: usize, h: usiz
 }
 
 // The first level forward, whose columns are those of the picture.
-fn first_level(pixels: &[u16], depth: u8, plane: &mut [i32], tile: &mut [i32], w: usize, h: usize)
-    requires { ⌜ FirstRoom depth (now pixels) (now plane) (length (now tile)) w h ⌝ }
+fn first_level(pixels: &[u16], depth: u8, plane: &mut [i32], buffer: &mut [i32], w: usize, h: usize)
+    requires { ⌜ FirstRoom depth (now pixels) (now plane) (length (now buffer)) w h ⌝ }
     ensures { λ _. ⌜ at (now (plane .exit)) ≡ levelForward w w h (loaded (now (pixels .entry)) (2 ^ (depth - 1)) w h (at (now (plane .entry)))) ⌝ }
 {
     first_columns(pixels, depth, plane, w, h);
-    rows_from(plane, tile, w, w, h, FORWARD_PASS);
+    rows_from(plane, buffer, w, w, h, FORWARD_PASS);
 }
 
 // All levels forward, of a picture.
@@ -288,19 +295,19 @@ fn levels_forward(
     pixels: &[u16],
     depth: u8,
     plane: &mut [i32],
-    tile: &mut [i32],
+    buffer: &mut [i32],
     w: usize,
     h: usize,
     levels: u8,
 )
-    requires { ⌜ ForwardRoom depth levels w h (now pixels) (length (now plane)) (length (now tile)) ⌝ }
+    requires { ⌜ ForwardRoom depth levels w h (now pixels) (length (now plane)) (length (now buffer)) ⌝ }
     ensures { λ _. ⌜ ForwardDone w h levels (loaded (now (pixels .entry)) (2 ^ (depth - 1)) w h (at (now (plane .entry)))) (at (now (plane .exit))) ⌝ }
 {
-    first_level(pixels, depth, plane, tile, w, h);
+    first_level(pixels, depth, plane, buffer, w, h);
     let mut across = (w + 1) / 2;
     let mut down = (h + 1) / 2;
     for k in 1..levels {
-        level_forward(plane, tile, w, across, down);
+        level_forward(plane, buffer, w, across, down);
         across = (across + 1) / 2;
         down = (down + 1) / 2;
     }
@@ -317,7 +324,7 @@ fn transform(
     work: &mut [i32],
 )
     requires { ⌜ ForwardRoom depth levels w h (now pixels) (length (now plane)) (length (now work)) ⌝ }
-    ensures plane { λ _. ⌜ now (plane .exit) ≡ over (rowByRow w h (forward columnsThenRows levels w h (sample (now (pixels .entry)) depth w))) (now (plane .entry)) ⌝ }
+    ensures plane { λ _. ⌜ now (plane .exit) ≡ over (rowByRow w h (forward columnsFirst levels w h (sample (now (pixels .entry)) depth w))) (now (plane .entry)) ⌝ }
     ensures work { λ _. ⌜ now (work .exit) ≡ zeroed (w * h) (now (work .entry)) ⌝ }
 {
     let size = w * h;
@@ -336,7 +343,7 @@ pub fn forward(
     work: &mut [i32],
 ) -> Outcome
     ensures answer { λ r. ⌜ told r ≡ forwardAnswer depth levels w h (now (pixels .entry)) (now (plane .entry)) (now (work .entry)) ⌝ }
-    ensures plane { λ _. ⌜ now (plane .exit) ≡ forwardPlane columnsThenRows depth levels w h (now (pixels .entry)) (now (plane .entry)) (now (work .entry)) ⌝ }
+    ensures plane { λ _. ⌜ now (plane .exit) ≡ forwardPlane columnsFirst depth levels w h (now (pixels .entry)) (now (plane .entry)) (now (work .entry)) ⌝ }
     ensures work { λ _. ⌜ now (work .exit) ≡ forwardWork depth levels w h (now (pixels .entry)) (now (plane .entry)) (now (work .entry)) ⌝ }
 {
     match allowed(depth, levels, w, h, pixels.len(), plane.len(), work.len()) {
@@ -352,18 +359,25 @@ pub fn forward(
 }
 
 // One level back, of a part of w columns and h rows: what was worked first is undone last.
-fn level_back(values: &mut [i32], tile: &mut [i32], stride: usize, w: usize, h: usize, first: First)
-    requires { ⌜ LevelRoom (2 ^ 22) (now values) (length (now tile)) stride w h ⌝ }
-    ensures { λ _. ⌜ at (now (values .exit)) ≡ levelBack (orderOf first) stride w h (at (now (values .entry))) ⌝ }
+fn level_back(
+    values: &mut [i32],
+    buffer: &mut [i32],
+    stride: usize,
+    w: usize,
+    h: usize,
+    first: CopyOrder,
+)
+    requires { ⌜ LevelRoom (2 ^ 22) (now values) (length (now buffer)) stride w h ⌝ }
+    ensures { λ _. ⌜ at (now (values .exit)) ≡ levelInverse (orderOf first) stride w h (at (now (values .entry))) ⌝ }
 {
     match first {
-        First::Columns => {
-            rows_from(values, tile, stride, w, h, BACK_PASS);
-            columns_from(values, tile, stride, w, h, BACK_PASS);
+        CopyOrder::ColumnsFirst => {
+            rows_from(values, buffer, stride, w, h, INVERSE_PASS);
+            columns_from(values, buffer, stride, w, h, INVERSE_PASS);
         }
-        First::Rows => {
-            columns_from(values, tile, stride, w, h, BACK_PASS);
-            rows_from(values, tile, stride, w, h, BACK_PASS);
+        CopyOrder::RowsFirst => {
+            columns_from(values, buffer, stride, w, h, INVERSE_PASS);
+            rows_from(values, buffer, stride, w, h, INVERSE_PASS);
         }
     }
 }
@@ -371,13 +385,13 @@ fn level_back(values: &mut [i32], tile: &mut [i32], stride: usize, w: usize, h: 
 // All levels back, the last one first; false where a value lies beyond MIN_VALUE or MAX_VALUE.
 fn levels_back(
     values: &mut [i32],
-    tile: &mut [i32],
+    buffer: &mut [i32],
     w: usize,
     h: usize,
     levels: u8,
-    first: First,
+    first: CopyOrder,
 ) -> bool
-    requires { ⌜ LevelsRoom levels w h (length (now values)) (length (now tile)) ⌝ }
+    requires { ⌜ LevelsRoom levels w h (length (now values)) (length (now buffer)) ⌝ }
     ensures { λ r. ⌜ BackDone (orderOf first) levels w h (at (now (values .entry))) (at (now (values .exit))) r ⌝ }
 {
     let mut k = levels;
@@ -386,7 +400,7 @@ fn levels_back(
         let across = pictures::side_after(w, k);
         let down = pictures::side_after(h, k);
         if pictures::part_between(values, 0, w, across, down, MIN_VALUE, MAX_VALUE) {
-            level_back(values, tile, w, across, down, first);
+            level_back(values, buffer, w, across, down, first);
         } else {
             return false;
         }
@@ -429,15 +443,15 @@ fn found(
     w: usize,
     h: usize,
     values: &mut [i32],
-    tile: &mut [i32; TILE],
-    first: First,
+    buffer: &mut [i32; TILE],
+    first: CopyOrder,
 ) -> bool
     requires { ⌜ CallRoom depth levels w h (length (now values)) (length (now plane)) (length (now values)) ⌝ }
     ensures { λ r. ⌜ Found (orderOf first) depth levels w h (now (plane .entry)) (at (now (values .exit))) r ⌝ }
 {
     let n = w * h;
     copy_front(plane, values, n);
-    if levels_back(values, tile, w, h, levels, first) {
+    if levels_back(values, buffer, w, h, levels, first) {
         samples_right(values, n, depth)
     } else {
         false
@@ -475,15 +489,15 @@ fn take_back(
     h: usize,
     pixels: &mut [u16],
     work: &mut [i32],
-    tile: &mut [i32; TILE],
-    first: First,
+    buffer: &mut [i32; TILE],
+    first: CopyOrder,
 ) -> bool
     requires { ⌜ CallRoom depth levels w h (length (now pixels)) (length (now plane)) (length (now work)) ⌝ }
     ensures { λ r. ⌜ TakenBack (orderOf first) depth levels w h (now (plane .entry)) (now (pixels .entry)) (now (pixels .exit)) r ⌝ }
     ensures { λ _. ⌜ now (work .exit) ≡ zeroed (w * h) (now (work .entry)) ⌝ }
 {
     let n = w * h;
-    if found(depth, levels, plane, w, h, &mut work[..n], tile, first) {
+    if found(depth, levels, plane, w, h, &mut work[..n], buffer, first) {
         write_pixels(work, pixels, n, depth);
         true
     } else {
@@ -502,17 +516,17 @@ fn back_in(
     h: usize,
     pixels: &mut [u16],
     work: &mut [i32],
-    first: First,
+    first: CopyOrder,
 ) -> Outcome
     ensures answer { λ r. ⌜ told r ≡ backAnswer (orderOf first) depth levels w h (now (plane .entry)) (now (pixels .entry)) (now (work .entry)) ⌝ }
     ensures pixels { λ _. ⌜ now (pixels .exit) ≡ backPixels (orderOf first) depth levels w h (now (plane .entry)) (now (pixels .entry)) (now (work .entry)) ⌝ }
     ensures work { λ _. ⌜ now (work .exit) ≡ backWork depth levels w h (now (plane .entry)) (now (pixels .entry)) (now (work .entry)) ⌝ }
 {
-    let mut tile = [0i32; TILE];
+    let mut buffer = [0i32; TILE];
     match allowed(depth, levels, w, h, pixels.len(), plane.len(), work.len()) {
         Outcome::Refused(why) => Outcome::Refused(why),
         Outcome::Done => {
-            if take_back(depth, levels, plane, w, h, pixels, work, &mut tile, first) {
+            if take_back(depth, levels, plane, w, h, pixels, work, &mut buffer, first) {
                 Outcome::Done
             } else {
                 Outcome::Refused(Refusal::NoPicture)
@@ -531,11 +545,20 @@ pub fn back(
     pixels: &mut [u16],
     work: &mut [i32],
 ) -> Outcome
-    ensures answer { λ r. ⌜ told r ≡ backAnswer columnsThenRows depth levels w h (now (plane .entry)) (now (pixels .entry)) (now (work .entry)) ⌝ }
-    ensures pixels { λ _. ⌜ now (pixels .exit) ≡ backPixels columnsThenRows depth levels w h (now (plane .entry)) (now (pixels .entry)) (now (work .entry)) ⌝ }
+    ensures answer { λ r. ⌜ told r ≡ backAnswer columnsFirst depth levels w h (now (plane .entry)) (now (pixels .entry)) (now (work .entry)) ⌝ }
+    ensures pixels { λ _. ⌜ now (pixels .exit) ≡ backPixels columnsFirst depth levels w h (now (plane .entry)) (now (pixels .entry)) (now (work .entry)) ⌝ }
     ensures work { λ _. ⌜ now (work .exit) ≡ backWork depth levels w h (now (plane .entry)) (now (pixels .entry)) (now (work .entry)) ⌝ }
 {
-    back_in(depth, levels, plane, w, h, pixels, work, First::Columns)
+    back_in(
+        depth,
+        levels,
+        plane,
+        w,
+        h,
+        pixels,
+        work,
+        CopyOrder::ColumnsFirst,
+    )
 }
 
 // The picture of a copy made earlier, whose levels were worked rows first.
@@ -548,9 +571,18 @@ pub fn back_rows_first(
     pixels: &mut [u16],
     work: &mut [i32],
 ) -> Outcome
-    ensures answer { λ r. ⌜ told r ≡ backAnswer rowsThenColumns depth levels w h (now (plane .entry)) (now (pixels .entry)) (now (work .entry)) ⌝ }
-    ensures pixels { λ _. ⌜ now (pixels .exit) ≡ backPixels rowsThenColumns depth levels w h (now (plane .entry)) (now (pixels .entry)) (now (work .entry)) ⌝ }
+    ensures answer { λ r. ⌜ told r ≡ backAnswer rowsFirst depth levels w h (now (plane .entry)) (now (pixels .entry)) (now (work .entry)) ⌝ }
+    ensures pixels { λ _. ⌜ now (pixels .exit) ≡ backPixels rowsFirst depth levels w h (now (plane .entry)) (now (pixels .entry)) (now (work .entry)) ⌝ }
     ensures work { λ _. ⌜ now (work .exit) ≡ backWork depth levels w h (now (plane .entry)) (now (pixels .entry)) (now (work .entry)) ⌝ }
 {
-    back_in(depth, levels, plane, w, h, pixels, work, First::Rows)
+    back_in(
+        depth,
+        levels,
+        plane,
+        w,
+        h,
+        pixels,
+        work,
+        CopyOrder::RowsFirst,
+    )
 }

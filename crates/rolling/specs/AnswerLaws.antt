@@ -12,7 +12,7 @@ use Rattle.numbers.specs.Tests.{is-true, both, left-false, right-false}
 use Rattle.refusals.specs.Answers.{Reason, Answer, done, refused, passed, asks, _then_, answered}
 use Rattle.refusals.specs.AnswerLaws.{asks-done, asks-wrong, then-done, then-right, then-refused, answered-done, answered-refused}
 use Rattle.width_table.specs.declared.WidthTable.{WidthTable}
-use Rattle.pictures.specs.Pictures.{sideRight, Admitted, holds, pixelsRight}
+use Rattle.pictures.specs.Pictures.{sideRight, Admitted, lengthAnswer, pixelAnswer}
 use Rattle.pictures.specs.PictureLaws.{side-is, side-right, holds-done, holds-right, pixels-done, pixel-below}
 use Rattle.pictures.specs.PixelLaws.{slice-short}
 use Rattle.precision.specs.Verdict.{verdict, Accepted}
@@ -24,7 +24,7 @@ use Rattle.rolling.specs.Schedule.{next, anyTaken, lineGives, endGives}
 use Rattle.rolling.specs.Calls.{beginAnswer, scanOf, lineWidthRight, goesOn, heldLines, outLines, heldIn, lineAnswer, workedRow, givenByLine, scanAfter, LineCall, endAnswer, givenByEnd, scanEnded, EndCall}
 use Rattle.rolling.specs.Memory.{Lent}
 use Rattle.rolling.specs.Rows.{LineRight, rowOf}
-use Rattle.rolling.specs.Works.{lineAnswerOf, endAnswerOf, LineWorked, EndWorked}
+use Rattle.rolling.specs.Worked.{lineAnswerOf, endAnswerOf, LineWorked, EndWorked}
 
 -- ---- tests
 
@@ -35,7 +35,7 @@ not-eqb a b f = go (eqb a b) (eqb→eq a b)
     go true h = absurd (f (h tt))
     go false h = refl
 
--- a test that is asked only where another holds
+-- a test that is asked only where another lengthAnswer
 pub of-unless : (a b : Bool) → T (not a || b) → T a → T b
 of-unless true b h i = h
 of-unless false b h i = absurd i
@@ -184,7 +184,7 @@ module _ (s : Scan) (pixels : List ℕ) (w held out : ℕ) where
   -- it is its turn
   module _ (on : goesOn s ≡ true) (turn : in-turn ≡ true) where
     abbrev room : Answer Unit
-    room = holds w (length pixels) then holds (heldLines * w) held then holds (outLines * w) out then pixelsRight (s .table .depth) w 1 pixels
+    room = lengthAnswer w (length pixels) then lengthAnswer (heldLines * w) held then lengthAnswer (outLines * w) out then pixelAnswer (s .table .depth) w 1 pixels
 
     turned : lineAnswerOf s pixels w held out ≡ asks (sideRight w) 8 room
     unfolding lineAnswerOf
@@ -199,21 +199,21 @@ module _ (s : Scan) (pixels : List ℕ) (w held out : ℕ) where
       sided-line = turned ∙ ap (λ (b : Bool). asks b 8 room) side
 
       pub line-short : length pixels < w → lineAnswerOf s pixels w held out ≡ refused (9, [])
-      line-short h = sided-line ∙ then-refused (holds w (length pixels)) _ _ (slice-short _ _ h)
+      line-short h = sided-line ∙ then-refused (lengthAnswer w (length pixels)) _ _ (slice-short _ _ h)
 
       -- the pixels are long enough
       module _ (long : w ≤ length pixels) where
-        long-line : lineAnswerOf s pixels w held out ≡ holds (heldLines * w) held then holds (outLines * w) out then pixelsRight (s .table .depth) w 1 pixels
-        long-line = sided-line ∙ then-right (holds w (length pixels)) _ (holds-right _ _ long)
+        long-line : lineAnswerOf s pixels w held out ≡ lengthAnswer (heldLines * w) held then lengthAnswer (outLines * w) out then pixelAnswer (s .table .depth) w 1 pixels
+        long-line = sided-line ∙ then-right (lengthAnswer w (length pixels)) _ (holds-right _ _ long)
 
         pub line-held : held < heldLines * w → lineAnswerOf s pixels w held out ≡ refused (9, [])
-        line-held h = long-line ∙ then-refused (holds (heldLines * w) held) _ _ (slice-short _ _ h)
+        line-held h = long-line ∙ then-refused (lengthAnswer (heldLines * w) held) _ _ (slice-short _ _ h)
 
         pub line-out : heldLines * w ≤ held → out < outLines * w → lineAnswerOf s pixels w held out ≡ refused (9, [])
-        line-out g h = long-line ∙ then-right (holds (heldLines * w) held) _ (holds-right _ _ g) ∙ then-refused (holds (outLines * w) out) _ _ (slice-short _ _ h)
+        line-out g h = long-line ∙ then-right (lengthAnswer (heldLines * w) held) _ (holds-right _ _ g) ∙ then-refused (lengthAnswer (outLines * w) out) _ _ (slice-short _ _ h)
 
-        pub line-pixels : heldLines * w ≤ held → outLines * w ≤ out → lineAnswerOf s pixels w held out ≡ pixelsRight (s .table .depth) w 1 pixels
-        line-pixels g h = long-line ∙ then-right (holds (heldLines * w) held) _ (holds-right _ _ g) ∙ then-right (holds (outLines * w) out) _ (holds-right _ _ h)
+        pub line-pixels : heldLines * w ≤ held → outLines * w ≤ out → lineAnswerOf s pixels w held out ≡ pixelAnswer (s .table .depth) w 1 pixels
+        line-pixels g h = long-line ∙ then-right (lengthAnswer (heldLines * w) held) _ (holds-right _ _ g) ∙ then-right (lengthAnswer (outLines * w) out) _ (holds-right _ _ h)
 
 -- ---- the answer of an end, by lengths
 
@@ -228,18 +228,18 @@ module _ (s : Scan) (held out : ℕ) where
 
   -- it is its turn
   module _ (on : goesOn s ≡ true) (some : anyTaken (s .taken) ≡ true) where
-    turned-end : endAnswerOf s held out ≡ holds (heldLines * s .width) held then holds (outLines * s .width) out
+    turned-end : endAnswerOf s held out ≡ lengthAnswer (heldLines * s .width) held then lengthAnswer (outLines * s .width) out
     unfolding endAnswerOf
-    turned-end = λ i. asks (on i && some i) 14 (holds (heldLines * s .width) held then holds (outLines * s .width) out)
+    turned-end = λ i. asks (on i && some i) 14 (lengthAnswer (heldLines * s .width) held then lengthAnswer (outLines * s .width) out)
 
     pub end-held : held < heldLines * s .width → endAnswerOf s held out ≡ refused (9, [])
-    end-held h = turned-end ∙ then-refused (holds (heldLines * s .width) held) _ _ (slice-short _ _ h)
+    end-held h = turned-end ∙ then-refused (lengthAnswer (heldLines * s .width) held) _ _ (slice-short _ _ h)
 
     pub end-out : heldLines * s .width ≤ held → out < outLines * s .width → endAnswerOf s held out ≡ refused (9, [])
-    end-out g h = turned-end ∙ then-right (holds (heldLines * s .width) held) _ (holds-right _ _ g) ∙ slice-short _ _ h
+    end-out g h = turned-end ∙ then-right (lengthAnswer (heldLines * s .width) held) _ (holds-right _ _ g) ∙ slice-short _ _ h
 
     pub end-done : heldLines * s .width ≤ held → outLines * s .width ≤ out → endAnswerOf s held out ≡ passed
-    end-done g h = turned-end ∙ then-right (holds (heldLines * s .width) held) _ (holds-right _ _ g) ∙ holds-right _ _ h
+    end-done g h = turned-end ∙ then-right (lengthAnswer (heldLines * s .width) held) _ (holds-right _ _ g) ∙ holds-right _ _ h
 
 -- ---- what an accepted line is
 
@@ -255,9 +255,9 @@ module _ (s : Scan) (pixels : List ℕ) (w : ℕ) (held out : List ℤ) where
         let turn = not (anyTaken (s .taken)) || eqb w (s .width) in
         let a = asks-done (goesOn s && turn) _ _ e in
         let b = asks-done (sideRight w) _ _ (a .1) in
-        let p = then-done (holds w (length pixels)) _ (b .1) in
-        let q = then-done (holds (heldLines * w) (length held)) _ (p .1) in
-        let r = then-done (holds (outLines * w) (length out)) _ (q .1) in
+        let p = then-done (lengthAnswer w (length pixels)) _ (b .1) in
+        let q = then-done (lengthAnswer (heldLines * w) (length held)) _ (p .1) in
+        let r = then-done (lengthAnswer (outLines * w) (length out)) _ (q .1) in
         let starts = on-begun s (both (goesOn s) turn (a .0) .0) in
         let side = side-is w (b .0) in
         let long = holds-done w (length pixels) (p .0) in (
@@ -307,7 +307,7 @@ module _ (s : Scan) (held out : List ℤ) where
     unfolding endAnswer
     end-right =
         let a = asks-done (goesOn s && anyTaken (s .taken)) _ _ e in
-        let p = then-done (holds (heldLines * s .width) (length held)) _ (a .1) in
+        let p = then-done (lengthAnswer (heldLines * s .width) (length held)) _ (a .1) in
         let (on, some) = both (goesOn s) (anyTaken (s .taken)) (a .0) in
         let starts = on-begun s on in
         let side = on-side s on some in (

@@ -12,14 +12,14 @@ use Rattle.lines.specs.Planes.{rowByRow}
 use Rattle.width_table.specs.Nodes.{P1, U1, P2, Rows}
 use Rattle.width_table.specs.declared.WidthTable.{WidthTable}
 use Rattle.width_table.specs.Table.{fractionBits, inputBits}
-use Rattle.pictures.specs.Pictures.{sideRight, holds, pixelsRight, sample, planeOf}
+use Rattle.pictures.specs.Pictures.{sideRight, lengthAnswer, pixelAnswer, sample, planeOf}
 use Rattle.precision.specs.Verdict.{verdict}
-use Rattle.irreversible.specs.Claims.{Holds}
+use Rattle.irreversible.specs.Claims.{InNodeWidth}
 use Rattle.irreversible.specs.Transforms.{fixedLine}
 use Rattle.rolling.specs.declared.Taken.{Taken}
 use Rattle.rolling.specs.declared.Taken.the-variants.{Zero}
 use Rattle.rolling.specs.declared.Scan.{Scan}
-use Rattle.rolling.specs.Schedule.{Line, Held, next, anyTaken, evenTaken, passOf, stacked, heldAfter, lineGives, endGives}
+use Rattle.rolling.specs.Schedule.{Line, Held, next, anyTaken, evenTaken, columnPassAt, stacked, heldAfter, lineGives, endGives}
 
 -- ---- begin
 
@@ -56,14 +56,14 @@ heldIn w held = record { low = planeOf w held 0; high = planeOf w held 1; p1 = p
 -- Five integer bits hold each value on the way of a one-level transform under every accepted table (`small` of Small). Held memory
 -- is sound where each value in its lines is one of five integer bits; what a scan left is (`sound-left` of Theorems).
 unfoldable pub FiveBits : ℕ → ℤ → Type 0
-FiveBits f v = Holds 5 f v
+FiveBits f v = InNodeWidth 5 f v
 
 pub record Sound (t : WidthTable) (w : ℕ) (h : Held) : Type 0 where
-  pub low : (c : ℕ) → c < w → FiveBits (inputBits t 1 (passOf w c)) (h .low c)
-  pub high : (c : ℕ) → c < w → FiveBits (inputBits t 1 (passOf w c)) (h .high c)
-  pub p1 : (c : ℕ) → c < w → FiveBits (fractionBits t 1 (passOf w c) P1) (h .p1 c)
-  pub u1 : (c : ℕ) → c < w → FiveBits (fractionBits t 1 (passOf w c) U1) (h .u1 c)
-  pub p2 : (c : ℕ) → c < w → FiveBits (fractionBits t 1 (passOf w c) P2) (h .p2 c)
+  pub low : (c : ℕ) → c < w → FiveBits (inputBits t 1 (columnPassAt w c)) (h .low c)
+  pub high : (c : ℕ) → c < w → FiveBits (inputBits t 1 (columnPassAt w c)) (h .high c)
+  pub p1 : (c : ℕ) → c < w → FiveBits (fractionBits t 1 (columnPassAt w c) P1) (h .p1 c)
+  pub u1 : (c : ℕ) → c < w → FiveBits (fractionBits t 1 (columnPassAt w c) U1) (h .u1 c)
+  pub p2 : (c : ℕ) → c < w → FiveBits (fractionBits t 1 (columnPassAt w c) P2) (h .p2 c)
 
 -- equal in w columns
 abbrev pub SameLine : ℕ → Line → Line → Type 0
@@ -94,8 +94,8 @@ module _ (s : Scan) (pixels : List ℕ) (w : ℕ) (held out : List ℤ) where
   lineAnswer =
       asks (goesOn s && (not (anyTaken (s .taken)) || eqb w (s .width))) 14
       (asks (sideRight w) 8
-      (holds w (length pixels) then holds (heldLines * w) (length held) then holds (outLines * w) (length out) then
-      pixelsRight (s .table .depth) w 1 pixels))
+      (lengthAnswer w (length pixels) then lengthAnswer (heldLines * w) (length held) then lengthAnswer (outLines * w) (length out) then
+      pixelAnswer (s .table .depth) w 1 pixels))
 
   -- the line worked along its row
   unfoldable pub workedRow : Line
@@ -126,7 +126,7 @@ module _ (s : Scan) (held out : List ℤ) where
   unfoldable pub endAnswer : Answer Unit
   endAnswer =
       asks (goesOn s && anyTaken (s .taken)) 14
-      (holds (heldLines * s .width) (length held) then holds (outLines * s .width) (length out))
+      (lengthAnswer (heldLines * s .width) (length held) then lengthAnswer (outLines * s .width) (length out))
 
   -- the lines that it gives
   unfoldable pub givenByEnd : List Line

@@ -8,7 +8,7 @@ use Rattle.width_table.specs.Nodes.{P1, U1, P2, U2}
 use Rattle.width_table.specs.declared.WidthTable.{WidthTable}
 use Rattle.width_table.specs.Table.{constantBits, fractionBits, inputBits}
 use Rattle.table_meaning.specs.Products.{productOf}
-use Rattle.rolling.specs.Schedule.{passOf, lineP1, lineU1, lineP2, lineU2}
+use Rattle.rolling.specs.Schedule.{columnPassAt, lineP1, lineU1, lineP2, lineU2}
 use Rattle.rolling.specs.Memory.{lineIn, moved, column, put, column-set}
 use Rattle.rolling.specs.Program.{setP1, setU1, setP2, setU2, firstDone, secondDone, firstKept}
 
@@ -23,16 +23,16 @@ keepFirst u = move 0 5 (move 3 0 (move 2 6 u))
 module _ (t : WidthTable) (w c : ℕ) where
   -- the stages in this column
   abbrev pub atP1 : ℤ → ℤ → ℤ → ℤ
-  atP1 = step (productOf t 1 (passOf w c) P1) alpha (constantBits t P1) (inputBits t 1 (passOf w c)) (inputBits t 1 (passOf w c)) (fractionBits t 1 (passOf w c) P1)
+  atP1 = step (productOf t 1 (columnPassAt w c) P1) alpha (constantBits t P1) (inputBits t 1 (columnPassAt w c)) (inputBits t 1 (columnPassAt w c)) (fractionBits t 1 (columnPassAt w c) P1)
 
   abbrev pub atU1 : ℤ → ℤ → ℤ → ℤ
-  atU1 = step (productOf t 1 (passOf w c) U1) beta (constantBits t U1) (fractionBits t 1 (passOf w c) P1) (inputBits t 1 (passOf w c)) (fractionBits t 1 (passOf w c) U1)
+  atU1 = step (productOf t 1 (columnPassAt w c) U1) beta (constantBits t U1) (fractionBits t 1 (columnPassAt w c) P1) (inputBits t 1 (columnPassAt w c)) (fractionBits t 1 (columnPassAt w c) U1)
 
   abbrev pub atP2 : ℤ → ℤ → ℤ → ℤ
-  atP2 = step (productOf t 1 (passOf w c) P2) gamma (constantBits t P2) (fractionBits t 1 (passOf w c) U1) (fractionBits t 1 (passOf w c) P1) (fractionBits t 1 (passOf w c) P2)
+  atP2 = step (productOf t 1 (columnPassAt w c) P2) gamma (constantBits t P2) (fractionBits t 1 (columnPassAt w c) U1) (fractionBits t 1 (columnPassAt w c) P1) (fractionBits t 1 (columnPassAt w c) P2)
 
   abbrev pub atU2 : ℤ → ℤ → ℤ → ℤ
-  atU2 = step (productOf t 1 (passOf w c) U2) delta (constantBits t U2) (fractionBits t 1 (passOf w c) P2) (fractionBits t 1 (passOf w c) U1) (fractionBits t 1 (passOf w c) U2)
+  atU2 = step (productOf t 1 (columnPassAt w c) U2) delta (constantBits t U2) (fractionBits t 1 (columnPassAt w c) P2) (fractionBits t 1 (columnPassAt w c) U1) (fractionBits t 1 (columnPassAt w c) U2)
 
   -- number `own` becomes what a stage makes of it, with numbers a and b beside it
   abbrev pub on : (ℤ → ℤ → ℤ → ℤ) → ℕ → ℕ → ℕ → (ℕ → ℤ) → ℕ → ℤ

@@ -17,7 +17,7 @@ use Rattle.lifting.specs.Steps.{Safe, FactorSafe}
 use Rattle.stages.specs.Stages.{Product, productBits}
 use Rattle.stages.specs.Fixed.{nearest, cut, cutProduct, step, scale}
 use Rattle.irreversible.specs.Constants.{constantOf}
-use Rattle.irreversible.specs.Sized.{Sized}
+use Rattle.irreversible.specs.Magnitudes.{BelowPower10}
 use Rattle.irreversible.specs.Sizes.{floor-size, product-cut}
 use Rattle.irreversible.specs.StepLaws.{singleOf}
 use Rattle.irreversible.specs.KernelLaws.{sP1, sU1, sP2, sU2, sG1, sG2}
@@ -69,8 +69,8 @@ split : (f top : ℕ) → f ≤ top → 2 ^ (top - f) * 2 ^ f ≡ 2 ^ top
 split f top h = sym (pow-add 2 (top - f) f) ∙ ap (λ (k : ℕ). 2 ^ k) (omega arith)
 
 -- an operand, raised to `top` bits
-raised : (a f top : ℕ) (v : ℤ) → f ≤ top → Within a f v → Within a top (v *ℤ pos (2 ^ (top - f)))
-raised a f top v h k =
+scaledUp : (a f top : ℕ) (v : ℤ) → f ≤ top → Within a f v → Within a top (v *ℤ pos (2 ^ (top - f)))
+scaledUp a f top v h k =
     subst (λ (t : ℕ). t ≤ a * 2 ^ top) (sym (abs-mul v (pos (2 ^ (top - f)))))
     (le-trans (mul-le-mul-right (2 ^ (top - f)) k) (subst (λ (t : ℕ). a * 2 ^ f * 2 ^ (top - f) ≤ a * t) (split f top h) (omega arith)))
 
@@ -82,7 +82,7 @@ cut-within full f b z h =
     let e : f - full ≡ top - full = omega arith in
     let g : full - f ≡ top - f = omega arith in
     let y : ℤ = z *ℤ pos (2 ^ (top - full)) in
-    let k : natAbs y ≤ b * 2 ^ f * 2 ^ (top - f) = subst (λ (t : ℕ). natAbs y ≤ t) (law b (2 ^ (top - f)) (2 ^ f) (2 ^ top) (split f top (omega arith))) (raised b full top z (omega arith) h) in
+    let k : natAbs y ≤ b * 2 ^ f * 2 ^ (top - f) = subst (λ (t : ℕ). natAbs y ≤ t) (law b (2 ^ (top - f)) (2 ^ f) (2 ^ top) (split f top (omega arith))) (scaledUp b full top z (omega arith) h) in
     rw e (rw g (floor-size y (b * 2 ^ f) (2 ^ (top - f)) (pow-pos (top - f)) k))
   where
     law : (q P Q T : ℕ) → P * Q ≡ T → q * T ≡ q * Q * P
@@ -114,8 +114,8 @@ module _ (n : Node) (F fm : ℕ) (const : ConstantBits F) where
       let A : ℤ = own *ℤ pos (2 ^ (full - fo)) in
       let B : ℤ = K *ℤ pos (2 ^ (full - bits)) in
       let s : natAbs (x +ℤ y) ≤ (b + d) * 2 ^ fm = le-trans (abs-add x y) (omega (arith, hx, hy)) in
-      let i : natAbs A ≤ a * 2 ^ full = raised a fo full own (omega arith) ho in
-      let j : natAbs B ≤ (q - a) * 2 ^ full = raised (q - a) bits full K (omega arith) (product-cut p (F + fm) (q - a) _ (product-within (b + d) (q - a) (x +ℤ y) s (omega arith))) in
+      let i : natAbs A ≤ a * 2 ^ full = scaledUp a fo full own (omega arith) ho in
+      let j : natAbs B ≤ (q - a) * 2 ^ full = scaledUp (q - a) bits full K (omega arith) (product-cut p (F + fm) (q - a) _ (product-within (b + d) (q - a) (x +ℤ y) s (omega arith))) in
       cut-within full f q (A +ℤ B) (le-trans (abs-add A B) (joined a (q - a) q (2 ^ full) (natAbs A) (natAbs B) i j (omega arith)))
     where
       joined : (a r q T u v : ℕ) → u ≤ a * T → v ≤ r * T → a + r ≡ q → u + v ≤ q * T
@@ -129,7 +129,7 @@ module _ (n : Node) (F fm : ℕ) (const : ConstantBits F) where
 -- ---- the stages of a pass
 
 -- so many bits more are room enough
-sized : (b f : ℕ) (v : ℤ) → b < 1024 → Within b f v → Sized f v
+sized : (b f : ℕ) (v : ℤ) → b < 1024 → Within b f v → BelowPower10 f v
 sized b f v h k = subst (λ (t : ℕ). natAbs v < t) (sym (pow-add 2 10 f)) (omega (arith, k, mul-le-mul-right {m = suc b} {n = 1024} (2 ^ f) h, pow-pos f))
 
 -- In each node the values of a scan are within its limit, from lines within 16 on.

@@ -3,19 +3,19 @@
 --   Calls        the calls: the answer, the scan and each lent slice afterwards
 --   Told         what the code's answers say
 -- For the code:
---   Small        five integer bits hold each value of a one-level transform
+--   FiveBits     five integer bits hold each value of a one-level transform
 --   Growth       what the stages make of such values fits its machine type
 --   Memory       lines in memory, and one column of them
 --   Rows         an accepted line
 --   SoundLaws    whether what is held is of five integer bits
 --   Program      stages of a low line and of the end as changes of lines; ProgramLaws: each may be taken
 --   ColumnLaws   what they make of one column
---   Works        what a line and an end leave; WorkLaws: it is what the schedule says
+--   Worked       what a line and an end leave; WorkLaws: it is what the schedule says
 --   AnswerLaws   what the answers of the calls say, and what a call leaves
 pub mod Schedule
 pub mod Calls
 pub mod Told
-pub mod Small
+pub mod FiveBits
 pub mod Memory
 pub mod Growth
 pub mod Rows
@@ -23,6 +23,6 @@ pub mod SoundLaws
 pub mod Program
 pub mod ProgramLaws
 pub mod ColumnLaws
-pub mod Works
+pub mod Worked
 pub mod WorkLaws
 pub mod AnswerLaws

@@ -12,7 +12,7 @@ use Rattle.width_table.specs.declared.WidthTable.{WidthTable}
 use Rattle.width_table.specs.Table.{constantBits, fractionBits, inputBits}
 use Rattle.lifting.specs.declared.Step.{Step}
 use Rattle.lifting.specs.declared.Factor.{Factor}
-use Rattle.lifting.specs.Steps.{Same, SameFactor}
+use Rattle.lifting.specs.Steps.{SameStep, SameFactor}
 use Rattle.precision.specs.Promise.{promise}
 use Rattle.table_meaning.specs.Products.{productOf}
 use Rattle.irreversible.specs.StepLaws.{step-applied, scale-applied, single-applied}
@@ -23,7 +23,7 @@ use Rattle.irreversible.specs.LevelBits.{IsLevel}
 use Rattle.irreversible.specs.LevelsLaws.{bits-right}
 use Rattle.rolling.specs.declared.Columns.{Columns}
 use Rattle.rolling.specs.Calls.{heldLines}
-use Rattle.rolling.specs.Schedule.{Line, passOf, lineP1, lineU1, lineP2, lineU2, lineG1, lineG2, lineSingle}
+use Rattle.rolling.specs.Schedule.{Line, columnPassAt, lineP1, lineU1, lineP2, lineU2, lineG1, lineG2, lineSingle}
 use Rattle.rolling.specs.Growth.{Within, P1-grows, U1-grows, P2-grows, U2-grows, P1-safe, U1-safe, P2-safe, U2-safe, G1-safe, G2-safe, cut-safe}
 use Rattle.rolling.specs.Memory.{lineIn, setLine, moved, onLines, SafeLines, scaledLine, SafeScaling, line-own, line-other}
 
@@ -37,7 +37,7 @@ pub record AsColumns (c : Columns) : Type 0 where
 
 -- at most b in magnitude, at bits that go by the column's pass
 abbrev pub LineWithin : ℕ → (Pass → ℕ) → ℕ → Line → Type 0
-LineWithin b f w l = (c : ℕ) → c < w → Within b (f (passOf w c)) (l c)
+LineWithin b f w l = (c : ℕ) → c < w → Within b (f (columnPassAt w c)) (l c)
 
 module _ (t : WidthTable) (w : ℕ) where
   -- lines that enter the columns, and lines that a stage left
@@ -59,15 +59,15 @@ module _ (t : WidthTable) (w : ℕ) where
 -- of lines in memory: the one that is replaced, and another
 module _ (b : ℕ) (f : Pass → ℕ) (w k : ℕ) (l : Line) (m : ℕ → ℤ) where
   pub own-within : LineWithin b f w l → LineWithin b f w (lineIn w (setLine w k l m) k)
-  own-within h c i = subst (Within b (f (passOf w c))) (sym (line-own w c i k l m)) (h c i)
+  own-within h c i = subst (Within b (f (columnPassAt w c))) (sym (line-own w c i k l m)) (h c i)
 
   pub other-within : (j : ℕ) → ¬ (j ≡ k) → LineWithin b f w (lineIn w m j) → LineWithin b f w (lineIn w (setLine w k l m) j)
-  other-within j off h c i = subst (Within b (f (passOf w c))) (sym (line-other w c i j k l m off)) (h c i)
+  other-within j off h c i = subst (Within b (f (columnPassAt w c))) (sym (line-other w c i j k l m off)) (h c i)
 
 -- ---- the stages
 
 -- the form of either kind of columns does what the stage of the column's pass does
-same-at : (stage : Pass → Step) (low high : Step) → Same (stage LowColumns) low → Same (stage HighColumns) high → (q : Bool) → Same (stage (columnPass q)) (cond q low high)
+same-at : (stage : Pass → Step) (low high : Step) → SameStep (stage LowColumns) low → SameStep (stage HighColumns) high → (q : Bool) → SameStep (stage (columnPass q)) (cond q low high)
 same-at stage low high a b true = a
 same-at stage low high a b false = b
 
@@ -88,19 +88,19 @@ module _ (cs : Columns) (stages : AsColumns cs) (w : ℕ) where
   module _ (own a b : Line) where
     pub P1-within : Enters t w own → Enters t w a → Enters t w b → FromP1 t w (lineP1 t w own a b)
     unfolding lineP1
-    P1-within ho ha hb c i = P1-grows F (productOf t 1 (passOf w c)) _ _ (limits (passOf w c)) (own c) (a c) (b c) (ho c i) (ha c i) (hb c i)
+    P1-within ho ha hb c i = P1-grows F (productOf t 1 (columnPassAt w c)) _ _ (limits (columnPassAt w c)) (own c) (a c) (b c) (ho c i) (ha c i) (hb c i)
 
     pub U1-within : Enters t w own → FromP1 t w a → FromP1 t w b → FromU1 t w (lineU1 t w own a b)
     unfolding lineU1
-    U1-within ho ha hb c i = U1-grows F (productOf t 1 (passOf w c)) _ _ (limits (passOf w c)) (own c) (a c) (b c) (ho c i) (ha c i) (hb c i)
+    U1-within ho ha hb c i = U1-grows F (productOf t 1 (columnPassAt w c)) _ _ (limits (columnPassAt w c)) (own c) (a c) (b c) (ho c i) (ha c i) (hb c i)
 
     pub P2-within : FromP1 t w own → FromU1 t w a → FromU1 t w b → FromP2 t w (lineP2 t w own a b)
     unfolding lineP2
-    P2-within ho ha hb c i = P2-grows F (productOf t 1 (passOf w c)) _ _ (limits (passOf w c)) (own c) (a c) (b c) (ho c i) (ha c i) (hb c i)
+    P2-within ho ha hb c i = P2-grows F (productOf t 1 (columnPassAt w c)) _ _ (limits (columnPassAt w c)) (own c) (a c) (b c) (ho c i) (ha c i) (hb c i)
 
     pub U2-within : FromU1 t w own → FromP2 t w a → FromP2 t w b → FromU2 t w (lineU2 t w own a b)
     unfolding lineU2
-    U2-within ho ha hb c i = U2-grows F (productOf t 1 (passOf w c)) _ _ (limits (passOf w c)) (own c) (a c) (b c) (ho c i) (ha c i) (hb c i)
+    U2-within ho ha hb c i = U2-grows F (productOf t 1 (columnPassAt w c)) _ _ (limits (columnPassAt w c)) (own c) (a c) (b c) (ho c i) (ha c i) (hb c i)
 
     -- what the forms make of lines, and that they may be taken
     pub P1-line : onLines (cs .low .first .highs) (cs .high .first .highs) w own a b ≡ lineP1 t w own a b
@@ -112,7 +112,7 @@ module _ (cs : Columns) (stages : AsColumns cs) (w : ℕ) where
     pub P1-may : Enters t w own → Enters t w a → Enters t w b → SafeLines (cs .low .first .highs) (cs .high .first .highs) w own a b
     P1-may ho ha hb c i =
         same-at (λ p. sP1 F (productOf t 1 p) (inputBits t 1 p) (fractionBits t 1 p)) _ _ (stages .low .first .on-highs) (stages .high .first .on-highs) (ltb c (lows w)) .safe (own c) (a c) (b c)
-        (P1-safe F (productOf t 1 (passOf w c)) _ _ (limits (passOf w c)) (own c) (a c) (b c) (ho c i) (ha c i) (hb c i))
+        (P1-safe F (productOf t 1 (columnPassAt w c)) _ _ (limits (columnPassAt w c)) (own c) (a c) (b c) (ho c i) (ha c i) (hb c i))
 
     pub U1-line : onLines (cs .low .first .lows) (cs .high .first .lows) w own a b ≡ lineU1 t w own a b
     unfolding lineU1
@@ -123,7 +123,7 @@ module _ (cs : Columns) (stages : AsColumns cs) (w : ℕ) where
     pub U1-may : Enters t w own → FromP1 t w a → FromP1 t w b → SafeLines (cs .low .first .lows) (cs .high .first .lows) w own a b
     U1-may ho ha hb c i =
         same-at (λ p. sU1 F (productOf t 1 p) (inputBits t 1 p) (fractionBits t 1 p)) _ _ (stages .low .first .on-lows) (stages .high .first .on-lows) (ltb c (lows w)) .safe (own c) (a c) (b c)
-        (U1-safe F (productOf t 1 (passOf w c)) _ _ (limits (passOf w c)) (own c) (a c) (b c) (ho c i) (ha c i) (hb c i))
+        (U1-safe F (productOf t 1 (columnPassAt w c)) _ _ (limits (columnPassAt w c)) (own c) (a c) (b c) (ho c i) (ha c i) (hb c i))
 
     pub P2-line : onLines (cs .low .second .highs) (cs .high .second .highs) w own a b ≡ lineP2 t w own a b
     unfolding lineP2
@@ -134,7 +134,7 @@ module _ (cs : Columns) (stages : AsColumns cs) (w : ℕ) where
     pub P2-may : FromP1 t w own → FromU1 t w a → FromU1 t w b → SafeLines (cs .low .second .highs) (cs .high .second .highs) w own a b
     P2-may ho ha hb c i =
         same-at (λ p. sP2 F (productOf t 1 p) (inputBits t 1 p) (fractionBits t 1 p)) _ _ (stages .low .second .on-highs) (stages .high .second .on-highs) (ltb c (lows w)) .safe (own c) (a c) (b c)
-        (P2-safe F (productOf t 1 (passOf w c)) _ _ (limits (passOf w c)) (own c) (a c) (b c) (ho c i) (ha c i) (hb c i))
+        (P2-safe F (productOf t 1 (columnPassAt w c)) _ _ (limits (columnPassAt w c)) (own c) (a c) (b c) (ho c i) (ha c i) (hb c i))
 
     pub U2-line : onLines (cs .low .second .lows) (cs .high .second .lows) w own a b ≡ lineU2 t w own a b
     unfolding lineU2
@@ -145,7 +145,7 @@ module _ (cs : Columns) (stages : AsColumns cs) (w : ℕ) where
     pub U2-may : FromU1 t w own → FromP2 t w a → FromP2 t w b → SafeLines (cs .low .second .lows) (cs .high .second .lows) w own a b
     U2-may ho ha hb c i =
         same-at (λ p. sU2 F (productOf t 1 p) (inputBits t 1 p) (fractionBits t 1 p)) _ _ (stages .low .second .on-lows) (stages .high .second .on-lows) (ltb c (lows w)) .safe (own c) (a c) (b c)
-        (U2-safe F (productOf t 1 (passOf w c)) _ _ (limits (passOf w c)) (own c) (a c) (b c) (ho c i) (ha c i) (hb c i))
+        (U2-safe F (productOf t 1 (columnPassAt w c)) _ _ (limits (columnPassAt w c)) (own c) (a c) (b c) (ho c i) (ha c i) (hb c i))
 
   module _ (x : Line) where
     pub G1-line : scaledLine (cs .low .low) (cs .high .low) w x ≡ lineG1 t w x
@@ -155,7 +155,7 @@ module _ (cs : Columns) (stages : AsColumns cs) (w : ℕ) where
 
     pub G1-may : FromU2 t w x → SafeScaling (cs .low .low) (cs .high .low) w x
     G1-may h c i =
-        same-factor-at (λ p. sG1 F (productOf t 1 p) (inputBits t 1 p) (fractionBits t 1 p)) _ _ (stages .low .low) (stages .high .low) (ltb c (lows w)) .safe (x c) (G1-safe F (productOf t 1 (passOf w c)) _ _ (limits (passOf w c)) (x c) (h c i))
+        same-factor-at (λ p. sG1 F (productOf t 1 p) (inputBits t 1 p) (fractionBits t 1 p)) _ _ (stages .low .low) (stages .high .low) (ltb c (lows w)) .safe (x c) (G1-safe F (productOf t 1 (columnPassAt w c)) _ _ (limits (columnPassAt w c)) (x c) (h c i))
 
     pub G2-line : scaledLine (cs .low .high) (cs .high .high) w x ≡ lineG2 t w x
     unfolding lineG2
@@ -164,7 +164,7 @@ module _ (cs : Columns) (stages : AsColumns cs) (w : ℕ) where
 
     pub G2-may : FromP2 t w x → SafeScaling (cs .low .high) (cs .high .high) w x
     G2-may h c i =
-        same-factor-at (λ p. sG2 F (productOf t 1 p) (inputBits t 1 p) (fractionBits t 1 p)) _ _ (stages .low .high) (stages .high .high) (ltb c (lows w)) .safe (x c) (G2-safe F (productOf t 1 (passOf w c)) _ _ (limits (passOf w c)) (x c) (h c i))
+        same-factor-at (λ p. sG2 F (productOf t 1 p) (inputBits t 1 p) (fractionBits t 1 p)) _ _ (stages .low .high) (stages .high .high) (ltb c (lows w)) .safe (x c) (G2-safe F (productOf t 1 (columnPassAt w c)) _ _ (limits (columnPassAt w c)) (x c) (h c i))
 
 -- the cut of a single line (document 02, job 6), in the forms that are run in either kind of columns
 module _ (t : WidthTable) (w : ℕ) (low high : Factor) (as-low : SameFactor (singleFor t 1 LowColumns) low) (as-high : SameFactor (singleFor t 1 HighColumns) high) (x : Line) where
@@ -175,7 +175,7 @@ module _ (t : WidthTable) (w : ℕ) (low high : Factor) (as-low : SameFactor (si
   pub single-may : IsLevel t 1 → Enters t w x → SafeScaling low high w x
   single-may level h c i =
       same-factor-at (singleFor t 1) low high as-low as-high (ltb c (lows w)) .safe (x c)
-      (cut-safe (constantBits t) _ (fractionBits t 1 (passOf w c)) (bits-right t (promise t (level .accepted)) 1 (level .least) (level .most) (passOf w c)) (x c) (h c i))
+      (cut-safe (constantBits t) _ (fractionBits t 1 (columnPassAt w c)) (bits-right t (promise t (level .accepted)) 1 (level .least) (level .most) (columnPassAt w c)) (x c) (h c i))
 
 -- ---- lines in memory
 

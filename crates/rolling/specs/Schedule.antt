@@ -97,32 +97,32 @@ abbrev pub stacked : List Line → Plane ℤ
 stacked lines r c = getD lines r blank c
 
 -- the pass of a column: of w columns the row-low ones stand first
-abbrev pub passOf : ℕ → ℕ → Pass
-passOf w c = columnPass (ltb c (lows w))
+abbrev pub columnPassAt : ℕ → ℕ → Pass
+columnPassAt w c = columnPass (ltb c (lows w))
 
 module _ (t : WidthTable) (w : ℕ) where
   -- The stages on lines (source document 003, equation 2): own line, then the lines on its two sides.
   unfoldable pub lineP1 : Line → Line → Line → Line
-  lineP1 own x y c = step (productOf t 1 (passOf w c) P1) alpha (constantBits t P1) (inputBits t 1 (passOf w c)) (inputBits t 1 (passOf w c)) (fractionBits t 1 (passOf w c) P1) (own c) (x c) (y c)
+  lineP1 own x y c = step (productOf t 1 (columnPassAt w c) P1) alpha (constantBits t P1) (inputBits t 1 (columnPassAt w c)) (inputBits t 1 (columnPassAt w c)) (fractionBits t 1 (columnPassAt w c) P1) (own c) (x c) (y c)
 
   unfoldable pub lineU1 : Line → Line → Line → Line
-  lineU1 own x y c = step (productOf t 1 (passOf w c) U1) beta (constantBits t U1) (fractionBits t 1 (passOf w c) P1) (inputBits t 1 (passOf w c)) (fractionBits t 1 (passOf w c) U1) (own c) (x c) (y c)
+  lineU1 own x y c = step (productOf t 1 (columnPassAt w c) U1) beta (constantBits t U1) (fractionBits t 1 (columnPassAt w c) P1) (inputBits t 1 (columnPassAt w c)) (fractionBits t 1 (columnPassAt w c) U1) (own c) (x c) (y c)
 
   unfoldable pub lineP2 : Line → Line → Line → Line
-  lineP2 own x y c = step (productOf t 1 (passOf w c) P2) gamma (constantBits t P2) (fractionBits t 1 (passOf w c) U1) (fractionBits t 1 (passOf w c) P1) (fractionBits t 1 (passOf w c) P2) (own c) (x c) (y c)
+  lineP2 own x y c = step (productOf t 1 (columnPassAt w c) P2) gamma (constantBits t P2) (fractionBits t 1 (columnPassAt w c) U1) (fractionBits t 1 (columnPassAt w c) P1) (fractionBits t 1 (columnPassAt w c) P2) (own c) (x c) (y c)
 
   unfoldable pub lineU2 : Line → Line → Line → Line
-  lineU2 own x y c = step (productOf t 1 (passOf w c) U2) delta (constantBits t U2) (fractionBits t 1 (passOf w c) P2) (fractionBits t 1 (passOf w c) U1) (fractionBits t 1 (passOf w c) U2) (own c) (x c) (y c)
+  lineU2 own x y c = step (productOf t 1 (columnPassAt w c) U2) delta (constantBits t U2) (fractionBits t 1 (columnPassAt w c) P2) (fractionBits t 1 (columnPassAt w c) U1) (fractionBits t 1 (columnPassAt w c) U2) (own c) (x c) (y c)
 
   unfoldable pub lineG1 : Line → Line
-  lineG1 x c = scale zeta (constantBits t G1) (fractionBits t 1 (passOf w c) U2) (fractionBits t 1 (passOf w c) G1) (x c)
+  lineG1 x c = scale zeta (constantBits t G1) (fractionBits t 1 (columnPassAt w c) U2) (fractionBits t 1 (columnPassAt w c) G1) (x c)
 
   unfoldable pub lineG2 : Line → Line
-  lineG2 x c = scale zetaInverse (constantBits t G2) (fractionBits t 1 (passOf w c) P2) (fractionBits t 1 (passOf w c) G2) (x c)
+  lineG2 x c = scale zetaInverse (constantBits t G2) (fractionBits t 1 (columnPassAt w c) P2) (fractionBits t 1 (columnPassAt w c) G2) (x c)
 
   -- A single line (document 02, job 6): in each column the only sample, cut to G1's bits.
   unfoldable pub lineSingle : Line → Line
-  lineSingle x c = cut (inputBits t 1 (passOf w c)) (fractionBits t 1 (passOf w c) G1) (x c)
+  lineSingle x c = cut (inputBits t 1 (columnPassAt w c)) (fractionBits t 1 (columnPassAt w c) G1) (x c)
 
   -- A low line x that comes after a high line makes these ready: P1 of that high line, U1 of the low line before it, and P2 and U2 of
   -- the high and the low line before those.

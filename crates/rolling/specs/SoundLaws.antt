@@ -19,12 +19,12 @@ use Rattle.width_table.specs.Nodes.{P1, U1, P2, Pass, LowColumns, HighColumns, 
 use Rattle.width_table.specs.declared.WidthTable.{WidthTable}
 use Rattle.width_table.specs.Table.{fractionBits, inputBits}
 use Rattle.pictures.specs.Pictures.{zeroed}
-use Rattle.pictures.specs.Looks.{Tells, OfBits}
-use Rattle.irreversible.specs.Claims.{Holds}
-use Rattle.rolling.specs.Schedule.{passOf}
+use Rattle.pictures.specs.RangeChecks.{Tells, OfBits}
+use Rattle.irreversible.specs.Claims.{InNodeWidth}
+use Rattle.rolling.specs.Schedule.{columnPassAt}
 use Rattle.rolling.specs.Calls.{heldLines, heldIn, FiveBits, Sound, KeptFrom}
 use Rattle.rolling.specs.Memory.{Lent, in-lent}
-use Rattle.rolling.specs.Small.{zero-five}
+use Rattle.rolling.specs.FiveBits.{zero-five}
 
 -- in the n columns from column `from` on, which go by a pass
 pub record ColumnsSound (t : WidthTable) (p : Pass) (w from n : ℕ) (m : ℕ → ℤ) : Type 0 where
@@ -43,7 +43,7 @@ FiveIn m w from n lines f = (i : ℕ) → i < lines → (j : ℕ) → j < n → 
 -- what a look over their bits tells
 module _ (m : ℕ → ℤ) (w from n lines f : ℕ) (r : Bool) where
   pub tells-five : Tells ((i : ℕ) → i < lines → (j : ℕ) → j < n → OfBits (f + 4) (m (lineAt from w i + j))) r → Tells (FiveIn m w from n lines f) r
-  unfolding FiveBits Holds
+  unfolding FiveBits InNodeWidth
   tells-five look = let same : f + 4 ≡ 5 + f - 1 = omega arith in subst (λ (k : ℕ). Tells ((i : ℕ) → i < lines → (j : ℕ) → j < n → OfBits k (m (lineAt from w i + j))) r) same look
 
 was-true : {P : Type 0} {r : Bool} → Tells P r → r ≡ true → P
@@ -107,7 +107,7 @@ module _ (t : WidthTable) (p : Pass) (w from n : ℕ) (m : ℕ → ℤ) where
 
 module _ (t : WidthTable) (w : ℕ) (held : List ℤ) where
   -- columns of one pass
-  in-columns : (p : Pass) (from n : ℕ) → from + n ≤ w → ((j : ℕ) → j < n → passOf w (from + j) ≡ p) → Sound t w (heldIn w held) → ColumnsSound t p w from n (at held)
+  in-columns : (p : Pass) (from n : ℕ) → from + n ≤ w → ((j : ℕ) → j < n → columnPassAt w (from + j) ≡ p) → Sound t w (heldIn w held) → ColumnsSound t p w from n (at held)
   unfolding heldIn
   in-columns p from n h is s = record {
     low = λ j a. subst (λ (q : Pass). FiveBits (inputBits t 1 q) (at held (0 * w + (from + j)))) (is j a) (s .low (from + j) (omega arith));
@@ -117,18 +117,18 @@ module _ (t : WidthTable) (w : ℕ) (held : List ℤ) where
     p2 = λ j a. subst (λ (q : Pass). FiveBits (fractionBits t 1 q P2) (at held (4 * w + (from + j)))) (is j a) (s .p2 (from + j) (omega arith));
   }
 
-  low-pass : (c : ℕ) → c < lows w → passOf w c ≡ LowColumns
+  low-pass : (c : ℕ) → c < lows w → columnPassAt w c ≡ LowColumns
   low-pass c h = ap columnPass (lt-ltb c (lows w) h)
 
-  high-pass : (c : ℕ) → lows w ≤ c → passOf w c ≡ HighColumns
+  high-pass : (c : ℕ) → lows w ≤ c → columnPassAt w c ≡ HighColumns
   high-pass c h = ap columnPass (le-ltb c (lows w) h)
 
   -- a line, column by column
   by-parts : (f : Pass → ℕ) (k : ℕ) → ((j : ℕ) → j < lows w → FiveBits (f LowColumns) (at held (k * w + (0 + j)))) → ((j : ℕ) → j < highs w → FiveBits (f HighColumns) (at held (k * w + (lows w + j))))
-      → (c : ℕ) → c < w → FiveBits (f (passOf w c)) (at held (k * w + c))
+      → (c : ℕ) → c < w → FiveBits (f (columnPassAt w c)) (at held (k * w + c))
   by-parts f k low high c h = go (decLt c (lows w))
     where
-      go : Dec (c < lows w) → FiveBits (f (passOf w c)) (at held (k * w + c))
+      go : Dec (c < lows w) → FiveBits (f (columnPassAt w c)) (at held (k * w + c))
       go (yes l) = let same : k * w + (0 + c) ≡ k * w + c = omega arith in as-type (λ u. FiveBits (f (sym (low-pass c l) u)) (at held (same u))) (low c l)
       go (no l) =
           let same : k * w + (lows w + (c - lows w)) ≡ k * w + c = omega arith in

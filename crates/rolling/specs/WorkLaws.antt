@@ -16,7 +16,7 @@ use Rattle.width_table.specs.declared.WidthTable.{WidthTable}
 use Rattle.width_table.specs.Table.{fractionBits, inputBits}
 use Rattle.lifting.specs.Patch.{at, patch-above}
 use Rattle.pictures.specs.MemoryLaws.{stands-over}
-use Rattle.irreversible.specs.Claims.{Holds}
+use Rattle.irreversible.specs.Claims.{InNodeWidth}
 use Rattle.rolling.specs.declared.Taken.the-variants.{Zero, One, Two, Three, Four, OddMany, EvenMany}
 use Rattle.rolling.specs.declared.Taken.{Taken}
 use Rattle.rolling.specs.Schedule.{Line, stacked, lineP1, lineU1, lineP2, lineU2, lineG1, lineG2, lineSingle, newP1, newU1, newP2, newU2, heldAfter, lineGives, lastP2, lastU2, oddU1, oddP2, oddU2, endGives}
@@ -24,10 +24,10 @@ use Rattle.rolling.specs.Calls.{heldLines, outLines, heldIn, FiveBits, S
 use Rattle.rolling.specs.Growth.{Within}
 use Rattle.rolling.specs.Memory.{lineIn, setLine, moved, column, put, column-set, line-own, line-other}
 use Rattle.rolling.specs.Rows.{LineRight, rowOf}
-use Rattle.rolling.specs.Small.{line-five}
+use Rattle.rolling.specs.FiveBits.{line-five}
 use Rattle.rolling.specs.Program.{Enters, HeldFits, FirstFits, LaterFits, firstDone, secondDone, firstKept, laterDone, laterKept, twoGiven, oneEnded, twoEnded, evenEnded, oddDone, oddEnded, setU1, setU2, own-within, other-within}
 use Rattle.rolling.specs.ColumnLaws.{move, keepFirst, doFirst, doSecond, on, atU1, atU2, column-moved, column-U1, column-U2, column-first, column-second, column-kept}
-use Rattle.rolling.specs.Works.{OutWorked, Later, fifth, later, EndWorked}
+use Rattle.rolling.specs.Worked.{OutWorked, Later, fifth, later, EndWorked}
 
 -- ---- five integer bits
 
@@ -35,7 +35,7 @@ below-abs : (H : ℕ) (v : ℤ) → (negℤ (pos H) ≤ℤ v) × (v <ℤ pos H) 
 below-abs H = by-dif _ λ a b. simp difs (omega arith)
 
 five-within : (b f : ℕ) (v : ℤ) → 16 ≤ b → FiveBits f v → Within b f v
-unfolding FiveBits Holds
+unfolding FiveBits InNodeWidth
 five-within b f v h s =
     le-trans (below-abs (2 ^ (5 + f - 1)) v s)
     (le-trans (subst (λ (k : ℕ). 2 ^ k ≤ 16 * 2 ^ f) (bits f) (subst (λ (n : ℕ). n ≤ 16 * 2 ^ f) (sym (pow-add 2 4 f)) (omega arith))) (mul-le-mul-right (2 ^ f) h))

@@ -8,7 +8,7 @@ ghost use Rattle.lifting.specs.Patch.{at};
 ghost use Rattle.lifting.specs.PatchLines.{lineAt};
 ghost use Rattle.width_table.specs.Numbered.{passOf, IsPass};
 ghost use Rattle.width_table.specs.Table.{maxFractionBits};
-ghost use Rattle.pictures.specs.Looks.{Tells};
+ghost use Rattle.pictures.specs.RangeChecks.{Tells};
 ghost use Rattle.irreversible.specs.LevelBits.{IsLevel};
 ghost use Rattle.rolling.specs.SoundLaws.{ColumnsSound};
 ghost use Rattle.rolling.specs.Program.{AsColumns, FirstFits, SecondFits, GiveFits, firstDone, secondDone, twoGiven, firstKept, LaterFits, laterDone, laterKept, HeldFits, LastFits, setU2, lastGiven, Enters, oneEnded, twoEnded, evenEnded, oddEnded, PastSame};
@@ -16,7 +16,7 @@ ghost use Rattle.rolling.specs.Calls.{heldLines, outLines, heldIn, FiveB
 ghost use Rattle.rolling.specs.Told.{toldGiven};
 ghost use Rattle.rolling.specs.Memory.{lineIn, setLine, moved, staged, SafeStage, scaledLine, SafeScaling, Lent, Apart};
 ghost use Rattle.rolling.specs.Rows.{LineRight, rowOf};
-ghost use Rattle.rolling.specs.Works.{lineAnswerOf, endAnswerOf, HeldWorked, LineWorked, Later, LowReady, EndWorked};
+ghost use Rattle.rolling.specs.Worked.{lineAnswerOf, endAnswerOf, HeldWorked, LineWorked, Later, LowReady, EndWorked};
 ghost use Rattle.rolling.specs.Schedule.{next, anyTaken, lineGives, endGives};
 ghost use Rattle.pictures.specs.Pictures.{Admitted};
 use irreversible::Stages;
@@ -58,7 +58,7 @@ pub struct Begun {
 }
 
 // The answer of a line or an end, with the scan afterwards.
-pub struct Scanned {
+pub struct ScanAnswer {
     pub given: Given,
     pub scan: Scan,
 }
@@ -656,11 +656,11 @@ pub fn begin(table: WidthTable) -> Begun
 }
 
 // Takes a line of pixels: 14, 8, 9, 10. Lines that it makes ready stand first in the output.
-pub fn line(scan: Scan, pixels: &[u16], w: usize, held: &mut [i32], out: &mut [i32]) -> Scanned
+pub fn line(scan: Scan, pixels: &[u16], w: usize, held: &mut [i32], out: &mut [i32]) -> ScanAnswer
     ensures { λ r. ⌜ LineCall scan (now (pixels .entry)) w (now (held .entry)) (now (out .entry)) (toldGiven (r .given)) (r .scan) (now (held .exit)) (now (out .exit)) ⌝ }
 {
     match line_answer(scan, pixels, w, held.len(), out.len()) {
-        Outcome::Refused(why) => Scanned {
+        Outcome::Refused(why) => ScanAnswer {
             given: Given::NotGiven(why),
             scan,
         },
@@ -668,7 +668,7 @@ pub fn line(scan: Scan, pixels: &[u16], w: usize, held: &mut [i32], out: &mut [i
             let table = scan.table;
             let taken = scan.taken;
             let lines = work_line(table, taken, pixels, w, held, out);
-            Scanned {
+            ScanAnswer {
                 given: Given::Lines(lines),
                 scan: Scan {
                     table,
@@ -682,11 +682,11 @@ pub fn line(scan: Scan, pixels: &[u16], w: usize, held: &mut [i32], out: &mut [i
 }
 
 // Announces the end: 14, 9. The lines that are left stand first in the output.
-pub fn end(scan: Scan, held: &mut [i32], out: &mut [i32]) -> Scanned
+pub fn end(scan: Scan, held: &mut [i32], out: &mut [i32]) -> ScanAnswer
     ensures { λ r. ⌜ EndCall scan (now (held .entry)) (now (out .entry)) (toldGiven (r .given)) (r .scan) (now (held .exit)) (now (out .exit)) ⌝ }
 {
     match end_answer(scan, held.len(), out.len()) {
-        Outcome::Refused(why) => Scanned {
+        Outcome::Refused(why) => ScanAnswer {
             given: Given::NotGiven(why),
             scan,
         },
@@ -694,7 +694,7 @@ pub fn end(scan: Scan, held: &mut [i32], out: &mut [i32]) -> Scanned
             let table = scan.table;
             let taken = scan.taken;
             let lines = work_end(table, taken, scan.width, held, out);
-            Scanned {
+            ScanAnswer {
                 given: Given::Lines(lines),
                 scan: Scan {
                     table,

@@ -15,7 +15,7 @@ use Rattle.width_table.specs.Table.{integerBits, fractionBits}
 use Rattle.pictures.specs.Pictures.{sample}
 use Rattle.irreversible.specs.Transforms.{fixedPlane}
 use Rattle.exact.specs.Picture.{exactPlane}
-use Rattle.irreversible.specs.Claims.{keptNode, bitsPlane, Near, Holds, LevelInWidth}
+use Rattle.irreversible.specs.Claims.{keptNode, bitsPlane, Near, InNodeWidth, LevelInWidth}
 use Rattle.rolling.specs.declared.Scan.{Scan}
 use Rattle.rolling.specs.Calls.{beginAnswer, scanOf, heldLines, heldIn, Sound, lineAnswer, LineCall, endAnswer, EndCall}
 
@@ -44,7 +44,7 @@ pub data Calls (t : WidthTable) : Scan → List ℤ → ℕ → List ℕ → Lis
       → Calls t s′ held n strip given
 
 -- a scan that calls left
-pub record Left (s : Scan) : Type 0 where
+pub record LeftByCalls (s : Scan) : Type 0 where
   pub held : List ℤ
   pub lines : ℕ
   pub strip : List ℕ
@@ -131,7 +131,7 @@ Fourteen =
 -- A scan that no calls left is answered 14, whatever is lent with it.
 abbrev pub ForeignRefused : Type 0
 ForeignRefused =
-    (s : Scan) → ¬ (Left s)
+    (s : Scan) → ¬ (LeftByCalls s)
     → ((pixels : List ℕ) (w : ℕ) (held out : List ℤ) → lineAnswer s pixels w held out ≡ refused (14, []))
     × ((held out : List ℤ) → endAnswer s held out ≡ refused (14, []))
 
@@ -163,7 +163,7 @@ pub record LinesNear (t : WidthTable) (strip : List ℕ) (w h k : ℕ) (given : 
       → Near (getD given (i * w + c) (pos 0)) (inTurn h (bitsPlane t w h) i c) (inTurn h (exactPlane strip (t .depth) (t .levels) w h) i c)
   pub in-width : (i c : ℕ) → i < k → c < w
       → let p = inTurn h (keptNode (t .levels) w h) i c in
-      Holds (integerBits t (p .level) (p .pass) (p .node)) (fractionBits t (p .level) (p .pass) (p .node)) (getD given (i * w + c) (pos 0))
+      InNodeWidth (integerBits t (p .level) (p .pass) (p .node)) (fractionBits t (p .level) (p .pass) (p .node)) (getD given (i * w + c) (pos 0))
 
 -- Before the end, demand 3 holds of all that came out, whatever lines of the table's depth follow, for any number of them.
 abbrev pub NearBeforeEnd : Type 0

@@ -18,9 +18,9 @@ use Rattle.irreversible.specs.Fixed.{atP1, atU1, atP2, atU2, atG1, atG2, valueA
 use Rattle.irreversible.specs.Transforms.{fixedLine}
 use Rattle.rolling.specs.declared.Taken.{Taken}
 use Rattle.rolling.specs.declared.Taken.the-variants.{Zero, One, Two, Three, Four, OddMany, EvenMany}
-use Rattle.rolling.specs.Schedule.{Line, Held, next, holdsP2, passOf, before, stacked, lineP1, lineU1, lineP2, lineU2, lineG1, lineG2, lineSingle, newP1, newU1, newP2, newU2, heldAfter, lineGives, lastP2, lastU2, oddU1, oddP2, oddU2, endOdd, endGives}
+use Rattle.rolling.specs.Schedule.{Line, Held, next, holdsP2, columnPassAt, before, stacked, lineP1, lineU1, lineP2, lineU2, lineG1, lineG2, lineSingle, newP1, newU1, newP2, newU2, heldAfter, lineGives, lastP2, lastU2, oddU1, oddP2, oddU2, endOdd, endGives}
 use Rattle.rolling.specs.Calls.{FiveBits, SameHeld}
-use Rattle.rolling.specs.Small.{zero-five}
+use Rattle.rolling.specs.FiveBits.{zero-five}
 use Rattle.rolling_claims.specs.Claims.{ready}
 
 -- ---- the five lines at one column
@@ -89,40 +89,40 @@ module _ (t : WidthTable) (p : Pass) (h : ℕ) (x : ℕ → ℤ) where
 -- The same at a column of w: what P1 (V1), U1 (W1), P2 (V2) and U2 (W2) leave.
 module _ (t : WidthTable) (w h c : ℕ) (x : ℕ → ℤ) where
   abbrev pub V1 : ℕ → ℤ
-  V1 = valP1 t (passOf w c) h x
+  V1 = valP1 t (columnPassAt w c) h x
 
   abbrev pub W1 : ℕ → ℤ
-  W1 = valU1 t (passOf w c) h x
+  W1 = valU1 t (columnPassAt w c) h x
 
   abbrev pub V2 : ℕ → ℤ
-  V2 = valP2 t (passOf w c) h x
+  V2 = valP2 t (columnPassAt w c) h x
 
   abbrev pub W2 : ℕ → ℤ
-  W2 = valU2 t (passOf w c) h x
+  W2 = valU2 t (columnPassAt w c) h x
 
   p1-is : (i j : ℕ) (own a b : Line) → own c ≡ x (2 * i + 1) → a c ≡ x (2 * i) → b c ≡ x (2 * j) → j ≡ lowAfter h i → lineP1 t w own a b c ≡ V1 i
   unfolding lineP1 atP1 onHighs
-  p1-is i j own a b d e f g = λ u. step (productOf t 1 (passOf w c) P1) alpha (constantBits t P1) (inputBits t 1 (passOf w c)) (inputBits t 1 (passOf w c)) (fractionBits t 1 (passOf w c) P1) (d u) (e u) ((f ∙ ap (λ (k : ℕ). x (2 * k)) g) u)
+  p1-is i j own a b d e f g = λ u. step (productOf t 1 (columnPassAt w c) P1) alpha (constantBits t P1) (inputBits t 1 (columnPassAt w c)) (inputBits t 1 (columnPassAt w c)) (fractionBits t 1 (columnPassAt w c) P1) (d u) (e u) ((f ∙ ap (λ (k : ℕ). x (2 * k)) g) u)
 
   u1-is : (i j k : ℕ) (own a b : Line) → own c ≡ x (2 * i) → a c ≡ V1 j → b c ≡ V1 k → j ≡ highBefore i → k ≡ highAfter h i → lineU1 t w own a b c ≡ W1 i
   unfolding lineU1 atU1 onLows
-  u1-is i j k own a b d e f g s = λ u. step (productOf t 1 (passOf w c) U1) beta (constantBits t U1) (fractionBits t 1 (passOf w c) P1) (inputBits t 1 (passOf w c)) (fractionBits t 1 (passOf w c) U1) (d u) ((e ∙ ap V1 g) u) ((f ∙ ap V1 s) u)
+  u1-is i j k own a b d e f g s = λ u. step (productOf t 1 (columnPassAt w c) U1) beta (constantBits t U1) (fractionBits t 1 (columnPassAt w c) P1) (inputBits t 1 (columnPassAt w c)) (fractionBits t 1 (columnPassAt w c) U1) (d u) ((e ∙ ap V1 g) u) ((f ∙ ap V1 s) u)
 
   p2-is : (i j : ℕ) (own a b : Line) → own c ≡ V1 i → a c ≡ W1 i → b c ≡ W1 j → j ≡ lowAfter h i → lineP2 t w own a b c ≡ V2 i
   unfolding lineP2 atP2 onHighs
-  p2-is i j own a b d e f g = λ u. step (productOf t 1 (passOf w c) P2) gamma (constantBits t P2) (fractionBits t 1 (passOf w c) U1) (fractionBits t 1 (passOf w c) P1) (fractionBits t 1 (passOf w c) P2) (d u) (e u) ((f ∙ ap W1 g) u)
+  p2-is i j own a b d e f g = λ u. step (productOf t 1 (columnPassAt w c) P2) gamma (constantBits t P2) (fractionBits t 1 (columnPassAt w c) U1) (fractionBits t 1 (columnPassAt w c) P1) (fractionBits t 1 (columnPassAt w c) P2) (d u) (e u) ((f ∙ ap W1 g) u)
 
   u2-is : (i j k : ℕ) (own a b : Line) → own c ≡ W1 i → a c ≡ V2 j → b c ≡ V2 k → j ≡ highBefore i → k ≡ highAfter h i → lineU2 t w own a b c ≡ W2 i
   unfolding lineU2 atU2 onLows
-  u2-is i j k own a b d e f g s = λ u. step (productOf t 1 (passOf w c) U2) delta (constantBits t U2) (fractionBits t 1 (passOf w c) P2) (fractionBits t 1 (passOf w c) U1) (fractionBits t 1 (passOf w c) U2) (d u) ((e ∙ ap V2 g) u) ((f ∙ ap V2 s) u)
+  u2-is i j k own a b d e f g s = λ u. step (productOf t 1 (columnPassAt w c) U2) delta (constantBits t U2) (fractionBits t 1 (columnPassAt w c) P2) (fractionBits t 1 (columnPassAt w c) U1) (fractionBits t 1 (columnPassAt w c) U2) (d u) ((e ∙ ap V2 g) u) ((f ∙ ap V2 s) u)
 
-  g1-is : (i : ℕ) (a : Line) → a c ≡ W2 i → lineG1 t w a c ≡ valG1 t (passOf w c) h x i
+  g1-is : (i : ℕ) (a : Line) → a c ≡ W2 i → lineG1 t w a c ≡ valG1 t (columnPassAt w c) h x i
   unfolding lineG1 atG1
-  g1-is i a e = ap (scale zeta (constantBits t G1) (fractionBits t 1 (passOf w c) U2) (fractionBits t 1 (passOf w c) G1)) e
+  g1-is i a e = ap (scale zeta (constantBits t G1) (fractionBits t 1 (columnPassAt w c) U2) (fractionBits t 1 (columnPassAt w c) G1)) e
 
-  g2-is : (i : ℕ) (a : Line) → a c ≡ V2 i → lineG2 t w a c ≡ valG2 t (passOf w c) h x i
+  g2-is : (i : ℕ) (a : Line) → a c ≡ V2 i → lineG2 t w a c ≡ valG2 t (columnPassAt w c) h x i
   unfolding lineG2 atG2
-  g2-is i a e = ap (scale zetaInverse (constantBits t G2) (fractionBits t 1 (passOf w c) P2) (fractionBits t 1 (passOf w c) G2)) e
+  g2-is i a e = ap (scale zetaInverse (constantBits t G2) (fractionBits t 1 (columnPassAt w c) P2) (fractionBits t 1 (columnPassAt w c) G2)) e
 
   -- ---- what is held
 
@@ -207,13 +207,13 @@ module _ (t : WidthTable) (w h c : ℕ) (x : ℕ → ℤ) where
   -- ---- what comes out
 
   abbrev pub O : ℕ → ℤ
-  O = lineValue t (passOf w c) h x
+  O = lineValue t (columnPassAt w c) h x
 
   low-at : (i s r : ℕ) (a : Line) → 2 ≤ h → 2 * i < h → s + r ≡ 2 * i → a c ≡ W2 i → lineG1 t w a c ≡ O (s + r)
-  low-at i s r a two room q e = g1-is i a e ∙ sym (ap O q ∙ low-turn t (passOf w c) h x i two room)
+  low-at i s r a two room q e = g1-is i a e ∙ sym (ap O q ∙ low-turn t (columnPassAt w c) h x i two room)
 
   high-at : (i s r : ℕ) (a : Line) → 2 ≤ h → s + r ≡ 2 * i + 1 → a c ≡ V2 i → lineG2 t w a c ≡ O (s + r)
-  high-at i s r a two q e = g2-is i a e ∙ sym (ap O q ∙ high-turn t (passOf w c) h x i two)
+  high-at i s r a two q e = g2-is i a e ∙ sym (ap O q ∙ high-turn t (columnPassAt w c) h x i two)
 
   -- each of these lines is the one that is due after s lines
   abbrev pub Due : ℕ → List Line → Type 0
@@ -224,7 +224,7 @@ module _ (t : WidthTable) (w h c : ℕ) (x : ℕ → ℤ) where
 
   due-one : (a : Line) → h ≡ 1 → a c ≡ x 0 → Due 0 (lineSingle t w a ∷ [])
   unfolding lineSingle
-  due-one a one e zero j = ap (cut (inputBits t 1 (passOf w c)) (fractionBits t 1 (passOf w c) G1)) e ∙ sym (single-turn t (passOf w c) h x one)
+  due-one a one e zero j = ap (cut (inputBits t 1 (columnPassAt w c)) (fractionBits t 1 (columnPassAt w c) G1)) e ∙ sym (single-turn t (columnPassAt w c) h x one)
   due-one a one e (suc r) j = absurd (omega arith)
 
   due-two : (i s : ℕ) (a b : Line) → 2 * i + 2 ≤ h → s ≡ 2 * i → a c ≡ W2 i → b c ≡ V2 i → Due s (lineG1 t w a ∷ lineG2 t w b ∷ [])
@@ -323,22 +323,22 @@ module _ (t : WidthTable) (w h c : ℕ) (x : ℕ → ℤ) where
 
   -- what is held at the column is of five integer bits
   pub record SoundAt (held : Held) : Type 0 where
-    pub low : FiveBits (inputBits t 1 (passOf w c)) (held .low c)
-    pub high : FiveBits (inputBits t 1 (passOf w c)) (held .high c)
-    pub p1 : FiveBits (fractionBits t 1 (passOf w c) P1) (held .p1 c)
-    pub u1 : FiveBits (fractionBits t 1 (passOf w c) U1) (held .u1 c)
-    pub p2 : FiveBits (fractionBits t 1 (passOf w c) P2) (held .p2 c)
+    pub low : FiveBits (inputBits t 1 (columnPassAt w c)) (held .low c)
+    pub high : FiveBits (inputBits t 1 (columnPassAt w c)) (held .high c)
+    pub p1 : FiveBits (fractionBits t 1 (columnPassAt w c) P1) (held .p1 c)
+    pub u1 : FiveBits (fractionBits t 1 (columnPassAt w c) U1) (held .u1 c)
+    pub p2 : FiveBits (fractionBits t 1 (columnPassAt w c) P2) (held .p2 c)
 
-  module _ (given : (k : ℕ) → k < h → FiveBits (inputBits t 1 (passOf w c)) (x k))
-      (inside : (i : Node) (k : ℕ) → k < countAt h i → FiveBits (fractionBits t 1 (passOf w c) i) (valueAt (constantBits t) (productOf t 1 (passOf w c)) (inputBits t 1 (passOf w c)) (fractionBits t 1 (passOf w c)) h x i k)) where
-    sound-of : (held : Held) {l g p u q : ℤ} → Contains c held l g p u q → FiveBits (inputBits t 1 (passOf w c)) l → FiveBits (inputBits t 1 (passOf w c)) g
-        → FiveBits (fractionBits t 1 (passOf w c) P1) p → FiveBits (fractionBits t 1 (passOf w c) U1) u → FiveBits (fractionBits t 1 (passOf w c) P2) q → SoundAt held
+  module _ (given : (k : ℕ) → k < h → FiveBits (inputBits t 1 (columnPassAt w c)) (x k))
+      (inside : (i : Node) (k : ℕ) → k < countAt h i → FiveBits (fractionBits t 1 (columnPassAt w c) i) (valueAt (constantBits t) (productOf t 1 (columnPassAt w c)) (inputBits t 1 (columnPassAt w c)) (fractionBits t 1 (columnPassAt w c)) h x i k)) where
+    sound-of : (held : Held) {l g p u q : ℤ} → Contains c held l g p u q → FiveBits (inputBits t 1 (columnPassAt w c)) l → FiveBits (inputBits t 1 (columnPassAt w c)) g
+        → FiveBits (fractionBits t 1 (columnPassAt w c) P1) p → FiveBits (fractionBits t 1 (columnPassAt w c) U1) u → FiveBits (fractionBits t 1 (columnPassAt w c) P2) q → SoundAt held
     sound-of held d l g p u q = record {
-      low = subst (FiveBits (inputBits t 1 (passOf w c))) (sym (d .low)) l;
-      high = subst (FiveBits (inputBits t 1 (passOf w c))) (sym (d .high)) g;
-      p1 = subst (FiveBits (fractionBits t 1 (passOf w c) P1)) (sym (d .p1)) p;
-      u1 = subst (FiveBits (fractionBits t 1 (passOf w c) U1)) (sym (d .u1)) u;
-      p2 = subst (FiveBits (fractionBits t 1 (passOf w c) P2)) (sym (d .p2)) q;
+      low = subst (FiveBits (inputBits t 1 (columnPassAt w c))) (sym (d .low)) l;
+      high = subst (FiveBits (inputBits t 1 (columnPassAt w c))) (sym (d .high)) g;
+      p1 = subst (FiveBits (fractionBits t 1 (columnPassAt w c) P1)) (sym (d .p1)) p;
+      u1 = subst (FiveBits (fractionBits t 1 (columnPassAt w c) U1)) (sym (d .u1)) u;
+      p2 = subst (FiveBits (fractionBits t 1 (columnPassAt w c) P2)) (sym (d .p2)) q;
     }
 
     pub holding-sound : (held : Held) (n : ℕ) (k : Taken) → Holding held n k → 1 ≤ n → n ≤ h → SoundAt held

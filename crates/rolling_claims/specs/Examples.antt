@@ -8,7 +8,7 @@ use mathlib.Core.Path.{_≡_, refl}
 use lib.ListN.{take}
 use lib.IntN.{ℤ, pos, negsuc}
 use Rattle.lines.specs.Lines.{lowAfter, highBefore, highAfter, lowsFirst, onHighs, onLows, interleaved}
-use Rattle.lines.specs.Planes.{tabulate, rowByRow, fromOne, rows, columns, within, rowsFirst, levels, side}
+use Rattle.lines.specs.Planes.{tabulate, rowByRow, fromOne, rows, columns, within, levelRowsFirst, levels, side}
 use Rattle.width_table.specs.Nodes.{Rows}
 use Rattle.width_table.specs.declared.WidthTable.{WidthTable}
 use Rattle.pictures.specs.Pictures.{sample}
@@ -23,7 +23,7 @@ use Rattle.rolling.specs.Schedule.{Line, Held, blank, next, heldAfter, lineGive
 use Rattle.rolling_claims.specs.Claims.{inTurn, firstLines}
 
 abbrev table : Bool → List ℕ → WidthTable
-table five widths = record {
+table hasProducts widths = record {
   depth = 3;
   levels = 1;
   constants = 24 ∷ 23 ∷ 22 ∷ 21 ∷ 20 ∷ 19 ∷ [];
@@ -31,7 +31,7 @@ table five widths = record {
       (12 ∷ 13 ∷ 12 ∷ 14 ∷ 12 ∷ 15 ∷ 12 ∷ 16 ∷ 12 ∷ 17 ∷ 12 ∷ 18 ∷ [])
       ++ (12 ∷ 12 ∷ 12 ∷ 11 ∷ 12 ∷ 10 ∷ 12 ∷ 13 ∷ 12 ∷ 9 ∷ 12 ∷ 8 ∷ [])
       ++ (12 ∷ 14 ∷ 12 ∷ 12 ∷ 12 ∷ 9 ∷ 12 ∷ 11 ∷ 12 ∷ 10 ∷ 12 ∷ 7 ∷ []);
-  five = five;
+  «has_products» = hasProducts;
   products = widths;
 }
 
@@ -101,7 +101,7 @@ pub whole :
     ∷ (negsuc 255 ∷ [])
     ∷ (negsuc 74 ∷ pos 135 ∷ pos 72 ∷ [])
     ∷ []
-unfolding inTurn interleaved fixedPlane fixedAfter levels rowsFirst within columns rows side rowByRow tabulate fixedLine X.fixedPass X.fixedLong fromOne X.atP1 X.atU1 X.atP2 X.atU2 X.atG1 X.atG2 productOf F.step F.cutProduct F.scale F.cut F.nearest lowsFirst onHighs onLows lowAfter highBefore highAfter sample
+unfolding inTurn interleaved fixedPlane fixedAfter levels levelRowsFirst within columns rows side rowByRow tabulate fixedLine X.fixedPass X.fixedLong fromOne X.atP1 X.atU1 X.atP2 X.atU2 X.atG1 X.atG2 productOf F.step F.cutProduct F.scale F.cut F.nearest lowsFirst onHighs onLows lowAfter highBefore highAfter sample
 whole = refl
 
 -- with tag 5, by call
@@ -131,5 +131,5 @@ pub tagged-whole :
     ∷ (negsuc 255 ∷ [])
     ∷ (negsuc 183 ∷ pos 125 ∷ negsuc 36 ∷ [])
     ∷ []
-unfolding inTurn interleaved fixedPlane fixedAfter levels rowsFirst within columns rows side rowByRow tabulate fixedLine X.fixedPass X.fixedLong fromOne X.atP1 X.atU1 X.atP2 X.atU2 X.atG1 X.atG2 productOf F.step F.cutProduct F.scale F.cut F.nearest lowsFirst onHighs onLows lowAfter highBefore highAfter sample
+unfolding inTurn interleaved fixedPlane fixedAfter levels levelRowsFirst within columns rows side rowByRow tabulate fixedLine X.fixedPass X.fixedLong fromOne X.atP1 X.atU1 X.atP2 X.atU2 X.atG1 X.atG2 productOf F.step F.cutProduct F.scale F.cut F.nearest lowsFirst onHighs onLows lowAfter highBefore highAfter sample
 tagged-whole = refl

@@ -1,4 +1,4 @@
--- What a call says that is accepted, and what holds after any calls of a scan, by induction over them (`facts`).
+-- What a call says that is accepted, and what lengthAnswer after any calls of a scan, by induction over them (`facts`).
 use Prim.Native.Nat.{ℕ, zero, suc, _+_, _*_, _-_, _^_, _<_, _≤_}
 use mathlib.Core.Bool.{Bool, true, false, not, _&&_, _||_}
 use mathlib.Core.List.{List, [], _++_, append-assoc, append-nil}
@@ -17,7 +17,7 @@ use Rattle.refusals.specs.AnswerLaws.{asks-done, asks-right, then-done, then-ri
 use Rattle.lines.specs.Planes.{rowByRow}
 use Rattle.lines.specs.RowLaws.{rows-length}
 use Rattle.width_table.specs.declared.WidthTable.{WidthTable}
-use Rattle.pictures.specs.Pictures.{sideRight, Admitted, holds, planeOf}
+use Rattle.pictures.specs.Pictures.{sideRight, Admitted, lengthAnswer, planeOf}
 use Rattle.pictures.specs.PictureLaws.{side-is, side-right, holds-done, holds-right, pixels-done, pixels-right, pixel-below, over-take}
 use Rattle.irreversible.specs.Claims.{Strip}
 use Rattle.irreversible.specs.Transforms.{fixedPlane}
@@ -27,10 +27,10 @@ use Rattle.rolling.specs.declared.Scan.{Scan}
 use Rattle.rolling.specs.Schedule.{Line, Held, next, anyTaken, evenTaken, stacked, heldAfter, lineGives, endGives}
 use Rattle.rolling.specs.Calls.{SameHeld, Sound, beginAnswer, scanOf, goesOn, heldLines, outLines, heldIn, outAfter, lineAnswer, workedRow, givenByLine, scanAfter, LineCall, endAnswer, givenByEnd, scanEnded, EndCall}
 use Rattle.rolling.specs.AnswerLaws.{of-unless, as-test, begun-one, begun-accepted, width-is, goes, on-running}
-use Rattle.rolling.specs.Small.{row-five, column-five}
+use Rattle.rolling.specs.FiveBits.{row-five, column-five}
 use Rattle.rolling_claims.specs.Claims.{HandedOn, Calls, begun, line, line-refused, end, end-refused, ready, inTurn, firstLines}
 use Rattle.rolling_claims.specs.Column.{Holding, zero-lines, holding-same, holding-next, line-due, end-due, SoundAt, holding-sound}
-use Rattle.rolling_claims.specs.Turns.{no-rows, rows-join, rowsOf, row-is, turn-is}
+use Rattle.rolling_claims.specs.LineOrder.{no-rows, rows-join, rowsOf, row-is, turn-is}
 
 -- ---- how many lines
 
@@ -120,7 +120,7 @@ ready-few n = omega arith
 true-false : {A : Type 0} {b : Bool} → b ≡ false → b ≡ true → A
 true-false p q = absurd (subst T (sym q ∙ p) tt)
 
--- a test that is asked only where another holds
+-- a test that is asked only where another lengthAnswer
 unless : (a b : Bool) → (T a → T b) → T (not a || b)
 unless true b f = f tt
 unless false b f = tt
@@ -157,9 +157,9 @@ module _ (s : Scan) (pixels : List ℕ) (w : ℕ) (held out : List ℤ) where
   line-right e =
       let a = asks-done (goesOn s && in-turn) _ _ e in
       let b = asks-done (sideRight w) _ _ (a .1) in
-      let p = then-done (holds w (length pixels)) _ (b .1) in
-      let q = then-done (holds (heldLines * w) (length held)) _ (p .1) in
-      let r = then-done (holds (outLines * w) (length out)) _ (q .1) in
+      let p = then-done (lengthAnswer w (length pixels)) _ (b .1) in
+      let q = then-done (lengthAnswer (heldLines * w) (length held)) _ (p .1) in
+      let r = then-done (lengthAnswer (outLines * w) (length out)) _ (q .1) in
       let turn = both (goesOn s) in-turn (a .0) in
       let long = holds-done w (length pixels) (p .0) in
       record {
@@ -177,9 +177,9 @@ module _ (s : Scan) (pixels : List ℕ) (w : ℕ) (held out : List ℤ) where
   right-line right =
       asks-right (goesOn s && in-turn) _ _ (and-intro (goesOn s) in-turn (right .goes) (unless (anyTaken (s .taken)) (eqb w (s .width)) (λ i. subst (λ (k : ℕ). T (eqb w k)) (right .width i) (eqb-refl w))))
       ∙ asks-right (sideRight w) _ _ (side-right w (right .side))
-      ∙ then-right (holds w (length pixels)) _ (holds-right _ _ (right .long))
-      ∙ then-right (holds (heldLines * w) (length held)) _ (holds-right _ _ (right .held-room))
-      ∙ then-right (holds (outLines * w) (length out)) _ (holds-right _ _ (right .out-room))
+      ∙ then-right (lengthAnswer w (length pixels)) _ (holds-right _ _ (right .long))
+      ∙ then-right (lengthAnswer (heldLines * w) (length held)) _ (holds-right _ _ (right .held-room))
+      ∙ then-right (lengthAnswer (outLines * w) (length out)) _ (holds-right _ _ (right .out-room))
       ∙ pixels-right (s .table .depth) w 1 pixels (omega (arith, right .long)) (λ k i. right .below k (omega arith))
 
 pub record EndRight (s : Scan) (held out : List ℤ) : Type 0 where
@@ -193,7 +193,7 @@ module _ (s : Scan) (held out : List ℤ) where
   unfolding endAnswer
   end-right e =
       let a = asks-done (goesOn s && anyTaken (s .taken)) _ _ e in
-      let p = then-done (holds (heldLines * s .width) (length held)) _ (a .1) in
+      let p = then-done (lengthAnswer (heldLines * s .width) (length held)) _ (a .1) in
       let turn = both (goesOn s) (anyTaken (s .taken)) (a .0) in
       record {
         goes = turn .0;
@@ -206,10 +206,10 @@ module _ (s : Scan) (held out : List ℤ) where
   unfolding endAnswer
   right-end right =
       asks-right (goesOn s && anyTaken (s .taken)) _ _ (and-intro (goesOn s) (anyTaken (s .taken)) (right .goes) (right .some))
-      ∙ then-right (holds (heldLines * s .width) (length held)) _ (holds-right _ _ (right .held-room))
+      ∙ then-right (lengthAnswer (heldLines * s .width) (length held)) _ (holds-right _ _ (right .held-room))
       ∙ holds-right _ _ (right .out-room)
 
--- ---- what holds after any calls
+-- ---- what lengthAnswer after any calls
 
 -- Before the end, of a strip `all` of h lines of w pixels whose first n were accepted: what is held, and what was given.
 pub record Run (t : WidthTable) (k : Taken) (held : List ℤ) (w n : ℕ) (all : List ℕ) (h : ℕ) (given : List ℤ) : Type 0 where
@@ -257,7 +257,7 @@ size-more strip pixels n w size long = length-append strip (take w pixels) ∙ m
     more-size : (a b n w : ℕ) → a ≡ n * w → b ≡ w → a + b ≡ suc n * w
     more-size a b n w p q = omega arith
 
--- What holds of the held memory as left holds of whatever memory it is handed on in.
+-- What lengthAnswer of the held memory as left lengthAnswer of whatever memory it is handed on in.
 pub lent-facts : (s : Scan) (held lent : List ℤ) (n : ℕ) (strip : List ℕ) (given : List ℤ) → Facts s held n strip given → HandedOn s held lent → Facts s lent n strip given
 lent-facts s held lent n strip given f same = record {
   begun = f .begun;

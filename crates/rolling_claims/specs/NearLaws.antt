@@ -20,13 +20,13 @@ use Rattle.width_table.specs.declared.WidthTable.{WidthTable}
 use Rattle.width_table.specs.Table.{integerBits, fractionBits}
 use Rattle.precision.specs.Verdict.{Accepted}
 use Rattle.irreversible.specs.Transforms.{fixedAfter, fixedPlane}
-use Rattle.irreversible.specs.Claims.{Strip, keptNode, bitsPlane, Near, Holds, InWidth}
+use Rattle.irreversible.specs.Claims.{Strip, keptNode, bitsPlane, Near, InNodeWidth, InWidth}
 use Rattle.irreversible.specs.Subbands.{kept-in}
 use Rattle.irreversible.specs.Demand3.{two-steps-strip, widths-strip}
-use Rattle.rolling.specs.Schedule.{passOf}
+use Rattle.rolling.specs.Schedule.{columnPassAt}
 use Rattle.rolling_claims.specs.Claims.{inTurn, firstLines, LinesNear}
 use Rattle.rolling_claims.specs.Column.{lineValue, low-turn, high-turn}
-use Rattle.rolling_claims.specs.Turns.{rowsOf, turn-is}
+use Rattle.rolling_claims.specs.LineOrder.{rowsOf, turn-is}
 
 -- ---- which row stands where
 
@@ -67,53 +67,53 @@ module _ (t : WidthTable) (one : t .levels ≡ 1) (ok : Accepted t) (strip : Lis
 
   -- a value in the width of a node
   abbrev HeldBy : TableNode → ℤ → Type 0
-  HeldBy p v = Holds (integerBits t (p .level) (p .pass) (p .node)) (fractionBits t (p .level) (p .pass) (p .node)) v
+  HeldBy p v = InNodeWidth (integerBits t (p .level) (p .pass) (p .node)) (fractionBits t (p .level) (p .pass) (p .node)) v
 
   abbrev column : ℕ → ℕ → ℤ
   column c r = rowsOf t strip w r c
 
-  column-held : (c : ℕ) → c < w → InWidth t 1 (passOf w c) h (column c)
+  column-held : (c : ℕ) → c < w → InWidth t 1 (columnPassAt w c) h (column c)
   unfolding fixedAfter levels side rows
   column-held c j = widths-strip t strip w h ok right 0 (omega (arith, one)) .inColumns c j
 
   -- line 2 m is low and kept by G1, line 2 m + 1 is high and kept by G2
-  kept-low : (m c : ℕ) → m < lows h → c < w → nodeAt 1 (passOf w c) G1 ≡ inTurn h (keptNode (t .levels) w h) (2 * m) c
+  kept-low : (m c : ℕ) → m < lows h → c < w → nodeAt 1 (columnPassAt w c) G1 ≡ inTurn h (keptNode (t .levels) w h) (2 * m) c
   unfolding inTurn side
   kept-low m c i j =
       let K = keptNode (t .levels) w h in
       sym (ap (λ (l : ℕ → TableNode). l c) (even-place K (λ i. K (lows h + i)) m)
       ∙ ap (λ (L : ℕ). keptNode L w h m c) one
       ∙ kept-in w h m c 0 (omega arith, j)
-      ∙ ap (λ (b : Bool). nodeAt 1 (passOf w c) (lastNode b)) (ltb-true m (lows h) i))
+      ∙ ap (λ (b : Bool). nodeAt 1 (columnPassAt w c) (lastNode b)) (ltb-true m (lows h) i))
 
-  kept-high : (m c : ℕ) → m < highs h → c < w → nodeAt 1 (passOf w c) G2 ≡ inTurn h (keptNode (t .levels) w h) (2 * m + 1) c
+  kept-high : (m c : ℕ) → m < highs h → c < w → nodeAt 1 (columnPassAt w c) G2 ≡ inTurn h (keptNode (t .levels) w h) (2 * m + 1) c
   unfolding inTurn side
   kept-high m c i j =
       let K = keptNode (t .levels) w h in
       sym (ap (λ (l : ℕ → TableNode). l c) (odd-place K (λ i. K (lows h + i)) m)
       ∙ ap (λ (L : ℕ). keptNode L w h (lows h + m) c) one
       ∙ kept-in w h (lows h + m) c 0 (omega arith, j)
-      ∙ ap (λ (b : Bool). nodeAt 1 (passOf w c) (lastNode b)) (ltb-false (lows h + m) (lows h) (omega arith)))
+      ∙ ap (λ (b : Bool). nodeAt 1 (columnPassAt w c) (lastNode b)) (ltb-false (lows h + m) (lows h) (omega arith)))
 
-  low-held : (m c : ℕ) → m < lows h → c < w → HeldBy (nodeAt 1 (passOf w c) G1) (lineValue t (passOf w c) h (column c) (2 * m))
+  low-held : (m c : ℕ) → m < lows h → c < w → HeldBy (nodeAt 1 (columnPassAt w c) G1) (lineValue t (columnPassAt w c) h (column c) (2 * m))
   low-held m c i j = go (decLt h 2)
     where
-      go : Dec (h < 2) → HeldBy (nodeAt 1 (passOf w c) G1) (lineValue t (passOf w c) h (column c) (2 * m))
+      go : Dec (h < 2) → HeldBy (nodeAt 1 (columnPassAt w c) G1) (lineValue t (columnPassAt w c) h (column c) (2 * m))
       go (yes short) =
           let first : 0 ≡ m = omega arith in
-          subst (λ (m : ℕ). HeldBy (nodeAt 1 (passOf w c) G1) (lineValue t (passOf w c) h (column c) (2 * m))) first
-          (subst (HeldBy (nodeAt 1 (passOf w c) G1)) (sym (even-place _ _ 0)) (column-held c j .single (omega (arith, right .height))))
-      go (no long) = subst (HeldBy (nodeAt 1 (passOf w c) G1)) (sym (low-turn t (passOf w c) h (column c) m (omega arith) (omega arith))) (column-held c j .long (record { least = omega arith }) G1 m i)
+          subst (λ (m : ℕ). HeldBy (nodeAt 1 (columnPassAt w c) G1) (lineValue t (columnPassAt w c) h (column c) (2 * m))) first
+          (subst (HeldBy (nodeAt 1 (columnPassAt w c) G1)) (sym (even-place _ _ 0)) (column-held c j .single (omega (arith, right .height))))
+      go (no long) = subst (HeldBy (nodeAt 1 (columnPassAt w c) G1)) (sym (low-turn t (columnPassAt w c) h (column c) m (omega arith) (omega arith))) (column-held c j .long (record { least = omega arith }) G1 m i)
 
-  high-held : (m c : ℕ) → m < highs h → c < w → HeldBy (nodeAt 1 (passOf w c) G2) (lineValue t (passOf w c) h (column c) (2 * m + 1))
-  high-held m c i j = subst (HeldBy (nodeAt 1 (passOf w c) G2)) (sym (high-turn t (passOf w c) h (column c) m (omega arith))) (column-held c j .long (record { least = omega arith }) G2 m i)
+  high-held : (m c : ℕ) → m < highs h → c < w → HeldBy (nodeAt 1 (columnPassAt w c) G2) (lineValue t (columnPassAt w c) h (column c) (2 * m + 1))
+  high-held m c i j = subst (HeldBy (nodeAt 1 (columnPassAt w c) G2)) (sym (high-turn t (columnPassAt w c) h (column c) m (omega arith))) (column-held c j .long (record { least = omega arith }) G2 m i)
 
   line-held : (i c : ℕ) → i < h → c < w → HeldBy (inTurn h (keptNode (t .levels) w h) i c) (inTurn h (fixedPlane t strip w h) i c)
   line-held i c a b =
       subst (HeldBy (inTurn h (keptNode (t .levels) w h) i c)) (sym (turn-is t one strip w h i c a b))
-      (by-parity (λ i. HeldBy (inTurn h (keptNode (t .levels) w h) i c) (lineValue t (passOf w c) h (column c) i)) h
-      (λ m r. subst (λ (p : TableNode). HeldBy p (lineValue t (passOf w c) h (column c) (2 * m))) (kept-low m c r b) (low-held m c r b))
-      (λ m r. subst (λ (p : TableNode). HeldBy p (lineValue t (passOf w c) h (column c) (2 * m + 1))) (kept-high m c r b) (high-held m c r b))
+      (by-parity (λ i. HeldBy (inTurn h (keptNode (t .levels) w h) i c) (lineValue t (columnPassAt w c) h (column c) i)) h
+      (λ m r. subst (λ (p : TableNode). HeldBy p (lineValue t (columnPassAt w c) h (column c) (2 * m))) (kept-low m c r b) (low-held m c r b))
+      (λ m r. subst (λ (p : TableNode). HeldBy p (lineValue t (columnPassAt w c) h (column c) (2 * m + 1))) (kept-high m c r b) (high-held m c r b))
       i a)
 
   pub lines-near : (k : ℕ) → k ≤ h → LinesNear t strip w h k (firstLines t strip w h k)

@@ -8,10 +8,10 @@ use lib.Dec.{leb, ltb}
 use lib.ListN.{take}
 use Rattle.numbers.specs.Tests.{every}
 use Rattle.refusals.specs.Answers.{Reason, Answer, done, refused, passed, asks, asksGiving, _then_, code}
-use Rattle.width_table.specs.Nodes.{TableNode, bookOrder}
+use Rattle.width_table.specs.Nodes.{TableNode, tableOrder}
 use Rattle.width_table.specs.declared.WidthTable.{WidthTable}
 use Rattle.width_table.specs.Table.{integerBits, fractionBits, formRight}
-use Rattle.pictures.specs.Pictures.{holds, pixelsRight}
+use Rattle.pictures.specs.Pictures.{lengthAnswer, pixelAnswer}
 use Rattle.stages.specs.Rule.{Bound}
 use Rattle.precision.specs.Bounds.{boundOf}
 use Rattle.precision.specs.Verdict.{fits, belowTwoSteps, keptAt, placeNumbers, judgedBy, judged, firstRefusal, verdict}
@@ -41,12 +41,12 @@ pub asks-first : (b : Bool) (o : Answer Unit) → Other o → code (asks b 14 o)
 asks-first true o q e = absurd (q e)
 asks-first false o q e = refl
 
-pub holds-other : (n k : ℕ) → Other (holds n k)
-unfolding holds
+pub holds-other : (n k : ℕ) → Other (lengthAnswer n k)
+unfolding lengthAnswer
 holds-other n k = asks-other (leb n k) (9, []) _ (λ e. omega arith) done-other
 
-pub pixels-other : (B w h : ℕ) (pixels : List ℕ) → Other (pixelsRight B w h pixels)
-unfolding pixelsRight
+pub pixels-other : (B w h : ℕ) (pixels : List ℕ) → Other (pixelAnswer B w h pixels)
+unfolding pixelAnswer
 pixels-other B w h pixels = asks-other (every (λ p. ltb p (2 ^ B)) (take (w * h) pixels)) (10, []) _ (λ e. omega arith) done-other
 
 -- 4, 6 and 7
@@ -63,4 +63,4 @@ first-other t (p ∷ ps) =
 
 pub verdict-other : (t : WidthTable) → Other (verdict t)
 unfolding verdict
-verdict-other t = asks-other (formRight t) (4, []) _ (λ e. omega arith) (first-other t (bookOrder (t .levels)))
+verdict-other t = asks-other (formRight t) (4, []) _ (λ e. omega arith) (first-other t (tableOrder (t .levels)))

@@ -16,7 +16,7 @@ use Rattle.lines.specs.Lines.{highBefore, interleaved}
 use Rattle.lines.specs.LineLaws.{even-place, odd-place, by-parity}
 use Rattle.lines.specs.Planes.{levels, side}
 use Rattle.width_table.specs.declared.WidthTable.{WidthTable}
-use Rattle.pictures.specs.Pictures.{sample, sideRight, holds}
+use Rattle.pictures.specs.Pictures.{sample, sideRight, lengthAnswer}
 use Rattle.irreversible.specs.Transforms.{fixedAfter, fixedPlane}
 use Rattle.irreversible.specs.Claims.{LevelInWidth}
 use Rattle.irreversible.specs.Demand3.{widths-strip}
@@ -25,7 +25,7 @@ use Rattle.rolling.specs.Schedule.{anyTaken}
 use Rattle.rolling.specs.Calls.{Sound, goesOn, heldLines, outLines, heldIn, lineAnswer, workedRow, givenByLine, scanAfter, endAnswer, givenByEnd, scanEnded}
 use Rattle.rolling_claims.specs.Claims.{readyP1, readyU1, readyP2, readyU2, lineReady, ready, ReadyLines, inTurn, firstLines, BeforeEnd, AfterEnd, Counts, OneWidth, BeginFourteen, Fourteen, RefusedKeeps, SoundLeft, InWidths, LinesNear, NearBeforeEnd, NearAfterEnd}
 use Rattle.rolling.specs.AnswerLaws.{other-levels, one-level, begun-one, begun-accepted, on-running}
-use Rattle.rolling_claims.specs.Turns.{no-rows}
+use Rattle.rolling_claims.specs.LineOrder.{no-rows}
 use Rattle.rolling_claims.specs.History.{Facts, lent-facts, facts, table-kept, count-some, some-count, line-count, end-count, goes-on, line-right, end-right, strip-more, strip-now, sound-now}
 use Rattle.rolling_claims.specs.NearLaws.{lines-near}
 use Rattle.rolling_claims.specs.NotFourteen.{asks-other, then-other, asks-first, holds-other, pixels-other, verdict-other}
@@ -145,7 +145,7 @@ fourteen t s held n strip given calls = (on-line, on-end)
         (line-test (s .ended) (anyTaken (s .taken)) (eqb w (s .width)) n (w ≡ s .width) (count-some (f .count)) (some-count (f .count)) (eqb→eq w (s .width)) (λ e. subst (λ (k : ℕ). T (eqb w k)) e (eqb-refl w))) in (
           (λ e. test .0 (asks-first (goesOn s && same) _
               (asks-other (sideRight w) (8, []) _ (λ e. omega arith)
-              (then-other (holds w (length pixels)) _ (holds-other _ _) (then-other (holds (heldLines * w) (length other)) _ (holds-other _ _) (then-other (holds (outLines * w) (length out)) _ (holds-other _ _) (pixels-other (s .table .depth) w 1 pixels))))) (ap (λ (o : Answer Unit). code o) e))),
+              (then-other (lengthAnswer w (length pixels)) _ (holds-other _ _) (then-other (lengthAnswer (heldLines * w) (length other)) _ (holds-other _ _) (then-other (lengthAnswer (outLines * w) (length out)) _ (holds-other _ _) (pixels-other (s .table .depth) w 1 pixels))))) (ap (λ (o : Answer Unit). code o) e))),
           (λ q. asks-wrong (goesOn s && same) _ _ (test .1 q)),
         )
 
@@ -153,7 +153,7 @@ fourteen t s held n strip given calls = (on-line, on-end)
     on-end other out =
         let test = subst (λ (goes : Bool). ((goes && anyTaken (s .taken)) ≡ false) ↔ (T (s .ended) ⊎ (n ≡ 0))) (sym (goes-is s held n strip given f))
         (end-test (s .ended) (anyTaken (s .taken)) n (count-some (f .count)) (some-count (f .count))) in (
-          (λ e. test .0 (asks-first (goesOn s && anyTaken (s .taken)) _ (then-other (holds (heldLines * s .width) (length other)) _ (holds-other _ _) (holds-other _ _)) (ap (λ (o : Answer Unit). code o) e))),
+          (λ e. test .0 (asks-first (goesOn s && anyTaken (s .taken)) _ (then-other (lengthAnswer (heldLines * s .width) (length other)) _ (holds-other _ _) (holds-other _ _)) (ap (λ (o : Answer Unit). code o) e))),
           (λ q. asks-wrong (goesOn s && anyTaken (s .taken)) _ _ (test .1 q)),
         )
 

@@ -17,7 +17,7 @@ use Rattle.width_table.specs.declared.WidthTable.{WidthTable}
 use Rattle.width_table.specs.Table.{formRight}
 use Rattle.width_table.specs.Fields.{productsTag, tableSize}
 use Rattle.width_table.specs.Bytes.{headed, field, formBy, levelsIn, hasFifth, form, tableIn, tableBytes, bytesAfter}
-use Rattle.width_table.specs.FormLists.{Sized}
+use Rattle.width_table.specs.FormLists.{FullLists}
 use Rattle.width_table.specs.BytesLaws.{RightForm, right-form, form-long, fifth-written, bytes-length, written-read as tables-read, read-written as tables-back}
 use Rattle.width_table.specs.ReadLaws.{table-read}
 use Rattle.width_table.specs.RoundTrip.{written-reads}
@@ -33,7 +33,7 @@ use Rattle.scan_bytes.specs.ScanBytes.{tableRoom, scanLength, takenNumbe
 
 -- a scan that bytes can hold
 pub record Keepable (s : Scan) : Type 0 where
-  pub sized : Sized (s .table)
+  pub sized : FullLists (s .table)
   pub form : T (formRight (s .table))
   pub one : s .table .levels ≡ 1
   pub narrow : s .width < 65536
@@ -47,7 +47,7 @@ can-keep s right one narrow =
     is-true (a && b && d) (and-intro (a && b) d (and-intro a b right (subst (λ (n : ℕ). T (eqb n 1)) (sym one) tt)) (lt→ltb (s .width) 65536 narrow))
 
 -- what is read has the lengths of a table's parts
-pub kept-is : (s : Scan) → Sized (s .table) → keepable s ≡ true → Keepable s
+pub kept-is : (s : Scan) → FullLists (s .table) → keepable s ≡ true → Keepable s
 unfolding keepable
 kept-is s z e =
     let h = three (formRight (s .table)) (eqb (s .table .levels) 1) (ltb (s .width) 65536) (subst T (sym e) tt) in
@@ -82,7 +82,7 @@ ended-few true = tt
 ended-few false = tt
 
 -- a table of one level has room, with tag 5 and without it (document 02, job 7)
-table-fits : (five : Bool) → tableSize five 1 ≤ tableRoom
+table-fits : (hasProducts : Bool) → tableSize hasProducts 1 ≤ tableRoom
 table-fits true = omega arith
 table-fits false = omega arith
 
@@ -97,11 +97,11 @@ as-many false L true h = absurd (omega arith)
 as-many false L false h = (refl, omega arith)
 
 module _ (s : Scan) (k : Keepable s) where
-  abbrev five : Bool
-  five = s .table .five
+  abbrev hasProducts : Bool
+  «has_products» = s .table .«has_products»
 
   abbrev size : ℕ
-  size = tableSize five 1
+  size = tableSize hasProducts 1
 
   abbrev written : List ℕ
   written = tableBytes (s .table)
@@ -113,22 +113,22 @@ module _ (s : Scan) (k : Keepable s) where
   its-form = right-form (s .table) (k .sized) (k .form)
 
   table-long : length written ≡ size
-  table-long = bytes-length (s .table) (k .sized) its-form ∙ ap (tableSize five) (k .one)
+  table-long = bytes-length (s .table) (k .sized) its-form ∙ ap (tableSize hasProducts) (k .one)
 
   room-long : length (roomBytes (s .table)) ≡ tableRoom
   unfolding roomBytes
-  room-long = length-append written left ∙ omega (arith, table-long, length-replicate {A = ℕ} (tableRoom - size) 0, table-fits five)
+  room-long = length-append written left ∙ omega (arith, table-long, length-replicate {A = ℕ} (tableRoom - size) 0, table-fits hasProducts)
 
   pub state-long : length (stateBytes s) ≡ scanLength
   unfolding stateBytes
   state-long = length-append (roomBytes (s .table)) (numberBytes s) ∙ ap (λ (n : ℕ). n + 4) room-long
 
   -- the byte right after the fourth field: 5 where tag 5 is there, and else 0
-  fifth-byte : (more : List ℕ) → eqb (getD (roomBytes (s .table) ++ more) (tableSize false 1) 0) productsTag ≡ five
+  fifth-byte : (more : List ℕ) → eqb (getD (roomBytes (s .table) ++ more) (tableSize false 1) 0) productsTag ≡ hasProducts
   unfolding roomBytes tableIn
-  fifth-byte more = ap (λ (n : ℕ). eqb n productsTag) (List·getD-append (written ++ left) more 0 (tableSize false 1) (omega (arith, room-long))) ∙ go five refl
+  fifth-byte more = ap (λ (n : ℕ). eqb n productsTag) (List·getD-append (written ++ left) more 0 (tableSize false 1) (omega (arith, room-long))) ∙ go hasProducts refl
     where
-      go : (x : Bool) → five ≡ x → eqb (getD (written ++ left) (tableSize false 1) 0) productsTag ≡ five
+      go : (x : Bool) → hasProducts ≡ x → eqb (getD (written ++ left) (tableSize false 1) 0) productsTag ≡ hasProducts
       go true e =
           let long : length written ≡ tableRoom = table-long ∙ ap (λ (x : Bool). tableSize x 1) e in
           let one : levelsIn written ≡ 1 = ap (λ (t : WidthTable). t .levels) (tables-read (s .table) (k .sized) its-form) ∙ k .one in
@@ -161,7 +161,7 @@ module _ (s : Scan) (k : Keepable s) where
     unfolding roomBytes
     at-table =
         ap (λ (n : ℕ). take n (stateBytes s ++ more)) ends
-        ∙ sym (take-take size tableRoom (stateBytes s ++ more) (table-fits five))
+        ∙ sym (take-take size tableRoom (stateBytes s ++ more) (table-fits hasProducts))
         ∙ ap (take size) at-room
         ∙ take-at written left size table-long
 
@@ -343,8 +343,8 @@ module _ (s : Scan) (k : Keepable s) (old : List ℕ) (long : scanLength ≤ len
   tabled-over =
       let t = tableBytes (s .table) in
       let n = size s k in
-      let fits = table-fits (s .table .five) in
-      sym (table-written (s .table) cleared (is-true (formRight (s .table)) (k .form)) (subst (λ (L : ℕ). tableSize (s .table .five) L ≤ length cleared) (sym (k .one)) (omega (arith, cleared-long, fits))) .1)
+      let fits = table-fits (s .table .«has_products») in
+      sym (table-written (s .table) cleared (is-true (formRight (s .table)) (k .form)) (subst (λ (L : ℕ). tableSize (s .table .«has_products») L ≤ length cleared) (sym (k .one)) (omega (arith, cleared-long, fits))) .1)
       ∙ ap (λ (m : ℕ). t ++ drop m cleared) (table-long s k)
       ∙ ap (λ (l : List ℕ). t ++ l) (drop-append-le n (replicate tableRoom 0) (drop tableRoom old) fits ∙ ap (λ (l : List ℕ). l ++ drop tableRoom old) (drop-zeros n tableRoom fits))
       ∙ sym (append-assoc t (left s k) (drop tableRoom old))

@@ -49,7 +49,7 @@ numberBytes s = numbersOf (s .width) (s .taken) (s .ended)
 
 -- a table's bytes, with zeros in the room that they leave
 unfoldable pub roomBytes : WidthTable → List ℕ
-roomBytes t = tableBytes t ++ replicate (tableRoom - tableSize (t .five) 1) 0
+roomBytes t = tableBytes t ++ replicate (tableRoom - tableSize (t .«has_products») 1) 0
 
 -- all bytes of a scan
 unfoldable pub stateBytes : Scan → List ℕ

@@ -8,12 +8,12 @@ use native.Mathlib.Decide.{decLt}
 use native.Mathlib.Nat.{mul-le-mul-right, le-antisymm, le-of-mul-le-mul-right, lt-of-mul-lt-mul-right, div-mul-le-self}
 use lib.IntN.{sucℤ-+ℤ, predℤ-+ℤ, +ℤ-idl, ℤ, pos, negsuc, sucℤ, natAbs, _+ℤ_, predℤ}
 use Rattle.numbers.specs.Abs.{abs-mul}
-use Rattle.exact.specs.Fractions.{Frac, _≈_, _⊕_, whole, magnitude, upDiv, wholesOf}
+use Rattle.exact.specs.Fractions.{Frac, _≈_, _⊕_, whole, magnitude, upDiv, roundedUp}
 use Rattle.exact.specs.FracLaws.{≈-refl, ≈-trans, ⊕-cong, zeroF, ⊕-zero-r}
 use Rattle.stages.specs.Stages.{Side, low, high, Stage, stage, made, worked}
-use Rattle.stages.specs.Gains.{Line, before, after, held, sumTo, Source, samples, lows, highs, node, inputAnswer, nodeAnswer, sumFrom, exactGain, gain}
+use Rattle.stages.specs.Gains.{Line, before, after, valuesAfter, sumTo, Source, samples, lows, highs, node, inputAnswer, nodeAnswer, sumFrom, exactGain, gain}
 use Rattle.stages.specs.Linear.{upDiv-most, linear-none}
-use Rattle.stages.specs.Held.{input-linear, node-linear}
+use Rattle.stages.specs.ValueLaws.{input-linear, node-linear}
 
 -- ---- a sum of magnitudes, and zeros
 
@@ -50,8 +50,8 @@ up-least a d v z h = last (lt-of-mul-lt-mul-right d (omega (arith, div-mul-le-se
 up-same : (a d b e : ℕ) → 0 < d → 0 < e → a * e ≡ b * d → upDiv a d ≤ upDiv b e
 up-same a d b e zd ze h = up-least a d (upDiv b e) zd (le-of-mul-le-mul-right {m = a} {n = upDiv b e * d} {k = e} (omega (arith, h, mul-le-mul-right d (upDiv-most b e ze))) ze)
 
-pub wholes-≈ : (m : ℕ) {x y : Frac} → x ≈ y → wholesOf m x ≡ wholesOf m y
-unfolding wholesOf
+pub wholes-≈ : (m : ℕ) {x y : Frac} → x ≈ y → roundedUp m x ≡ roundedUp m y
+unfolding roundedUp
 wholes-≈ m {x} {y} h = le-antisymm (up-same _ _ _ _ (x .above) (y .above) (law (natAbs (x .num)) (natAbs (y .num)) (x .den) (y .den) abs)) (up-same _ _ _ _ (y .above) (x .above) (law (natAbs (y .num)) (natAbs (x .num)) (y .den) (x .den) (sym abs)))
   where
     abs : natAbs (x .num) * y .den ≡ natAbs (y .num) * x .den
@@ -77,29 +77,29 @@ module _ (st : List Stage) (s : Side) (m : ℕ) where
   endless highs r big = longer m (inputAnswer st s m high) (no-answer-input high) r big
   endless (node i) r big = longer m (nodeAnswer st s m i) (no-answer-node i) r big
 
-  pub endless-gain : (i : Source) (r : ℕ) → m ≤ r → wholesOf 65536 (sumFrom st s m r i) ≡ gain st s m i
+  pub endless-gain : (i : Source) (r : ℕ) → m ≤ r → roundedUp 65536 (sumFrom st s m r i) ≡ gain st s m i
   unfolding gain
   endless-gain i r big = wholes-≈ 65536 (endless i r big)
 
 -- ---- what holds at place 0 holds at each place: the line can be moved
 
 module _ (st : List Stage) (x : Side → Line) (a : ℕ → Line) (k : ℤ) where
-  moves : (m : ℕ) (s : Side) (j : ℤ) → held st (λ t p. x t (p +ℤ k)) (λ i p. a i (p +ℤ k)) m s j ≡ held st x a m s (j +ℤ k)
-  unfolding held
+  moves : (m : ℕ) (s : Side) (j : ℤ) → valuesAfter st (λ t p. x t (p +ℤ k)) (λ i p. a i (p +ℤ k)) m s j ≡ valuesAfter st x a m s (j +ℤ k)
+  unfolding valuesAfter
   moves zero s j = refl
   moves (suc m) s j = go (moves m) (stage st m .side) s
     where
       three : {A : Type 0} (f : Frac → Frac → Frac → A) {o o' y y' z z' : Frac} → o ≡ o' → y ≡ y' → z ≡ z' → f o y z ≡ f o' y' z'
       three f {o} {o'} {y} {y'} {z} {z'} p q r = ap (λ (t : Frac). f t y z) p ∙ ap (λ (t : Frac). f o' t z) q ∙ ap (f o' y') r
 
-      go : ((s : Side) (j : ℤ) → held st (λ t p. x t (p +ℤ k)) (λ i p. a i (p +ℤ k)) m s j ≡ held st x a m s (j +ℤ k)) → (t s : Side)
-          → worked before after t (λ j own y z. made (stage st m .kind) (stage st m .constant) own y z ⊕ a m (j +ℤ k)) (held st (λ t p. x t (p +ℤ k)) (λ i p. a i (p +ℤ k)) m) s j
-          ≡ worked before after t (λ j own y z. made (stage st m .kind) (stage st m .constant) own y z ⊕ a m j) (held st x a m) s (j +ℤ k)
-      go at low low = three (λ o y z. made (stage st m .kind) (stage st m .constant) o y z ⊕ a m (j +ℤ k)) (at low j) (at high (predℤ j) ∙ ap (held st x a m high) (predℤ-+ℤ j k)) (at high j)
+      go : ((s : Side) (j : ℤ) → valuesAfter st (λ t p. x t (p +ℤ k)) (λ i p. a i (p +ℤ k)) m s j ≡ valuesAfter st x a m s (j +ℤ k)) → (t s : Side)
+          → worked before after t (λ j own y z. made (stage st m .kind) (stage st m .constant) own y z ⊕ a m (j +ℤ k)) (valuesAfter st (λ t p. x t (p +ℤ k)) (λ i p. a i (p +ℤ k)) m) s j
+          ≡ worked before after t (λ j own y z. made (stage st m .kind) (stage st m .constant) own y z ⊕ a m j) (valuesAfter st x a m) s (j +ℤ k)
+      go at low low = three (λ o y z. made (stage st m .kind) (stage st m .constant) o y z ⊕ a m (j +ℤ k)) (at low j) (at high (predℤ j) ∙ ap (valuesAfter st x a m high) (predℤ-+ℤ j k)) (at high j)
       go at low high = at high j
       go at high low = at low j
-      go at high high = three (λ o y z. made (stage st m .kind) (stage st m .constant) o y z ⊕ a m (j +ℤ k)) (at high j) (at low j) (at low (sucℤ j) ∙ ap (held st x a m low) (sucℤ-+ℤ j k))
+      go at high high = three (λ o y z. made (stage st m .kind) (stage st m .constant) o y z ⊕ a m (j +ℤ k)) (at high j) (at low j) (at low (sucℤ j) ∙ ap (valuesAfter st x a m low) (sucℤ-+ℤ j k))
 
   -- What stands at place k is what stands at place 0 where all that is put in lies k places earlier.
-  pub anywhere : (m : ℕ) (s : Side) → held st x a m s k ≡ held st (λ t p. x t (p +ℤ k)) (λ i p. a i (p +ℤ k)) m s (pos 0)
-  anywhere m s = sym (moves m s (pos 0) ∙ ap (held st x a m s) (+ℤ-idl k))
+  pub anywhere : (m : ℕ) (s : Side) → valuesAfter st x a m s k ≡ valuesAfter st (λ t p. x t (p +ℤ k)) (λ i p. a i (p +ℤ k)) m s (pos 0)
+  anywhere m s = sym (moves m s (pos 0) ∙ ap (valuesAfter st x a m s) (+ℤ-idl k))

@@ -7,8 +7,8 @@ use Rattle.exact.specs.Fractions.{Frac}
 use Rattle.stages.specs.Stages.{Product, uncut, cutTo, productBits}
 
 -- v / 2^f
-unfoldable pub meant : ℤ → ℕ → Frac
-meant v f = record { num = v; den = 2 ^ f; above = pow-pos f }
+unfoldable pub fixedValue : ℤ → ℕ → Frac
+fixedValue v f = record { num = v; den = 2 ^ f; above = pow-pos f }
 
 -- A constant at F bits: the nearest multiple of 2^-F, as a whole number of them (no tie arises: Constants). (floorDiv z m is the floor of z / m.)
 unfoldable pub nearest : Frac → ℕ → ℤ

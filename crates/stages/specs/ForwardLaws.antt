@@ -13,8 +13,8 @@ use lib.Pow.{pow-mono}
 use Rattle.stages.specs.Stages.{low, stage, forward, Product, productBits, bits}
 use Rattle.stages.specs.Gains.{node, gain}
 use Rattle.stages.specs.GainTable.{forwardGains, forward-gain}
-use Rattle.stages.specs.Rule.{Bound, together, timesGain, brought, loss, singleError, ownLift, ownScale, rangeAt, ownFrom, errorAt}
-use Rattle.stages.specs.Held.{weighed}
+use Rattle.stages.specs.Rule.{Bound, together, timesGain, inputPart, loss, singleError, ownLift, ownScale, rangeAt, ownErrorOf, errorAt}
+use Rattle.stages.specs.ValueLaws.{weighed}
 use Rattle.stages.specs.RuleLaws.{times-least, loss-below, loss-none, weighed-ext, ownAt, error-sum}
 
 -- 2^-f is lost in G1, or more of it in U2, or in U1
@@ -33,7 +33,7 @@ losses f fi u1 u2 m1 m2 F h = go (decLt f (F + u2)) (decLt u2 (max u1 m2))
 module _ (b : Bound) (F : ℕ → ℕ) (fp : ℕ → Product) (fi : ℕ) (f : ℕ → ℕ) where
   -- of the input (k = 0), or of what stage k - 1 leaves
   pub range-at : (k : ℕ) → k < 7 → rangeAt forward (together b) F fp (λ s. fi) f (stage forward (k - 1) .side) k ≡ timesGain (b .range) (getD (getD forwardGains 0 []) k 0)
-  unfolding rangeAt brought
+  unfolding rangeAt inputPart
   range-at k h = ap (timesGain (b .range)) (forward-gain 0 k (lit≤ tt) h)
 
   -- the own error of stage i
@@ -43,7 +43,7 @@ module _ (b : Bound) (F : ℕ → ℕ) (fp : ℕ → Product) (fi : ℕ) (f : �
   pub error-at : (k : ℕ) → k < 7
       → errorAt forward (together b) F fp (λ s. fi) f (stage forward (k - 1) .side) k
       ≡ timesGain (b .error) (getD (getD forwardGains 0 []) k 0) + weighed (λ i. getD (getD forwardGains (suc i) []) k 0) own k
-  unfolding brought
+  unfolding inputPart
   error-at k h =
       omega (
         arith,
@@ -60,15 +60,15 @@ module _ (b : Bound) (F : ℕ → ℕ) (fp : ℕ → Product) (fi : ℕ) (f : �
 
   -- what is lost in U1, U2 and G1
   own-U1 : loss (f 1) (max fi (productBits (fp 1) (F 1 + f 0))) ≤ own 1
-  unfolding ownAt ownFrom ownLift bits
+  unfolding ownAt ownErrorOf ownLift bits
   own-U1 = omega arith
 
   own-U2 : loss (f 3) (max (f 1) (productBits (fp 3) (F 3 + f 2))) ≤ own 3
-  unfolding ownAt ownFrom ownLift bits
+  unfolding ownAt ownErrorOf ownLift bits
   own-U2 = omega arith
 
   own-G1 : loss (f 4) (F 4 + f 3) ≤ own 4
-  unfolding ownAt ownFrom ownScale bits
+  unfolding ownAt ownErrorOf ownScale bits
   own-G1 = omega arith
 
   carried : b .error + own 1 + own 3 + own 4 ≤ errorAt forward (together b) F fp (λ s. fi) f low 5

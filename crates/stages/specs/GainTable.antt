@@ -5,10 +5,10 @@ use Prim.Native.Nat.{ℕ, zero, suc, _-_, _<_}
 use lib.ListN.{getD}
 use Rattle.lines.specs.Planes.{tabulate}
 use Rattle.lines.specs.RowLaws.{tabulate-at}
-use Rattle.exact.specs.Fractions.{_⊕_, _⊗_, neg, whole, magnitude, upDiv, wholesOf}
+use Rattle.exact.specs.Fractions.{_⊕_, _⊗_, neg, whole, magnitude, upDiv, roundedUp}
 use Rattle.exact.specs.Exact.{lift}
 use Rattle.stages.specs.Stages.{stage, made, forward, inverse}
-use Rattle.stages.specs.Gains.{Source, samples, lows, highs, node, held, sumTo, inputAnswer, nodeAnswer, sumFrom, exactGain, gain}
+use Rattle.stages.specs.Gains.{Source, samples, lows, highs, node, valuesAfter, sumTo, inputAnswer, nodeAnswer, sumFrom, exactGain, gain}
 
 -- from the input, which counts as a node, and from P1, U1, P2, U2, G1, G2, in a line each, to the input and to P1, U1, P2, U2, G1, G2
 abbrev pub forwardGains : List (List ℕ)
@@ -53,11 +53,11 @@ abbrev pub inverseGain : ℕ → ℕ → ℕ
 inverseGain i j = gain inverse (stage inverse j .side) (suc j) (inverseSource i)
 
 forward-gains : tabulate 7 (λ i. tabulate 7 (forwardGain i)) ≡ forwardGains
-unfolding tabulate gain exactGain sumFrom sumTo inputAnswer nodeAnswer held made wholesOf upDiv lift _⊕_ _⊗_ whole magnitude
+unfolding tabulate gain exactGain sumFrom sumTo inputAnswer nodeAnswer valuesAfter made roundedUp upDiv lift _⊕_ _⊗_ whole magnitude
 forward-gains = refl
 
 inverse-gains : tabulate 8 (λ i. tabulate 6 (inverseGain i)) ≡ inverseGains
-unfolding tabulate gain exactGain sumFrom sumTo inputAnswer nodeAnswer held made wholesOf upDiv lift _⊕_ _⊗_ neg whole magnitude
+unfolding tabulate gain exactGain sumFrom sumTo inputAnswer nodeAnswer valuesAfter made roundedUp upDiv lift _⊕_ _⊗_ neg whole magnitude
 inverse-gains = refl
 
 entry : (f : ℕ → ℕ → ℕ) (n m : ℕ) (rows : List (List ℕ)) → tabulate n (λ i. tabulate m (f i)) ≡ rows → (i j : ℕ) → i < n → j < m → f i j ≡ getD (getD rows i []) j 0

@@ -5,7 +5,7 @@ use Prim.Native.Nat.{ℕ, zero, suc}
 use lib.IntN.{ℤ, pos, negsuc, sucℤ, predℤ}
 use mathlib.Core.Bool.{Bool, true, false}
 use lib.Dec.{eqb}
-use Rattle.exact.specs.Fractions.{Frac, _⊕_, whole, magnitude, wholesOf}
+use Rattle.exact.specs.Fractions.{Frac, _⊕_, whole, magnitude, roundedUp}
 use Rattle.stages.specs.Stages.{Side, low, high, Stage, stage, made, worked}
 
 -- a value at each place of a side; places are whole numbers of either sign
@@ -22,10 +22,10 @@ after low k = k
 after high k = sucℤ k
 
 -- What stands on an endless line after m stages, with something added by each stage.
-unfoldable pub held : List Stage → (Side → Line) → (ℕ → Line) → ℕ → Side → Line
+unfoldable pub valuesAfter : List Stage → (Side → Line) → (ℕ → Line) → ℕ → Side → Line
 unfolding made
-held st input added zero = input
-held st input added (suc m) = worked before after (stage st m .side) (λ k own x y. made (stage st m .kind) (stage st m .constant) own x y ⊕ added m k) (held st input added m)
+valuesAfter st input added zero = input
+valuesAfter st input added (suc m) = worked before after (stage st m .side) (λ k own x y. made (stage st m .kind) (stage st m .constant) own x y ⊕ added m k) (valuesAfter st input added m)
 
 abbrev pub nothing : Line
 nothing k = whole (pos 0)
@@ -65,10 +65,10 @@ pub data Source : Type 0 where
 -- Endless), to a unit at place p of one side of the input, and of what stage i leaves
 module _ (st : List Stage) (s : Side) (m : ℕ) where
   unfoldable pub inputAnswer : Side → ℤ → Frac
-  inputAnswer t p = held st (feed t (unit p)) (λ i. nothing) m s (pos 0)
+  inputAnswer t p = valuesAfter st (feed t (unit p)) (λ i. nothing) m s (pos 0)
 
   unfoldable pub nodeAnswer : ℕ → ℤ → Frac
-  nodeAnswer i p = held st (λ t. nothing) (only i (unit p)) m s (pos 0)
+  nodeAnswer i p = valuesAfter st (λ t. nothing) (only i (unit p)) m s (pos 0)
 
   -- the sum of the magnitudes of the answers to a unit at the places from -r to r of a source
   unfoldable pub sumFrom : ℕ → Source → Frac
@@ -83,4 +83,4 @@ module _ (st : List Stage) (s : Side) (m : ℕ) where
   exactGain i = sumFrom m i
 
   unfoldable pub gain : Source → ℕ
-  gain i = wholesOf 65536 (exactGain i)
+  gain i = roundedUp 65536 (exactGain i)

@@ -19,7 +19,7 @@
 --   ForwardLaws   the bounds of the forward pass by these numbers; single-least: the error of a single sample is never above that of G1 on
 --              longer lines
 --   Examples   worked bounds
--- Proofs: Linear, Held, Walk, Own lead to Sound, in this order; OnLine has the stages on a line of n samples.
+-- Proofs: Linear, ValueLaws, SymmetricExtension, Own lead to Sound, in this order; OnLine has the stages on a line of n samples.
 pub mod Stages
 pub mod Gains
 pub mod Rule
@@ -29,10 +29,10 @@ pub mod OnLine
 pub mod GainTable
 pub mod Examples
 pub mod Linear
-pub mod Held
+pub mod ValueLaws
 pub mod Endless
 pub mod RuleLaws
-pub mod Walk
+pub mod SymmetricExtension
 pub mod Own
 pub mod Sound
 pub mod Single

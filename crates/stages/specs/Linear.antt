@@ -8,7 +8,7 @@ use native.Mathlib.Decide.{decLe}
 use native.Mathlib.Nat.{mul-le-mul-right, mul-pos, lt-div-mul-add}
 use lib.Dec.{T, eqb→eq, eqb-refl}
 use lib.IntN.{ℤ, pos, negsuc, natAbs, _+ℤ_, _*ℤ_, *ℤ-comm}
-use Rattle.exact.specs.Fractions.{Frac, _≈_, _⊕_, _⊗_, whole, magnitude, upDiv, wholesOf}
+use Rattle.exact.specs.Fractions.{Frac, _≈_, _⊕_, _⊗_, whole, magnitude, upDiv, roundedUp}
 use Rattle.exact.specs.FracLaws.{≈-refl, ≈-sym, ≈-trans, ⊕-cong, ⊗-cong, ⊕-zero-l, ⊕-zero-r, ⊗-zero-r, ⊗-one-l, zeroF, oneF, Within, within-≈, within-⊕, within-⊗, within-weaken}
 use Rattle.stages.specs.Gains.{Line, same, unit, sumTo}
 use Rattle.stages.specs.Rule.{timesGain}
@@ -57,12 +57,12 @@ unfolding upDiv
 upDiv-most a m z = omega (arith, lt-div-mul-add {a = a + (m - 1)} z)
 
 -- weight and size multiplied as the rule does
-pub weighs-within : {w : Frac} {b q : ℕ} {x : Frac} → 0 < q → Weighs w b q x → Within x (timesGain b (wholesOf 65536 w)) q
-unfolding timesGain wholesOf
+pub weighs-within : {w : Frac} {b q : ℕ} {x : Frac} → 0 < q → Weighs w b q x → Within x (timesGain b (roundedUp 65536 w)) q
+unfolding timesGain roundedUp
 weighs-within {w} {b} {q} {x} z h = within-weaken (mul-pos (w .above) z) (law (h .top) (w .den) g (upDiv (b * g) 65536) up (upDiv-most (b * g) 65536 (omega arith))) (h .most)
   where
     g : ℕ
-    g = wholesOf 65536 w
+    g = roundedUp 65536 w
 
     up : h .top * 65536 ≤ g * w .den
     up = subst (λ (t : ℕ). t * 65536 ≤ upDiv (natAbs (w .num) * 65536) (w .den) * w .den) (ap natAbs (h .is)) (upDiv-most (natAbs (w .num) * 65536) (w .den) (w .above))

@@ -15,32 +15,32 @@ use Rattle.numbers.specs.Floor.{floor-≤, floor-<, floor-mul-r, round-near}
 use Rattle.exact.specs.Fractions.{Frac, _≈_, _⊕_, _⊗_, neg, upDiv}
 use Rattle.exact.specs.Exact.{lift}
 use Rattle.stages.specs.Stages.{Product, uncut, cutTo, productBits}
-use Rattle.stages.specs.Fixed.{meant, nearest, cut, cutProduct, step, scale}
+use Rattle.stages.specs.Fixed.{fixedValue, nearest, cut, cutProduct, step, scale}
 use Rattle.stages.specs.Rule.{loss, productLoss, ownLift, ownScale}
 use Rattle.exact.specs.FracLaws.{ring, ≈-refl, ≈-sym, ≈-trans, ⊕-cong, ⊗-cong, ⊕-neg, through, sub-times, sub-own, Within, within-≈, within-⊕, within-product, within-zero, within-weaken}
 use Rattle.stages.specs.Linear.{upDiv-most}
 
 -- ---- v / 2^f
 
-meant-up : (a : ℤ) (f full : ℕ) → f ≤ full → meant (a *ℤ pos (2 ^ (full - f))) full ≈ meant a f
-unfolding meant
+meant-up : (a : ℤ) (f full : ℕ) → f ≤ full → fixedValue (a *ℤ pos (2 ^ (full - f))) full ≈ fixedValue a f
+unfolding fixedValue
 meant-up a f full h = record { eq = *ℤ-assoc a (pos (2 ^ (full - f))) (pos (2 ^ f)) ∙ ap (λ (t : ℕ). a *ℤ pos t) (sym (pow-add 2 (full - f) f) ∙ ap (λ (t : ℕ). 2 ^ t) (omega arith)) }
 
-meant-add : (a b : ℤ) (f : ℕ) → meant (a +ℤ b) f ≈ meant a f ⊕ meant b f
-unfolding meant _⊕_
+meant-add : (a b : ℤ) (f : ℕ) → fixedValue (a +ℤ b) f ≈ fixedValue a f ⊕ fixedValue b f
+unfolding fixedValue _⊕_
 meant-add a b f = record { eq = law a b (pos (2 ^ f)) }
   where
     law : (a b p : ℤ) → (a +ℤ b) *ℤ (p *ℤ p) ≡ (a *ℤ p +ℤ b *ℤ p) *ℤ p
     law a b p = simp ring
 
-meant-mul : (a b : ℤ) (f g : ℕ) → meant (a *ℤ b) (f + g) ≈ meant a f ⊗ meant b g
-unfolding meant _⊗_
+meant-mul : (a b : ℤ) (f g : ℕ) → fixedValue (a *ℤ b) (f + g) ≈ fixedValue a f ⊗ fixedValue b g
+unfolding fixedValue _⊗_
 meant-mul a b f g = record { eq = ap (λ (t : ℕ). a *ℤ b *ℤ pos t) (sym (pow-add 2 f g)) }
 
 -- ---- the nearest constant is off by at most half of 2^-F
 
-nearest-within : (c : Frac) (F : ℕ) → Within (meant (nearest c F) F ⊕ neg c) 1 (2 * 2 ^ F)
-unfolding meant nearest neg _⊕_
+nearest-within : (c : Frac) (F : ℕ) → Within (fixedValue (nearest c F) F ⊕ neg c) 1 (2 * 2 ^ F)
+unfolding fixedValue nearest neg _⊕_
 nearest-within c F = record { most = last (natAbs (N *ℤ pos (c .den) +ℤ negℤ (c .num) *ℤ pos (2 ^ F))) (2 ^ F) (subst (λ (t : ℕ). t ≤ c .den) (half (c .den) (2 ^ F) N (c .num)) near) }
   where
     N : ℤ
@@ -89,30 +89,30 @@ lossy-law z q m P W h = last (natAbs (pos m *ℤ q -ℤ z)) _ (ap natAbs (law m 
 pub pow-split : (i j : ℕ) → i ≤ j → 2 ^ j ≡ 2 ^ (j - i) * 2 ^ i
 pow-split i j h = ap (λ (t : ℕ). 2 ^ t) (omega arith) ∙ pow-add 2 (j - i) i
 
-pub cut-within : (full f : ℕ) (z : ℤ) → f ≤ 32 → Within (meant (cut full f z) f ⊕ neg (meant z full)) (loss f full) (2 ^ 32)
-unfolding loss meant neg _⊕_
+pub cut-within : (full f : ℕ) (z : ℤ) → f ≤ 32 → Within (fixedValue (cut full f z) f ⊕ neg (fixedValue z full)) (loss f full) (2 ^ 32)
+unfolding loss fixedValue neg _⊕_
 cut-within full f z small = go (ltb f full) (ltb→lt f full) (nltb→le f full)
   where
-    lossy′ : (q : ℤ) (m : ℕ) → 2 ^ full ≡ m * 2 ^ f → natAbs (pos m *ℤ q -ℤ z) ≤ m → Within (meant q f ⊕ neg (meant z full)) (2 ^ (32 - f)) (2 ^ 32)
+    lossy′ : (q : ℤ) (m : ℕ) → 2 ^ full ≡ m * 2 ^ f → natAbs (pos m *ℤ q -ℤ z) ≤ m → Within (fixedValue q f ⊕ neg (fixedValue z full)) (2 ^ (32 - f)) (2 ^ 32)
     lossy′ q m e h = record { most = subst₂ (λ (D Q : ℕ). natAbs (q *ℤ pos D +ℤ negℤ z *ℤ pos (2 ^ f)) * Q ≤ 2 ^ (32 - f) * (2 ^ f * D)) (sym e) (sym (pow-split f 32 small)) (lossy-law z q m (2 ^ f) (2 ^ (32 - f)) h) }
 
-    lossy : f < full → Within (meant (cut full f z) f ⊕ neg (meant z full)) (2 ^ (32 - f)) (2 ^ 32)
+    lossy : f < full → Within (fixedValue (cut full f z) f ⊕ neg (fixedValue z full)) (2 ^ (32 - f)) (2 ^ 32)
     lossy h =
         let m = 2 ^ (full - f) in
         let q = shrZ z m in
         rw (cut-lossy full f z h) (lossy′ q m (pow-split f full (omega arith)) (floor-off z q m (floor-≤ z m (pow-pos (full - f))) (floor-< z m (pow-pos (full - f)))))
 
-    exact : full ≤ f → Within (meant (cut full f z) f ⊕ neg (meant z full)) 0 (2 ^ 32)
-    exact h = rw (cut-whole full f z h) (within-≈ (≈-sym (≈-trans (⊕-cong (meant-up z full f h) (≈-refl (neg (meant z full)))) (⊕-neg (meant z full)))) (within-zero 0 (2 ^ 32)))
+    exact : full ≤ f → Within (fixedValue (cut full f z) f ⊕ neg (fixedValue z full)) 0 (2 ^ 32)
+    exact h = rw (cut-whole full f z h) (within-≈ (≈-sym (≈-trans (⊕-cong (meant-up z full f h) (≈-refl (neg (fixedValue z full)))) (⊕-neg (fixedValue z full)))) (within-zero 0 (2 ^ 32)))
 
-    go : (t : Bool) → (T t → f < full) → (T (not t) → full ≤ f) → Within (meant (cut full f z) f ⊕ neg (meant z full)) (elim t [ true ↦ 2 ^ (32 - f) | false ↦ 0 ]) (2 ^ 32)
+    go : (t : Bool) → (T t → f < full) → (T (not t) → full ≤ f) → Within (fixedValue (cut full f z) f ⊕ neg (fixedValue z full)) (elim t [ true ↦ 2 ^ (32 - f) | false ↦ 0 ]) (2 ^ 32)
     go true h k = lossy (h tt)
     go false h k = exact (k tt)
 
 -- ---- a product's cut
 
-cut-product : (fp full : ℕ) (z : ℤ) → fp < full → Within (meant (cut full fp z) fp ⊕ neg (meant z full)) (upDiv (2 ^ 32) (2 ^ fp)) (2 ^ 32)
-unfolding meant neg _⊕_
+cut-product : (fp full : ℕ) (z : ℤ) → fp < full → Within (fixedValue (cut full fp z) fp ⊕ neg (fixedValue z full)) (upDiv (2 ^ 32) (2 ^ fp)) (2 ^ 32)
+unfolding fixedValue neg _⊕_
 cut-product fp full z h =
     let m = 2 ^ (full - fp) in
     let q = shrZ z m in
@@ -120,31 +120,31 @@ cut-product fp full z h =
     (within-weaken (pow-pos fp) (omega (arith, upDiv-most (2 ^ 32) (2 ^ fp) (pow-pos fp)))
     (one q m (pow-split fp full (omega arith)) (floor-off z q m (floor-≤ z m (pow-pos (full - fp))) (floor-< z m (pow-pos (full - fp))))))
   where
-    one : (q : ℤ) (m : ℕ) → 2 ^ full ≡ m * 2 ^ fp → natAbs (pos m *ℤ q -ℤ z) ≤ m → Within (meant q fp ⊕ neg (meant z full)) 1 (2 ^ fp)
+    one : (q : ℤ) (m : ℕ) → 2 ^ full ≡ m * 2 ^ fp → natAbs (pos m *ℤ q -ℤ z) ≤ m → Within (fixedValue q fp ⊕ neg (fixedValue z full)) 1 (2 ^ fp)
     one q m e h = record { most = subst (λ (D : ℕ). natAbs (q *ℤ pos D +ℤ negℤ z *ℤ pos (2 ^ fp)) * 2 ^ fp ≤ 1 * (2 ^ fp * D)) (sym e) (last (2 ^ fp) _ (lossy-law z q m (2 ^ fp) 1 h)) }
       where
         last : (P : ℕ) (u : ℕ) → u * (1 * P) ≤ 1 * (P * (m * P)) → u * P ≤ 1 * (P * (m * P))
         last P u i = omega arith
 
-pub product-within : (p : Product) (full : ℕ) (z : ℤ) → Within (meant (cutProduct p full z) (productBits p full) ⊕ neg (meant z full)) (productLoss p full) (2 ^ 32)
+pub product-within : (p : Product) (full : ℕ) (z : ℤ) → Within (fixedValue (cutProduct p full z) (productBits p full) ⊕ neg (fixedValue z full)) (productLoss p full) (2 ^ 32)
 unfolding cutProduct productLoss
-product-within uncut full z = within-≈ (≈-sym (⊕-neg (meant z full))) (within-zero 0 (2 ^ 32))
+product-within uncut full z = within-≈ (≈-sym (⊕-neg (fixedValue z full))) (within-zero 0 (2 ^ 32))
 product-within (cutTo fp) full z = go (ltb fp full) (ltb→lt fp full) (nltb→le fp full)
   where
-    lossy : fp < full → Within (meant (cut full (min fp full) z) (min fp full) ⊕ neg (meant z full)) (upDiv (2 ^ 32) (2 ^ fp)) (2 ^ 32)
+    lossy : fp < full → Within (fixedValue (cut full (min fp full) z) (min fp full) ⊕ neg (fixedValue z full)) (upDiv (2 ^ 32) (2 ^ fp)) (2 ^ 32)
     lossy h =
         let e : fp ≡ min fp full = omega arith in
-        subst (λ (k : ℕ). Within (meant (cut full k z) k ⊕ neg (meant z full)) (upDiv (2 ^ 32) (2 ^ fp)) (2 ^ 32)) e (cut-product fp full z h)
+        subst (λ (k : ℕ). Within (fixedValue (cut full k z) k ⊕ neg (fixedValue z full)) (upDiv (2 ^ 32) (2 ^ fp)) (2 ^ 32)) e (cut-product fp full z h)
 
-    exact : full ≤ fp → Within (meant (cut full (min fp full) z) (min fp full) ⊕ neg (meant z full)) 0 (2 ^ 32)
+    exact : full ≤ fp → Within (fixedValue (cut full (min fp full) z) (min fp full) ⊕ neg (fixedValue z full)) 0 (2 ^ 32)
     exact h =
         let e : full ≡ min fp full = omega arith in
-        subst (λ (k : ℕ). Within (meant (cut full k z) k ⊕ neg (meant z full)) 0 (2 ^ 32)) e (same (cut full full z) (cut-whole full full z (omega arith)))
+        subst (λ (k : ℕ). Within (fixedValue (cut full k z) k ⊕ neg (fixedValue z full)) 0 (2 ^ 32)) e (same (cut full full z) (cut-whole full full z (omega arith)))
       where
-        same : (y : ℤ) → y ≡ z *ℤ pos (2 ^ (full - full)) → Within (meant y full ⊕ neg (meant z full)) 0 (2 ^ 32)
-        same y e = subst (λ (x : ℤ). Within (meant x full ⊕ neg (meant z full)) 0 (2 ^ 32)) (sym e) (within-≈ (≈-sym (≈-trans (⊕-cong (meant-up z full full (omega arith)) (≈-refl (neg (meant z full)))) (⊕-neg (meant z full)))) (within-zero 0 (2 ^ 32)))
+        same : (y : ℤ) → y ≡ z *ℤ pos (2 ^ (full - full)) → Within (fixedValue y full ⊕ neg (fixedValue z full)) 0 (2 ^ 32)
+        same y e = subst (λ (x : ℤ). Within (fixedValue x full ⊕ neg (fixedValue z full)) 0 (2 ^ 32)) (sym e) (within-≈ (≈-sym (≈-trans (⊕-cong (meant-up z full full (omega arith)) (≈-refl (neg (fixedValue z full)))) (⊕-neg (fixedValue z full)))) (within-zero 0 (2 ^ 32)))
 
-    go : (t : Bool) → (T t → fp < full) → (T (not t) → full ≤ fp) → Within (meant (cut full (min fp full) z) (min fp full) ⊕ neg (meant z full)) (elim t [ true ↦ upDiv (2 ^ 32) (2 ^ fp) | false ↦ 0 ]) (2 ^ 32)
+    go : (t : Bool) → (T t → fp < full) → (T (not t) → full ≤ fp) → Within (fixedValue (cut full (min fp full) z) (min fp full) ⊕ neg (fixedValue z full)) (elim t [ true ↦ upDiv (2 ^ 32) (2 ^ fp) | false ↦ 0 ]) (2 ^ 32)
     go true h k = lossy (h tt)
     go false h k = exact (k tt)
 
@@ -157,7 +157,7 @@ lift-off F r h = within-weaken (mul-pos (mul-pos {m = 2} (omega arith) (pow-pos 
     law : (P Q u : ℕ) → r ≤ u * P → 1 * (r + r) * Q ≤ u * (2 * P * Q)
     law P Q u i = omega (arith, mul-le-mul-right (2 * Q) i)
 
-pub lift-own : (p : Product) (c : Frac) (F fm fo f : ℕ) (o x y : ℤ) (r : ℕ) → f ≤ 32 → Within (meant x fm) r (2 ^ 32) → Within (meant y fm) r (2 ^ 32) → Within (meant (step p c F fm fo f o x y) f ⊕ neg (lift c (meant o fo) (meant x fm) (meant y fm))) (ownLift p F fm fo f r) (2 ^ 32)
+pub lift-own : (p : Product) (c : Frac) (F fm fo f : ℕ) (o x y : ℤ) (r : ℕ) → f ≤ 32 → Within (fixedValue x fm) r (2 ^ 32) → Within (fixedValue y fm) r (2 ^ 32) → Within (fixedValue (step p c F fm fo f o x y) f ⊕ neg (lift c (fixedValue o fo) (fixedValue x fm) (fixedValue y fm))) (ownLift p F fm fo f r) (2 ^ 32)
 unfolding step lift ownLift
 lift-own p c F fm fo f o x y r small hx hy =
     within-≈ (through A B out) (within-⊕ (within-≈ (≈-sym near) (within-⊕ (within-≈ (≈-sym nearly) (lift-off F r (within-product (nearest-within c F) (within-⊕ hx hy)))) (product-within p (F + fm) W))) (cut-within full f z small))
@@ -182,30 +182,30 @@ lift-own p c F fm fo f o x y r small hx hy =
     z = o *ℤ pos (2 ^ (full - fo)) +ℤ K *ℤ pos (2 ^ (full - bits))
 
     out : Frac
-    out = meant (cut full f z) f
+    out = fixedValue (cut full f z) f
 
     A : Frac
-    A = meant z full
+    A = fixedValue z full
 
     S : Frac
-    S = meant x fm ⊕ meant y fm
+    S = fixedValue x fm ⊕ fixedValue y fm
 
     B : Frac
-    B = meant o fo ⊕ c ⊗ S
+    B = fixedValue o fo ⊕ c ⊗ S
 
-    split : A ≈ meant o fo ⊕ meant K bits
+    split : A ≈ fixedValue o fo ⊕ fixedValue K bits
     split = ≈-trans (meant-add _ _ full) (⊕-cong (meant-up o fo full (omega arith)) (meant-up K bits full (omega arith)))
 
-    whole : meant W (F + fm) ≈ meant N F ⊗ S
-    whole = ≈-trans (meant-mul N (x +ℤ y) F fm) (⊗-cong (≈-refl (meant N F)) (meant-add x y fm))
+    whole : fixedValue W (F + fm) ≈ fixedValue N F ⊗ S
+    whole = ≈-trans (meant-mul N (x +ℤ y) F fm) (⊗-cong (≈-refl (fixedValue N F)) (meant-add x y fm))
 
     -- what the nearest constant adds to the product
-    nearly : meant W (F + fm) ⊕ neg (c ⊗ S) ≈ (meant N F ⊕ neg c) ⊗ S
-    nearly = ≈-trans (⊕-cong whole (≈-refl (neg (c ⊗ S)))) (≈-sym (sub-times (meant N F) c S))
+    nearly : fixedValue W (F + fm) ⊕ neg (c ⊗ S) ≈ (fixedValue N F ⊕ neg c) ⊗ S
+    nearly = ≈-trans (⊕-cong whole (≈-refl (neg (c ⊗ S)))) (≈-sym (sub-times (fixedValue N F) c S))
 
     -- and what its cut adds
-    near : A ⊕ neg B ≈ (meant W (F + fm) ⊕ neg (c ⊗ S)) ⊕ (meant K bits ⊕ neg (meant W (F + fm)))
-    near = ≈-trans (⊕-cong split (≈-refl (neg B))) (≈-trans (sub-own (meant o fo) (meant K bits) (c ⊗ S)) (≈-sym (through (meant W (F + fm)) (c ⊗ S) (meant K bits))))
+    near : A ⊕ neg B ≈ (fixedValue W (F + fm) ⊕ neg (c ⊗ S)) ⊕ (fixedValue K bits ⊕ neg (fixedValue W (F + fm)))
+    near = ≈-trans (⊕-cong split (≈-refl (neg B))) (≈-trans (sub-own (fixedValue o fo) (fixedValue K bits) (c ⊗ S)) (≈-sym (through (fixedValue W (F + fm)) (c ⊗ S) (fixedValue K bits))))
 
 scale-off : (F r : ℕ) {x : Frac} → Within x (1 * r) (2 * 2 ^ F * 2 ^ 32) → Within x (upDiv r (2 ^ (F + 1))) (2 ^ 32)
 scale-off F r h = within-weaken (mul-pos (mul-pos {m = 2} (omega arith) (pow-pos F)) (pow-pos 32)) (law (2 ^ F) (2 ^ (F + 1)) (2 ^ 32) (upDiv r (2 ^ (F + 1))) (pow-add 2 F 1) (upDiv-most r (2 ^ (F + 1)) (pow-pos (F + 1)))) h
@@ -213,13 +213,13 @@ scale-off F r h = within-weaken (mul-pos (mul-pos {m = 2} (omega arith) (pow-pos
     law : (P P' Q u : ℕ) → P' ≡ P * 2 → r ≤ u * P' → 1 * r * Q ≤ u * (2 * P * Q)
     law P P' Q u e i = omega (arith, ap (λ (t : ℕ). u * t * Q) e, mul-le-mul-right Q i)
 
-pub scale-own : (c : Frac) (F fm f : ℕ) (x : ℤ) (r : ℕ) → f ≤ 32 → Within (meant x fm) r (2 ^ 32) → Within (meant (scale c F fm f x) f ⊕ neg (c ⊗ meant x fm)) (ownScale F fm f r) (2 ^ 32)
+pub scale-own : (c : Frac) (F fm f : ℕ) (x : ℤ) (r : ℕ) → f ≤ 32 → Within (fixedValue x fm) r (2 ^ 32) → Within (fixedValue (scale c F fm f x) f ⊕ neg (c ⊗ fixedValue x fm)) (ownScale F fm f r) (2 ^ 32)
 unfolding scale ownScale
 scale-own c F fm f x r small hx =
-    within-≈ (through (meant z (F + fm)) (c ⊗ meant x fm) (meant (cut (F + fm) f z) f)) (within-⊕ (within-≈ (≈-sym near) (scale-off F r (within-product (nearest-within c F) hx))) (cut-within (F + fm) f z small))
+    within-≈ (through (fixedValue z (F + fm)) (c ⊗ fixedValue x fm) (fixedValue (cut (F + fm) f z) f)) (within-⊕ (within-≈ (≈-sym near) (scale-off F r (within-product (nearest-within c F) hx))) (cut-within (F + fm) f z small))
   where
     z : ℤ
     z = nearest c F *ℤ x
 
-    near : meant z (F + fm) ⊕ neg (c ⊗ meant x fm) ≈ (meant (nearest c F) F ⊕ neg c) ⊗ meant x fm
-    near = ≈-trans (⊕-cong (meant-mul (nearest c F) x F fm) (≈-refl (neg (c ⊗ meant x fm)))) (≈-sym (sub-times (meant (nearest c F) F) c (meant x fm)))
+    near : fixedValue z (F + fm) ⊕ neg (c ⊗ fixedValue x fm) ≈ (fixedValue (nearest c F) F ⊕ neg c) ⊗ fixedValue x fm
+    near = ≈-trans (⊕-cong (meant-mul (nearest c F) x F fm) (≈-refl (neg (c ⊗ fixedValue x fm)))) (≈-sym (sub-times (fixedValue (nearest c F) F) c (fixedValue x fm)))

@@ -51,41 +51,41 @@ module _ (st : List Stage) where
   carried x i s m = timesGain x (gain st s m i)
 
   -- the range (or the error) of what enters, carried to side s after m stages
-  unfoldable pub brought : (Bound → ℕ) → Entering → Side → ℕ → ℕ
-  brought r (together b) s m = carried (r b) samples s m
-  brought r (apart a b) s m = carried (r a) lows s m + carried (r b) highs s m
+  unfoldable pub inputPart : (Bound → ℕ) → Entering → Side → ℕ → ℕ
+  inputPart r (together b) s m = carried (r b) samples s m
+  inputPart r (apart a b) s m = carried (r a) lows s m + carried (r b) highs s m
 
 -- One pass: e bounds what enters, F are the bits of the constants, fp the widths of the products, fi the bits of the input's sides, f the
 -- bits of the nodes.
 module _ (st : List Stage) (e : Entering) (F : ℕ → ℕ) (fp : ℕ → Product) (fi : Side → ℕ) (f : ℕ → ℕ) where
   -- range of a node: the input's range times the gain from the input
   unfoldable pub rangeAt : Side → ℕ → ℕ
-  rangeAt s m = brought st (λ b. b .range) e s m
+  rangeAt s m = inputPart st (λ b. b .range) e s m
 
   -- own error of stage i by its kind and side, where r is the range plus error of each side before it
-  unfoldable pub ownFrom : Kind → Side → ℕ → (Side → ℕ) → ℕ
-  ownFrom lifts low i r = ownLift (fp i) (F i) (bits st fi f i high) (bits st fi f i low) (f i) (r high)
-  ownFrom lifts high i r = ownLift (fp i) (F i) (bits st fi f i low) (bits st fi f i high) (f i) (r low)
-  ownFrom scales low i r = ownScale (F i) (bits st fi f i low) (f i) (r low)
-  ownFrom scales high i r = ownScale (F i) (bits st fi f i high) (f i) (r high)
+  unfoldable pub ownErrorOf : Kind → Side → ℕ → (Side → ℕ) → ℕ
+  ownErrorOf lifts low i r = ownLift (fp i) (F i) (bits st fi f i high) (bits st fi f i low) (f i) (r high)
+  ownErrorOf lifts high i r = ownLift (fp i) (F i) (bits st fi f i low) (bits st fi f i high) (f i) (r low)
+  ownErrorOf scales low i r = ownScale (F i) (bits st fi f i low) (f i) (r low)
+  ownErrorOf scales high i r = ownScale (F i) (bits st fi f i high) (f i) (r high)
 
   -- what the own errors of the first i stages, the last of them first, bring to a node: each times the gain from its stage
-  unfoldable pub ownsBring : ℕ → List ℕ → Side → ℕ → ℕ
-  ownsBring zero owns s m = 0
-  ownsBring (suc i) [] s m = 0
-  ownsBring (suc i) (own ∷ owns) s m = ownsBring i owns s m + carried st own (node i) s m
+  unfoldable pub stagesPart : ℕ → List ℕ → Side → ℕ → ℕ
+  stagesPart zero owns s m = 0
+  stagesPart (suc i) [] s m = 0
+  stagesPart (suc i) (own ∷ owns) s m = stagesPart i owns s m + carried st own (node i) s m
 
   -- own errors of the first i stages, the last first
   unfoldable pub owns : ℕ → List ℕ
   owns zero = []
   owns (suc i) =
       let earlier = owns i in
-      ownFrom (stage st i .kind) (stage st i .side) i (λ s. rangeAt s i + (brought st (λ b. b .error) e s i + ownsBring i earlier s i)) ∷ earlier
+      ownErrorOf (stage st i .kind) (stage st i .side) i (λ s. rangeAt s i + (inputPart st (λ b. b .error) e s i + stagesPart i earlier s i)) ∷ earlier
 
   -- error of a node: the input's error times the gain from the input, plus each stage's own error times the gain from it, up to and
   -- including the node's
   unfoldable pub errorAt : Side → ℕ → ℕ
-  errorAt s m = brought st (λ b. b .error) e s m + ownsBring m (owns m) s m
+  errorAt s m = inputPart st (λ b. b .error) e s m + stagesPart m (owns m) s m
 
-  unfoldable pub boundAt : Side → ℕ → Bound
-  boundAt s m = record { range = rangeAt s m; error = errorAt s m }
+  unfoldable pub sideBound : Side → ℕ → Bound
+  sideBound s m = record { range = rangeAt s m; error = errorAt s m }

@@ -4,14 +4,14 @@ use lib.IntN.{ℤ}
 use Rattle.exact.specs.Fractions.{Frac}
 use Rattle.exact.specs.FracLaws.{within-≈, within-⊕, within-most, through}
 use Rattle.stages.specs.Rule.{Bound, singleError}
-use Rattle.stages.specs.Fixed.{meant, cut}
+use Rattle.stages.specs.Fixed.{fixedValue, cut}
 use Rattle.stages.specs.Own.{cut-within}
 use Rattle.stages.specs.Sound.{Good}
 
 pub single-good : (fi : ℕ) (b : Bound) (f : ℕ) (v : ℤ) (x : Frac) → f ≤ 32 → Good b fi v x → Good (record { range = b .range; error = singleError fi b f }) f (cut fi f v) x
 single-good fi b f v x small g = record {
   range = g .range;
-  error = within-≈ (through (meant v fi) x (meant (cut fi f v) f)) (within-⊕ (g .error) (cut-within fi f v small));
+  error = within-≈ (through (fixedValue v fi) x (fixedValue (cut fi f v) f)) (within-⊕ (g .error) (cut-within fi f v small));
 }
 
 -- good within bounds is good within larger ones

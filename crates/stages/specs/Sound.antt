@@ -15,12 +15,12 @@ use Rattle.exact.specs.Exact.{lift}
 use Rattle.exact.specs.FracLaws.{≈-refl, ≈-sym, ≈-trans, ⊕-cong, ⊗-cong, ⊕-zero-r, neg-cong, zeroF, through, times-sub, sub-sum, Within, within-≈, within-zero, within-near}
 use Rattle.stages.specs.Stages.{Side, low, high, Kind, lifts, scales, Stage, stage, made, worked, replaced, Product, bits}
 use Rattle.stages.specs.OnLine.{other, beforeIn, afterIn, count, exactAfter, fixedMade, fixedAfter}
-use Rattle.stages.specs.Rule.{Bound, Entering, rangeAt, ownFrom, errorAt, boundAt}
-use Rattle.stages.specs.Fixed.{meant}
+use Rattle.stages.specs.Rule.{Bound, Entering, rangeAt, ownErrorOf, errorAt, sideBound}
+use Rattle.stages.specs.Fixed.{fixedValue}
 use Rattle.stages.specs.Gains.{samples, exactGain}
 use Rattle.stages.specs.Linear.{Weighs}
-use Rattle.stages.specs.Held.{enters}
-use Rattle.stages.specs.Walk.{Stages, line-within, line-weighs}
+use Rattle.stages.specs.ValueLaws.{enters}
+use Rattle.stages.specs.SymmetricExtension.{Stages, line-within, line-weighs}
 use Rattle.stages.specs.Own.{lift-own, scale-own}
 use Rattle.stages.specs.RuleLaws.{ownAt, nothing-brings, error-sum}
 
@@ -28,7 +28,7 @@ abbrev pub Q : ℕ
 Q = 2 ^ 32
 
 abbrev pub off : ℤ → ℕ → Frac → Frac
-off v f x = meant v f ⊕ neg x
+off v f x = fixedValue v f ⊕ neg x
 
 pub record Good (b : Bound) (f : ℕ) (v : ℤ) (x : Frac) : Type 0 where
   pub range : Within x (b .range) Q
@@ -87,12 +87,12 @@ module _ (st : List Stage) (e : Entering) (F : ℕ → ℕ) (fp : ℕ → Produc
 
     -- what the fixed-point line means
     abbrev means : ℕ → Side → ℕ → Frac
-    means m s k = meant (fixed m s k) (bits st fi f m s)
+    means m s k = fixedValue (fixed m s k) (bits st fi f m s)
 
     -- the own error of stage m, on side t
     abbrev ownOn : ℕ → Side → ℕ → Frac
     ownOn m t k =
-        meant (fixedMade (stage st m .kind) (fp m) (stage st m .constant) (F m) (bits st fi f m (other t)) (bits st fi f m t) (f m) (fixed m t k) (fixed m (other t) (beforeIn t k)) (fixed m (other t) (afterIn n t k))) (f m)
+        fixedValue (fixedMade (stage st m .kind) (fp m) (stage st m .constant) (F m) (bits st fi f m (other t)) (bits st fi f m t) (f m) (fixed m t k) (fixed m (other t) (beforeIn t k)) (fixed m (other t) (afterIn n t k))) (f m)
         ⊕ neg (made (stage st m .kind) (stage st m .constant) (means m t k) (means m (other t) (beforeIn t k)) (means m (other t) (afterIn n t k)))
 
     -- errors go through the stages as values do
@@ -128,16 +128,16 @@ module _ (st : List Stage) (e : Entering) (F : ℕ → ℕ) (fp : ℕ → Produc
       sizes m own s k i = within-near (ranges m s k i) (errors m own s k i)
 
       own-next : (m : ℕ) → Owns m → (k : ℕ) → k < count n (stage st m .side) → Within (ownOn m (stage st m .side) k) (ownAt st e F fp fi f m) Q
-      unfolding ownAt ownFrom fixedMade made
+      unfolding ownAt ownErrorOf fixedMade made
       own-next m own k = go (stage st m .kind) (stage st m .side)
         where
           size : (s : Side) (k : ℕ) → k < count n s → Within (means m s k) (rangeAt st e F fp fi f s m + errorAt st e F fp fi f s m) Q
           size = sizes m own
 
           go : (d : Kind) (t : Side) → k < count n t
-              → Within (meant (fixedMade d (fp m) (stage st m .constant) (F m) (bits st fi f m (other t)) (bits st fi f m t) (f m) (fixed m t k) (fixed m (other t) (beforeIn t k)) (fixed m (other t) (afterIn n t k))) (f m)
+              → Within (fixedValue (fixedMade d (fp m) (stage st m .constant) (F m) (bits st fi f m (other t)) (bits st fi f m t) (f m) (fixed m t k) (fixed m (other t) (beforeIn t k)) (fixed m (other t) (afterIn n t k))) (f m)
               ⊕ neg (made d (stage st m .constant) (means m t k) (means m (other t) (beforeIn t k)) (means m (other t) (afterIn n t k))))
-              (ownFrom st e F fp fi f d t m (λ s. rangeAt st e F fp fi f s m + errorAt st e F fp fi f s m)) Q
+              (ownErrorOf st e F fp fi f d t m (λ s. rangeAt st e F fp fi f s m + errorAt st e F fp fi f s m)) Q
           go lifts low i = lift-own (fp m) (stage st m .constant) (F m) _ _ (f m) _ _ _ _ (small m) (size high (highBefore k) (high-before-in n k (some-highs n works) i)) (size high (highAfter n k) (high-after-in n k (some-highs n works) i))
           go lifts high i = lift-own (fp m) (stage st m .constant) (F m) _ _ (f m) _ _ _ _ (small m) (size low k (omega arith)) (size low (lowAfter n k) (low-after-in n k i))
           go scales low i = scale-own (stage st m .constant) (F m) _ (f m) _ _ (small m) (size low k i)
@@ -154,6 +154,6 @@ module _ (st : List Stage) (e : Entering) (F : ℕ → ℕ) (fp : ℕ → Produc
               subst (λ (j : ℕ). (k : ℕ) → k < count n (stage st j .side) → Within (ownOn j (stage st j .side) k) (ownAt st e F fp fi f j) Q) same (own-next m before) k h
 
       -- Each side after any number of stages is good.
-      pub good : (m : ℕ) (s : Side) (k : ℕ) → k < count n s → Good (boundAt st e F fp fi f s m) (bits st fi f m s) (fixedAfter st F fp fi f n v m s k) (exactAfter st n x m s k)
-      unfolding boundAt
+      pub good : (m : ℕ) (s : Side) (k : ℕ) → k < count n s → Good (sideBound st e F fp fi f s m) (bits st fi f m s) (fixedAfter st F fp fi f n v m s k) (exactAfter st n x m s k)
+      unfolding sideBound
       good m s k i = record { range = ranges m s k i; error = errors m (owns m) s k i }

@@ -9,7 +9,7 @@ use Rattle.width_table.specs.Table.{productWidth}
 use Rattle.table_meaning.specs.Products.{widthOf, productOf}
 
 -- no product has a width
-pub none-cut : (t : WidthTable) (l : ℕ) (p : Pass) → t .five ≡ false → productOf t l p ≡ λ n. uncut
+pub none-cut : (t : WidthTable) (l : ℕ) (p : Pass) → t .«has_products» ≡ false → productOf t l p ≡ λ n. uncut
 unfolding productOf
 none-cut t l p e = fun-ext go
   where

@@ -13,9 +13,9 @@ widthOf false fp = uncut
 
 -- the product of each stage of a pass; those of G1 and G2 have no width of their own
 unfoldable pub productOf : WidthTable → ℕ → Pass → Node → Product
-productOf t l p P1 = widthOf (t .five) (productWidth t l p P1)
-productOf t l p U1 = widthOf (t .five) (productWidth t l p U1)
-productOf t l p P2 = widthOf (t .five) (productWidth t l p P2)
-productOf t l p U2 = widthOf (t .five) (productWidth t l p U2)
+productOf t l p P1 = widthOf (t .«has_products») (productWidth t l p P1)
+productOf t l p U1 = widthOf (t .«has_products») (productWidth t l p U1)
+productOf t l p P2 = widthOf (t .«has_products») (productWidth t l p P2)
+productOf t l p U2 = widthOf (t .«has_products») (productWidth t l p U2)
 productOf t l p G1 = uncut
 productOf t l p G2 = uncut

@@ -12,11 +12,11 @@ use Rattle.refusals.specs.AnswerLaws.{asks-done, asks-right, then-done, then-ri
 use Rattle.stages.specs.Stages.{Side, low, high, inverse, uncut}
 use Rattle.stages.specs.Rule.{Bound, apart}
 use Rattle.stages.specs.RuleLaws.{AtMost, apart-at-most, bound-grows}
-use Rattle.unlifting.specs.Fixed.{nodeBits, inverseBits}
+use Rattle.inverse_lifting.specs.Fixed.{nodeBits, inverseBits}
 use Rattle.width_table.specs.Nodes.{Node, P1, U1, P2, U2, G1, G2, Pass, Rows, LowColumns, HighColumns}
 use Rattle.width_table.specs.declared.WidthTable.{WidthTable}
 use Rattle.precision.specs.Verdict.{verdict}
-use Rattle.view_precision.specs.Bounds.{larger, boundAfter, even, boundAt, passGives, fromLow, fromHigh, passBound, levelGives, givesFrom, startBound, pixelBound, atMost15, passRight, nodesRight, viewable, viewVerdict}
+use Rattle.view_precision.specs.Bounds.{larger, boundAfter, even, inverseBound, passGives, fromLow, fromHigh, passBound, levelGives, givesFrom, startBound, pixelBound, atMost15, passRight, nodesRight, viewable, viewVerdict}
 use Rattle.view_precision.specs.Odd.{odd-range, odd-error}
 use Rattle.view_precision.specs.Before.{boundAtBefore, passGivesBefore, fromLowBefore, fromHighBefore, passBoundBefore, levelGivesBefore, givesFromBefore, pixelBoundBefore, nodesRightBefore, viewableBefore, viewVerdictBefore}
 
@@ -26,8 +26,8 @@ module _ {a a' b b' : Bound} (h : AtMost a a') (k : AtMost b b') where
   after-more : (s : Side) (m : ℕ) → AtMost (boundAfter a b s m) (boundAfter a' b' s m)
   after-more = bound-grows inverse (apart a b) (apart a' b') (λ i. inverseBits) (λ i. uncut) (λ s. 0) (λ i. nodeBits) (apart-at-most h k)
 
-  pub node-more : (n : Node) → AtMost (boundAtBefore a b n) (boundAt a' b' n)
-  unfolding boundAtBefore boundAt even larger
+  pub node-more : (n : Node) → AtMost (boundAtBefore a b n) (inverseBound a' b' n)
+  unfolding boundAtBefore inverseBound even larger
   node-more G1 = after-more low 1
   node-more G2 = after-more high 2
   node-more U2 = after-more low 3
@@ -36,7 +36,7 @@ module _ {a a' b b' : Bound} (h : AtMost a a') (k : AtMost b b') where
   node-more P1 = let m = after-more high 6 in record { range = omega (arith, m .range, odd-range a' b'); error = omega (arith, m .error, odd-error a' b') }
 
   pub gives-more : AtMost (passGivesBefore a b) (passGives a' b')
-  unfolding passGivesBefore passGives boundAt larger
+  unfolding passGivesBefore passGives inverseBound larger
   gives-more = record {
     range = omega (arith, node-more U1 .range, node-more P1 .range);
     error = omega (arith, node-more U1 .error, node-more P1 .error);

@@ -8,8 +8,8 @@ use Rattle.numbers.specs.Tests.{every}
 use Rattle.refusals.specs.Answers.{Answer, passed, asks, _then_}
 use Rattle.stages.specs.Stages.{Side, low, high, inverse, uncut}
 use Rattle.stages.specs.Rule as Rule
-use Rattle.stages.specs.Rule.{Bound, apart, ownLift, brought}
-use Rattle.unlifting.specs.Fixed.{nodeBits, inverseBits}
+use Rattle.stages.specs.Rule.{Bound, apart, ownLift, inputPart}
+use Rattle.inverse_lifting.specs.Fixed.{nodeBits, inverseBits}
 use Rattle.width_table.specs.Nodes.{Node, P1, U1, P2, U2, G1, G2, Pass, Rows, LowColumns, HighColumns}
 use Rattle.width_table.specs.declared.WidthTable.{WidthTable}
 use Rattle.width_table.specs.Table.{integerBits, fractionBits}
@@ -24,7 +24,7 @@ larger x y = record { range = max (x .range) (y .range); error = max (x .error) 
 module _ (a b : Bound) where
   -- of a side after m stages, on lines of two values or more
   abbrev pub boundAfter : Side → ℕ → Bound
-  boundAfter = Rule.boundAt inverse (apart a b) (λ i. inverseBits) (λ i. uncut) (λ s. 0) (λ i. nodeBits)
+  boundAfter = Rule.sideBound inverse (apart a b) (λ i. inverseBits) (λ i. uncut) (λ s. 0) (λ i. nodeBits)
 
   -- The even output, which U1 undone leaves, on lines from one value (document 02, job 6): the larger of that and the low input.
   unfoldable pub even : Bound
@@ -37,17 +37,17 @@ module _ (a b : Bound) where
       let earlier = Rule.owns inverse (apart a b) (λ i. inverseBits) (λ i. uncut) (λ s. 0) (λ i. nodeBits) 5 in
       record {
         range = boundAfter high 6 .range;
-        error = brought inverse (λ x. x .error) (apart a b) high 6 + Rule.ownsBring inverse (apart a b) (λ i. inverseBits) (λ i. uncut) (λ s. 0) (λ i. nodeBits) 6 (own ∷ earlier) high 6;
+        error = inputPart inverse (λ x. x .error) (apart a b) high 6 + Rule.stagesPart inverse (apart a b) (λ i. inverseBits) (λ i. uncut) (λ s. 0) (λ i. nodeBits) 6 (own ∷ earlier) high 6;
       }
 
   -- a node is named by the stage that is undone there
-  unfoldable pub boundAt : Node → Bound
-  boundAt G1 = boundAfter low 1
-  boundAt G2 = boundAfter high 2
-  boundAt U2 = boundAfter low 3
-  boundAt P2 = boundAfter high 4
-  boundAt U1 = even
-  boundAt P1 = odd
+  unfoldable pub inverseBound : Node → Bound
+  inverseBound G1 = boundAfter low 1
+  inverseBound G2 = boundAfter high 2
+  inverseBound U2 = boundAfter low 3
+  inverseBound P2 = boundAfter high 4
+  inverseBound U1 = even
+  inverseBound P1 = odd
 
   -- What a pass gives on: the larger of the even and the odd output.
   unfoldable pub passGives : Bound
@@ -67,9 +67,9 @@ module _ (t : WidthTable) (steps l : ℕ) (b : Bound) where
   fromHigh = passGives (stored t steps l HighColumns G1) (stored t steps l HighColumns G2)
 
   unfoldable pub passBound : Pass → Node → Bound
-  passBound LowColumns = boundAt b (stored t steps l LowColumns G2)
-  passBound HighColumns = boundAt (stored t steps l HighColumns G1) (stored t steps l HighColumns G2)
-  passBound Rows = boundAt fromLow fromHigh
+  passBound LowColumns = inverseBound b (stored t steps l LowColumns G2)
+  passBound HighColumns = inverseBound (stored t steps l HighColumns G1) (stored t steps l HighColumns G2)
+  passBound Rows = inverseBound fromLow fromHigh
 
   -- what the level gives to the next finer one, or as pixels
   unfoldable pub levelGives : Bound

@@ -6,14 +6,14 @@ use mathlib.Core.List.{List, [], _∷_, _++_}
 use mathlib.Core.Path.{_≡_, refl, ap}
 use lib.Dec.{ltb}
 use lib.ListN.{getD}
-use Rattle.exact.specs.Fractions.{_⊕_, _⊗_, neg, whole, magnitude, upDiv, wholesOf}
+use Rattle.exact.specs.Fractions.{_⊕_, _⊗_, neg, whole, magnitude, upDiv, roundedUp}
 use Rattle.exact.specs.Exact.{lift}
 use Rattle.numbers.specs.Tests.{every}
 use Rattle.width_table.specs.declared.WidthTable.{WidthTable}
 use Rattle.width_table.specs.Table.{maxLevels, formRight}
 use Rattle.refusals.specs.Answers.{Answer, passed, refused}
 use Rattle.stages.specs.Stages.{made, bits}
-use Rattle.stages.specs.Gains.{gain, exactGain, sumFrom, sumTo, inputAnswer, nodeAnswer, held}
+use Rattle.stages.specs.Gains.{gain, exactGain, sumFrom, sumTo, inputAnswer, nodeAnswer, valuesAfter}
 use Rattle.stages.specs.Rule as Rule
 use Rattle.precision.specs.Bounds as Judge
 use Rattle.table_meaning.specs.Products.{productOf}
@@ -48,7 +48,7 @@ withKept f B L IB = record {
   levels = L;
   constants = 24 ∷ 24 ∷ 24 ∷ 24 ∷ 24 ∷ 24 ∷ [];
   nodes = repeat (L - 1) (level IB f 20) ++ level IB f f ++ repeat (maxLevels - L) (repeat 36 (0 ∷ []));
-  five = false;
+  «has_products» = false;
   products = repeat maxLevels (repeat 12 (0 ∷ []));
 }
 
@@ -59,7 +59,7 @@ withProducts fp t = record {
   levels = t .levels;
   constants = t .constants;
   nodes = t .nodes;
-  five = true;
+  «has_products» = true;
   products = repeat (t .levels) (repeat 12 (fp ∷ [])) ++ repeat (maxLevels - t .levels) (repeat 12 (0 ∷ []));
 }
 
@@ -73,7 +73,7 @@ lowWide = record {
   levels = 1;
   constants = 24 ∷ 24 ∷ 24 ∷ 24 ∷ 24 ∷ 24 ∷ [];
   nodes = pass 12 20 20 ++ (lifted 12 ++ (12 ∷ 2 ∷ 6 ∷ 2 ∷ [])) ++ (lifted 12 ++ (6 ∷ 2 ∷ 6 ∷ 2 ∷ [])) ++ repeat (maxLevels - 1) (repeat 36 (0 ∷ []));
-  five = false;
+  «has_products» = false;
   products = repeat maxLevels (repeat 12 (0 ∷ []));
 }
 
@@ -124,7 +124,7 @@ all-figures :
     ∷ are passed true true 291199 9605421042
     ∷ are (refused (7, 1 ∷ 2 ∷ 5 ∷ [])) true true 291199 9605421042
     ∷ []
-unfolding viewVerdict viewable pixelBound viewDistance nodesRight Bounds.givesFrom Bounds.levelGives Bounds.passBound Bounds.fromLow Bounds.fromHigh Bounds.stored Bounds.larger Bounds.even Bounds.odd Bounds.boundAt Bounds.passGives viewVerdictBefore Before.viewableBefore pixelBoundBefore viewDistanceBefore nodesRightBefore Before.givesFromBefore Before.levelGivesBefore Before.passBoundBefore Before.fromLowBefore Before.fromHighBefore Before.boundAtBefore Before.passGivesBefore verdict formRight every firstRefusal judged Judge.boundOf Judge.entering Judge.passBound Judge.rowBound Judge.boundAt productOf Rule.boundAt Rule.rangeAt Rule.errorAt Rule.owns Rule.ownsBring Rule.ownFrom Rule.brought Rule.ownLift Rule.productLoss Rule.ownScale Rule.loss Rule.timesGain bits upDiv gain exactGain sumFrom sumTo inputAnswer nodeAnswer held made wholesOf lift _⊕_ _⊗_ neg whole magnitude
+unfolding viewVerdict viewable pixelBound viewDistance nodesRight Bounds.givesFrom Bounds.levelGives Bounds.passBound Bounds.fromLow Bounds.fromHigh Bounds.stored Bounds.larger Bounds.even Bounds.odd Bounds.inverseBound Bounds.passGives viewVerdictBefore Before.viewableBefore pixelBoundBefore viewDistanceBefore nodesRightBefore Before.givesFromBefore Before.levelGivesBefore Before.passBoundBefore Before.fromLowBefore Before.fromHighBefore Before.boundAtBefore Before.passGivesBefore verdict formRight every firstRefusal judged Judge.boundOf Judge.entering Judge.passBound Judge.rowBound Judge.nodeBound productOf Rule.sideBound Rule.rangeAt Rule.errorAt Rule.owns Rule.stagesPart Rule.ownErrorOf Rule.inputPart Rule.ownLift Rule.productLoss Rule.ownScale Rule.loss Rule.timesGain bits upDiv gain exactGain sumFrom sumTo inputAnswer nodeAnswer valuesAfter made roundedUp lift _⊕_ _⊗_ neg whole magnitude
 all-figures = refl
 
 abbrev nth : ℕ → List Figures → Figures

@@ -16,17 +16,17 @@ use Rattle.width_table.specs.Table.{maxLevels, maxIntegerBits, integerBits, fra
 use Rattle.width_table.specs.Limits.{form-levels, form-widths}
 use Rattle.stages.specs.Rule.{Bound}
 use Rattle.precision.specs.Verdict.{verdict}
-use Rattle.view_precision.specs.Bounds.{boundAt, passGives, stored, fromLow, fromHigh, passBound, passRight, levelGives, givesFrom, startBound, pixelBound, viewDistance, nodesRight, viewable, viewVerdict, stepsAllowed}
-use Rattle.view_precision.specs.Places.{mostEntering, Within, mostFed, Small, levelRight, levelsRight}
+use Rattle.view_precision.specs.Bounds.{inverseBound, passGives, stored, fromLow, fromHigh, passBound, passRight, levelGives, givesFrom, startBound, pixelBound, viewDistance, nodesRight, viewable, viewVerdict, stepsAllowed}
+use Rattle.view_precision.specs.Places.{mostEntering, AtMostStored, mostFed, SmallFed, levelRight, levelsRight}
 use Rattle.view_precision.specs.SizeLaws.{gives-most}
 
 -- ---- sizes
 
-pub within-small : {n : ℕ} {b : Bound} → n ≤ mostFed → Within n b → Small b
+pub within-small : {n : ℕ} {b : Bound} → n ≤ mostFed → AtMostStored n b → SmallFed b
 within-small {n} h w = record { range = omega (arith, w .range); error = omega (arith, w .error) }
 
 module _ (t : WidthTable) (form : T (formRight t)) (steps : ℕ) (few : steps ≤ stepsAllowed) (l : ℕ) (least : 1 ≤ l) (most : l ≤ t .levels) where
-  pub stored-within : (p : Pass) (n : Node) → Within 1 (stored t steps l p n)
+  pub stored-within : (p : Pass) (n : Node) → AtMostStored 1 (stored t steps l p n)
   unfolding stored
   stored-within p n =
       let w = form-widths t form l least most p n in
@@ -36,19 +36,19 @@ module _ (t : WidthTable) (form : T (formRight t)) (steps : ℕ) (few : steps �
         error = omega (arith, mul-le-mul few (pow-mono {i = 32 - f} {j = 32} (omega arith)));
       }
 
-  module _ (b : Bound) (n : ℕ) (h : n ≤ mostEntering) (w : Within n b) where
-    pub low-within : Within (n + 2) (fromLow t steps l b)
+  module _ (b : Bound) (n : ℕ) (h : n ≤ mostEntering) (w : AtMostStored n b) where
+    pub low-within : AtMostStored (n + 2) (fromLow t steps l b)
     unfolding fromLow
     low-within = gives-most b (stored t steps l LowColumns G2) n 1 (lit≤ tt) (omega arith) (lit≤ tt) w (stored-within LowColumns G2)
 
-    pub high-within : Within 3 (fromHigh t steps l b)
+    pub high-within : AtMostStored 3 (fromHigh t steps l b)
     unfolding fromHigh
     high-within = gives-most (stored t steps l HighColumns G1) (stored t steps l HighColumns G2) 1 1 (lit≤ tt) (lit≤ tt) (lit≤ tt) (stored-within HighColumns G1) (stored-within HighColumns G2)
 
     -- a level adds no more than eight times what is stored
-    pub level-within : Within (n + 8) (levelGives t steps l b)
+    pub level-within : AtMostStored (n + 8) (levelGives t steps l b)
     unfolding levelGives
-    level-within = let z : n + 2 + 2 * 3 ≡ n + 8 = omega arith in subst (λ (k : ℕ). Within k (passGives (fromLow t steps l b) (fromHigh t steps l b))) z (gives-most (fromLow t steps l b) (fromHigh t steps l b) (n + 2) 3 (lit≤ tt) (omega arith) (lit≤ tt) low-within high-within)
+    level-within = let z : n + 2 + 2 * 3 ≡ n + 8 = omega arith in subst (λ (k : ℕ). AtMostStored k (passGives (fromLow t steps l b) (fromHigh t steps l b))) z (gives-most (fromLow t steps l b) (fromHigh t steps l b) (n + 2) 3 (lit≤ tt) (omega arith) (lit≤ tt) low-within high-within)
 
 -- ---- one level, as the program has it
 
@@ -66,13 +66,13 @@ module _ (t : WidthTable) (steps l : ℕ) (b : Bound) where
   gives-is e f d = d ∙ ap₂ passGives e f
 
   pub right-is : {x y z low high : Bound} {p q r : Bool}
-      → x ≡ stored t steps l LowColumns G2 → p ≡ passRight (boundAt b x)
-      → y ≡ stored t steps l HighColumns G1 → z ≡ stored t steps l HighColumns G2 → q ≡ passRight (boundAt y z)
-      → low ≡ fromLow t steps l b → high ≡ fromHigh t steps l b → r ≡ passRight (boundAt low high)
+      → x ≡ stored t steps l LowColumns G2 → p ≡ passRight (inverseBound b x)
+      → y ≡ stored t steps l HighColumns G1 → z ≡ stored t steps l HighColumns G2 → q ≡ passRight (inverseBound y z)
+      → low ≡ fromLow t steps l b → high ≡ fromHigh t steps l b → r ≡ passRight (inverseBound low high)
       → p && q && r ≡ levelRight t steps l b
   unfolding passBound
   right-is ex ep ey ez eq el eh er =
-      let pass : Bound → Bound → Bool = λ a b. passRight (boundAt a b) in
+      let pass : Bound → Bound → Bool = λ a b. passRight (inverseBound a b) in
       ap₂ _&&_ (ap₂ _&&_ (ep ∙ ap (pass b) ex) (eq ∙ ap₂ pass ey ez)) (er ∙ ap₂ pass el eh)
 
 -- ---- the levels, the last first
@@ -91,17 +91,17 @@ module _ (t : WidthTable) (steps : ℕ) where
     pub level : k ≤ t .levels
     pub rights : right && levelsRight t steps k b ≡ levelsRight t steps (t .levels) (startBound t steps)
     pub gives : givesFrom t steps k b ≡ givesFrom t steps (t .levels) (startBound t steps)
-    pub small : Within (1 + 8 * (maxLevels - k)) b
+    pub small : AtMostStored (1 + 8 * (maxLevels - k)) b
 
   pub reached-first : T (formRight t) → steps ≤ stepsAllowed → (b : Bound) → b ≡ startBound t steps → Reached (t .levels) true b
   reached-first form few b e = record {
     level = omega arith;
     rights = ap (levelsRight t steps (t .levels)) e;
     gives = ap (givesFrom t steps (t .levels)) e;
-    small = subst (Within (1 + 8 * (maxLevels - t .levels))) (sym e) (more (stored-within t form steps few (t .levels) (form-levels t form .0) (omega arith) LowColumns G1));
+    small = subst (AtMostStored (1 + 8 * (maxLevels - t .levels))) (sym e) (more (stored-within t form steps few (t .levels) (form-levels t form .0) (omega arith) LowColumns G1));
   }
     where
-      more : {b : Bound} → Within 1 b → Within (1 + 8 * (maxLevels - t .levels)) b
+      more : {b : Bound} → AtMostStored 1 b → AtMostStored (1 + 8 * (maxLevels - t .levels)) b
       more w = record { range = omega (arith, w .range); error = omega (arith, w .error) }
 
   pub reached-next : T (formRight t) → steps ≤ stepsAllowed → (k : ℕ) {right right' : Bool} {b b' : Bound} → 0 < k → Reached k right b → right' ≡ (right && levelRight t steps k b) → b' ≡ levelGives t steps k b → Reached (k - 1) right' b'
@@ -111,18 +111,18 @@ module _ (t : WidthTable) (steps : ℕ) where
       let z : k ≡ suc k - 1 = omega arith in
       subst (λ (j : ℕ). Reached j right' b') z next
     where
-      five : 1 + 8 * (maxLevels - suc k) + 8 ≡ 1 + 8 * (maxLevels - k)
-      five = omega (arith, r .level, form-levels t form .1)
+      level-room : 1 + 8 * (maxLevels - suc k) + 8 ≡ 1 + 8 * (maxLevels - k)
+      level-room = omega (arith, r .level, form-levels t form .1)
 
       next : Reached k right' b'
       next = record {
         level = omega (arith, r .level);
         rights = ap₂ (λ (x : Bool) (y : Bound). x && levelsRight t steps k y) d e ∙ and-assoc right (levelRight t steps (suc k) b) (levelsRight t steps k (levelGives t steps (suc k) b)) ∙ r .rights;
         gives = ap (givesFrom t steps k) e ∙ r .gives;
-        small = subst (λ (n : ℕ). Within n b') five (subst (Within (1 + 8 * (maxLevels - suc k) + 8)) (sym e) (level-within t form steps few (suc k) (omega arith) (r .level) b (1 + 8 * (maxLevels - suc k)) (omega arith) (r .small)));
+        small = subst (λ (n : ℕ). AtMostStored n b') level-room (subst (AtMostStored (1 + 8 * (maxLevels - suc k) + 8)) (sym e) (level-within t form steps few (suc k) (omega arith) (r .level) b (1 + 8 * (maxLevels - suc k)) (omega arith) (r .small)));
       }
 
-  pub reached-small : {k : ℕ} {right : Bool} {b : Bound} → Reached k right b → Within mostEntering b
+  pub reached-small : {k : ℕ} {right : Bool} {b : Bound} → Reached k right b → AtMostStored mostEntering b
   reached-small r = record { range = omega (arith, r .small .range); error = omega (arith, r .small .error) }
 
   -- after level 1

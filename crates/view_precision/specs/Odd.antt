@@ -7,16 +7,16 @@ use mathlib.Core.List.{[]}
 use native.Mathlib.Omega.{arith}
 use lib.Dec.{lit≤, lit<}
 use lib.ListN.{getD}
-use Rattle.unlifting.specs.Fixed.{nodeBits, inverseBits}
+use Rattle.inverse_lifting.specs.Fixed.{nodeBits, inverseBits}
 use Rattle.width_table.specs.Nodes.{U1, G2}
 use Rattle.stages.specs.Stages.{low, high, inverse, uncut, bits}
 use Rattle.stages.specs.Gains.{highs, node, gain}
 use Rattle.stages.specs.GainTable.{inverseGains, inverseSource, inverse-gain}
 use Rattle.stages.specs.Rule as Rule
-use Rattle.stages.specs.Rule.{Bound, timesGain, ownLift, apart, brought}
-use Rattle.stages.specs.Held.{weighed}
+use Rattle.stages.specs.Rule.{Bound, timesGain, ownLift, apart, inputPart}
+use Rattle.stages.specs.ValueLaws.{weighed}
 use Rattle.stages.specs.RuleLaws.{timesGain-one, up-grows, times-grows, ownAt, error-sum, AtMost}
-use Rattle.view_precision.specs.Bounds.{larger, boundAfter, even, odd, boundAt, passGives}
+use Rattle.view_precision.specs.Bounds.{larger, boundAfter, even, odd, inverseBound, passGives}
 
 -- the gains to U1 and P1
 more : (i : ℕ) → i < 8 → getD (getD inverseGains i []) 4 0 ≤ getD (getD inverseGains i []) 5 0 → (x : ℕ) → timesGain x (gain inverse low 5 (inverseSource i)) ≤ timesGain x (gain inverse high 6 (inverseSource i))
@@ -26,16 +26,16 @@ module _ (a b : Bound) where
   abbrev own : ℕ → ℕ
   own = ownAt inverse (apart a b) (λ i. inverseBits) (λ i. uncut) (λ s. 0) (λ i. nodeBits)
 
-  brought-more : (r : Bound → ℕ) → brought inverse r (apart a b) low 5 ≤ brought inverse r (apart a b) high 6
-  unfolding brought
+  brought-more : (r : Bound → ℕ) → inputPart inverse r (apart a b) low 5 ≤ inputPart inverse r (apart a b) high 6
+  unfolding inputPart
   brought-more r = omega (arith, more 0 (lit< tt) (lit≤ tt) (r a), more 1 (lit< tt) (lit≤ tt) (r b))
 
   range-more : boundAfter a b low 5 .range ≤ boundAfter a b high 6 .range
-  unfolding Rule.boundAt Rule.rangeAt
+  unfolding Rule.sideBound Rule.rangeAt
   range-more = brought-more (λ b. b .range)
 
   error-more : boundAfter a b low 5 .error ≤ boundAfter a b high 6 .error
-  unfolding Rule.boundAt weighed
+  unfolding Rule.sideBound weighed
   error-more =
       omega (
         arith,
@@ -61,11 +61,11 @@ module _ (a b : Bound) where
 
   -- it alone differs
   pub odd-differs : odd a b .error + timesGain (own 5) (gain inverse high 6 (node 5)) ≡ boundAfter a b high 6 .error + timesGain ownOdd (gain inverse high 6 (node 5))
-  unfolding odd Rule.boundAt Rule.errorAt Rule.owns Rule.ownsBring ownAt
+  unfolding odd Rule.sideBound Rule.errorAt Rule.owns Rule.stagesPart ownAt
   odd-differs = omega arith
 
   own-more : own 5 ≤ ownOdd
-  unfolding even larger ownAt Rule.ownFrom Rule.boundAt ownLift bits
+  unfolding even larger ownAt Rule.ownErrorOf Rule.sideBound ownLift bits
   own-more = omega (arith, up-grows (boundAfter a b low 5 .range + boundAfter a b low 5 .error) (even a b .range + even a b .error) (2 ^ inverseBits) (lit< tt) (omega arith))
 
   pub odd-error : boundAfter a b high 6 .error ≤ odd a b .error
@@ -80,12 +80,12 @@ module _ (a b : Bound) where
 
   -- ---- no low input is above the even output, no high input above G2
 
-  pub low-below : AtMost a (boundAt a b U1)
-  unfolding boundAt even larger
+  pub low-below : AtMost a (inverseBound a b U1)
+  unfolding inverseBound even larger
   low-below = record { range = omega arith; error = omega arith }
 
-  pub high-below : AtMost b (boundAt a b G2)
-  unfolding boundAt Rule.boundAt Rule.rangeAt Rule.errorAt brought
+  pub high-below : AtMost b (inverseBound a b G2)
+  unfolding inverseBound Rule.sideBound Rule.rangeAt Rule.errorAt inputPart
   high-below = record { range = omega (arith, grows (b .range)); error = omega (arith, grows (b .error)) }
     where
       grows : (x : ℕ) → x ≤ timesGain x (gain inverse high 2 highs)

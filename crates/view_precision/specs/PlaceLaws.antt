@@ -10,20 +10,20 @@ use borrow.Author.Tests.{le-leb, lt-leb, eq-eqb, ne-eqb}
 use lib.ListN.{set}
 use Rattle.numbers.specs.Tests.{every, ltb-true, ltb-false, left-false, right-false}
 use Rattle.exact.specs.Fractions.{upDiv}
-use Rattle.unlifting.specs.Fixed.{nodeBits, inverseBits}
+use Rattle.inverse_lifting.specs.Fixed.{nodeBits, inverseBits}
 use Rattle.width_table.specs.Nodes.{Node, P1, U1, P2, U2, G1, G2}
 use Rattle.stages.specs.Stages.{Side, low, high, stage, inverse, uncut, bits}
 use Rattle.stages.specs.Gains.{lows, highs, node, gain}
 use Rattle.stages.specs.GainTable.{inverse-gain}
 use Rattle.stages.specs.Rule as Rule
-use Rattle.stages.specs.Rule.{Bound, apart, timesGain, loss, ownLift, ownScale, brought}
+use Rattle.stages.specs.Rule.{Bound, apart, timesGain, loss, ownLift, ownScale, inputPart}
 use Rattle.stages.specs.ProductLaws.{own-uncut}
-use Rattle.stages.specs.Held.{weighed}
+use Rattle.stages.specs.ValueLaws.{weighed}
 use Rattle.stages.specs.RuleLaws as RuleLaws
 use Rattle.stages.specs.RuleLaws.{timesGain-zero, timesGain-none, weighed-ext, error-sum, bound-start, bound-kept}
-use Rattle.view_precision.specs.Bounds.{larger, boundAfter, even, odd, boundAt, atMost15, passRight}
+use Rattle.view_precision.specs.Bounds.{larger, boundAfter, even, odd, inverseBound, atMost15, passRight}
 use Rattle.view_precision.specs.Odd.{ownOdd, odd-differs}
-use Rattle.view_precision.specs.Places.{stages, sources, scalings, evenStage, nodeAfter, gainAt, carriedTo, boundFrom, nodeFrom, total, totalFrom, ownFrom, ownAt, ownsBelow}
+use Rattle.view_precision.specs.Places.{stages, sources, scalings, evenStage, nodeAfter, gainAt, carriedTo, boundFrom, nodeFrom, total, totalFrom, inverseOwnError, ownAt, ownsBelow}
 
 -- ---- the six stages by number
 
@@ -50,14 +50,14 @@ module _ (a b : Bound) where
   abbrev error : Side → ℕ → ℕ
   error = Rule.errorAt inverse (apart a b) (λ i. inverseBits) (λ i. uncut) (λ s. 0) (λ i. nodeBits)
 
-  -- `boundAt`, but of the even output that on lines of two values or more
+  -- `inverseBound`, but of the even output that on lines of two values or more
   abbrev long : Node → Bound
-  long G1 = boundAt a b G1
-  long G2 = boundAt a b G2
-  long U2 = boundAt a b U2
-  long P2 = boundAt a b P2
+  long G1 = inverseBound a b G1
+  long G2 = inverseBound a b G2
+  long U2 = inverseBound a b U2
+  long P2 = inverseBound a b P2
   long U1 = boundAfter a b low 5
-  long P1 = boundAt a b P1
+  long P1 = inverseBound a b P1
 
   pub owns-next : (j : ℕ) → j < stages → set (ownsBelow a b (j + 2)) (j + 2) (ownAt a b (j + 2)) ≡ ownsBelow a b (j + 3)
   unfolding ownsBelow
@@ -67,11 +67,11 @@ module _ (a b : Bound) where
   unfoldable pub totalBefore : ℕ → ℕ
   totalBefore zero = total a
   totalBefore (suc zero) = total b
-  totalBefore (suc (suc j)) = total (boundAt a b (nodeAfter (suc j)))
+  totalBefore (suc (suc j)) = total (inverseBound a b (nodeAfter (suc j)))
 
   -- the first two multiply what enters
-  pub own-is : (j : ℕ) → j < stages → ownAt a b (j + 2) ≡ ownFrom j (totalBefore j)
-  unfolding ownAt ownFrom totalBefore boundAt bits RuleLaws.ownAt Rule.ownFrom Rule.boundAt ownScale loss
+  pub own-is : (j : ℕ) → j < stages → ownAt a b (j + 2) ≡ inverseOwnError j (totalBefore j)
+  unfolding ownAt inverseOwnError totalBefore inverseBound bits RuleLaws.ownAt Rule.ownErrorOf Rule.sideBound ownScale loss
   own-is =
       by-stage _
       (ap (λ (x : Bound). ownScale inverseBits 0 nodeBits (total x)) (bound-start inverse (apart a b) (λ i. inverseBits) (λ i. uncut) (λ s. 0) (λ i. nodeBits) low))
@@ -79,7 +79,7 @@ module _ (a b : Bound) where
       (lifted _) (lifted _) (lifted _) (lifted _)
 
   range-is : (j : ℕ) → j < stages → timesGain (a .range) (gainAt 0 j) + timesGain (b .range) (gainAt 1 j) ≡ long (nodeAfter j) .range
-  unfolding boundAt odd Rule.boundAt Rule.rangeAt brought
+  unfolding inverseBound odd Rule.sideBound Rule.rangeAt inputPart
   range-is = by-stage _ (at 0 (lit< tt)) (at 1 (lit< tt)) (at 2 (lit< tt)) (at 3 (lit< tt)) (at 4 (lit< tt)) (at 5 (lit< tt))
     where
       at : (j : ℕ) → j < stages → timesGain (a .range) (gainAt 0 j) + timesGain (b .range) (gainAt 1 j) ≡ timesGain (a .range) (gain inverse (stage inverse j .side) (suc j) lows) + timesGain (b .range) (gain inverse (stage inverse j .side) (suc j) highs)
@@ -87,7 +87,7 @@ module _ (a b : Bound) where
 
   -- the error of a node by numbers, on lines of two values or more
   error-at : (j : ℕ) → j < stages → error (stage inverse j .side) (suc j) ≡ timesGain (a .error) (gainAt 0 j) + timesGain (b .error) (gainAt 1 j) + weighed (λ i. gainAt (suc (suc i)) j) own (suc j)
-  unfolding brought
+  unfolding inputPart
   error-at j h =
       omega (
         arith,
@@ -98,7 +98,7 @@ module _ (a b : Bound) where
       )
 
   error-is : (j : ℕ) → j < stages → carriedTo (ownsBelow a b sources) j sources ≡ long (nodeAfter j) .error
-  unfolding carriedTo ownsBelow ownAt boundAt Rule.boundAt weighed
+  unfolding carriedTo ownsBelow ownAt inverseBound Rule.sideBound weighed
   error-is =
       by-stage _
       (simp timesGain-none (omega (arith, error-at 0 (lit< tt), timesGain-none (b .error))))
@@ -111,13 +111,13 @@ module _ (a b : Bound) where
   long-is : (j : ℕ) → j < stages → boundFrom (a .range) (b .range) (ownsBelow a b sources) j ≡ long (nodeAfter j)
   long-is j h = ap₂ (λ (r e : ℕ). record { range = r; error = e }) (range-is j h) (error-is j h)
 
-  pub node-is : (j : ℕ) → j < stages → nodeFrom a b (ownsBelow a b sources) j ≡ boundAt a b (nodeAfter j)
-  unfolding boundAt even
+  pub node-is : (j : ℕ) → j < stages → nodeFrom a b (ownsBelow a b sources) j ≡ inverseBound a b (nodeAfter j)
+  unfolding inverseBound even
   node-is = by-stage _ (long-is 0 (lit< tt)) (long-is 1 (lit< tt)) (long-is 2 (lit< tt)) (long-is 3 (lit< tt)) (ap (λ (x : Bound). larger x a) (long-is 4 (lit< tt))) (long-is 5 (lit< tt))
 
   -- from what the sources before a stage have of their own
   pub total-is : (j : ℕ) → j < stages → totalFrom a b (ownsBelow a b (j + 2)) j ≡ totalBefore j
-  unfolding carriedTo ownsBelow ownAt totalBefore boundAt even larger Rule.boundAt weighed
+  unfolding carriedTo ownsBelow ownAt totalBefore inverseBound even larger Rule.sideBound weighed
   total-is =
       by-stage _
       refl
@@ -128,19 +128,19 @@ module _ (a b : Bound) where
       (simp timesGain-zero (omega (arith, range-is 4 (lit< tt), error-at 4 (lit< tt))))
 
   -- one stage more
-  pub owns-again : (j : ℕ) → j < stages → set (ownsBelow a b (j + 2)) (j + 2) (ownFrom j (totalFrom a b (ownsBelow a b (j + 2)) j)) ≡ ownsBelow a b (j + 3)
-  owns-again j h = ap (λ (r : ℕ). set (ownsBelow a b (j + 2)) (j + 2) (ownFrom j r)) (total-is j h) ∙ ap (set (ownsBelow a b (j + 2)) (j + 2)) (sym (own-is j h)) ∙ owns-next j h
+  pub owns-again : (j : ℕ) → j < stages → set (ownsBelow a b (j + 2)) (j + 2) (inverseOwnError j (totalFrom a b (ownsBelow a b (j + 2)) j)) ≡ ownsBelow a b (j + 3)
+  owns-again j h = ap (λ (r : ℕ). set (ownsBelow a b (j + 2)) (j + 2) (inverseOwnError j r)) (total-is j h) ∙ ap (set (ownsBelow a b (j + 2)) (j + 2)) (sym (own-is j h)) ∙ owns-next j h
 
   -- the same, as the program has it
-  pub owns-step : (j : ℕ) → j < stages → {own : List ℕ} {r x : ℕ} → own ≡ ownsBelow a b (j + 2) → r ≡ totalFrom a b own j → x ≡ ownFrom j r → set own (j + 2) x ≡ ownsBelow a b (j + 1 + 2)
+  pub owns-step : (j : ℕ) → j < stages → {own : List ℕ} {r x : ℕ} → own ≡ ownsBelow a b (j + 2) → r ≡ totalFrom a b own j → x ≡ inverseOwnError j r → set own (j + 2) x ≡ ownsBelow a b (j + 1 + 2)
   owns-step j h {own} {r} {x} e1 e2 e3 =
       let z : j + 3 ≡ j + 1 + 2 = omega arith in
-      ap (set own (j + 2)) (e3 ∙ ap (ownFrom j) e2)
-      ∙ ap (λ (own : List ℕ). set own (j + 2) (ownFrom j (totalFrom a b own j))) e1
+      ap (set own (j + 2)) (e3 ∙ ap (inverseOwnError j) e2)
+      ∙ ap (λ (own : List ℕ). set own (j + 2) (inverseOwnError j (totalFrom a b own j))) e1
       ∙ owns-again j h
       ∙ ap (ownsBelow a b) z
 
-  pub node-bound : (j : ℕ) → j < stages → {own : List ℕ} {x : Bound} → own ≡ ownsBelow a b sources → x ≡ nodeFrom a b own j → x ≡ boundAt a b (nodeAfter j)
+  pub node-bound : (j : ℕ) → j < stages → {own : List ℕ} {x : Bound} → own ≡ ownsBelow a b sources → x ≡ nodeFrom a b own j → x ≡ inverseBound a b (nodeAfter j)
   node-bound j h e1 e2 = e2 ∙ ap (λ (own : List ℕ). nodeFrom a b own j) e1 ∙ node-is j h
 
 pub total-later : (a b : Bound) (own : List ℕ) (j : ℕ) → 2 ≤ j → totalFrom a b own j ≡ total (nodeFrom a b own (j - 1))
@@ -167,12 +167,12 @@ module _ (j r : ℕ) where
     | false ↦ upDiv r (2 ^ inverseBits) + 2 ^ (32 - nodeBits)
   ]
 
-  pub own-scales : j < scalings → upDiv r (2 ^ (inverseBits + 1)) + 2 ^ (32 - nodeBits) ≡ ownFrom j r
-  unfolding ownFrom
+  pub own-scales : j < scalings → upDiv r (2 ^ (inverseBits + 1)) + 2 ^ (32 - nodeBits) ≡ inverseOwnError j r
+  unfolding inverseOwnError
   own-scales h = sym (ap chosen (ltb-true j scalings h))
 
-  pub own-lifts : scalings ≤ j → upDiv r (2 ^ inverseBits) + 2 ^ (32 - nodeBits) ≡ ownFrom j r
-  unfolding ownFrom
+  pub own-lifts : scalings ≤ j → upDiv r (2 ^ inverseBits) + 2 ^ (32 - nodeBits) ≡ inverseOwnError j r
+  unfolding inverseOwnError
   own-lifts h = sym (ap chosen (ltb-false j scalings h))
 
 -- ---- the nodes of a pass

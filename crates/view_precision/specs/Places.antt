@@ -5,7 +5,7 @@ use mathlib.Core.List.{List, [], _∷_}
 use lib.Dec.{eqb, ltb}
 use lib.ListN.{getD}
 use Rattle.exact.specs.Fractions.{upDiv}
-use Rattle.unlifting.specs.Fixed.{nodeBits, inverseBits}
+use Rattle.inverse_lifting.specs.Fixed.{nodeBits, inverseBits}
 use Rattle.width_table.specs.Nodes.{Node, P1, U1, P2, U2, G1, G2, nodesPerPass, Rows, LowColumns, HighColumns}
 use Rattle.width_table.specs.declared.WidthTable.{WidthTable}
 use Rattle.width_table.specs.Table.{maxLevels, maxIntegerBits}
@@ -73,8 +73,8 @@ totalFrom a b own (suc (suc j)) = total (nodeFrom a b own (suc j))
 
 -- the own error of stage j, where r is the range plus error of the value that it multiplies; some of it is always cut off, since the bits
 -- of a node are fewer than those of a constant
-unfoldable pub ownFrom : ℕ → ℕ → ℕ
-ownFrom j r = elim (ltb j scalings) [
+unfoldable pub inverseOwnError : ℕ → ℕ → ℕ
+inverseOwnError j r = elim (ltb j scalings) [
   | true ↦ upDiv r (2 ^ (inverseBits + 1)) + 2 ^ (32 - nodeBits)
   | false ↦ upDiv r (2 ^ inverseBits) + 2 ^ (32 - nodeBits)
 ]
@@ -109,7 +109,7 @@ abbrev pub mostStored : ℕ
 mostStored = 2 ^ (maxIntegerBits - 1) * 2 ^ 32
 
 -- at most n times that, in range and in error
-pub record Within (n : ℕ) (b : Bound) : Type 0 where
+pub record AtMostStored (n : ℕ) (b : Bound) : Type 0 where
   pub range : b .range ≤ n * mostStored
   pub error : b .error ≤ n * mostStored
 
@@ -124,8 +124,8 @@ mostFed = 64
 abbrev pub largest : ℕ
 largest = mostFed * mostStored
 
-abbrev pub Small : Bound → Type 0
-Small = Within mostFed
+abbrev pub SmallFed : Bound → Type 0
+SmallFed = AtMostStored mostFed
 
 abbrev pub AllSmall : List ℕ → Type 0
 AllSmall own = (i : ℕ) → getD own i 0 ≤ largest
@@ -137,8 +137,8 @@ mostTotal = 64 * largest
 -- ---- levels
 
 -- a bound that the program holds
-abbrev pub meant : Code.Bound → Bound
-meant b = record { range = b .range; error = b .error }
+abbrev pub asBound : Code.Bound → Bound
+asBound b = record { range = b .range; error = b .error }
 
 -- `nodesRight` of Bounds, whatever error the stored coefficients start at
 abbrev pub levelRight : WidthTable → ℕ → ℕ → Bound → Bool

@@ -14,7 +14,7 @@ use Rattle.width_table.specs.Nodes.{Node, G1, G2, Pass, LowColumns, HighColumns
 use Rattle.width_table.specs.declared.WidthTable.{WidthTable}
 use Rattle.width_table.specs.Table.{nodePlace, integerBits, fractionBits}
 use Rattle.precision.specs.Verdict.{keptAt, verdict}
-use Rattle.view_precision.specs.Bounds.{boundAt, passGives, stored, fromLow, fromHigh, passBound, levelGives, givesFrom, startBound, pixelBound, stepsAllowed, viewDistance, passRight, nodesRight, viewable, viewVerdict}
+use Rattle.view_precision.specs.Bounds.{inverseBound, passGives, stored, fromLow, fromHigh, passBound, levelGives, givesFrom, startBound, pixelBound, stepsAllowed, viewDistance, passRight, nodesRight, viewable, viewVerdict}
 
 -- the same depth, the same levels, the same widths of kept nodes
 pub record SeenAlike (t u : WidthTable) : Type 0 where
@@ -68,7 +68,7 @@ module _ {t u : WidthTable} (h : SeenAlike t u) where
   unfolding nodesRight passBound
   nodes-same zero i b = refl
   nodes-same (suc k) i b =
-      let right : Bound → Bound → Bool = λ a b. passRight (boundAt a b) in
+      let right : Bound → Bound → Bool = λ a b. passRight (inverseBound a b) in
       ap₂ _&&_
       (ap₂ _&&_
       (ap₂ _&&_ (ap (right b) (stored-same 0 (suc k) i LowColumns G2 tt)) (ap₂ right (stored-same 0 (suc k) i HighColumns G1 tt) (stored-same 0 (suc k) i HighColumns G2 tt)))

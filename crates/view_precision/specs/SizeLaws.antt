@@ -9,12 +9,12 @@ use lib.Dec.{T, eqb, ltb, leb, leb→le, lit≤, lit<}
 use lib.ListN.{getD, set, replicate}
 use Rattle.numbers.specs.Tests.{every, both}
 use Rattle.exact.specs.Fractions.{upDiv}
-use Rattle.unlifting.specs.Fixed.{nodeBits, inverseBits}
+use Rattle.inverse_lifting.specs.Fixed.{nodeBits, inverseBits}
 use Rattle.stages.specs.GainTable.{inverseGains}
 use Rattle.stages.specs.Rule.{Bound, timesGain}
-use Rattle.view_precision.specs.Bounds.{larger, odd, boundAt, passGives}
+use Rattle.view_precision.specs.Bounds.{larger, odd, inverseBound, passGives}
 use Rattle.view_precision.specs.Odd.{odd-larger}
-use Rattle.view_precision.specs.Places.{stages, sources, scalings, evenStage, gainAt, carriedTo, boundFrom, nodeFrom, total, totalFrom, ownFrom, ownAt, ownsBelow, Within, mostFed, largest, Small, AllSmall, mostTotal}
+use Rattle.view_precision.specs.Places.{stages, sources, scalings, evenStage, gainAt, carriedTo, boundFrom, nodeFrom, total, totalFrom, inverseOwnError, ownAt, ownsBelow, AtMostStored, mostFed, largest, SmallFed, AllSmall, mostTotal}
 use Rattle.view_precision.specs.PlaceLaws.{own-is, total-is, owns-again, node-is}
 
 -- ---- products by a gain
@@ -61,7 +61,7 @@ unfolding carriedTo
 carried-small own j h zero = lit≤ tt
 carried-small own j h (suc n) = omega (arith, carried-small own j h n, times-small (getD own n 0) n j (h n))
 
-pub node-small : (a b : Bound) → Small a → Small b → (own : List ℕ) → AllSmall own → (j : ℕ) → total (nodeFrom a b own j) ≤ mostTotal
+pub node-small : (a b : Bound) → SmallFed a → SmallFed b → (own : List ℕ) → AllSmall own → (j : ℕ) → total (nodeFrom a b own j) ≤ mostTotal
 unfolding larger
 node-small a b sa sb own s j = go (eqb j evenStage)
   where
@@ -72,8 +72,8 @@ node-small a b sa sb own s j = go (eqb j evenStage)
     go true = omega (arith, sa .range, sa .error, range, carried-small own j s sources)
     go false = omega (arith, range, carried-small own j s sources)
 
-own-small : (j r : ℕ) → r ≤ mostTotal → ownFrom j r ≤ 2 ^ 32
-unfolding ownFrom upDiv
+own-small : (j r : ℕ) → r ≤ mostTotal → inverseOwnError j r ≤ 2 ^ 32
+unfolding inverseOwnError upDiv
 own-small j r h = go (ltb j scalings)
   where
     go : (t : Bool) → elim t [ true ↦ upDiv r (2 ^ (inverseBits + 1)) + 2 ^ (32 - nodeBits) | false ↦ upDiv r (2 ^ inverseBits) + 2 ^ (32 - nodeBits) ] ≤ 2 ^ 32
@@ -96,7 +96,7 @@ set-small [] k x h i = h
 set-small (y ∷ l) zero x h i = cons-small x l i (λ j. h (suc j))
 set-small (y ∷ l) (suc k) x h i = cons-small y (set l k x) (h 0) (set-small l k x (λ j. h (suc j)) i)
 
-module _ (a b : Bound) (sa : Small a) (sb : Small b) where
+module _ (a b : Bound) (sa : SmallFed a) (sb : SmallFed b) where
   pub total-small : (own : List ℕ) → AllSmall own → (j : ℕ) → totalFrom a b own j ≤ mostTotal
   total-small own s zero = omega (arith, sa .range, sa .error)
   total-small own s (suc zero) = omega (arith, sb .range, sb .error)
@@ -113,10 +113,10 @@ module _ (a b : Bound) (sa : Small a) (sb : Small b) where
   stage-small : (j : ℕ) → j < stages → ownAt a b (j + 2) ≤ 2 ^ 32
   stage-small j h = subst (λ (x : ℕ). x ≤ 2 ^ 32) (sym (own-is a b j h)) (own-small j _ (subst (λ (x : ℕ). x ≤ mostTotal) (total-is a b j h) (total-small _ (owns-small j (omega arith)) j)))
 
-odd-most : (a b : Bound) (n m : ℕ) → 1 ≤ m → n ≤ mostFed → m ≤ mostFed → Within n a → Within m b → Within (n + 2 * m) (odd a b)
-unfolding boundAt carriedTo ownsBelow ownAt
+odd-most : (a b : Bound) (n m : ℕ) → 1 ≤ m → n ≤ mostFed → m ≤ mostFed → AtMostStored n a → AtMostStored m b → AtMostStored (n + 2 * m) (odd a b)
+unfolding inverseBound carriedTo ownsBelow ownAt
 odd-most a b n m one hn hm wa wb =
-    subst (Within (n + 2 * m)) (node-is a b 5 (lit< tt)) (record {
+    subst (AtMostStored (n + 2 * m)) (node-is a b 5 (lit< tt)) (record {
       range = omega (arith, wa .range, wb .range, times-most (a .range) (gainAt 0 5), times-most (b .range) (gainAt 1 5));
       error = omega (
         arith,
@@ -133,21 +133,21 @@ odd-most a b n m one hn hm wa wb =
       );
     })
   where
-    sa : Small a
+    sa : SmallFed a
     sa = record { range = omega (arith, wa .range); error = omega (arith, wa .error) }
 
-    sb : Small b
+    sb : SmallFed b
     sb = record { range = omega (arith, wb .range); error = omega (arith, wb .error) }
 
     own : (j : ℕ) → j < stages → timesGain (ownAt a b (j + 2)) (gainAt (j + 2) 5) * 65536 ≤ 2 ^ 32 * gainAt (j + 2) 5 + 65535
     own j h = le-trans (times-most (ownAt a b (j + 2)) (gainAt (j + 2) 5)) (omega (arith, mul-le-mul-right (gainAt (j + 2) 5) (stage-small a b sa sb j h)))
 
 -- What a pass gives on.
-pub gives-most : (a b : Bound) (n m : ℕ) → 1 ≤ m → n ≤ mostFed → m ≤ mostFed → Within n a → Within m b → Within (n + 2 * m) (passGives a b)
+pub gives-most : (a b : Bound) (n m : ℕ) → 1 ≤ m → n ≤ mostFed → m ≤ mostFed → AtMostStored n a → AtMostStored m b → AtMostStored (n + 2 * m) (passGives a b)
 unfolding larger
 gives-most a b n m one hn hm wa wb =
     let w = odd-most a b n m one hn hm wa wb in
-    subst (Within (n + 2 * m)) (sym (odd-larger a b)) (record {
+    subst (AtMostStored (n + 2 * m)) (sym (odd-larger a b)) (record {
       range = omega (arith, w .range, wa .range);
       error = omega (arith, w .error, wa .error);
     })

@@ -14,8 +14,8 @@ ghost use Rattle.width_table.specs.Nodes.{Rows, passNumber};
 ghost use Rattle.width_table.specs.Numbered.{nodeOf, passOf, IsNode};
 ghost use Rattle.width_table.specs.Table.{formRight};
 ghost use Rattle.precision.specs.Places.{At};
-ghost use Rattle.view_precision.specs.Bounds.{larger, boundAt, passGives, stored, levelGives, givesFrom, startBound, passRight, stepsAllowed, viewDistance, viewVerdict};
-ghost use Rattle.view_precision.specs.Places.{stages, sources, mostEntering, largest, mostTotal, gainAt, carriedTo, boundFrom, nodeFrom, totalFrom, ownFrom, ownsBelow, meant, Small, AllSmall, Within, levelRight, levelsRight};
+ghost use Rattle.view_precision.specs.Bounds.{larger, inverseBound, passGives, stored, levelGives, givesFrom, startBound, passRight, stepsAllowed, viewDistance, viewVerdict};
+ghost use Rattle.view_precision.specs.Places.{stages, sources, mostEntering, largest, mostTotal, gainAt, carriedTo, boundFrom, nodeFrom, totalFrom, inverseOwnError, ownsBelow, asBound, SmallFed, AllSmall, AtMostStored, levelRight, levelsRight};
 
 // Range and error.
 struct Bound {
@@ -52,9 +52,9 @@ impl Bound {
     const GAIN_ONE: u64 = 1 << 16;
 
     // A step of a node, and the bits of a constant.
-    const STEP: u64 = Bound::ONE >> unlifting::NODE_BITS;
+    const STEP: u64 = Bound::ONE >> inverse_lifting::NODE_BITS;
 
-    const CONSTANT_BITS: u8 = unlifting::CONSTANT_BITS as u8;
+    const CONSTANT_BITS: u8 = inverse_lifting::CONSTANT_BITS as u8;
 
     // The error of a stored coefficient, in its steps: none in viewing, and what demand 3 of document 01 allows it.
     const NO_STEPS: u64 = 0;
@@ -71,7 +71,7 @@ fn larger_of(x: u64, y: u64) -> u64
 
 // The larger of two bounds, range and error each by itself.
 fn larger(x: Bound, y: Bound) -> Bound
-    ensures { λ r. ⌜ meant r ≡ larger (meant x) (meant y) ⌝ }
+    ensures { λ r. ⌜ asBound r ≡ larger (asBound x) (asBound y) ⌝ }
 {
     Bound {
         range: larger_of(x.range, y.range),
@@ -130,7 +130,7 @@ fn error_at(own: [u64; Bound::SOURCES as usize], stage: u8) -> u64
 // source has of its own.
 fn bound_at(low: u64, high: u64, own: [u64; Bound::SOURCES as usize], stage: u8) -> Bound
     requires { ⌜ (low ≤ largest) × (high ≤ largest) × (stage < stages) × AllSmall own ⌝ }
-    ensures { λ r. ⌜ meant r ≡ boundFrom low high own stage ⌝ }
+    ensures { λ r. ⌜ asBound r ≡ boundFrom low high own stage ⌝ }
 {
     Bound {
         range: times_gain(low, Bound::LOWS, stage) + times_gain(high, Bound::HIGHS, stage),
@@ -140,8 +140,8 @@ fn bound_at(low: u64, high: u64, own: [u64; Bound::SOURCES as usize], stage: u8)
 
 // The same on lines from one value: a single low is the even output, whose bound is the larger of that and the lows'.
 fn node_at(low: Bound, high: Bound, own: [u64; Bound::SOURCES as usize], stage: u8) -> Bound
-    requires { ⌜ (stage < stages) × AllSmall own × Small (meant low) × Small (meant high) ⌝ }
-    ensures { λ r. ⌜ (meant r ≡ nodeFrom (meant low) (meant high) own stage) × (r .range + r .error ≤ mostTotal) ⌝ }
+    requires { ⌜ (stage < stages) × AllSmall own × SmallFed (asBound low) × SmallFed (asBound high) ⌝ }
+    ensures { λ r. ⌜ (asBound r ≡ nodeFrom (asBound low) (asBound high) own stage) × (r .range + r .error ≤ mostTotal) ⌝ }
 {
     let bound = bound_at(low.range, high.range, own, stage);
     if stage == Bound::EVEN {
@@ -153,8 +153,8 @@ fn node_at(low: Bound, high: Bound, own: [u64; Bound::SOURCES as usize], stage: 
 
 // Range plus error of the value that a stage multiplies: G1 the lows, G2 the highs, any other what the stage before left.
 fn total_before(low: Bound, high: Bound, own: [u64; Bound::SOURCES as usize], stage: u8) -> u64
-    requires { ⌜ (stage < stages) × AllSmall own × Small (meant low) × Small (meant high) ⌝ }
-    ensures { λ r. ⌜ (r ≡ totalFrom (meant low) (meant high) own stage) × (r ≤ mostTotal) ⌝ }
+    requires { ⌜ (stage < stages) × AllSmall own × SmallFed (asBound low) × SmallFed (asBound high) ⌝ }
+    ensures { λ r. ⌜ (r ≡ totalFrom (asBound low) (asBound high) own stage) × (r ≤ mostTotal) ⌝ }
 {
     if stage == 0 {
         return low.range + low.error;
@@ -169,7 +169,7 @@ fn total_before(low: Bound, high: Bound, own: [u64; Bound::SOURCES as usize], st
 // The own error of a stage, where `total` is the range plus error of the value that it multiplies.
 fn own_error(stage: u8, total: u64) -> u64
     requires { ⌜ total ≤ mostTotal ⌝ }
-    ensures { λ r. ⌜ r ≡ ownFrom stage total ⌝ }
+    ensures { λ r. ⌜ r ≡ inverseOwnError stage total ⌝ }
 {
     if stage < Bound::SCALING_STAGES {
         return precision::up_div(total, Bound::CONSTANT_BITS + 1) + Bound::STEP;
@@ -179,8 +179,8 @@ fn own_error(stage: u8, total: u64) -> u64
 
 // What each source has of its own: the lows and the highs their errors, a stage its own error.
 fn own_errors(low: Bound, high: Bound) -> [u64; Bound::SOURCES as usize]
-    requires { ⌜ Small (meant low) × Small (meant high) ⌝ }
-    ensures { λ r. ⌜ r ≡ ownsBelow (meant low) (meant high) sources ⌝ }
+    requires { ⌜ SmallFed (asBound low) × SmallFed (asBound high) ⌝ }
+    ensures { λ r. ⌜ r ≡ ownsBelow (asBound low) (asBound high) sources ⌝ }
 {
     let mut own = [0u64; Bound::SOURCES as usize];
     own[0] = low.error;
@@ -194,9 +194,9 @@ fn own_errors(low: Bound, high: Bound) -> [u64; Bound::SOURCES as usize]
 
 // Range plus error of no node of a pass is above 2^15.
 fn nodes_right(low: Bound, high: Bound, own: [u64; Bound::SOURCES as usize]) -> bool
-    requires { ⌜ Small (meant low) × Small (meant high) ⌝ }
-    requires { ⌜ own ≡ ownsBelow (meant low) (meant high) sources ⌝ }
-    ensures { λ r. ⌜ r ≡ passRight (boundAt (meant low) (meant high)) ⌝ }
+    requires { ⌜ SmallFed (asBound low) × SmallFed (asBound high) ⌝ }
+    requires { ⌜ own ≡ ownsBelow (asBound low) (asBound high) sources ⌝ }
+    ensures { λ r. ⌜ r ≡ passRight (inverseBound (asBound low) (asBound high)) ⌝ }
 {
     for stage in 0..Bound::STAGES {
         let bound = node_at(low, high, own, stage);
@@ -215,9 +215,9 @@ struct Given {
 
 // One pass, which is fed lows and highs: it gives on the larger of the even and the odd output.
 fn work_pass(low: Bound, high: Bound) -> Given
-    requires { ⌜ Small (meant low) × Small (meant high) ⌝ }
-    ensures right { λ r. ⌜ r .right ≡ passRight (boundAt (meant low) (meant high)) ⌝ }
-    ensures bound { λ r. ⌜ meant (r .bound) ≡ passGives (meant low) (meant high) ⌝ }
+    requires { ⌜ SmallFed (asBound low) × SmallFed (asBound high) ⌝ }
+    ensures right { λ r. ⌜ r .right ≡ passRight (inverseBound (asBound low) (asBound high)) ⌝ }
+    ensures bound { λ r. ⌜ asBound (r .bound) ≡ passGives (asBound low) (asBound high) ⌝ }
 {
     let own = own_errors(low, high);
     let even = node_at(low, high, own, Bound::EVEN);
@@ -233,7 +233,7 @@ fn stored_bound(table: WidthTable, steps: u64, level: u8, pass: u8, node: u8) ->
     requires { ⌜ At table level pass ⌝ }
     requires { ⌜ IsNode node ⌝ }
     requires { ⌜ steps ≤ stepsAllowed ⌝ }
-    ensures { λ r. ⌜ (meant r ≡ stored table steps level (passOf pass) (nodeOf node)) × Within 1 (meant r) ⌝ }
+    ensures { λ r. ⌜ (asBound r ≡ stored table steps level (passOf pass) (nodeOf node)) × AtMostStored 1 (asBound r) ⌝ }
 {
     let integer = table.integer_bits(level, pass, node);
     let fraction = table.fraction_bits(level, pass, node);
@@ -246,9 +246,9 @@ fn stored_bound(table: WidthTable, steps: u64, level: u8, pass: u8, node: u8) ->
 // One level, whose low-low has a bound: the columns take it and stored coefficients, the rows what the columns give.
 fn work_level(table: WidthTable, steps: u64, level: u8, entering: Bound) -> Given
     requires { ⌜ At table level (passNumber Rows) ⌝ }
-    requires { ⌜ (steps ≤ stepsAllowed) × Within mostEntering (meant entering) ⌝ }
-    ensures right { λ r. ⌜ r .right ≡ levelRight table steps level (meant entering) ⌝ }
-    ensures bound { λ r. ⌜ meant (r .bound) ≡ levelGives table steps level (meant entering) ⌝ }
+    requires { ⌜ (steps ≤ stepsAllowed) × AtMostStored mostEntering (asBound entering) ⌝ }
+    ensures right { λ r. ⌜ r .right ≡ levelRight table steps level (asBound entering) ⌝ }
+    ensures bound { λ r. ⌜ asBound (r .bound) ≡ levelGives table steps level (asBound entering) ⌝ }
 {
     let low_high = stored_bound(table, steps, level, WidthTable::LOW_COLUMNS, WidthTable::G2);
     let high_low = stored_bound(
@@ -281,7 +281,7 @@ fn work_level(table: WidthTable, steps: u64, level: u8, entering: Bound) -> Give
 fn work_levels(table: WidthTable, steps: u64) -> Given
     requires { ⌜ T (formRight table) × (steps ≤ stepsAllowed) ⌝ }
     ensures right { λ r. ⌜ r .right ≡ levelsRight table steps (table .levels) (startBound table steps) ⌝ }
-    ensures bound { λ r. ⌜ meant (r .bound) ≡ givesFrom table steps (table .levels) (startBound table steps) ⌝ }
+    ensures bound { λ r. ⌜ asBound (r .bound) ≡ givesFrom table steps (table .levels) (startBound table steps) ⌝ }
 {
     let mut level = table.levels;
     let mut right = true;

@@ -17,12 +17,12 @@ use Rattle.lines.specs.Planes.{rowByRow}
 use Rattle.lines.specs.RowLaws.{place-in, rows-length, rows-at, every-row, every-row-at}
 use Rattle.width_table.specs.declared.WidthTable.{WidthTable}
 use Rattle.pictures.specs.Pictures.{Admitted, planeOf}
-use Rattle.pictures.specs.PictureLaws.{Room, sized, sized-then, sized-done, sized-right}
+use Rattle.pictures.specs.PictureLaws.{Room, roomAnswer, sized-then, sized-done, sized-right}
 use Rattle.view_precision.specs.Bounds.{viewVerdict, pixelBound}
-use Rattle.irreversible.specs.Claims.{Holds}
+use Rattle.irreversible.specs.Claims.{InNodeWidth}
 use Rattle.viewing.specs.View.{viewPlane, viewPicture, exactView}
 use Rattle.viewing.specs.Calls.{fitsWidth, inWidth, coefficientsRight, viewAnswer, viewPixels}
-use Rattle.viewing.specs.Claims.{Viewable, Stored, Close, EachSmall, exactGreys, limited, LessThanOne}
+use Rattle.viewing.specs.Claims.{Viewable, Stored, Close, EachSmall, exactGreys, clamped, LessThanOne}
 use Rattle.viewing.specs.Viewing.{within-bound, sizes}
 use Rattle.viewing.specs.Shown.{one-grey}
 
@@ -30,14 +30,14 @@ use Rattle.viewing.specs.Shown.{one-grey}
 
 -- the test of a width, and the statement
 module _ (IB f : ℕ) (v : ℤ) where
-  fits-holds : T (fitsWidth IB f v) → Holds IB f v
-  unfolding Holds
+  fits-holds : T (fitsWidth IB f v) → InNodeWidth IB f v
+  unfolding InNodeWidth
   fits-holds h =
       let x = both (leZ (negℤ (pos (2 ^ (IB + f - 1)))) v) (ltZ v (pos (2 ^ (IB + f - 1)))) h in
       (leZ-yes (x .0), ltZ-yes (x .1))
 
-  holds-fits : Holds IB f v → T (fitsWidth IB f v)
-  unfolding Holds
+  holds-fits : InNodeWidth IB f v → T (fitsWidth IB f v)
+  unfolding InNodeWidth
   holds-fits h = and-intro (leZ (negℤ (pos (2 ^ (IB + f - 1)))) v) (ltZ v (pos (2 ^ (IB + f - 1)))) (h .0 .le) (h .1 .lt)
 
 module _ (t : WidthTable) (w h : ℕ) (plane : List ℤ) where
@@ -66,9 +66,9 @@ module _ (t : WidthTable) (w h : ℕ) (plane : List ℤ) (pixels : List ℕ) (wo
     unfolding viewAnswer
     call-viewable = then-done (viewVerdict t) _ e .0
 
-    judged : (sized w h (length pixels) (length plane) (length work) ≡ passed) × (coefficientsRight t w h plane ≡ passed)
+    judged : (roomAnswer w h (length pixels) (length plane) (length work) ≡ passed) × (coefficientsRight t w h plane ≡ passed)
     unfolding viewAnswer
-    judged = then-done (sized w h (length pixels) (length plane) (length work)) _ (sym (sized-then w h (length pixels) (length plane) (length work) _) ∙ then-done (viewVerdict t) _ e .1)
+    judged = then-done (roomAnswer w h (length pixels) (length plane) (length work)) _ (sym (sized-then w h (length pixels) (length plane) (length work) _) ∙ then-done (viewVerdict t) _ e .1)
 
     pub call-room : room
     call-room = sized-done w h (length pixels) (length plane) (length work) (judged .0)
@@ -95,9 +95,9 @@ module _ (t : WidthTable) (w h : ℕ) (plane : List ℤ) (pixels : List ℕ) (wo
     pub call-sizes : EachSmall t (t .levels) w h (planeOf w plane)
     call-sizes = sizes t w h (planeOf w plane) call-viewable call-stored
 
-    pub call-near : (r c : ℕ) → r < h → c < w → LessThanOne (getD (viewPixels t w h plane pixels work) (r * w + c) 0) (limited (2 ^ t .depth - 1) (exactGreys (t .depth) (exactView t w h (planeOf w plane) r c)))
+    pub call-near : (r c : ℕ) → r < h → c < w → LessThanOne (getD (viewPixels t w h plane pixels work) (r * w + c) 0) (clamped (2 ^ t .depth - 1) (exactGreys (t .depth) (exactView t w h (planeOf w plane) r c)))
     call-near r c i j =
-        subst (λ (q : ℕ). LessThanOne q (limited (2 ^ t .depth - 1) (exactGreys (t .depth) (exactView t w h (planeOf w plane) r c)))) (sym (call-pixel r c i j))
+        subst (λ (q : ℕ). LessThanOne q (clamped (2 ^ t .depth - 1) (exactGreys (t .depth) (exactView t w h (planeOf w plane) r c)))) (sym (call-pixel r c i j))
         (one-grey t w h (planeOf w plane) call-viewable call-stored r c i j)
 
   -- nothing else is turned away
@@ -106,5 +106,5 @@ module _ (t : WidthTable) (w h : ℕ) (plane : List ℤ) (pixels : List ℕ) (wo
   call-done v r s =
       then-right (viewVerdict t) _ v
       ∙ sized-then w h (length pixels) (length plane) (length work) (coefficientsRight t w h plane)
-      ∙ then-right (sized w h (length pixels) (length plane) (length work)) _ (sized-right w h (length pixels) (length plane) (length work) r)
+      ∙ then-right (roomAnswer w h (length pixels) (length plane) (length work)) _ (sized-right w h (length pixels) (length plane) (length work) r)
       ∙ held-right t w h plane s

@@ -12,7 +12,7 @@ use lib.ListN.{length, getD}
 use Rattle.numbers.specs.Lists.{over}
 use Rattle.refusals.specs.Answers.{Reason, Answer, refused, passed, _then_}
 use Rattle.refusals.specs.AnswerLaws.{answered-done, answered-refused}
-use Rattle.lines.specs.Planes.{Plane, rows, columns, levelsBack, side, rowByRow}
+use Rattle.lines.specs.Planes.{Plane, rows, columns, inverseLevels, side, rowByRow}
 use Rattle.lines.specs.PlaneLaws.{side-le, columns-first-in, columns-first-keeps}
 use Rattle.width_table.specs.declared.WidthTable.{WidthTable}
 use Rattle.width_table.specs.Limits.{form-depth, form-levels}
@@ -22,11 +22,11 @@ use Rattle.lifting.specs.Patch.{at}
 use Rattle.lifting.specs.Runs.{as-type}
 use Rattle.lifting.specs.PatchLines.{lineAt}
 use Rattle.lifting.specs.Kernels.{Part, rowOf}
-use Rattle.pictures.specs.Pictures.{maxSide, sided, holds, planeOf, zeroed}
-use Rattle.pictures.specs.PictureLaws.{sized, sized-done}
+use Rattle.pictures.specs.Pictures.{maxSide, sideAnswer, lengthAnswer, planeOf, zeroed}
+use Rattle.pictures.specs.PictureLaws.{roomAnswer, sized-done}
 use Rattle.irreversible.specs.LevelBits.{IsLevel}
-use Rattle.unlifting.specs.Fixed.{nodeBits, fixedBack}
-use Rattle.unlifting.specs.Planes.{Safe}
+use Rattle.inverse_lifting.specs.Fixed.{nodeBits, fixedInverse}
+use Rattle.inverse_lifting.specs.Planes.{Safe}
 use Rattle.view_precision.specs.Bounds.{viewVerdict}
 use Rattle.viewing.specs.View.{enteringBits, viewLine, viewLevel, viewFrom, viewPlane, viewPicture}
 use Rattle.viewing.specs.Calls.{coefficientsRight, viewAnswer, viewPixels, viewWork}
@@ -35,7 +35,7 @@ use Rattle.viewing.specs.Viewing.{view-accepted, view-promise, sizes}
 use Rattle.viewing.specs.CallLaws.{call-viewable, call-room, call-stored}
 use Rattle.viewing.specs.Words.{Bounded, level-bounded, stored-bounded}
 use Rattle.viewing.specs.WidthLaws.{Lookable}
-use Rattle.viewing.specs.LevelSteps.{columned, levelBack, SafeLevel, Standing, column-at, level-at, level-safe, level-beyond, columned-beyond, line-reads}
+use Rattle.viewing.specs.LevelSteps.{columned, levelInverse, SafeLevel, Standing, column-at, level-at, level-safe, level-beyond, columned-beyond, line-reads}
 use Rattle.viewing.specs.RowSteps.{RowsReady, shownRows, clearedRows, all-shown, all-cleared}
 
 -- a level can be taken back: w columns and h rows, from a plane whose rows are W long to rows of the work area that are S apart
@@ -73,7 +73,7 @@ pub record ViewReady (t : WidthTable) (plane : List ℤ) (work state line w h : 
 
 -- In the work area x, which was x₀, levels k to 1 are left to take back. What level k takes is `taken`: what the levels above it left
 -- stands in the work area, in rows 2^k w apart, and all else in the plane.
-pub record Left (t : WidthTable) (w h k : ℕ) (plane x₀ x : ℕ → ℤ) : Type 0 where
+pub record LevelsLeft (t : WidthTable) (w h k : ℕ) (plane x₀ x : ℕ → ℤ) : Type 0 where
   pub taken : Plane ℤ
   pub all : k ≡ t .levels → (r c : ℕ) → r < h → c < w → plane (r * w + c) ≡ taken r c
   pub below : (r c : ℕ) → side k h ≤ r → r < h → c < w → plane (r * w + c) ≡ taken r c
@@ -139,7 +139,7 @@ module _ {t : WidthTable} {plane : List ℤ} {work₀ state₀ line₀ w h : ℕ
   }
 
   -- all levels are
-  pub left-all : (x : ℕ → ℤ) → Left t w h (t .levels) (at plane) x x
+  pub left-all : (x : ℕ → ℤ) → LevelsLeft t w h (t .levels) (at plane) x x
   unfolding viewPlane
   left-all x = record {
     taken = planeOf w plane;
@@ -154,7 +154,7 @@ module _ {t : WidthTable} {plane : List ℤ} {work₀ state₀ line₀ w h : ℕ
   }
 
   -- level k + 1, of those that are left, can be taken back
-  module _ (k : ℕ) (within : k < t .levels) (x₀ x : ℕ → ℤ) (left : Left t w h (suc k) (at plane) x₀ x) where
+  module _ (k : ℕ) (within : k < t .levels) (x₀ x : ℕ → ℤ) (left : LevelsLeft t w h (suc k) (at plane) x₀ x) where
     standing : Standing t (suc k) w (w * 2 ^ k) (side k w) (side k h) (at plane) x (left .taken)
     unfolding side
     standing = record {
@@ -187,9 +187,9 @@ module _ {t : WidthTable} {plane : List ℤ} {work₀ state₀ line₀ w h : ℕ
     less n h = omega arith
 
     -- and is
-    pub left-less : (y : ℕ → ℤ) → y ≡ levelBack t (suc k) w (w * 2 ^ k) (side k w) (side k h) (at plane) x → Left t w h k (at plane) x₀ y
-    unfolding viewFrom levelsBack
-    left-less y e = subst (λ (f : ℕ → ℤ). Left t w h k (at plane) x₀ f) (sym e) (record {
+    pub left-less : (y : ℕ → ℤ) → y ≡ levelInverse t (suc k) w (w * 2 ^ k) (side k w) (side k h) (at plane) x → LevelsLeft t w h k (at plane) x₀ y
+    unfolding viewFrom inverseLevels
+    left-less y e = subst (λ (f : ℕ → ℤ). LevelsLeft t w h k (at plane) x₀ f) (sym e) (record {
       taken = viewLevel t (suc k) (side k w) (side k h) (left .taken);
       all = λ f. absurd (omega arith);
       below = λ r c a i j. left .below r c (less h a) i j ∙ sym (columns-first-keeps (viewLine t (suc k) Rows) (λ low. viewLine t (suc k) (columnPass low)) .below (side k w) (side k h) (left .taken) r c a);
@@ -202,7 +202,7 @@ module _ {t : WidthTable} {plane : List ℤ} {work₀ state₀ line₀ w h : ℕ
     })
 
   -- the last of them, whose rows are shown
-  module _ (x₀ x : ℕ → ℤ) (left : Left t w h 1 (at plane) x₀ x) where
+  module _ (x₀ x : ℕ → ℤ) (left : LevelsLeft t w h 1 (at plane) x₀ x) where
     one : 0 < t .levels
     one = levels-some
 
@@ -228,10 +228,10 @@ module _ {t : WidthTable} {plane : List ℤ} {work₀ state₀ line₀ w h : ℕ
       }
 
       -- what they give
-      rows-give : (r c : ℕ) → r < h → c < w → fixedBack nodeBits nodeBits w (rowOf w 0 (at work) r) c ≡ viewPlane t w h (planeOf w plane) r c
-      unfolding viewFrom levelsBack side viewLine columns
+      rows-give : (r c : ℕ) → r < h → c < w → fixedInverse nodeBits nodeBits w (rowOf w 0 (at work) r) c ≡ viewPlane t w h (planeOf w plane) r c
+      unfolding viewFrom inverseLevels side viewLine columns
       rows-give r c i j =
-          (λ u. fixedBack nodeBits nodeBits w (rowOf (sym once u) 0 (columns-here u) r) c)
+          (λ u. fixedInverse nodeBits nodeBits w (rowOf (sym once u) 0 (columns-here u) r) c)
           ∙ line-reads t 1 Rows w _ _ (λ k b. column-at t 1 w (w * 2 ^ 0) w h (apart-here 0 one x₀ x left) (at plane) x (left .taken) (standing 0 one x₀ x left) r k i b) c j
           ∙ sym (columns-first-in (viewLine t 1 Rows) (λ low. viewLine t 1 (columnPass low)) w h (left .taken) r c i j)
           ∙ ap (λ (q : Plane ℤ). q r c) (left .gives)
@@ -253,14 +253,14 @@ module _ {t : WidthTable} {plane : List ℤ} {work₀ state₀ line₀ w h : ℕ
 unfoldable pub answerOf : WidthTable → ℕ → ℕ → List ℤ → ℕ → ℕ → Answer Unit
 answerOf t w h plane a c =
     viewVerdict t
-    then sided w h
-    then holds (w * h) a
-    then holds (w * h) (length plane)
-    then holds (w * h) c
+    then sideAnswer w h
+    then lengthAnswer (w * h) a
+    then lengthAnswer (w * h) (length plane)
+    then lengthAnswer (w * h) c
     then coefficientsRight t w h plane
 
 -- 12 is judged where the steps before it passed
-pub lookable : (t : WidthTable) (w h : ℕ) (plane : List ℤ) (a c : ℕ) → viewVerdict t ≡ passed → sized w h a (length plane) c ≡ passed → Lookable t w h (length plane)
+pub lookable : (t : WidthTable) (w h : ℕ) (plane : List ℤ) (a c : ℕ) → viewVerdict t ≡ passed → roomAnswer w h a (length plane) c ≡ passed → Lookable t w h (length plane)
 lookable t w h plane a c v e =
     let room = sized-done w h a (length plane) c e in
     record { accepted = view-accepted t v; width = room .wide; height = room .tall; room = room .second }

@@ -11,7 +11,7 @@ use Rattle.refusals.specs.Answers.{Answer, passed, asks, _then_, answered}
 use Rattle.lines.specs.Planes.{Plane, rowByRow}
 use Rattle.width_table.specs.declared.WidthTable.{WidthTable}
 use Rattle.width_table.specs.Table.{integerBits, fractionBits}
-use Rattle.pictures.specs.Pictures.{sided, holds, planeOf, zeroed}
+use Rattle.pictures.specs.Pictures.{sideAnswer, lengthAnswer, planeOf, zeroed}
 use Rattle.irreversible.specs.Claims.{keptNode}
 use Rattle.view_precision.specs.Bounds.{viewVerdict}
 use Rattle.viewing.specs.View.{viewPicture}
@@ -35,10 +35,10 @@ module _ (t : WidthTable) (w h : ℕ) (plane : List ℤ) (pixels : List ℕ) (wo
   unfoldable pub viewAnswer : Answer Unit
   viewAnswer =
       viewVerdict t
-      then sided w h
-      then holds (w * h) (length pixels)
-      then holds (w * h) (length plane)
-      then holds (w * h) (length work)
+      then sideAnswer w h
+      then lengthAnswer (w * h) (length pixels)
+      then lengthAnswer (w * h) (length plane)
+      then lengthAnswer (w * h) (length work)
       then coefficientsRight t w h plane
 
   unfoldable pub viewPixels : List ℕ

@@ -17,9 +17,9 @@ use Rattle.width_table.specs.Nodes.{G1, G2, TableNode, columnPass}
 use Rattle.width_table.specs.declared.WidthTable.{WidthTable}
 use Rattle.width_table.specs.Table.{integerBits, fractionBits}
 use Rattle.pictures.specs.Pictures.{Admitted}
-use Rattle.stages.specs.Fixed.{meant}
-use Rattle.unlifting.specs.Fixed.{nodeBits, Small}
-use Rattle.irreversible.specs.Claims.{Picture, keptNode, Holds}
+use Rattle.stages.specs.Fixed.{fixedValue}
+use Rattle.inverse_lifting.specs.Fixed.{nodeBits, Small}
+use Rattle.irreversible.specs.Claims.{Picture, keptNode, InNodeWidth}
 use Rattle.irreversible.specs.Transforms.{fixedPlane}
 use Rattle.view_precision.specs.Bounds.{viewVerdict, pixelBound, viewDistance}
 use Rattle.viewing.specs.View.{enteringBits, viewLine, viewLevel, viewPlane, viewPicture, exactView}
@@ -30,7 +30,7 @@ Viewable t = viewVerdict t ≡ passed
 
 -- v is in the width of a node
 abbrev pub HeldBy : WidthTable → TableNode → ℤ → Type 0
-HeldBy t n v = Holds (integerBits t (n .level) (n .pass) (n .node)) (fractionBits t (n .level) (n .pass) (n .node)) v
+HeldBy t n v = InNodeWidth (integerBits t (n .level) (n .pass) (n .node)) (fractionBits t (n .level) (n .pass) (n .node)) v
 
 -- A plane of admitted size whose coefficients are in the widths of their kept nodes (not refused 8 or 12).
 pub record Stored (t : WidthTable) (w h : ℕ) (p : Plane ℤ) : Type 0 where
@@ -42,7 +42,7 @@ pub record Stored (t : WidthTable) (w h : ℕ) (p : Plane ℤ) : Type 0 where
 
 -- v / 2^20 less x is at most b times 2^-32 in magnitude
 abbrev pub Close : ℤ → Frac → ℕ → Type 0
-Close v x b = Within (meant v nodeBits ⊖ x) b (2 ^ 32)
+Close v x b = Within (fixedValue v nodeBits ⊖ x) b (2 ^ 32)
 
 abbrev pub WithinBound : Type 0
 WithinBound =
@@ -65,15 +65,15 @@ EachSmall t (suc k) w h p = LevelSmall t (suc k) (side k w) (side k h) p × Each
 abbrev pub Sizes : Type 0
 Sizes = (t : WidthTable) (w h : ℕ) (p : Plane ℤ) → Viewable t → Stored t w h p → EachSmall t (t .levels) w h p
 
--- ---- the shown pixel is one of the two greys nearest to the exact value, limited to the depth
+-- ---- the shown pixel is one of the two greys nearest to the exact value, clamped to the depth
 
 -- the exact value in greys: x times 2^B, plus 2^(B-1)
 unfoldable pub exactGreys : ℕ → Frac → Frac
 exactGreys B x = whole (pos (2 ^ B)) ⊗ x ⊕ whole (pos (2 ^ (B - 1)))
 
--- g limited to 0 .. M
-unfoldable pub limited : ℕ → Frac → Frac
-limited M g =
+-- g clamped to 0 .. M
+unfoldable pub clamped : ℕ → Frac → Frac
+clamped M g =
     elim (ltZ (g .num) (pos 0)) [
       | true ↦ whole (pos 0)
       | false ↦ elim (ltZ (pos (M * g .den)) (g .num)) [ true ↦ whole (pos M) | false ↦ g ]
@@ -87,7 +87,7 @@ abbrev pub OneGrey : Type 0
 OneGrey =
     (t : WidthTable) (w h : ℕ) (p : Plane ℤ) → Viewable t → Stored t w h p
     → (r c : ℕ) → r < h → c < w
-    → LessThanOne (viewPicture t w h p r c) (limited (2 ^ t .depth - 1) (exactGreys (t .depth) (exactView t w h p r c)))
+    → LessThanOne (viewPicture t w h p r c) (clamped (2 ^ t .depth - 1) (exactGreys (t .depth) (exactView t w h p r c)))
 
 -- ---- scan, store, view
 

@@ -10,13 +10,13 @@ use native.Mathlib.Omega.{arith}
 use native.Mathlib.Nat.{mul-le-mul-right, pow-le-pow-right, le-trans}
 use lib.Dec.{lit<, lit≤}
 use lib.ListN.{getD}
-use Rattle.exact.specs.Fractions.{_⊕_, _⊗_, neg, whole, magnitude, upDiv, wholesOf}
+use Rattle.exact.specs.Fractions.{_⊕_, _⊗_, neg, whole, magnitude, upDiv, roundedUp}
 use Rattle.exact.specs.Exact.{lift}
 use Rattle.numbers.specs.Tests.{every, right-false, ltb-false}
 use Rattle.refusals.specs.Answers.{Answer, passed, refused}
 use Rattle.refusals.specs.AnswerLaws.{asks-wrong, then-right}
 use Rattle.stages.specs.Stages.{made, bits}
-use Rattle.stages.specs.Gains.{gain, exactGain, sumFrom, sumTo, inputAnswer, nodeAnswer, held}
+use Rattle.stages.specs.Gains.{gain, exactGain, sumFrom, sumTo, inputAnswer, nodeAnswer, valuesAfter}
 use Rattle.stages.specs.Rule as Rule
 use Rattle.stages.specs.Rule.{Bound}
 use Rattle.stages.specs.RuleLaws.{AtMost}
@@ -89,7 +89,7 @@ numbers = 552196 ∷ 2201719 ∷ 9809170 ∷ 44357886 ∷ []
 
 -- of 2 to 5 levels, in whole numbers of 2^-32, computed once for all
 least-pixels : leastPixel 2 ∷ leastPixel 3 ∷ leastPixel 4 ∷ leastPixel 5 ∷ [] ≡ numbers
-unfolding leastFrom leastGives passGivesBefore boundAtBefore Bounds.larger Rule.boundAt Rule.rangeAt Rule.errorAt Rule.owns Rule.ownsBring Rule.ownFrom Rule.brought Rule.ownLift Rule.productLoss Rule.ownScale Rule.loss Rule.timesGain bits upDiv gain exactGain sumFrom sumTo inputAnswer nodeAnswer held made wholesOf lift _⊕_ _⊗_ neg whole magnitude
+unfolding leastFrom leastGives passGivesBefore boundAtBefore Bounds.larger Rule.sideBound Rule.rangeAt Rule.errorAt Rule.owns Rule.stagesPart Rule.ownErrorOf Rule.inputPart Rule.ownLift Rule.productLoss Rule.ownScale Rule.loss Rule.timesGain bits upDiv gain exactGain sumFrom sumTo inputAnswer nodeAnswer valuesAfter made roundedUp lift _⊕_ _⊗_ neg whole magnitude
 least-pixels = refl
 
 nth : (k : ℕ) → getD (leastPixel 2 ∷ leastPixel 3 ∷ leastPixel 4 ∷ leastPixel 5 ∷ []) k 0 ≡ getD numbers k 0
@@ -154,7 +154,7 @@ leastTable B L = record {
   levels = L;
   constants = maxConstantBits ∷ maxConstantBits ∷ maxConstantBits ∷ maxConstantBits ∷ maxConstantBits ∷ maxConstantBits ∷ [];
   nodes = inner (L - 1) ++ level L (kept L) ++ zeros ((maxLevels - L) * levelBytes);
-  five = false;
+  «has_products» = false;
   products = zeros (productsPerLevel * maxLevels);
 }
 
@@ -165,7 +165,7 @@ answer k l = getD l k passed
 verdicts :
     viewVerdict (leastTable (deepest 1) 1) ∷ viewVerdict (leastTable (deepest 2) 2) ∷ viewVerdict (leastTable (deepest 3) 3) ∷ viewVerdict (leastTable (deepest 4) 4) ∷ viewVerdict (leastTable (deepest 5) 5) ∷ verdict (leastTable (deepest 2 + 1) 2) ∷ verdict (leastTable (deepest 3 + 1) 3) ∷ verdict (leastTable (deepest 4 + 1) 4) ∷ verdict (leastTable (deepest 5 + 1) 5) ∷ []
     ≡ passed ∷ passed ∷ passed ∷ passed ∷ passed ∷ passed ∷ passed ∷ passed ∷ passed ∷ []
-unfolding viewVerdict viewable pixelBound nodesRight givesFrom levelGives Bounds.passBound Bounds.fromLow Bounds.fromHigh stored verdict formRight every firstRefusal judged Judge.boundOf Judge.entering Judge.passBound Judge.rowBound Judge.boundAt productOf Bounds.larger Bounds.even Bounds.odd Bounds.passGives Bounds.boundAt Rule.boundAt Rule.rangeAt Rule.errorAt Rule.owns Rule.ownsBring Rule.ownFrom Rule.brought Rule.ownLift Rule.productLoss Rule.ownScale Rule.loss Rule.timesGain bits upDiv gain exactGain sumFrom sumTo inputAnswer nodeAnswer held made wholesOf lift _⊕_ _⊗_ neg whole magnitude
+unfolding viewVerdict viewable pixelBound nodesRight givesFrom levelGives Bounds.passBound Bounds.fromLow Bounds.fromHigh stored verdict formRight every firstRefusal judged Judge.boundOf Judge.entering Judge.passBound Judge.rowBound Judge.nodeBound productOf Bounds.larger Bounds.even Bounds.odd Bounds.passGives Bounds.inverseBound Rule.sideBound Rule.rangeAt Rule.errorAt Rule.owns Rule.stagesPart Rule.ownErrorOf Rule.inputPart Rule.ownLift Rule.productLoss Rule.ownScale Rule.loss Rule.timesGain bits upDiv gain exactGain sumFrom sumTo inputAnswer nodeAnswer valuesAfter made roundedUp lift _⊕_ _⊗_ neg whole magnitude
 verdicts = refl
 
 -- A table of each L that can be viewed at the greatest depth.

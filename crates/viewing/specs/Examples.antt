@@ -9,11 +9,11 @@ use lib.ListN.{getD}
 use Rattle.numbers.specs.Tests.{every}
 use Rattle.refusals.specs.Answers.{passed, refused}
 use Rattle.lines.specs.Lines.{lowAfter, highBefore, highAfter, onHighs, onLows, interleaved}
-use Rattle.lines.specs.Planes.{Plane, fromOne, rows, columns, within, side, columnsFirst, levelsBack, tabulate, rowByRow}
+use Rattle.lines.specs.Planes.{Plane, fromOne, rows, columns, within, side, levelColumnsFirst, inverseLevels, tabulate, rowByRow}
 use Rattle.stages.specs.Fixed.{nearest, cut, scale}
 use Rattle.pictures.specs.Pictures.{planeOf}
 use Rattle.pictures.specs.PictureLaws.{pixel-below}
-use Rattle.unlifting.specs.Fixed.{unstep, atG1, atG2, atU2, atP2, atU1, atP1, fixedBackLong, fixedBack}
+use Rattle.inverse_lifting.specs.Fixed.{inverseStep, atG1, atG2, atU2, atP2, atU1, atP1, fixedInverseLong, fixedInverse}
 use Rattle.view_precision.specs.Examples.{withKept, uniform, level-1, fine-distance}
 use Rattle.irreversible.specs.Claims.{Picture, keptNode}
 use Rattle.irreversible.specs.Transforms.{fixedPlane}
@@ -30,9 +30,9 @@ abbrev values : List ℤ → ℕ → ℤ
 values l k = getD l k (pos 0)
 
 pub lines-back :
-    tabulate 3 (fixedBack 2 3 3 (values (pos 3 ∷ negℤ (pos 2) ∷ pos 5 ∷ []))) ++ tabulate 2 (fixedBack 0 0 2 (values (pos 1 ∷ negℤ (pos 1) ∷ [])))
+    tabulate 3 (fixedInverse 2 3 3 (values (pos 3 ∷ negℤ (pos 2) ∷ pos 5 ∷ []))) ++ tabulate 2 (fixedInverse 0 0 2 (values (pos 1 ∷ negℤ (pos 1) ∷ [])))
     ≡ pos 199346 ∷ pos 556087 ∷ negℤ (pos 940803) ∷ pos 1482909 ∷ negℤ (pos 5) ∷ []
-unfolding tabulate fixedBack fixedBackLong fromOne interleaved atG1 atG2 atU2 atP2 atU1 atP1 onHighs onLows lowAfter highBefore highAfter unstep scale cut nearest
+unfolding tabulate fixedInverse fixedInverseLong fromOne interleaved atG1 atG2 atU2 atP2 atU1 atP1 onHighs onLows lowAfter highBefore highAfter inverseStep scale cut nearest
 lines-back = refl
 
 -- ---- planes before rounding, and as shown at depth 8
@@ -42,11 +42,11 @@ first = pos 1 ∷ negℤ (pos 3) ∷ pos 2 ∷ pos 0 ∷ pos 5 ∷ negℤ (pos 4
 
 -- one level, 3 columns and 2 rows
 pub one-level : rowByRow 3 2 (viewPlane (uniform 8 1 4) 3 2 (planeOf 3 first)) ≡ negℤ (pos 519599) ∷ pos 327673 ∷ negℤ (pos 1970772) ∷ pos 378133 ∷ negℤ (pos 65546) ∷ pos 539372 ∷ []
-unfolding rowByRow tabulate viewPlane viewFrom levelsBack columnsFirst viewLine within rows columns side fixedBack fixedBackLong fromOne interleaved atG1 atG2 atU2 atP2 atU1 atP1 onHighs onLows lowAfter highBefore highAfter unstep scale cut nearest
+unfolding rowByRow tabulate viewPlane viewFrom inverseLevels levelColumnsFirst viewLine within rows columns side fixedInverse fixedInverseLong fromOne interleaved atG1 atG2 atU2 atP2 atU1 atP1 onHighs onLows lowAfter highBefore highAfter inverseStep scale cut nearest
 one-level = refl
 
 pub one-level-shown : rowByRow 3 2 (viewPicture (uniform 8 1 4) 3 2 (planeOf 3 first)) ≡ 1 ∷ 208 ∷ 0 ∷ 220 ∷ 112 ∷ 255 ∷ []
-unfolding viewPicture pixel grey rowByRow tabulate viewPlane viewFrom levelsBack columnsFirst viewLine within rows columns side fixedBack fixedBackLong fromOne interleaved atG1 atG2 atU2 atP2 atU1 atP1 onHighs onLows lowAfter highBefore highAfter unstep scale cut nearest
+unfolding viewPicture pixel grey rowByRow tabulate viewPlane viewFrom inverseLevels levelColumnsFirst viewLine within rows columns side fixedInverse fixedInverseLong fromOne interleaved atG1 atG2 atU2 atP2 atU1 atP1 onHighs onLows lowAfter highBefore highAfter inverseStep scale cut nearest
 one-level-shown = refl
 
 abbrev second : Plane ℤ
@@ -54,7 +54,7 @@ second = planeOf 3 (pos 7 ∷ negℤ (pos 3) ∷ pos 2 ∷ pos 1 ∷ pos 5 ∷ n
 
 -- two levels, 3 columns and 3 rows, at row 0 and column 2
 pub two-levels-shown : viewPicture (uniform 8 2 5) 3 3 second 0 2 ≡ 28
-unfolding viewPicture pixel grey viewPlane viewFrom levelsBack columnsFirst viewLine within rows columns side fixedBack fixedBackLong fromOne interleaved atG1 atG2 atU2 atP2 atU1 atP1 onHighs onLows lowAfter highBefore highAfter unstep scale cut nearest
+unfolding viewPicture pixel grey viewPlane viewFrom inverseLevels levelColumnsFirst viewLine within rows columns side fixedInverse fixedInverseLong fromOne interleaved atG1 atG2 atU2 atP2 atU1 atP1 onHighs onLows lowAfter highBefore highAfter inverseStep scale cut nearest
 two-levels-shown = refl
 
 -- ---- rounding: halves up, and limits

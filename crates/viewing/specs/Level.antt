@@ -9,13 +9,13 @@ use Rattle.numbers.specs.Tests.{by-ltb, ltb-true, ltb-false}
 use Rattle.lines.specs.Lines.{lows, highs}
 use Rattle.lines.specs.Planes.{Plane, columns, rows}
 use Rattle.exact.specs.Fractions.{Frac}
-use Rattle.exact.specs.Inverse.{exactBack}
+use Rattle.exact.specs.Inverse.{exactInversePass}
 use Rattle.stages.specs.Rule.{Bound}
 use Rattle.stages.specs.Sound.{Good}
 use Rattle.width_table.specs.Nodes.{G1, G2, Pass, Rows, LowColumns, HighColumns, columnPass}
 use Rattle.width_table.specs.declared.WidthTable.{WidthTable}
 use Rattle.width_table.specs.Table.{fractionBits}
-use Rattle.unlifting.specs.Fixed.{nodeBits, Small}
+use Rattle.inverse_lifting.specs.Fixed.{nodeBits, Small}
 use Rattle.view_precision.specs.Bounds.{stored, passBound, fromLow, fromHigh, levelGives, passRight}
 use Rattle.viewing.specs.View.{enteringBits, viewLine}
 use Rattle.viewing.specs.Claims.{LevelSmall}
@@ -34,7 +34,7 @@ abbrev columnV : WidthTable → ℕ → ℕ → ℕ → Plane ℤ → Plane ℤ
 columnV t l w h p = columns (λ c. viewLine t l (columnPass (ltb c (lows w)))) h p
 
 abbrev columnX : ℕ → Plane Frac → Plane Frac
-columnX h q = columns (λ c. exactBack) h q
+columnX h q = columns (λ c. exactInversePass) h q
 
 module _ {t : WidthTable} {steps l : ℕ} {b : Bound} {w h : ℕ} {p : Plane ℤ} {q : Plane Frac} (g : Takes t steps l b w h p q) where
   -- what a column is fed, and what it gives, by whether it holds row-low values
@@ -63,7 +63,7 @@ module _ {t : WidthTable} {steps l : ℕ} {b : Bound} {w h : ℕ} {p : Plane ℤ
   column-fed true c i = record { few = g .few LowColumns; lows-good = λ r j. g .ll r c j i; highs-good = λ r j. g .lh r c j i }
   column-fed false c i = record { few = g .few HighColumns; lows-good = λ r j. g .hl r c j (i .0) (i .1); highs-good = λ r j. g .hh r c j (i .0) (i .1) }
 
-  column-good : (s : Bool) (c : ℕ) → OnSide s c → (r : ℕ) → r < h → Good (gives s) nodeBits (viewLine t l (columnPass s) h (λ k. p k c) r) (exactBack h (λ k. q k c) r)
+  column-good : (s : Bool) (c : ℕ) → OnSide s c → (r : ℕ) → r < h → Good (gives s) nodeBits (viewLine t l (columnPass s) h (λ k. p k c) r) (exactInversePass h (λ k. q k c) r)
   unfolding lowIn highIn gives viewLine fromLow fromHigh
   column-good true c i = pass-good (column-fed true c i)
   column-good false c i = pass-good (column-fed false c i)
@@ -80,7 +80,7 @@ module _ {t : WidthTable} {steps l : ℕ} {b : Bound} {w h : ℕ} {p : Plane ℤ
     highs-good = λ c j. subst (λ (s : Bool). Good (gives s) nodeBits (columnV t l w h p r (lows w + c)) (columnX h q r (lows w + c))) (ltb-false (lows w + c) (lows w) (omega arith)) (columns-good r (lows w + c) i (omega arith));
   }
 
-  pub level-good : (r c : ℕ) → r < h → c < w → Good (levelGives t steps l b) nodeBits (rows (viewLine t l Rows) w (columnV t l w h p) r c) (rows exactBack w (columnX h q) r c)
+  pub level-good : (r c : ℕ) → r < h → c < w → Good (levelGives t steps l b) nodeBits (rows (viewLine t l Rows) w (columnV t l w h p) r c) (rows exactInversePass w (columnX h q) r c)
   unfolding rows viewLine levelGives
   level-good r c i j = pass-good (row-fed r i) c j
 

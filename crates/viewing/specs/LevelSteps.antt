@@ -23,10 +23,10 @@ use Rattle.lifting.specs.PatchLines.{lineAt, lines-apart, lines-in, lines-out}
 use Rattle.lifting.specs.Kernels.{rowOf, rowsBy}
 use Rattle.lifting.specs.Strips.{same-line}
 use Rattle.pictures.specs.MemoryLaws.{Reads, one-reads}
-use Rattle.unlifting.specs.Fixed.{nodeBits, inverseBits, unstep, atG1, atG2, atU2, atP2, atU1, atP1, fixedBackLong, fixedBack, SmallLong, Small, limit}
-use Rattle.unlifting.specs.declared.Site.{Site}
-use Rattle.unlifting.specs.Planes.{Safe}
-use Rattle.unlifting.specs.Strips.{source, undone, source-stored, source-left, source-high}
+use Rattle.inverse_lifting.specs.Fixed.{nodeBits, inverseBits, inverseStep, atG1, atG2, atU2, atP2, atU1, atP1, fixedInverseLong, fixedInverse, SmallLong, Small, limit}
+use Rattle.inverse_lifting.specs.declared.ColumnsAt.{ColumnsAt}
+use Rattle.inverse_lifting.specs.Planes.{Safe}
+use Rattle.inverse_lifting.specs.Strips.{source, inverted, source-stored, source-left, source-high}
 use Rattle.viewing.specs.View.{enteringBits, viewLine, viewLevel}
 use Rattle.viewing.specs.Claims.{LevelSmall}
 use Rattle.viewing.specs.Words.{Bounded, columns-bounded}
@@ -44,22 +44,22 @@ module _ (fl fh n : ℕ) (works : Liftable n) (x y : ℕ → ℤ) (same : Equal 
 
   same-U2 : Equal (lows n) (atU2 fl fh n x) (atU2 fl fh n y)
   unfolding atU2
-  same-U2 = on-lows-equal n same-G1 same-G2 (unstep delta) (some-highs n works)
+  same-U2 = on-lows-equal n same-G1 same-G2 (inverseStep delta) (some-highs n works)
 
   same-P2 : Equal (highs n) (atP2 fl fh n x) (atP2 fl fh n y)
   unfolding atP2
-  same-P2 = on-highs-equal n same-U2 same-G2 (unstep gamma)
+  same-P2 = on-highs-equal n same-U2 same-G2 (inverseStep gamma)
 
   same-U1 : Equal (lows n) (atU1 fl fh n x) (atU1 fl fh n y)
   unfolding atU1
-  same-U1 = on-lows-equal n same-U2 same-P2 (unstep beta) (some-highs n works)
+  same-U1 = on-lows-equal n same-U2 same-P2 (inverseStep beta) (some-highs n works)
 
   same-P1 : Equal (highs n) (atP1 fl fh n x) (atP1 fl fh n y)
   unfolding atP1
-  same-P1 = on-highs-equal n same-U1 same-P2 (unstep alpha)
+  same-P1 = on-highs-equal n same-U1 same-P2 (inverseStep alpha)
 
-  long-same : Equal n (fixedBackLong fl fh n x) (fixedBackLong fl fh n y)
-  unfolding fixedBackLong
+  long-same : Equal n (fixedInverseLong fl fh n x) (fixedInverseLong fl fh n y)
+  unfolding fixedInverseLong
   long-same = interleaved-equal n same-U1 same-P1
 
   -- and is safe where a line of the same values is
@@ -74,9 +74,9 @@ module _ (fl fh n : ℕ) (works : Liftable n) (x y : ℕ → ℤ) (same : Equal 
   }
 
 -- from length 1
-back-reads : (fl fh : ℕ) → Reads (fixedBack fl fh)
-unfolding fixedBack
-back-reads fl fh = one-reads (cut fl nodeBits) (fixedBackLong fl fh) (long-same fl fh)
+back-reads : (fl fh : ℕ) → Reads (fixedInverse fl fh)
+unfolding fixedInverse
+back-reads fl fh = one-reads (cut fl nodeBits) (fixedInverseLong fl fh) (long-same fl fh)
 
 safe-same : (fl fh n : ℕ) (x y : ℕ → ℤ) → Equal n x y → ((k : ℕ) → k < n → natAbs (y k) ≤ limit) → Small fl fh n y → Safe fl fh n x
 safe-same fl fh n x y same small s = record {
@@ -97,22 +97,22 @@ line-reads t l p = back-reads (enteringBits t l p G1) (enteringBits t l p G2)
 -- W is a row of the stored plane, S the way from row to row in the work area; w columns and h rows are taken back.
 module _ (t : WidthTable) (l W S w : ℕ) where
   -- where the columns of row-low and of row-high come from and go to
-  abbrev pub lowSite : Site
+  abbrev pub lowSite : ColumnsAt
   lowSite = record { width = W; stride = S; from = 0; stored = eqb l (t .levels) }
 
-  abbrev pub highSite : Site
+  abbrev pub highSite : ColumnsAt
   highSite = record { width = W; stride = S; from = lows w; stored = true }
 
   -- what the columns, and the level, leave in the work area x
   module _ (h : ℕ) (plane x : ℕ → ℤ) where
     abbrev pub lowed : ℕ → ℤ
-    lowed = undone lowSite (enteringBits t l LowColumns G1) (enteringBits t l LowColumns G2) (lows w) h plane x
+    lowed = inverted lowSite (enteringBits t l LowColumns G1) (enteringBits t l LowColumns G2) (lows w) h plane x
 
     abbrev pub columned : ℕ → ℤ
-    columned = undone highSite (enteringBits t l HighColumns G1) (enteringBits t l HighColumns G2) (highs w) h plane lowed
+    columned = inverted highSite (enteringBits t l HighColumns G1) (enteringBits t l HighColumns G2) (highs w) h plane lowed
 
-    abbrev pub levelBack : ℕ → ℤ
-    levelBack = rowsBy (viewLine t l Rows) S w h columned
+    abbrev pub levelInverse : ℕ → ℤ
+    levelInverse = rowsBy (viewLine t l Rows) S w h columned
 
 -- a pass is safe on a line
 abbrev pub SafeLine : WidthTable → ℕ → Pass → ℕ → (ℕ → ℤ) → Type 0
@@ -175,7 +175,7 @@ module _ (t : WidthTable) (l W S w h : ℕ) (apart : w ≤ S) (plane x : ℕ →
       ∙ line-reads t l HighColumns h _ _ (λ k b. high-source _ (c - lows w) k (omega arith) b ∙ ap (p k) f) r i)
 
   -- what the level leaves
-  pub level-at : (r c : ℕ) → r < h → c < w → levelBack t l W S w h plane x (lineAt 0 S r + c) ≡ viewLevel t l w h p r c
+  pub level-at : (r c : ℕ) → r < h → c < w → levelInverse t l W S w h plane x (lineAt 0 S r + c) ≡ viewLevel t l w h p r c
   unfolding columns
   level-at r c i j =
       lines-in (lineAt 0 S) w _ (columned t l W S w h plane x) (λ u v d. lines-apart 0 S w u v apart (omega arith)) h r c i j
@@ -189,7 +189,7 @@ module _ (t : WidthTable) (l W S w h : ℕ) (apart : w ≤ S) (plane x : ℕ →
         lines-out (lineAt (lows w) S) (highs w) _ _ h q (λ u v d e f. omega (arith, fits u d))
         ∙ lines-out (lineAt 0 S) (lows w) _ x h q (λ u v d e f. omega (arith, fits u d))
 
-    pub level-beyond : (q : ℕ) → N ≤ q → levelBack t l W S w h plane x q ≡ x q
+    pub level-beyond : (q : ℕ) → N ≤ q → levelInverse t l W S w h plane x q ≡ x q
     level-beyond q far = lines-out (lineAt 0 S) w _ (columned t l W S w h plane x) h q (λ u v d e f. omega (arith, fits u d)) ∙ columned-beyond q far
 
   -- Every pass is safe.

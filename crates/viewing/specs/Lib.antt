@@ -1,6 +1,6 @@
 -- Viewing a stored strip (document 02, job 1).
 --
--- Definitions (with those of numbers, refusals, lines, exact, stages, unlifting, width_table, pictures, precision, view_precision and
+-- Definitions (with those of numbers, refusals, lines, exact, stages, inverse_lifting, width_table, pictures, precision, view_precision and
 -- irreversible, all that the claims rest on):
 --   View       the plane before rounding, the picture, the exact inverse of what was stored
 --   Calls      the viewing call: the answer, and each lent slice afterwards

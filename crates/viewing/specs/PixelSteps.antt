@@ -7,7 +7,7 @@ use lib.IntN.{ℤ, pos, negsuc, natAbs, _+ℤ_, _-ℤ_, _*ℤ_}
 use lib.Pow.{pow-pos, pow-mono, pow-add}
 use native.Mathlib.Nat.{mul-pos, mul-le-mul-left}
 use Rattle.numbers.specs.Floor.{floorDiv, floor-≤, floor-<, floor-unique}
-use Rattle.unlifting.specs.Fixed.{nodeBits}
+use Rattle.inverse_lifting.specs.Fixed.{nodeBits}
 use lib.Signed.{_≤ℤ_, _<ℤ_}
 use Rattle.numbers.specs.Dif.{plus, by-dif, difs}
 use Rattle.numbers.specs.Laws.{≤ℤ-not-<ℤ}

@@ -11,15 +11,15 @@ use lib.IntN.{ℤ}
 use Rattle.numbers.specs.Lists.{over}
 use Rattle.numbers.specs.Tests.{every}
 use Rattle.refusals.specs.Answers.{Answer, passed, asks, _then_, answered}
-use Rattle.lines.specs.Planes.{Plane, OnLine, side, columnsFirst, levelsBack, rowByRow}
+use Rattle.lines.specs.Planes.{Plane, OnLine, side, levelColumnsFirst, inverseLevels, rowByRow}
 use Rattle.lines.specs.RowLaws.{tabulate-same, rows-same}
 use Rattle.width_table.specs.Nodes.{Node, G1, G2, Pass, Rows, LowColumns, TableNode, nodeAt, columnPass}
 use Rattle.width_table.specs.declared.WidthTable.{WidthTable}
 use Rattle.width_table.specs.Table.{integerBits, fractionBits}
-use Rattle.pictures.specs.Pictures.{sided, holds, planeOf, zeroed}
+use Rattle.pictures.specs.Pictures.{sideAnswer, lengthAnswer, planeOf, zeroed}
 use Rattle.precision.specs.Verdict.{keptAt, verdict}
 use Rattle.view_precision.specs.Products.{SeenAlike, seen-verdict, same-nodes}
-use Rattle.unlifting.specs.Fixed.{nodeBits, fixedBack}
+use Rattle.inverse_lifting.specs.Fixed.{nodeBits, fixedInverse}
 use Rattle.irreversible.specs.Claims.{keptNode}
 use Rattle.irreversible.specs.Subbands.{kept-everywhere}
 use Rattle.viewing.specs.View.{enteringBits, viewLine, viewLevel, viewFrom, viewPlane, pixel, viewPicture}
@@ -37,17 +37,17 @@ module _ {t u : WidthTable} (s : SeenAlike t u) where
 
   line-same : (l : ℕ) → l ≤ t .levels → (p : Pass) → viewLine t l p ≡ viewLine u l p
   unfolding viewLine
-  line-same l i p = ap₂ fixedBack (entering-same l i p G1) (entering-same l i p G2)
+  line-same l i p = ap₂ fixedInverse (entering-same l i p G1) (entering-same l i p G2)
 
   level-same : (l : ℕ) → l ≤ t .levels → viewLevel t l ≡ viewLevel u l
-  level-same l i = ap₂ (λ (row : OnLine ℤ) (column : Bool → OnLine ℤ). columnsFirst row column) (line-same l i Rows) (fun-ext (λ low. line-same l i (columnPass low)))
+  level-same l i = ap₂ (λ (row : OnLine ℤ) (column : Bool → OnLine ℤ). levelColumnsFirst row column) (line-same l i Rows) (fun-ext (λ low. line-same l i (columnPass low)))
 
   from-same : (k : ℕ) → k ≤ t .levels → (w h : ℕ) (p : Plane ℤ) → viewFrom t k w h p ≡ viewFrom u k w h p
-  unfolding viewFrom levelsBack
+  unfolding viewFrom inverseLevels
   from-same zero i w h p = refl
   from-same (suc k) i w h p =
       from-same k (omega arith) w h (viewLevel t (suc k) (side k w) (side k h) p)
-      ∙ ap (λ (level : ℕ → ℕ → Plane ℤ → Plane ℤ). levelsBack (viewLevel u) k w h (level (side k w) (side k h) p)) (level-same (suc k) i)
+      ∙ ap (λ (level : ℕ → ℕ → Plane ℤ → Plane ℤ). inverseLevels (viewLevel u) k w h (level (side k w) (side k h) p)) (level-same (suc k) i)
 
   -- before rounding, and as it is shown
   pub seen-plane : (w h : ℕ) (p : Plane ℤ) → viewPlane t w h p ≡ viewPlane u w h p
@@ -96,7 +96,7 @@ module _ {t u : WidthTable} (s : SeenAlike t u) where
     pub seen-answer : viewAnswer t w h plane pixels work ≡ viewAnswer u w h plane pixels work
     unfolding viewAnswer
     seen-answer =
-        ap₂ (λ (a b : Answer Unit). a then sided w h then holds (w * h) (length pixels) then holds (w * h) (length plane) then holds (w * h) (length work) then b)
+        ap₂ (λ (a b : Answer Unit). a then sideAnswer w h then lengthAnswer (w * h) (length pixels) then lengthAnswer (w * h) (length plane) then lengthAnswer (w * h) (length work) then b)
         (seen-verdict s e) (seen-coefficients w h plane)
 
     pub seen-pixels : viewPixels t w h plane pixels work ≡ viewPixels u w h plane pixels work

@@ -14,9 +14,9 @@ use Rattle.lifting.specs.Kernels.{Part, rowOf}
 use Rattle.pictures.specs.Pictures.{zeroed}
 use Rattle.pictures.specs.MemoryLaws.{plane-over, patch-zeroed}
 use Rattle.width_table.specs.Table.{maxDepth}
-use Rattle.unlifting.specs.Fixed.{nodeBits, fixedBack, limit}
-use Rattle.unlifting.specs.Planes.{Safe}
-use Rattle.unlifting.specs.Rows.{RowReady as Undoable, RowUndone}
+use Rattle.inverse_lifting.specs.Fixed.{nodeBits, fixedInverse, limit}
+use Rattle.inverse_lifting.specs.Planes.{Safe}
+use Rattle.inverse_lifting.specs.Rows.{RowReady as Invertible, RowInverted}
 use Rattle.viewing.specs.View.{pixel}
 use Rattle.viewing.specs.Words.{back-size}
 
@@ -24,14 +24,14 @@ use Rattle.viewing.specs.Words.{back-size}
 pub record RowReady (B : ℕ) (work : List ℤ) (pixels line from w : ℕ) : Type 0 where
   pub depth : (1 ≤ B) × (B ≤ maxDepth)
   pub room : from + w ≤ pixels
-  pub row : Undoable work line from w
+  pub row : Invertible work line from w
 
 -- what it shows
 abbrev pub rowShown : ℕ → ℕ → (ℕ → ℤ) → ℕ → ℕ
-rowShown B w y c = pixel B (fixedBack nodeBits nodeBits w y c)
+rowShown B w y c = pixel B (fixedInverse nodeBits nodeBits w y c)
 
 -- a row taken back is small
-pub taken-small : {B : ℕ} {work : List ℤ} {pixels line from w : ℕ} → RowReady B work pixels line from w → (l : List ℤ) → RowUndone work l from w → (j : ℕ) → j < w → natAbs (at l (4 + j)) ≤ limit
+pub taken-small : {B : ℕ} {work : List ℤ} {pixels line from w : ℕ} → RowReady B work pixels line from w → (l : List ℤ) → RowInverted work l from w → (j : ℕ) → j < w → natAbs (at l (4 + j)) ≤ limit
 taken-small ready l is j h = subst (λ (z : ℤ). natAbs z ≤ limit) (sym (is j h)) (back-size (ready .row .safe .small) j h)
 
 -- ---- all rows
@@ -88,7 +88,7 @@ module _ (B w h : ℕ) (some : 1 ≤ w) where
   rows-apart i k l = lines-apart 0 w w i k (omega arith) (omega arith)
 
   -- the picture of a plane that the rows leave
-  pub all-shown : (x : ℕ → ℤ) (p : Plane ℤ) → ((r c : ℕ) → r < h → c < w → fixedBack nodeBits nodeBits w (rowOf w 0 x r) c ≡ p r c)
+  pub all-shown : (x : ℕ → ℤ) (p : Plane ℤ) → ((r c : ℕ) → r < h → c < w → fixedInverse nodeBits nodeBits w (rowOf w 0 x r) c ≡ p r c)
       → (old new : List ℕ) → w * h ≤ length old → length new ≡ length old → (λ k. getD new k 0) ≡ shownRows B w h x (λ k. getD old k 0) → new ≡ over (rowByRow w h (λ r c. pixel B (p r c))) old
   all-shown x p rows old new room same is =
       plane-over 0 w h (λ r c. pixel B (p r c)) old new some room same

@@ -17,12 +17,12 @@ use Rattle.lines.specs.PlaneLaws.{Agree}
 use Rattle.exact.specs.Fractions.{_⊕_, neg}
 use Rattle.exact.specs.FracLaws.{≈-refl, ⊕-cong, neg-cong, within-≈, within-most}
 use Rattle.exact.specs.Picture.{exactSample, exactPlane}
-use Rattle.exact.specs.InverseLaws.{picture-undone}
-use Rattle.stages.specs.Fixed.{meant}
+use Rattle.exact.specs.InverseLaws.{picture-left-inverse}
+use Rattle.stages.specs.Fixed.{fixedValue}
 use Rattle.stages.specs.Sound.{good-≈}
 use Rattle.width_table.specs.declared.WidthTable.{WidthTable}
 use Rattle.width_table.specs.Limits.{form-levels}
-use Rattle.unlifting.specs.Fixed.{nodeBits}
+use Rattle.inverse_lifting.specs.Fixed.{nodeBits}
 use Rattle.view_precision.specs.Bounds.{stored, stepsAllowed, viewDistance}
 use Rattle.irreversible.specs.Transforms.{fixedPlane}
 use Rattle.irreversible.specs.Claims.{Picture, keptNode, bitsPlane}
@@ -57,7 +57,7 @@ module _ (t : WidthTable) (pixels : List ℕ) (w h : ℕ) (ok : Viewable t) (pic
   pub scan-near : (r c : ℕ) → r < h → c < w → Close (viewPlane t w h p r c) (exactSample pixels (t .depth) w r c) (viewDistance t)
   unfolding viewDistance
   scan-near r c i j =
-      within-≈ (⊕-cong (≈-refl _) (neg-cong (picture-undone pixels (t .depth) (t .levels) w h r c)))
+      within-≈ (⊕-cong (≈-refl _) (neg-cong (picture-left-inverse pixels (t .depth) (t .levels) w h r c)))
       (view-good t stepsAllowed w h scan-good r c i j .error)
 
 pub scan-to-view : ScanToView
@@ -83,7 +83,7 @@ module _ (pixels : List ℕ) (B w r c d : ℕ) (v : ℤ) where
   scanned = getD pixels (r * w + c) 0
 
   shown-off : scanned < 2 ^ B → Close v (exactSample pixels B w r c) d → natAbs (pos (pixel B v) -ℤ pos scanned) ≤ (d * 2 ^ B + 2 ^ 31) / 2 ^ 32
-  unfolding exactSample meant _⊕_ neg pixel grey
+  unfolding exactSample fixedValue _⊕_ neg pixel grey
   shown-off below close =
       let s = v *ℤ pos (2 ^ B) +ℤ pos (2 ^ (B - 1) * 2 ^ nodeBits) +ℤ pos (2 ^ (nodeBits - 1)) in
       limited-off scanned (2 ^ B - 1) _ (omega arith) (grey B v)

@@ -1,4 +1,4 @@
--- The shown pixel is less than one grey from the exact value, limited to the depth (`one-grey`): the bound is below half a grey, and
+-- The shown pixel is less than one grey from the exact value, clamped to the depth (`one-grey`): the bound is below half a grey, and
 -- rounding adds at most half a grey.
 use Prim.Native.Nat.{ℕ, zero, suc, _+_, _*_, _-_, _^_, _<_, _≤_, min}
 use mathlib.Core.Path.{_≡_, sym, _∙_, ap, subst}
@@ -14,19 +14,19 @@ use Rattle.numbers.specs.Abs.{abs-mul}
 use Rattle.numbers.specs.Dif.{by-dif, difs, plus}
 use Rattle.numbers.specs.Floor.{floor-≤, floor-<}
 use Rattle.exact.specs.Fractions.{Frac, _⊕_, _⊗_, neg, whole}
-use Rattle.stages.specs.Fixed.{meant}
+use Rattle.stages.specs.Fixed.{fixedValue}
 use Rattle.width_table.specs.Limits.{form-depth}
-use Rattle.unlifting.specs.Fixed.{nodeBits}
+use Rattle.inverse_lifting.specs.Fixed.{nodeBits}
 use Rattle.view_precision.specs.Bounds.{pixelBound}
 use Rattle.irreversible.specs.Pass.{abs-<}
 use Rattle.viewing.specs.View.{grey, pixel, viewPlane, viewPicture, exactView}
-use Rattle.viewing.specs.Claims.{Close, exactGreys, limited, LessThanOne, OneGrey}
+use Rattle.viewing.specs.Claims.{Close, exactGreys, clamped, LessThanOne, OneGrey}
 use Rattle.viewing.specs.Viewing.{view-promise, view-right, within-bound}
 
 -- ---- a bound below half a grey
 
 half-grey : (B b : ℕ) (v : ℤ) (x : Frac) → B ≤ 31 → b < 2 ^ (32 - (B + 1)) → Close v x b → natAbs (v *ℤ pos (x .den) +ℤ negℤ (x .num) *ℤ pos (2 ^ nodeBits)) * (2 * 2 ^ B) < 2 ^ nodeBits * x .den
-unfolding meant _⊕_ neg
+unfolding fixedValue _⊕_ neg
 half-grey B b v x shallow h close =
     lt-of-mul-lt-mul-right (2 ^ (32 - (B + 1)))
     (law (natAbs (v *ℤ pos (x .den) +ℤ negℤ (x .num) *ℤ pos (2 ^ nodeBits))) (2 * 2 ^ B) (2 ^ (32 - (B + 1))) (2 ^ 32) (2 ^ nodeBits * x .den) b split h (mul-pos (pow-pos nodeBits) (x .above)) (close .most))
@@ -125,8 +125,8 @@ module _ (M d : ℕ) (some : 0 < d) where
       least : (X : ℤ) → X <ℤ (negsuc n *ℤ pos d +ℤ pos d) → pos 0 ≤ℤ X → Apart 0 X
       least = by-dif _ λ a a'. simp difs (omega arith)
 
-one-apart : (M : ℕ) (g : ℤ) (x : Frac) → Around g x → LessThanOne (min (plus g) M) (limited M x)
-unfolding limited whole _⊕_
+one-apart : (M : ℕ) (g : ℤ) (x : Frac) → Around g x → LessThanOne (min (plus g) M) (clamped M x)
+unfolding clamped whole _⊕_
 one-apart M g x a = go (ltZ (x .num) (pos 0)) (λ t. ltZ-yes t) (λ t. ltZ-no t)
   where
     q : ℕ

@@ -4,15 +4,15 @@ use mathlib.Core.Bool.{true, false}
 use lib.IntN.{ℤ, pos, _+ℤ_, _*ℤ_}
 use Rattle.numbers.specs.Dif.{plus}
 use Rattle.numbers.specs.Floor.{floorDiv}
-use Rattle.lines.specs.Planes.{Plane, OnLine, OnPart, columnsFirst, levelsBack}
+use Rattle.lines.specs.Planes.{Plane, OnLine, OnPart, levelColumnsFirst, inverseLevels}
 use Rattle.exact.specs.Fractions.{Frac}
 use Rattle.exact.specs.Inverse.{exactInverse}
 use Rattle.width_table.specs.Nodes.{Node, G1, G2, Pass, Rows, columnPass}
 use Rattle.width_table.specs.declared.WidthTable.{WidthTable}
 use Rattle.width_table.specs.Table.{fractionBits}
 use Rattle.precision.specs.Verdict.{keptAt}
-use Rattle.stages.specs.Fixed.{meant}
-use Rattle.unlifting.specs.Fixed.{nodeBits, fixedBack}
+use Rattle.stages.specs.Fixed.{fixedValue}
+use Rattle.inverse_lifting.specs.Fixed.{nodeBits, fixedInverse}
 use Rattle.irreversible.specs.Claims.{bitsPlane}
 
 -- The fractional bits of what enters a pass of level l as its lows (G1) or its highs (G2): a stored coefficient has those of its kept
@@ -22,15 +22,15 @@ enteringBits t l p n = elim (keptAt (t .levels) l p n) [ true ↦ fractionBits t
 
 -- a pass of level l taken back
 unfoldable pub viewLine : WidthTable → ℕ → Pass → OnLine ℤ
-viewLine t l p = fixedBack (enteringBits t l p G1) (enteringBits t l p G2)
+viewLine t l p = fixedInverse (enteringBits t l p G1) (enteringBits t l p G2)
 
 -- a level taken back: columns before rows
 abbrev pub viewLevel : WidthTable → ℕ → OnPart ℤ
-viewLevel t l = columnsFirst (viewLine t l Rows) (λ low. viewLine t l (columnPass low))
+viewLevel t l = levelColumnsFirst (viewLine t l Rows) (λ low. viewLine t l (columnPass low))
 
 -- levels k to 1 of a plane taken back
 unfoldable pub viewFrom : WidthTable → ℕ → OnPart ℤ
-viewFrom t = levelsBack (viewLevel t)
+viewFrom t = inverseLevels (viewLevel t)
 
 -- the plane before rounding, at 20 bits: level L first
 unfoldable pub viewPlane : WidthTable → OnPart ℤ
@@ -55,7 +55,7 @@ viewPicture t w h p r c = pixel (t .depth) (viewPlane t w h p r c)
 
 -- What was stored, as fractions: each coefficient has the f of its kept node.
 unfoldable pub storedPlane : WidthTable → ℕ → ℕ → Plane ℤ → Plane Frac
-storedPlane t w h p r c = meant (p r c) (bitsPlane t w h r c)
+storedPlane t w h p r c = fixedValue (p r c) (bitsPlane t w h r c)
 
 unfoldable pub exactView : WidthTable → ℕ → ℕ → Plane ℤ → Plane Frac
 exactView t w h p = exactInverse (t .levels) w h (storedPlane t w h p)

@@ -14,12 +14,12 @@ use Rattle.numbers.specs.Tests.{both, four, is-true}
 use Rattle.refusals.specs.Answers.{passed, asks}
 use Rattle.refusals.specs.AnswerLaws.{asks-done, then-done}
 use Rattle.lines.specs.Lines.{lows}
-use Rattle.lines.specs.Planes.{Plane, side, rows, columns, columnsFirst, levelsBack}
+use Rattle.lines.specs.Planes.{Plane, side, rows, columns, levelColumnsFirst, inverseLevels}
 use Rattle.lines.specs.PlaneLaws.{columns-first-in, columns-first-keeps}
 use Rattle.exact.specs.Fractions.{Frac}
 use Rattle.exact.specs.FracLaws.{≈-sym, ⊕-neg, within-≈, within-zero}
-use Rattle.exact.specs.Inverse.{exactBack, exactInverse}
-use Rattle.stages.specs.Fixed.{meant}
+use Rattle.exact.specs.Inverse.{exactInversePass, exactInverse}
+use Rattle.stages.specs.Fixed.{fixedValue}
 use Rattle.stages.specs.Rule.{Bound}
 use Rattle.stages.specs.Sound.{Q, Good}
 use Rattle.width_table.specs.Nodes.{G1, Pass, Rows, LowColumns, HighColumns, TableNode, columnPass}
@@ -28,9 +28,9 @@ use Rattle.width_table.specs.Table.{integerBits, fractionBits, formRight}
 use Rattle.width_table.specs.Limits.{form-levels, form-widths}
 use Rattle.precision.specs.Verdict.{verdict, keptAt, Accepted, AcceptPromise}
 use Rattle.precision.specs.Promise.{promise}
-use Rattle.unlifting.specs.Fixed.{nodeBits}
+use Rattle.inverse_lifting.specs.Fixed.{nodeBits}
 use Rattle.view_precision.specs.Bounds.{stored, startBound, passBound, passRight, levelGives, givesFrom, pixelBound, nodesRight, viewable, viewVerdict}
-use Rattle.irreversible.specs.Claims.{keptNode, bitsPlane, Holds}
+use Rattle.irreversible.specs.Claims.{keptNode, bitsPlane, InNodeWidth}
 use Rattle.irreversible.specs.Subbands.{InPart, part-before, kept-LL, kept-HL, kept-LH, kept-HH, kept-everywhere}
 use Rattle.viewing.specs.View.{enteringBits, viewLine, viewLevel, viewFrom, viewPlane, storedPlane, exactView}
 use Rattle.viewing.specs.Claims.{Viewable, Stored, Close, WithinBound, EachSmall, Sizes}
@@ -93,7 +93,7 @@ module _ (t : WidthTable) (steps w h : ℕ) where
   backV k p = viewLevel t (suc k) (side k w) (side k h) p
 
   abbrev backX : ℕ → Plane Frac → Plane Frac
-  backX k q = columnsFirst exactBack (λ low. exactBack) (side k w) (side k h) q
+  backX k q = levelColumnsFirst exactInversePass (λ low. exactInversePass) (side k w) (side k h) q
 
   -- no level takes more bits than those of a node
   entering-few : T (formRight t) → (l : ℕ) → 1 ≤ l → l ≤ t .levels → (s : Pass) → enteringBits t l s G1 ≤ nodeBits
@@ -124,7 +124,7 @@ module _ (t : WidthTable) (steps w h : ℕ) where
       inside-next r c j =
           subst (λ (f : ℕ). Good (levelGives t steps (suc k) b) f (backV k p r c) (backX k q r c)) (sym (inner-bits k i))
           (subst₂ (Good (levelGives t steps (suc k) b) nodeBits)
-          (sym (columns-first-in (viewLine t (suc k) Rows) (λ low. viewLine t (suc k) (columnPass low)) (side k w) (side k h) p r c (j .0) (j .1))) (sym (columns-first-in exactBack (λ low. exactBack) (side k w) (side k h) q r c (j .0) (j .1)))
+          (sym (columns-first-in (viewLine t (suc k) Rows) (λ low. viewLine t (suc k) (columnPass low)) (side k w) (side k h) p r c (j .0) (j .1))) (sym (columns-first-in exactInversePass (λ low. exactInversePass) (side k w) (side k h) q r c (j .0) (j .1)))
           (level-good takes r c (j .0) (j .1)))
 
       outside-next : (r c : ℕ) → r < h → c < w → ¬ InPart k w h r c → GoodFor t steps (keptNode (t .levels) w h r c) (backV k p r c) (backX k q r c)
@@ -152,7 +152,7 @@ module _ (t : WidthTable) (steps w h : ℕ) where
       next = record { inside = inside-next; outside = outside-next }
 
     after : (k : ℕ) → k ≤ t .levels → (b : Bound) (p : Plane ℤ) (q : Plane Frac) → Before k b p q → (r c : ℕ) → r < h → c < w → Good (givesFrom t steps k b) nodeBits (viewFrom t k w h p r c) (exactInverse k w h q r c)
-    unfolding viewFrom exactInverse levelsBack givesFrom side
+    unfolding viewFrom exactInverse inverseLevels givesFrom side
     after zero i b p q s r c x y = subst (λ (f : ℕ). Good b f (p r c) (q r c)) (inner-bits 0 (form-levels t form .0)) (s .inside r c (x, y))
     after (suc k) i b p q s r c x y = after k (omega arith) (levelGives t steps (suc k) b) (backV k p) (backX k q) (next k i b p q s) r c x y
 
@@ -186,8 +186,8 @@ module _ (t : WidthTable) (w h : ℕ) (form : T (formRight t)) where
 
 -- ---- stored coefficients
 
-held-law : (IB f : ℕ) (v : ℤ) → 1 ≤ IB → Holds IB f v → natAbs v * 2 ^ 32 ≤ 2 ^ (IB - 1) * 2 ^ 32 * 2 ^ f
-unfolding Holds
+held-law : (IB f : ℕ) (v : ℤ) → 1 ≤ IB → InNodeWidth IB f v → natAbs v * 2 ^ 32 ≤ 2 ^ (IB - 1) * 2 ^ 32 * 2 ^ f
+unfolding InNodeWidth
 held-law IB f v some h =
     let e : IB + f - 1 ≡ IB - 1 + f = omega arith in
     let p : 2 ^ (IB + f - 1) ≡ 2 ^ (IB - 1) * 2 ^ f = ap (λ (k : ℕ). 2 ^ k) e ∙ pow-add 2 (IB - 1) f in
@@ -202,7 +202,7 @@ held-law IB f v some h =
 module _ (t : WidthTable) (w h : ℕ) (p : Plane ℤ) (ok : Viewable t) (s : Stored t w h p) where
   -- what was stored is good for its kept nodes, without error
   stored-good : GoodPlane t 0 w h p (storedPlane t w h p)
-  unfolding stored storedPlane bitsPlane meant
+  unfolding stored storedPlane bitsPlane fixedValue
   stored-good =
       let form = view-promise t ok .form in
       record {

@@ -28,7 +28,7 @@ use Rattle.width_table.specs.Limits.{form-levels}
 use Rattle.precision.specs.Verdict.{Accepted}
 use Rattle.precision.specs.Promise.{promise}
 use Rattle.pictures.specs.Pictures.{planeOf, Admitted}
-use Rattle.pictures.specs.Looks.{Tells, OfBits}
+use Rattle.pictures.specs.RangeChecks.{Tells, OfBits}
 use Rattle.irreversible.specs.Claims.{keptNode}
 use Rattle.irreversible.specs.LevelBits.{IsLevel}
 use Rattle.irreversible.specs.Subbands.{InPart, in-part?, kept-LL, kept-HL, kept-LH, kept-HH}

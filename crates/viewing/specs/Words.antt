@@ -17,8 +17,8 @@ use Rattle.width_table.specs.declared.WidthTable.{WidthTable}
 use Rattle.width_table.specs.Table.{maxIntegerBits, maxFractionBits}
 use Rattle.width_table.specs.Limits.{form-levels, form-widths}
 use Rattle.stages.specs.Fixed.{cut}
-use Rattle.unlifting.specs.Fixed.{nodeBits, atU1, atP1, fixedBackLong, fixedBack, Small, limit}
-use Rattle.irreversible.specs.Claims.{keptNode, Holds}
+use Rattle.inverse_lifting.specs.Fixed.{nodeBits, atU1, atP1, fixedInverseLong, fixedInverse, Small, limit}
+use Rattle.irreversible.specs.Claims.{keptNode, InNodeWidth}
 use Rattle.irreversible.specs.Subbands.{kept-everywhere}
 use Rattle.viewing.specs.View.{viewLine, viewLevel}
 use Rattle.viewing.specs.Claims.{Viewable, Stored, LevelSmall}
@@ -31,12 +31,12 @@ abbrev pub Bounded : ℕ → ℕ → Plane ℤ → Type 0
 Bounded w h p = (r c : ℕ) → r < h → c < w → natAbs (p r c) ≤ limit
 
 -- what a pass leaves
-pub back-size : {fl fh n : ℕ} {y : ℕ → ℤ} → Small fl fh n y → (k : ℕ) → k < n → natAbs (fixedBack fl fh n y k) ≤ limit
-unfolding fixedBack fixedBackLong
+pub back-size : {fl fh n : ℕ} {y : ℕ → ℤ} → Small fl fh n y → (k : ℕ) → k < n → natAbs (fixedInverse fl fh n y k) ≤ limit
+unfolding fixedInverse fixedInverseLong
 back-size {fl} {fh} {n} {y} s k h = by-one _ n
     (λ one. s .single one k h)
-    (λ works. subst (λ (z : ℤ). natAbs z ≤ limit) (sym (one-long (cut fl nodeBits) (fixedBackLong fl fh) n y k works))
-    (by-parity (λ k. natAbs (fixedBackLong fl fh n y k) ≤ limit) n
+    (λ works. subst (λ (z : ℤ). natAbs z ≤ limit) (sym (one-long (cut fl nodeBits) (fixedInverseLong fl fh) n y k works))
+    (by-parity (λ k. natAbs (fixedInverseLong fl fh n y k) ≤ limit) n
     (λ k i. subst (λ (z : ℤ). natAbs z ≤ limit) (sym (even-place (atU1 fl fh n y) (atP1 fl fh n y) k)) (s .long works .u1 k i))
     (λ k i. subst (λ (z : ℤ). natAbs z ≤ limit) (sym (odd-place (atU1 fl fh n y) (atP1 fl fh n y) k)) (s .long works .p1 k i)) k h))
 
@@ -55,8 +55,8 @@ module _ {t : WidthTable} {l w h : ℕ} {p : Plane ℤ} (s : LevelSmall t l w h 
       (λ r c j a b. subst (λ (z : ℤ). natAbs z ≤ limit) (sym (columns-first-keeps (viewLine t l Rows) (λ low. viewLine t l (columnPass low)) .beyond w h p r c j)) (before r c a b))
 
 -- a stored coefficient
-pub stored-size : (IB f : ℕ) (v : ℤ) → IB ≤ maxIntegerBits → f ≤ maxFractionBits → Holds IB f v → natAbs v ≤ 2 ^ 31
-unfolding Holds
+pub stored-size : (IB f : ℕ) (v : ℤ) → IB ≤ maxIntegerBits → f ≤ maxFractionBits → InNodeWidth IB f v → natAbs v ≤ 2 ^ 31
+unfolding InNodeWidth
 stored-size IB f v a b h =
     let i : IB + f - 1 ≤ 31 = omega arith in
     le-trans (law (2 ^ (IB + f - 1)) v (h .0) (h .1)) (pow-le-pow-right {n = 2} (omega arith) i)

@@ -13,14 +13,14 @@ ghost use Rattle.width_table.specs.Nodes.{G1, LowColumns};
 ghost use Rattle.width_table.specs.Numbered.{nodeOf, passOf, IsNode, IsPass};
 ghost use Rattle.irreversible.specs.LevelBits.{IsLevel};
 ghost use Rattle.pictures.specs.Pictures.{maxSide, planeOf, zeroed};
-ghost use Rattle.pictures.specs.Looks.{Tells};
-ghost use Rattle.unlifting.specs.Fixed.{nodeBits, limit};
+ghost use Rattle.pictures.specs.RangeChecks.{Tells};
+ghost use Rattle.inverse_lifting.specs.Fixed.{nodeBits, limit};
 ghost use Rattle.viewing.specs.View.{enteringBits, viewPicture, grey, pixel};
 ghost use Rattle.viewing.specs.Calls.{coefficientsRight, viewAnswer, viewPixels, viewWork};
 ghost use Rattle.viewing.specs.WidthLaws.{PartFits, LookReady, DetailsFit, Lookable};
-ghost use Rattle.viewing.specs.LevelSteps.{columned, levelBack};
+ghost use Rattle.viewing.specs.LevelSteps.{columned, levelInverse};
 ghost use Rattle.viewing.specs.RowSteps.{RowReady, rowShown, RowsReady, shownRows, clearedRows};
-ghost use Rattle.viewing.specs.CallSteps.{LevelReady, ViewReady, Left, answerOf};
+ghost use Rattle.viewing.specs.CallSteps.{LevelReady, ViewReady, LevelsLeft, answerOf};
 use refusals::Outcome;
 use refusals::Refusal;
 use width_table::WidthTable;
@@ -32,7 +32,7 @@ const STATE: usize = 5 * 1024;
 const LINE: usize = pictures::MAX_SIDE + 6;
 
 // The fractional bits of a value.
-const VALUE_BITS: u8 = unlifting::NODE_BITS as u8;
+const VALUE_BITS: u8 = inverse_lifting::NODE_BITS as u8;
 
 // Whether the coefficients of a part of w columns and h rows, which starts at a place, are in the width of a node.
 fn part_fits(
@@ -150,7 +150,7 @@ fn greys(v: i64, depth: u8) -> i64
 {
     let cut = VALUE_BITS - depth;
     let half = irreversible::power(cut - 1);
-    let whole = irreversible::lowered(v + half, cut);
+    let whole = irreversible::floor_shifted(v + half, cut);
     whole + irreversible::power(depth - 1)
 }
 
@@ -207,7 +207,7 @@ fn low_low_bits(table: WidthTable, level: u8) -> u32
     if level == table.levels {
         stored_bits(table, level, WidthTable::LOW_COLUMNS, WidthTable::G1)
     } else {
-        unlifting::NODE_BITS
+        inverse_lifting::NODE_BITS
     }
 }
 
@@ -242,12 +242,12 @@ fn columns_back(
 {
     let low = (w + 1) / 2;
     let levels = table.levels;
-    unlifting::columns(
+    inverse_lifting::columns(
         plane,
         work,
         state,
         line,
-        unlifting::Site {
+        inverse_lifting::ColumnsAt {
             width: width,
             stride: stride,
             from: 0,
@@ -258,12 +258,12 @@ fn columns_back(
         low_low_bits(table, level),
         stored_bits(table, level, WidthTable::LOW_COLUMNS, WidthTable::G2),
     );
-    unlifting::columns(
+    inverse_lifting::columns(
         plane,
         work,
         state,
         line,
-        unlifting::Site {
+        inverse_lifting::ColumnsAt {
             width: width,
             stride: stride,
             from: low,
@@ -290,10 +290,10 @@ fn level_back(
     h: usize,
 )
     requires { ⌜ LevelReady table level (now plane) (now work) (length (now state)) (length (now line)) width stride w h ⌝ }
-    ensures { λ _. ⌜ at (now (work .exit)) ≡ levelBack table level width stride w h (at (now (plane .entry))) (at (now (work .entry))) ⌝ }
+    ensures { λ _. ⌜ at (now (work .exit)) ≡ levelInverse table level width stride w h (at (now (plane .entry))) (at (now (work .entry))) ⌝ }
 {
     columns_back(table, level, plane, work, state, line, width, stride, w, h);
-    unlifting::rows(work, line, stride, w, h);
+    inverse_lifting::rows(work, line, stride, w, h);
 }
 
 // All levels but the first taken back, the last one first.
@@ -307,7 +307,7 @@ fn levels_back(
     h: usize,
 )
     requires { ⌜ ViewReady table (now plane) (length (now work)) (length (now state)) (length (now line)) w h ⌝ }
-    ensures { λ _. ⌜ Left table w h 1 (at (now (plane .entry))) (at (now (work .entry))) (at (now (work .exit))) ⌝ }
+    ensures { λ _. ⌜ LevelsLeft table w h 1 (at (now (plane .entry))) (at (now (work .entry))) (at (now (work .exit))) ⌝ }
 {
     let mut k = table.levels;
     while 1 < k {
@@ -342,8 +342,8 @@ fn finish_row(
     ensures pixels { λ _. ⌜ (λ k. getD (now (pixels .exit)) k 0) ≡ patch from w (rowShown depth w (λ c. at (now (work .entry)) (from + c))) (λ k. getD (now (pixels .entry)) k 0) ⌝ }
     ensures work { λ _. ⌜ at (now (work .exit)) ≡ patch from w (λ j. pos 0) (at (now (work .entry))) ⌝ }
 {
-    unlifting::row(work, line, from, w);
-    show_row(line, unlifting::LEAD, pixels, from, w, depth);
+    inverse_lifting::row(work, line, from, w);
+    show_row(line, inverse_lifting::ROW_START, pixels, from, w, depth);
     clear_row(work, from, w);
 }
 

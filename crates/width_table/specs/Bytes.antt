@@ -67,7 +67,7 @@ tableIn bytes = record {
   levels = levelsIn bytes;
   constants = valueIn bytes constantsTag;
   nodes = valueIn bytes nodesTag ++ replicate (nodeBytes maxLevels - nodeBytes (levelsIn bytes)) 0;
-  five = hasFifth bytes;
+  «has_products» = hasFifth bytes;
   products = productsIn (hasFifth bytes) bytes;
 }
 
@@ -78,7 +78,7 @@ emptyTable = record {
   levels = 0;
   constants = replicate nodesPerPass 0;
   nodes = replicate (nodeBytes maxLevels) 0;
-  five = false;
+  «has_products» = false;
   products = replicate (productBytes maxLevels) 0;
 }
 
@@ -90,15 +90,15 @@ tableRead bytes = answered (form bytes) (tableIn bytes) emptyTable
 
 -- a table's bytes: its fields in order
 unfoldable pub tableBytes : WidthTable → List ℕ
-tableBytes t = bytesOf (fields (t .five) (t .levels)) t
+tableBytes t = bytesOf (fields (t .«has_products») (t .levels)) t
 
 -- 4, then 9
-unfoldable pub writable : WidthTable → List ℕ → Answer Unit
-writable t lent = asks (formRight t) 4 (asks (leb (tableSize (t .five) (t .levels)) (length lent)) 9 passed)
+unfoldable pub writeAnswer : WidthTable → List ℕ → Answer Unit
+writeAnswer t lent = asks (formRight t) 4 (asks (leb (tableSize (t .«has_products») (t .levels)) (length lent)) 9 passed)
 
 -- The call that writes a table into lent bytes: the answer, with the number of bytes, and the lent bytes afterwards.
 unfoldable pub writing : WidthTable → List ℕ → Answer ℕ
-writing t lent = writable t lent then done (tableSize (t .five) (t .levels))
+writing t lent = writeAnswer t lent then done (tableSize (t .«has_products») (t .levels))
 
 unfoldable pub bytesAfter : WidthTable → List ℕ → List ℕ
-bytesAfter t lent = answered (writable t lent) (over (tableBytes t) lent) lent
+bytesAfter t lent = answered (writeAnswer t lent) (over (tableBytes t) lent) lent

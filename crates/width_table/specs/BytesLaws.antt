@@ -16,8 +16,8 @@ use Rattle.width_table.specs.declared.WidthTable.{WidthTable}
 use Rattle.width_table.specs.Table.{maxLevels, depthRight, levelsRight, constantRight, productRight, formRight}
 use Rattle.width_table.specs.Fields.{depthTag, levelsTag, constantsTag, nodesTag, productsTag, tagRight, headBytes, Field, nodeBytes, productBytes, widthsRight, fixedFields, nodesField, productsField, lastFields, fields, sizeOf, fieldOf, startOf, tableSize, valueStart, valueLength, fieldBytes, bytesOf}
 use Rattle.width_table.specs.Bytes.{announced, headed, field, formBy, depthIn, levelsIn, hasFifth, form, valueIn, productsIn, tableIn, tableBytes}
-use Rattle.width_table.specs.FormLists.{Sized, usedProducts, formLists, form-lists}
-use Rattle.width_table.specs.Names.{hasTag, nameable, naming, partAt}
+use Rattle.width_table.specs.FormLists.{FullLists, usedProducts, formLists, form-lists}
+use Rattle.width_table.specs.Names.{hasTag, nameAnswer, naming, partAt}
 
 -- ---- one field
 
@@ -98,11 +98,11 @@ right-long [] n bytes r = omega (arith, r)
 right-long (f ∷ fs) n bytes r = omega (arith, right-long fs (n + (headBytes + f .size)) bytes (r .1))
 
 -- a table has these values, and they are short
-abbrev Holds : WidthTable → List Field → ℕ → List ℕ → Type 0
-Holds t [] n bytes = Unit
-Holds t (f ∷ fs) n bytes = (f .size < 256) × (take (f .size) (drop (n + headBytes) bytes) ≡ f .held t) × Holds t fs (n + (headBytes + f .size)) bytes
+abbrev FieldsHold : WidthTable → List Field → ℕ → List ℕ → Type 0
+FieldsHold t [] n bytes = Unit
+FieldsHold t (f ∷ fs) n bytes = (f .size < 256) × (take (f .size) (drop (n + headBytes) bytes) ≡ f .held t) × FieldsHold t fs (n + (headBytes + f .size)) bytes
 
-holds-bytes : (t : WidthTable) (fs : List Field) (n : ℕ) (bytes : List ℕ) → RightFrom fs n bytes → Holds t fs n bytes → bytesOf fs t ≡ drop n bytes
+holds-bytes : (t : WidthTable) (fs : List Field) (n : ℕ) (bytes : List ℕ) → RightFrom fs n bytes → FieldsHold t fs n bytes → bytesOf fs t ≡ drop n bytes
 holds-bytes t [] n bytes r h = sym (drop-of-length-le bytes {i = n} (omega (arith, r)))
 holds-bytes t (f ∷ fs) n bytes r h =
     ap₂ (λ (v l : List ℕ). fieldBytes f v ++ l) (sym (h .1)) (holds-bytes t fs (n + (headBytes + f .size)) bytes (r .1) (h .2))
@@ -153,7 +153,7 @@ bytes-sized t (f ∷ fs) r = omega (arith, length-append (f .held t) (bytesOf fs
 -- ---- the whole form
 
 -- tag 5 makes a table longer
-pub without-less : (five : Bool) (L : ℕ) → tableSize false L ≤ tableSize five L
+pub without-less : (hasProducts : Bool) (L : ℕ) → tableSize false L ≤ tableSize hasProducts L
 without-less true L = omega arith
 without-less false L = omega arith
 
@@ -182,14 +182,14 @@ module _ (bytes : List ℕ) (e : form bytes ≡ passed) where
   four-there = omega (arith, form-done .1 .1 .1 .0 .whole)
 
   pub five-long : hasFifth bytes ≡ true → length bytes ≡ tableSize true L
-  five-long five = form-long ∙ ap (λ (b : Bool). tableSize b L) five
+  five-long hasProducts = form-long ∙ ap (λ (b : Bool). tableSize b L) hasProducts
 
   -- there is tag 5 where there are more bytes than a table without it has
   pub five-longer : hasFifth bytes ≡ ltb (tableSize false L) (length bytes)
   five-longer = go (hasFifth bytes) refl
     where
       go : (b : Bool) → hasFifth bytes ≡ b → b ≡ ltb (tableSize false L) (length bytes)
-      go true five = sym (ltb-true (tableSize false L) (length bytes) (omega (arith, five-long five)))
+      go true hasProducts = sym (ltb-true (tableSize false L) (length bytes) (omega (arith, five-long hasProducts)))
       go false none = sym (ltb-false (tableSize false L) (length bytes) (omega (arith, form-long ∙ ap (λ (b : Bool). tableSize b L) none)))
 
   -- the numbers of the first two fields
@@ -207,28 +207,28 @@ module _ (bytes : List ℕ) (e : form bytes ≡ passed) where
   nodes-long = let start = valueStart L nodesTag in length-take-le N (drop start bytes) (omega (arith, length-drop start bytes, four-there))
 
   pub products-long : hasFifth bytes ≡ true → length (valueIn bytes productsTag) ≡ M
-  products-long five = let start = valueStart L productsTag in length-take-le M (drop start bytes) (omega (arith, length-drop start bytes, five-long five))
+  products-long hasProducts = let start = valueStart L productsTag in length-take-le M (drop start bytes) (omega (arith, length-drop start bytes, five-long hasProducts))
 
   pub products-right : hasFifth bytes ≡ true → T (every productRight (valueIn bytes productsTag))
   products-right = last _ (form-done .1 .1 .1 .1) (omega arith)
     where
       last : (n : ℕ) → RightFrom (lastFields (hasFifth bytes) L) n bytes → n + headBytes ≡ valueStart L productsTag → hasFifth bytes ≡ true → T (every productRight (valueIn bytes productsTag))
-      last n r place five = subst (λ (k : ℕ). T (every productRight (take M (drop k bytes)))) place (subst (λ (b : Bool). RightFrom (lastFields b L) n bytes) five r .0 .value)
+      last n r place hasProducts = subst (λ (k : ℕ). T (every productRight (take M (drop k bytes)))) place (subst (λ (b : Bool). RightFrom (lastFields b L) n bytes) hasProducts r .0 .value)
 
   -- the table that they hold has the fields' values
-  last-value : (n : ℕ) → n ≡ tableSize false L → (five : Bool) → hasFifth bytes ≡ five → Holds (tableIn bytes) (lastFields five L) n bytes
+  last-value : (n : ℕ) → n ≡ tableSize false L → (hasProducts : Bool) → hasFifth bytes ≡ hasProducts → FieldsHold (tableIn bytes) (lastFields hasProducts L) n bytes
   unfolding tableIn
-  last-value n e true five =
+  last-value n e true hasProducts =
       let few = levels-most in
       let place : n + headBytes ≡ valueStart L productsTag = omega arith in (
         omega arith,
         ap (λ (k : ℕ). take M (drop k bytes)) place
-            ∙ sym (ap (λ (b : Bool). take M (productsIn b bytes)) five ∙ take-at (valueIn bytes productsTag) (replicate (productBytes maxLevels - M) 0) M (products-long five)),
+            ∙ sym (ap (λ (b : Bool). take M (productsIn b bytes)) hasProducts ∙ take-at (valueIn bytes productsTag) (replicate (productBytes maxLevels - M) 0) M (products-long hasProducts)),
         tt,
       )
   last-value n e false none = tt
 
-  values : Holds (tableIn bytes) (fields (hasFifth bytes) L) 0 bytes
+  values : FieldsHold (tableIn bytes) (fields (hasFifth bytes) L) 0 bytes
   unfolding tableIn
   values =
       let few = levels-most in (
@@ -252,7 +252,7 @@ module _ (bytes : List ℕ) (e : form bytes ≡ passed) where
 
   -- where a tag's value lies
   value-of : (tag : ℕ) → T (tagRight tag) → T (hasTag bytes tag) → partAt bytes (naming bytes tag) ≡ valueIn bytes tag
-  unfolding naming nameable
+  unfolding naming nameAnswer
   value-of tag h k =
       ap (λ (o : Answer Unit). partAt bytes (o then done (valueStart L tag, valueLength L tag))) (asks-right (tagRight tag) _ _ h ∙ then-right (form bytes) _ e ∙ asks-right (hasTag bytes tag) _ _ k)
 
@@ -271,13 +271,13 @@ module _ (bytes : List ℕ) (e : form bytes ≡ passed) where
 
   -- the widths of products that the table has; where it has none, naming is refused
   pub products-value : partAt bytes (naming bytes productsTag) ≡ take (usedProducts (tableIn bytes)) (tableIn bytes .products)
-  unfolding tableIn naming nameable
+  unfolding tableIn naming nameAnswer
   products-value = go (hasFifth bytes) refl
     where
-      go : (five : Bool) → hasFifth bytes ≡ five → partAt bytes (naming bytes productsTag) ≡ take (usedProducts (tableIn bytes)) (tableIn bytes .products)
-      go true five =
-          value-of productsTag tt (subst T (sym five) tt)
-          ∙ sym (ap (λ (b : Bool). take (elim b [ true ↦ M | false ↦ 0 ]) (productsIn b bytes)) five ∙ take-at (valueIn bytes productsTag) (replicate (productBytes maxLevels - M) 0) M (products-long five))
+      go : (hasProducts : Bool) → hasFifth bytes ≡ hasProducts → partAt bytes (naming bytes productsTag) ≡ take (usedProducts (tableIn bytes)) (tableIn bytes .products)
+      go true hasProducts =
+          value-of productsTag tt (subst T (sym hasProducts) tt)
+          ∙ sym (ap (λ (b : Bool). take (elim b [ true ↦ M | false ↦ 0 ]) (productsIn b bytes)) hasProducts ∙ take-at (valueIn bytes productsTag) (replicate (productBytes maxLevels - M) 0) M (products-long hasProducts))
       go false none =
           ap (λ (o : Answer Unit). partAt bytes (o then done (valueStart L productsTag, valueLength L productsTag))) (then-right (form bytes) _ e ∙ asks-wrong (hasFifth bytes) (2, []) passed none)
           ∙ sym (ap (λ (b : Bool). take (elim b [ true ↦ M | false ↦ 0 ]) (productsIn b bytes)) none)
@@ -293,7 +293,7 @@ pub record RightForm (t : WidthTable) : Type 0 where
   pub products : T (every productRight (take (usedProducts t) (t .products)))
   pub unused-products : T (every (eqb 0) (drop (usedProducts t) (t .products)))
 
-pub right-form : (t : WidthTable) → Sized t → T (formRight t) → RightForm t
+pub right-form : (t : WidthTable) → FullLists t → T (formRight t) → RightForm t
 unfolding formLists
 right-form t s h =
     let a = depthRight (t .depth) in
@@ -313,7 +313,7 @@ filled l n m long h =
     ap (λ (k : List ℕ). take n l ++ k) (sym (zeros (drop n l) h ∙ ap (λ (k : ℕ). replicate k 0) (length-drop n l ∙ ap (λ (k : ℕ). k - n) long)))
     ∙ take-append-drop n l
 
-module _ (t : WidthTable) (s : Sized t) (r : RightForm t) where
+module _ (t : WidthTable) (s : FullLists t) (r : RightForm t) where
   abbrev few : t .levels ≤ maxLevels
   few = between-≤ 1 maxLevels (t .levels) (r .levels) .1
 
@@ -327,48 +327,48 @@ module _ (t : WidthTable) (s : Sized t) (r : RightForm t) where
   unfolding every
   four-right = (refl, and-intro (depthRight (t .depth)) true (r .depth) tt, (refl, and-intro (levelsRight (t .levels)) true (r .levels) tt, (s .constants, r .constants, (used-long, r .widths, tt))))
 
-  last-right : (five : Bool) → t .five ≡ five → Right t (lastFields five (t .levels))
-  last-right true five = (products-used, subst (λ (b : Bool). T (every productRight (take (elim b [ true ↦ productBytes (t .levels) | false ↦ 0 ]) (t .products)))) five (r .products), tt)
+  last-right : (hasProducts : Bool) → t .«has_products» ≡ hasProducts → Right t (lastFields hasProducts (t .levels))
+  last-right true hasProducts = (products-used, subst (λ (b : Bool). T (every productRight (take (elim b [ true ↦ productBytes (t .levels) | false ↦ 0 ]) (t .products)))) hasProducts (r .products), tt)
   last-right false none = tt
 
-  fields-right : Right t (fields (t .five) (t .levels))
-  fields-right = (four-right .0, four-right .1, (four-right .2 .0, four-right .2 .1, (four-right .2 .2 .0, four-right .2 .2 .1, (used-long, r .widths, last-right (t .five) refl))))
+  fields-right : Right t (fields (t .«has_products») (t .levels))
+  fields-right = (four-right .0, four-right .1, (four-right .2 .0, four-right .2 .1, (four-right .2 .2 .0, four-right .2 .2 .1, (used-long, r .widths, last-right (t .«has_products») refl))))
 
   -- the byte after the fourth field says whether there is tag 5
-  pub fifth-written : hasFifth (tableBytes t) ≡ t .five
+  pub fifth-written : hasFifth (tableBytes t) ≡ t .«has_products»
   unfolding tableBytes
   fifth-written =
       let n = tableSize false (t .levels) in
       let place : n ≡ n + 0 = omega arith in
       ap (λ (m : ℕ). eqb (getD (tableBytes t) m 0) productsTag) place
-      ∙ ap (λ (b : ℕ). eqb b productsTag) (sym (getD-drop n (tableBytes t) 0 0) ∙ ap (λ (l : List ℕ). getD l 0 0) (bytes-after t (fields false (t .levels)) (lastFields (t .five) (t .levels)) four-right))
-      ∙ go (t .five)
+      ∙ ap (λ (b : ℕ). eqb b productsTag) (sym (getD-drop n (tableBytes t) 0 0) ∙ ap (λ (l : List ℕ). getD l 0 0) (bytes-after t (fields false (t .levels)) (lastFields (t .«has_products») (t .levels)) four-right))
+      ∙ go (t .«has_products»)
     where
-      go : (five : Bool) → eqb (getD (bytesOf (lastFields five (t .levels)) t) 0 0) productsTag ≡ five
+      go : (hasProducts : Bool) → eqb (getD (bytesOf (lastFields hasProducts (t .levels)) t) 0 0) productsTag ≡ hasProducts
       go true = refl
       go false = refl
 
   pub form-written : form (tableBytes t) ≡ passed
   unfolding form tableBytes
-  form-written = ap (λ (b : Bool). formBy (fields b (t .levels)) (tableBytes t)) fifth-written ∙ bytes-right t (fields (t .five) (t .levels)) fields-right
+  form-written = ap (λ (b : Bool). formBy (fields b (t .levels)) (tableBytes t)) fifth-written ∙ bytes-right t (fields (t .«has_products») (t .levels)) fields-right
 
-  pub bytes-length : length (tableBytes t) ≡ tableSize (t .five) (t .levels)
+  pub bytes-length : length (tableBytes t) ≡ tableSize (t .«has_products») (t .levels)
   unfolding tableBytes
-  bytes-length = bytes-sized t (fields (t .five) (t .levels)) fields-right
+  bytes-length = bytes-sized t (fields (t .«has_products») (t .levels)) fields-right
 
   -- the products' numbers, with zeros after those of the table's levels
-  products-written : (five : Bool) → t .five ≡ five → productsIn five (tableBytes t) ≡ t .products
+  products-written : (hasProducts : Bool) → t .«has_products» ≡ hasProducts → productsIn hasProducts (tableBytes t) ≡ t .products
   unfolding tableBytes
-  products-written true five =
+  products-written true hasProducts =
       let M = productBytes (t .levels) in
       let place : valueStart (t .levels) productsTag ≡ tableSize false (t .levels) + headBytes = omega arith in
       let value : valueIn (tableBytes t) productsTag ≡ take M (t .products) =
-      ap (λ (b : Bool). take M (drop (valueStart (t .levels) productsTag) (bytesOf (fields b (t .levels)) t))) five
+      ap (λ (b : Bool). take M (drop (valueStart (t .levels) productsTag) (bytesOf (fields b (t .levels)) t))) hasProducts
       ∙ ap (λ (n : ℕ). take M (drop n (bytesOf (fields true (t .levels)) t))) place
       ∙ value-after t (fields false (t .levels)) (productsField (t .levels)) [] four-right products-used
       in
       ap (λ (l : List ℕ). l ++ replicate (productBytes maxLevels - M) 0) value
-      ∙ filled (t .products) M (productBytes maxLevels) (s .products) (subst (λ (b : Bool). T (every (eqb 0) (drop (elim b [ true ↦ M | false ↦ 0 ]) (t .products)))) five (r .unused-products))
+      ∙ filled (t .products) M (productBytes maxLevels) (s .products) (subst (λ (b : Bool). T (every (eqb 0) (drop (elim b [ true ↦ M | false ↦ 0 ]) (t .products)))) hasProducts (r .unused-products))
   products-written false none = filled (t .products) 0 (productBytes maxLevels) (s .products) (subst (λ (b : Bool). T (every (eqb 0) (drop (elim b [ true ↦ productBytes (t .levels) | false ↦ 0 ]) (t .products)))) none (r .unused-products))
 
   pub written-read : tableIn (tableBytes t) ≡ t
@@ -376,12 +376,12 @@ module _ (t : WidthTable) (s : Sized t) (r : RightForm t) where
   written-read =
       let L = t .levels in
       let N = nodeBytes L in
-      let fs = lastFields (t .five) L in
+      let fs = lastFields (t .«has_products») L in
       let c : valueIn (tableBytes t) constantsTag ≡ t .constants = value-after t (take levelsTag fixedFields) (fieldOf fixedFields constantsTag) (nodesField L ∷ fs) (four-right .0, four-right .1, (refl, four-right .2 .1, tt)) (s .constants) in
       let n : valueIn (tableBytes t) nodesTag ≡ take N (t .nodes) = value-after t fixedFields (nodesField L) fs (four-right .0, four-right .1, (refl, four-right .2 .1, (s .constants, r .constants, tt))) used-long in
       let m = ap (λ (l : List ℕ). l ++ replicate (nodeBytes maxLevels - N) 0) n ∙ filled (t .nodes) N (nodeBytes maxLevels) (s .nodes) (r .unused) in
-      let p = ap (λ (b : Bool). productsIn b (tableBytes t)) fifth-written ∙ products-written (t .five) refl in
+      let p = ap (λ (b : Bool). productsIn b (tableBytes t)) fifth-written ∙ products-written (t .«has_products») refl in
       λ u. table (c u) (m u) (fifth-written u) (p u)
     where
       table : List ℕ → List ℕ → Bool → List ℕ → WidthTable
-      table c n b p = record { depth = t .depth; levels = t .levels; constants = c; nodes = n; five = b; products = p }
+      table c n b p = record { depth = t .depth; levels = t .levels; constants = c; nodes = n; «has_products» = b; products = p }

@@ -14,11 +14,11 @@ use Rattle.refusals.specs.Answers.{passed}
 use Rattle.refusals.specs.AnswerLaws.{asks-done}
 use Rattle.width_table.specs.declared.WidthTable.{WidthTable}
 use Rattle.width_table.specs.Numbered.{IsNode, IsPass, IsProduct}
-use Rattle.width_table.specs.Nodes.{nodesPerPass, passesPerLevel, nodesPerLevel, productsPerPass, productsPerLevel, everyNode, bookOrder, productOrder}
+use Rattle.width_table.specs.Nodes.{nodesPerPass, passesPerLevel, nodesPerLevel, productsPerPass, productsPerLevel, everyNode, tableOrder, productOrder}
 use Rattle.width_table.specs.Table.{maxLevels, widthBytes, passBytes, depthRight, levelsRight, constantRight, widthRight, productRight, constantBits, nodePlace, productPlace, nodeRight, productHeld, formRight}
-use Rattle.width_table.specs.Changes.{hasNode, changeable, withWidth, constantChangeable, withConstant, hasProduct, productChangeable, withProduct}
+use Rattle.width_table.specs.Changes.{hasNode, widthAnswer, withWidth, constantAnswer, withConstant, hasProduct, productAnswer, withProduct}
 use Rattle.width_table.specs.Readers.{orZero, constantBitsAt, integerBitsAt, fractionBitsAt, productWidthAt}
-use Rattle.width_table.specs.FormLists.{Sized, allNodes, allProducts, holds, holds-at, holds-all, pairRight, placeRight, numberRight, numberAt, book-places, product-places, constants-list}
+use Rattle.width_table.specs.FormLists.{FullLists, allNodes, allProducts, everyFrom, holds-at, holds-all, pairRight, placeRight, numberRight, numberAt, book-places, product-places, constants-list}
 use Rattle.width_table.specs.FormLaws.{node-in, product-in, few-levels}
 
 -- ---- parts
@@ -73,16 +73,16 @@ used-right : (L k IB f : ℕ) → k / nodesPerLevel + 1 ≤ L → widthRight IB 
 used-right L k IB f h e = ap (λ (x : Bool). elim x [ true ↦ widthRight IB f | false ↦ eqb IB 0 && eqb f 0 ]) (le-leb (k / nodesPerLevel + 1) L h) ∙ e
 
 -- and so is a right width of a product, with tag 5
-product-right : (five : Bool) (L k fp : ℕ) → five ≡ true → k / productsPerLevel + 1 ≤ L → productRight fp ≡ true → numberRight five L k fp ≡ true
-product-right five L k fp b h e = ap₂ (λ (x y : Bool). elim (x && y) [ true ↦ productRight fp | false ↦ eqb fp 0 ]) b (le-leb (k / productsPerLevel + 1) L h) ∙ e
+product-right : (hasProducts : Bool) (L k fp : ℕ) → hasProducts ≡ true → k / productsPerLevel + 1 ≤ L → productRight fp ≡ true → numberRight hasProducts L k fp ≡ true
+product-right hasProducts L k fp b h e = ap₂ (λ (x y : Bool). elim (x && y) [ true ↦ productRight fp | false ↦ eqb fp 0 ]) b (le-leb (k / productsPerLevel + 1) L h) ∙ e
 
 -- the form by its five rules
 record Rules (t : WidthTable) : Type 0 where
   depth : T (depthRight (t .depth))
   levels : T (levelsRight (t .levels))
   constants : T (every (λ n. constantRight (constantBits t n)) everyNode)
-  nodes : T (holds (placeRight (t .levels) (t .nodes)) 0 allNodes)
-  products : T (holds (numberAt (t .five) (t .levels) (t .products)) 0 allProducts)
+  nodes : T (everyFrom (placeRight (t .levels) (t .nodes)) 0 allNodes)
+  products : T (everyFrom (numberAt (t .«has_products») (t .levels) (t .products)) 0 allProducts)
 
 module _ (t : WidthTable) where
   abbrev D : Bool
@@ -95,7 +95,7 @@ module _ (t : WidthTable) where
   C = every (λ n. constantRight (constantBits t n)) everyNode
 
   abbrev N : Bool
-  N = every (nodeRight t) (bookOrder maxLevels)
+  N = every (nodeRight t) (tableOrder maxLevels)
 
   abbrev P : Bool
   P = every (productHeld t) (productOrder maxLevels)
@@ -122,14 +122,14 @@ pub record WidthIs (t u : WidthTable) (level pass node IB f : ℕ) : Type 0 wher
   pub depth : u .depth ≡ t .depth
   pub levels : u .levels ≡ t .levels
   pub constants : u .constants ≡ t .constants
-  pub five : u .five ≡ t .five
+  pub hasProducts : u .«has_products» ≡ t .«has_products»
   pub products : u .products ≡ t .products
   pub integer : integerBitsAt u level pass node ≡ IB
   pub fraction : fractionBitsAt u level pass node ≡ f
   pub otherInteger : (l p n : ℕ) → (l ≡ level → p ≡ pass → n ≡ node → ⊥) → integerBitsAt u l p n ≡ integerBitsAt t l p n
   pub otherFraction : (l p n : ℕ) → (l ≡ level → p ≡ pass → n ≡ node → ⊥) → fractionBitsAt u l p n ≡ fractionBitsAt t l p n
 
-module _ (t : WidthTable) (s : Sized t) (level pass node IB f : ℕ) (ok : changeable t level pass node IB f ≡ passed) where
+module _ (t : WidthTable) (s : FullLists t) (level pass node IB f : ℕ) (ok : widthAnswer t level pass node IB f ≡ passed) where
   abbrev changed : WidthTable
   changed = withWidth t level pass node IB f
 
@@ -137,7 +137,7 @@ module _ (t : WidthTable) (s : Sized t) (level pass node IB f : ℕ) (ok : chang
   place = nodePlace level pass node
 
   accepted : (formRight t ≡ true) × (hasNode (t .levels) level pass node ≡ true) × (widthRight IB f ≡ true)
-  unfolding changeable
+  unfolding widthAnswer
   accepted = all-true (formRight t) (hasNode (t .levels) level pass node) (widthRight IB f) (asks-done (formRight t && hasNode (t .levels) level pass node && widthRight IB f) _ _ ok .0)
 
   few : t .levels ≤ maxLevels
@@ -178,7 +178,7 @@ module _ (t : WidthTable) (s : Sized t) (level pass node IB f : ℕ) (ok : chang
     depth = refl;
     levels = refl;
     constants = refl;
-    five = refl;
+    hasProducts = refl;
     products = refl;
     integer = ap (λ (x : Bool). orZero x (getD (changed .nodes) place 0)) has-it ∙ new-integer;
     fraction = ap (λ (x : Bool). orZero x (getD (changed .nodes) (place + 1) 0)) has-it ∙ new-fraction;
@@ -214,7 +214,7 @@ module _ (t : WidthTable) (s : Sized t) (level pass node IB f : ℕ) (ok : chang
       ∙ set-set (set (t .nodes) place IB) (place + 1) f f)
     where
       made : List ℕ → WidthTable
-      made l = record { depth = t .depth; levels = t .levels; constants = t .constants; nodes = l; five = t .five; products = t .products }
+      made l = record { depth = t .depth; levels = t .levels; constants = t .constants; nodes = l; «has_products» = t .«has_products»; products = t .products }
 
 -- ---- a constant's bits
 
@@ -223,17 +223,17 @@ pub record ConstantIs (t u : WidthTable) (node F : ℕ) : Type 0 where
   pub depth : u .depth ≡ t .depth
   pub levels : u .levels ≡ t .levels
   pub nodes : u .nodes ≡ t .nodes
-  pub five : u .five ≡ t .five
+  pub hasProducts : u .«has_products» ≡ t .«has_products»
   pub products : u .products ≡ t .products
   pub bits : constantBitsAt u node ≡ F
   pub otherBits : (n : ℕ) → (n ≡ node → ⊥) → constantBitsAt u n ≡ constantBitsAt t n
 
-module _ (t : WidthTable) (s : Sized t) (node F : ℕ) (ok : constantChangeable t node F ≡ passed) where
+module _ (t : WidthTable) (s : FullLists t) (node F : ℕ) (ok : constantAnswer t node F ≡ passed) where
   abbrev with : WidthTable
   with = withConstant t node F
 
   allowed : (formRight t ≡ true) × (between 1 nodesPerPass node ≡ true) × (constantRight F ≡ true)
-  unfolding constantChangeable
+  unfolding constantAnswer
   allowed = all-true (formRight t) (between 1 nodesPerPass node) (constantRight F) (asks-done (formRight t && between 1 nodesPerPass node && constantRight F) _ _ ok .0)
 
   stage : IsNode node
@@ -245,7 +245,7 @@ module _ (t : WidthTable) (s : Sized t) (node F : ℕ) (ok : constantChangeable 
     depth = refl;
     levels = refl;
     nodes = refl;
-    five = refl;
+    hasProducts = refl;
     products = refl;
     bits = ap (λ (x : Bool). orZero x (getD (with .constants) (node - 1) 0)) (allowed .1) ∙ getD-set-same (t .constants) (node - 1) F 0 (omega (arith, s .constants, stage .0, stage .1));
     otherBits = λ n differs. or-zero (between 1 nodesPerPass n) _ _ (λ h. getD-set-other (t .constants) (node - 1) (n - 1) F 0 (λ e. differs (omega (arith, between-≤ 1 nodesPerPass n h .0, stage .0))));
@@ -268,7 +268,7 @@ module _ (t : WidthTable) (s : Sized t) (node F : ℕ) (ok : constantChangeable 
   constant-twice = ap made (set-set (t .constants) (node - 1) F F)
     where
       made : List ℕ → WidthTable
-      made l = record { depth = t .depth; levels = t .levels; constants = l; nodes = t .nodes; five = t .five; products = t .products }
+      made l = record { depth = t .depth; levels = t .levels; constants = l; nodes = t .nodes; «has_products» = t .«has_products»; products = t .products }
 
 -- ---- a product's width (document 02, job 7)
 
@@ -278,7 +278,7 @@ pub record ProductIs (t u : WidthTable) (level pass product fp : ℕ) : Type 0 w
   pub levels : u .levels ≡ t .levels
   pub constants : u .constants ≡ t .constants
   pub nodes : u .nodes ≡ t .nodes
-  pub five : u .five ≡ t .five
+  pub hasProducts : u .«has_products» ≡ t .«has_products»
   pub width : productWidthAt u level pass product ≡ fp
   pub otherWidth : (l p k : ℕ) → (l ≡ level → p ≡ pass → k ≡ product → ⊥) → productWidthAt u l p k ≡ productWidthAt t l p k
 
@@ -299,22 +299,22 @@ products-apart L M l p k l′ p′ k′ h i differs e =
     let w = one-product (l - 1) (p - 1) (k - 1) (l′ - 1) (p′ - 1) (k′ - 1) (less-one p passesPerLevel (h .1)) (less-one k productsPerPass (h .2)) (less-one p′ passesPerLevel (i .1)) (less-one k′ productsPerPass (i .2)) e in
     differs (more-one l l′ (h .0 .0) (i .0 .0) (w .0)) (more-one p p′ (h .1 .0) (i .1 .0) (w .1)) (more-one k k′ (h .2 .0) (i .2 .0) (w .2))
 
-module _ (t : WidthTable) (s : Sized t) (level pass product fp : ℕ) (ok : productChangeable t level pass product fp ≡ passed) where
+module _ (t : WidthTable) (s : FullLists t) (level pass product fp : ℕ) (ok : productAnswer t level pass product fp ≡ passed) where
   abbrev withIt : WidthTable
   withIt = withProduct t level pass product fp
 
   abbrev itsPlace : ℕ
   itsPlace = productPlace level pass product
 
-  agreed : (formRight t && t .five ≡ true) × (hasProduct (t .levels) level pass product ≡ true) × (productRight fp ≡ true)
-  unfolding productChangeable
-  agreed = all-true (formRight t && t .five) (hasProduct (t .levels) level pass product) (productRight fp) (asks-done (formRight t && t .five && hasProduct (t .levels) level pass product && productRight fp) _ _ ok .0)
+  agreed : (formRight t && t .«has_products» ≡ true) × (hasProduct (t .levels) level pass product ≡ true) × (productRight fp ≡ true)
+  unfolding productAnswer
+  agreed = all-true (formRight t && t .«has_products») (hasProduct (t .levels) level pass product) (productRight fp) (asks-done (formRight t && t .«has_products» && hasProduct (t .levels) level pass product && productRight fp) _ _ ok .0)
 
   right : formRight t ≡ true
-  right = is-true (formRight t) (both (formRight t) (t .five) (holding (agreed .0)) .0)
+  right = is-true (formRight t) (both (formRight t) (t .«has_products») (holding (agreed .0)) .0)
 
-  five : t .five ≡ true
-  five = is-true (t .five) (both (formRight t) (t .five) (holding (agreed .0)) .1)
+  hasProducts : t .«has_products» ≡ true
+  hasProducts = is-true (t .«has_products») (both (formRight t) (t .«has_products») (holding (agreed .0)) .1)
 
   fewer : t .levels ≤ maxLevels
   fewer = few-levels t right
@@ -344,18 +344,18 @@ module _ (t : WidthTable) (s : Sized t) (level pass product fp : ℕ) (ok : prod
     levels = refl;
     constants = refl;
     nodes = refl;
-    five = refl;
+    hasProducts = refl;
     width = ap (λ (x : Bool). orZero x (getD (withIt .products) itsPlace 0)) has-product ∙ new-width;
     otherWidth = λ l p k differs. or-zero (hasProduct maxLevels l p k) _ _ (λ h. other-width (productPlace l p k) (products-apart maxLevels (t .levels) l p k level pass product (product-in maxLevels l p k (is-true (hasProduct maxLevels l p k) h)) within differs));
   }
 
   abbrev rightAt : ℕ → Bool
-  rightAt = numberAt (t .five) (t .levels) (withIt .products)
+  rightAt = numberAt (t .«has_products») (t .levels) (withIt .products)
 
   new-right : rightAt itsPlace ≡ true
   new-right =
       let up : itsPlace / productsPerLevel + 1 ≤ t .levels = omega (arith, within .0 .0, within .0 .1, within .1 .0, within .1 .1, within .2 .0, within .2 .1) in
-      ap (numberRight (t .five) (t .levels) itsPlace) new-width ∙ product-right (t .five) (t .levels) itsPlace fp five up (agreed .2)
+      ap (numberRight (t .«has_products») (t .levels) itsPlace) new-width ∙ product-right (t .«has_products») (t .levels) itsPlace fp hasProducts up (agreed .2)
 
   pub product-form : formRight withIt ≡ true
   product-form =
@@ -368,11 +368,11 @@ module _ (t : WidthTable) (s : Sized t) (level pass product fp : ℕ) (ok : prod
         products = holds-all rightAt 0 allProducts (λ k a b.
             same-or (T (rightAt k)) k itsPlace
             (λ h. subst (λ (x : ℕ). T (rightAt x)) (sym h) (holding new-right))
-            (λ h. subst T (sym (ap (numberRight (t .five) (t .levels) k) (other-width k h))) (holds-at (numberAt (t .five) (t .levels) (t .products)) 0 allProducts (r .products) k a b)));
+            (λ h. subst T (sym (ap (numberRight (t .«has_products») (t .levels) k) (other-width k h))) (holds-at (numberAt (t .«has_products») (t .levels) (t .products)) 0 allProducts (r .products) k a b)));
       })
 
   pub product-twice : withProduct withIt level pass product fp ≡ withIt
   product-twice = ap made (set-set (t .products) itsPlace fp fp)
     where
       made : List ℕ → WidthTable
-      made l = record { depth = t .depth; levels = t .levels; constants = t .constants; nodes = t .nodes; five = t .five; products = l }
+      made l = record { depth = t .depth; levels = t .levels; constants = t .constants; nodes = t .nodes; «has_products» = t .«has_products»; products = l }

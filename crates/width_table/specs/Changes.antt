@@ -13,8 +13,8 @@ abbrev pub hasNode : ℕ → ℕ → ℕ → ℕ → Bool
 hasNode L level pass node = between 1 L level && between 1 passesPerLevel pass && between 1 nodesPerPass node
 
 -- The call that changes the width of a node, its IB and f: its answer.
-unfoldable pub changeable : WidthTable → ℕ → ℕ → ℕ → ℕ → ℕ → Answer Unit
-changeable t level pass node IB f = asks (formRight t && hasNode (t .levels) level pass node && widthRight IB f) 4 passed
+unfoldable pub widthAnswer : WidthTable → ℕ → ℕ → ℕ → ℕ → ℕ → Answer Unit
+widthAnswer t level pass node IB f = asks (formRight t && hasNode (t .levels) level pass node && widthRight IB f) 4 passed
 
 abbrev pub withWidth : WidthTable → ℕ → ℕ → ℕ → ℕ → ℕ → WidthTable
 withWidth t level pass node IB f = record {
@@ -22,17 +22,17 @@ withWidth t level pass node IB f = record {
   levels = t .levels;
   constants = t .constants;
   nodes = set (set (t .nodes) (nodePlace level pass node) IB) (nodePlace level pass node + 1) f;
-  five = t .five;
+  «has_products» = t .«has_products»;
   products = t .products;
 }
 
 -- The table that the call gives.
 unfoldable pub tableAfterWidth : WidthTable → ℕ → ℕ → ℕ → ℕ → ℕ → WidthTable
-tableAfterWidth t level pass node IB f = answered (changeable t level pass node IB f) (withWidth t level pass node IB f) t
+tableAfterWidth t level pass node IB f = answered (widthAnswer t level pass node IB f) (withWidth t level pass node IB f) t
 
 -- The call that changes F of the constant of a stage, and the table that it gives.
-unfoldable pub constantChangeable : WidthTable → ℕ → ℕ → Answer Unit
-constantChangeable t node F = asks (formRight t && between 1 nodesPerPass node && constantRight F) 4 passed
+unfoldable pub constantAnswer : WidthTable → ℕ → ℕ → Answer Unit
+constantAnswer t node F = asks (formRight t && between 1 nodesPerPass node && constantRight F) 4 passed
 
 abbrev pub withConstant : WidthTable → ℕ → ℕ → WidthTable
 withConstant t node F = record {
@@ -40,20 +40,20 @@ withConstant t node F = record {
   levels = t .levels;
   constants = set (t .constants) (node - 1) F;
   nodes = t .nodes;
-  five = t .five;
+  «has_products» = t .«has_products»;
   products = t .products;
 }
 
 unfoldable pub tableAfterConstant : WidthTable → ℕ → ℕ → WidthTable
-tableAfterConstant t node F = answered (constantChangeable t node F) (withConstant t node F) t
+tableAfterConstant t node F = answered (constantAnswer t node F) (withConstant t node F) t
 
 -- level, pass and product are ones that a table of L levels with tag 5 has
 abbrev pub hasProduct : ℕ → ℕ → ℕ → ℕ → Bool
 hasProduct L level pass product = between 1 L level && between 1 passesPerLevel pass && between 1 productsPerPass product
 
 -- The call that changes the width of a product: its answer, 4 also without tag 5; and the table that it gives.
-unfoldable pub productChangeable : WidthTable → ℕ → ℕ → ℕ → ℕ → Answer Unit
-productChangeable t level pass product fp = asks (formRight t && t .five && hasProduct (t .levels) level pass product && productRight fp) 4 passed
+unfoldable pub productAnswer : WidthTable → ℕ → ℕ → ℕ → ℕ → Answer Unit
+productAnswer t level pass product fp = asks (formRight t && t .«has_products» && hasProduct (t .levels) level pass product && productRight fp) 4 passed
 
 abbrev pub withProduct : WidthTable → ℕ → ℕ → ℕ → ℕ → WidthTable
 withProduct t level pass product fp = record {
@@ -61,9 +61,9 @@ withProduct t level pass product fp = record {
   levels = t .levels;
   constants = t .constants;
   nodes = t .nodes;
-  five = t .five;
+  «has_products» = t .«has_products»;
   products = set (t .products) (productPlace level pass product) fp;
 }
 
 unfoldable pub tableAfterProduct : WidthTable → ℕ → ℕ → ℕ → ℕ → WidthTable
-tableAfterProduct t level pass product fp = answered (productChangeable t level pass product fp) (withProduct t level pass product fp) t
+tableAfterProduct t level pass product fp = answered (productAnswer t level pass product fp) (withProduct t level pass product fp) t

@@ -14,7 +14,7 @@ use Rattle.refusals.specs.Answers.{Answer, done, refused, passed, asks, _then_,
 use Rattle.refusals.specs.AnswerLaws.{asks-right, asks-wrong, then-right, then-refused, answered-refused}
 use Rattle.width_table.specs.Fields.{depthTag, nodesTag, productsTag, tagRight, headBytes, Field, fields, valueStart, valueLength}
 use Rattle.width_table.specs.Bytes.{announced, headed, field, formBy, levelsIn, hasFifth, form, valueIn, tableIn, emptyTable, tableRead}
-use Rattle.width_table.specs.Names.{nameable, naming, partAt}
+use Rattle.width_table.specs.Names.{nameAnswer, naming, partAt}
 use Rattle.width_table.specs.EarlierForms.{formWithout, nameableWithout, earlierHeaded, earlierField, earlierFormBy, earlierForm, earlierTableRead, earlierNameable, wrongTagCut, wrongLengthCut, comesTo, happens, inEither, Changes, NotFive, PresentChanges}
 use Rattle.width_table.specs.WithoutProducts.{then-answered, none-after, only-five, four-names, named-as-before}
 
@@ -231,8 +231,8 @@ module _ (bytes : List ℕ) where
 
   -- ---- naming a tag: a wrong name is 2 as before; after one of document 01's names, 1 to 4, the answer changes alike
   module _ (tag : ℕ) where
-    pub wrong-name : tagRight tag ≡ false → (nameable bytes tag ≡ refused (2, [])) × (earlierNameable bytes tag ≡ refused (2, []))
-    unfolding nameable earlierNameable
+    pub wrong-name : tagRight tag ≡ false → (nameAnswer bytes tag ≡ refused (2, [])) × (earlierNameable bytes tag ≡ refused (2, []))
+    unfolding nameAnswer earlierNameable
     wrong-name e = (asks-wrong (tagRight tag) _ _ e, asks-wrong (between depthTag nodesTag tag) _ (earlierForm bytes) outside)
       where
         outside : between depthTag nodesTag tag ≡ false
@@ -241,10 +241,10 @@ module _ (bytes : List ℕ) where
             (λ h. ap (λ (b : Bool). leb depthTag tag && b) (sym (le-leb tag productsTag (omega arith))) ∙ e)
             (λ h. right-false (leb depthTag tag) false refl)
 
-    pub name-changes : T (between depthTag nodesTag tag) → PresentChanges bytes (earlierNameable bytes tag) (nameable bytes tag)
+    pub name-changes : T (between depthTag nodesTag tag) → PresentChanges bytes (earlierNameable bytes tag) (nameAnswer bytes tag)
     unfolding earlierNameable
     name-changes h =
-        let present : nameable bytes tag ≡ form bytes = four-names bytes tag h in
+        let present : nameAnswer bytes tag ≡ form bytes = four-names bytes tag h in
         let earlier = asks-right (between depthTag nodesTag tag) (2, []) (earlierForm bytes) h in
         record {
           two = λ k. let (a, b) = present-changes .two k in (earlier ∙ a, present ∙ b);
@@ -253,7 +253,7 @@ module _ (bytes : List ℕ) where
         }
 
     -- what stands where the tag is named, and where not, is the same, of any tag, and so the value
-    pub same-named : NotFive bytes → {B : Type 0} (x y : B) → answered (nameable bytes tag) x y ≡ answered (earlierNameable bytes tag) x y
+    pub same-named : NotFive bytes → {B : Type 0} (x y : B) → answered (nameAnswer bytes tag) x y ≡ answered (earlierNameable bytes tag) x y
     unfolding nameableWithout earlierNameable
     same-named h {B} x y = named-as-before bytes tag (present-order h) x y ∙ go (between depthTag nodesTag tag)
       where
@@ -263,7 +263,7 @@ module _ (bytes : List ℕ) where
 
     pub same-value : NotFive bytes → partAt bytes (naming bytes tag) ≡ answered (earlierNameable bytes tag) (valueIn bytes tag) []
     unfolding naming
-    same-value h = part-of (nameable bytes tag) ∙ same-named h (valueIn bytes tag) []
+    same-value h = part-of (nameAnswer bytes tag) ∙ same-named h (valueIn bytes tag) []
       where
         part-of : (o : Answer Unit) → partAt bytes (o then done (valueStart (levelsIn bytes) tag, valueLength (levelsIn bytes) tag)) ≡ answered o (valueIn bytes tag) []
         part-of (done tt) = refl

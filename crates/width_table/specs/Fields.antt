@@ -79,7 +79,7 @@ lastFields false L = []
 
 -- every tag in order, once each, of a table of L levels with tag 5 or without it
 abbrev pub fields : Bool → ℕ → List Field
-fields five L = fixedFields ++ (nodesField L ∷ lastFields five L)
+fields hasProducts L = fixedFields ++ (nodesField L ∷ lastFields hasProducts L)
 
 -- ---- what follows from the list
 
@@ -100,7 +100,7 @@ startOf (f ∷ fs) tag = elim (eqb (f .tag) tag) [ true ↦ headBytes | false �
 
 -- the same in a table of L levels; a tag's value, where it is there, lies the same with tag 5 and without it
 abbrev pub tableSize : Bool → ℕ → ℕ
-tableSize five L = sizeOf (fields five L)
+tableSize hasProducts L = sizeOf (fields hasProducts L)
 
 abbrev pub valueStart : ℕ → ℕ → ℕ
 valueStart L tag = startOf (fields true L) tag
@@ -110,7 +110,7 @@ valueLength L tag = fieldOf (fields true L) tag .size
 
 -- the fields after that of a tag
 abbrev pub fieldsAfter : Bool → ℕ → ℕ → List Field
-fieldsAfter five L tag = drop tag (fields five L)
+fieldsAfter hasProducts L tag = drop tag (fields hasProducts L)
 
 -- a field as bytes: tag, length with the high byte first, value
 abbrev pub fieldBytes : Field → List ℕ → List ℕ

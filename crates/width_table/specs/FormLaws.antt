@@ -13,7 +13,7 @@ use Rattle.width_table.specs.Nodes.{nodesPerPass, passesPerLevel, produc
 use Rattle.width_table.specs.Numbered.{IsNode, IsPass, IsProduct}
 use Rattle.width_table.specs.Table.{maxLevels, depthRight, levelsRight, constantRight, widthRight, productRight, formRight}
 use Rattle.width_table.specs.Fields.{widthsRight, nodeBytes, productBytes}
-use Rattle.width_table.specs.Changes.{hasNode, changeable, withWidth, tableAfterWidth, constantChangeable, withConstant, tableAfterConstant, hasProduct, productChangeable, withProduct, tableAfterProduct}
+use Rattle.width_table.specs.Changes.{hasNode, widthAnswer, withWidth, tableAfterWidth, constantAnswer, withConstant, tableAfterConstant, hasProduct, productAnswer, withProduct, tableAfterProduct}
 use Rattle.width_table.specs.Limits.{form-levels}
 use Rattle.width_table.specs.FormLists.{usedProducts, formLists}
 
@@ -28,9 +28,9 @@ zeros-test (a ∷ l) = ap₂ _&&_ (zero-test a) (zeros-test l)
 
 -- no more products are used than there are
 pub used-few : (t : WidthTable) → t .levels ≤ maxLevels → usedProducts t ≤ productBytes maxLevels
-used-few t h = go (t .five)
+used-few t h = go (t .«has_products»)
   where
-    go : (five : Bool) → elim five [ true ↦ productBytes (t .levels) | false ↦ 0 ] ≤ productBytes maxLevels
+    go : (hasProducts : Bool) → elim hasProducts [ true ↦ productBytes (t .levels) | false ↦ 0 ] ≤ productBytes maxLevels
     go true = omega arith
     go false = omega arith
 
@@ -126,10 +126,10 @@ module _ (t : WidthTable) (level pass node IB f : ℕ) where
   new = withWidth t level pass node IB f
 
   abbrev pub WidthChange : Answer Unit → WidthTable → Type 0
-  WidthChange answer gives = (answer ≡ changeable t level pass node IB f) × (gives ≡ tableAfterWidth t level pass node IB f)
+  WidthChange answer gives = (answer ≡ widthAnswer t level pass node IB f) × (gives ≡ tableAfterWidth t level pass node IB f)
 
   decided : (x : Bool) → formRight t && hasIt && widthRight IB f ≡ x → WidthChange (asks x 4 passed) (answered (asks x 4 passed) new t)
-  unfolding tableAfterWidth changeable
+  unfolding tableAfterWidth widthAnswer
   decided x e = (ap (λ (y : Bool). asks y 4 passed) (sym e), ap (λ (y : Bool). answered (asks y 4 passed) new t) (sym e))
 
   pub not-formed : formRight t ≡ false → WidthChange (refused (4, [])) t
@@ -149,10 +149,10 @@ module _ (t : WidthTable) (node F : ℕ) where
   with = withConstant t node F
 
   abbrev pub ConstantChange : Answer Unit → WidthTable → Type 0
-  ConstantChange answer gives = (answer ≡ constantChangeable t node F) × (gives ≡ tableAfterConstant t node F)
+  ConstantChange answer gives = (answer ≡ constantAnswer t node F) × (gives ≡ tableAfterConstant t node F)
 
   constant-decided : (x : Bool) → formRight t && between 1 nodesPerPass node && constantRight F ≡ x → ConstantChange (asks x 4 passed) (answered (asks x 4 passed) with t)
-  unfolding tableAfterConstant constantChangeable
+  unfolding tableAfterConstant constantAnswer
   constant-decided x e = (ap (λ (y : Bool). asks y 4 passed) (sym e), ap (λ (y : Bool). answered (asks y 4 passed) with t) (sym e))
 
   pub table-not-formed : formRight t ≡ false → ConstantChange (refused (4, [])) t
@@ -176,26 +176,26 @@ module _ (t : WidthTable) (level pass product fp : ℕ) where
   withIt = withProduct t level pass product fp
 
   abbrev pub ProductChange : Answer Unit → WidthTable → Type 0
-  ProductChange answer gives = (answer ≡ productChangeable t level pass product fp) × (gives ≡ tableAfterProduct t level pass product fp)
+  ProductChange answer gives = (answer ≡ productAnswer t level pass product fp) × (gives ≡ tableAfterProduct t level pass product fp)
 
-  product-decided : (x : Bool) → formRight t && t .five && has && productRight fp ≡ x → ProductChange (asks x 4 passed) (answered (asks x 4 passed) withIt t)
-  unfolding tableAfterProduct productChangeable
+  product-decided : (x : Bool) → formRight t && t .«has_products» && has && productRight fp ≡ x → ProductChange (asks x 4 passed) (answered (asks x 4 passed) withIt t)
+  unfolding tableAfterProduct productAnswer
   product-decided x e = (ap (λ (y : Bool). asks y 4 passed) (sym e), ap (λ (y : Bool). answered (asks y 4 passed) withIt t) (sym e))
 
   pub product-not-formed : formRight t ≡ false → ProductChange (refused (4, [])) t
-  product-not-formed e = product-decided false (first-fails (formRight t && t .five) has (productRight fp) (left-false (formRight t) (t .five) e))
+  product-not-formed e = product-decided false (first-fails (formRight t && t .«has_products») has (productRight fp) (left-false (formRight t) (t .«has_products») e))
 
-  pub no-products : t .five ≡ false → ProductChange (refused (4, [])) t
-  no-products e = product-decided false (first-fails (formRight t && t .five) has (productRight fp) (right-false (formRight t) (t .five) e))
+  pub no-products : t .«has_products» ≡ false → ProductChange (refused (4, [])) t
+  no-products e = product-decided false (first-fails (formRight t && t .«has_products») has (productRight fp) (right-false (formRight t) (t .«has_products») e))
 
   pub no-product : has ≡ false → ProductChange (refused (4, [])) t
-  no-product e = product-decided false (second-fails (formRight t && t .five) has (productRight fp) e)
+  no-product e = product-decided false (second-fails (formRight t && t .«has_products») has (productRight fp) e)
 
   pub no-product-width : productRight fp ≡ false → ProductChange (refused (4, [])) t
-  no-product-width e = product-decided false (third-fails (formRight t && t .five) has (productRight fp) e)
+  no-product-width e = product-decided false (third-fails (formRight t && t .«has_products») has (productRight fp) e)
 
-  pub product-changes : formRight t ≡ true → t .five ≡ true → has ≡ true → productRight fp ≡ true → ProductChange passed withIt
-  product-changes a b e f = product-decided true (all-hold (formRight t && t .five) has (productRight fp) (ap (λ (x : Bool). x && t .five) a ∙ b) e f)
+  pub product-changes : formRight t ≡ true → t .«has_products» ≡ true → has ≡ true → productRight fp ≡ true → ProductChange passed withIt
+  product-changes a b e f = product-decided true (all-hold (formRight t && t .«has_products») has (productRight fp) (ap (λ (x : Bool). x && t .«has_products») a ∙ b) e f)
 
 -- a right form has no more levels than a table may have
 pub few-levels : (t : WidthTable) → formRight t ≡ true → t .levels ≤ maxLevels

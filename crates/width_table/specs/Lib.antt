@@ -17,7 +17,7 @@
 --   ReadLaws, FormLaws, NameLaws, WriteLaws   the rules one by one, as the code goes through them
 --   RoundTrip  read and written, written and read; what a write leaves
 --   ChangeLaws what an accepted change leaves and keeps
---   Cases      worked cases
+--   WorkedBytes  worked cases
 --   WorkedTables  the tables that document 01 names, and some with widths of products, for the crates above
 pub mod Nodes
 pub mod Numbered
@@ -40,5 +40,5 @@ pub mod RoundTrip
 pub mod ChangeLaws
 pub mod WithoutProducts
 pub mod EarlierOrder
-pub mod Cases
+pub mod WorkedBytes
 pub mod WorkedTables

@@ -9,7 +9,7 @@ use lib.Dec.{T, leb, le→leb, eqb}
 use Rattle.numbers.specs.Tests.{between, every, both, four, and-intro, between-≤}
 use Rattle.numbers.specs.Lists.{In, here, there, in-left, in-right, every-in}
 use Rattle.width_table.specs.declared.WidthTable.{WidthTable}
-use Rattle.width_table.specs.Nodes.{productsPerPass, everyNode, Node, P1, U1, P2, U2, G1, G2, Pass, Rows, LowColumns, HighColumns, TableNode, nodeNumber, nodeAt, passNodes, levelNodes, bookOrder, passProducts, levelProducts, productOrder}
+use Rattle.width_table.specs.Nodes.{productsPerPass, everyNode, Node, P1, U1, P2, U2, G1, G2, Pass, Rows, LowColumns, HighColumns, TableNode, nodeNumber, nodeAt, passNodes, levelNodes, tableOrder, passProducts, levelProducts, productOrder}
 use Rattle.width_table.specs.Numbered.{nodeOf, passOf, IsNode, IsPass, IsProduct, node-number, pass-number}
 use Rattle.width_table.specs.Table.{maxDepth, maxLevels, maxConstantBits, maxIntegerBits, maxFractionBits, maxProductBits, constantRight, constantBits, integerBits, fractionBits, productWidth, inputBits, nodeRight, productHeld, formRight}
 use Rattle.width_table.specs.Readers.{constantBitsAt, integerBitsAt, fractionBitsAt, productWidthAt, cutAt, inputBitsAt, constant-bits, integer-bits, fraction-bits, product-width, input-bits}
@@ -56,8 +56,8 @@ module _ (order level : ℕ → List TableNode) (next : (k : ℕ) → order (suc
           in-right (order k) (subst (λ (j : ℕ). In x (level j)) e h)
 
 -- book order holds each pass and node of levels 1 to L
-pub in-order : (L l : ℕ) → 1 ≤ l → l ≤ L → (p : Pass) (n : Node) → In (nodeAt l p n) (bookOrder L)
-in-order L l a b p n = in-levels bookOrder levelNodes (λ k. refl) (nodeAt l p n) L l a b (in-level l p n)
+pub in-order : (L l : ℕ) → 1 ≤ l → l ≤ L → (p : Pass) (n : Node) → In (nodeAt l p n) (tableOrder L)
+in-order L l a b p n = in-levels tableOrder levelNodes (λ k. refl) (nodeAt l p n) L l a b (in-level l p n)
 
 -- and each product
 pub in-product-order : (L l : ℕ) → 1 ≤ l → l ≤ L → (p : Pass) (n : Node) → nodeNumber n ≤ productsPerPass → In (nodeAt l p n) (productOrder L)
@@ -86,14 +86,14 @@ held-right false fp u h = absurd u
 
 module _ (t : WidthTable) (form : T (formRight t)) where
   parts :
-      T (between 1 maxDepth (t .depth)) × T (between 1 maxLevels (t .levels)) × T (every (λ n. constantRight (constantBits t n)) everyNode) × T (every (nodeRight t) (bookOrder maxLevels))
+      T (between 1 maxDepth (t .depth)) × T (between 1 maxLevels (t .levels)) × T (every (λ n. constantRight (constantBits t n)) everyNode) × T (every (nodeRight t) (tableOrder maxLevels))
       × T (every (productHeld t) (productOrder maxLevels))
   unfolding formRight
   parts =
       let B = between 1 maxDepth (t .depth) in
       let L = between 1 maxLevels (t .levels) in
       let C = every (λ n. constantRight (constantBits t n)) everyNode in
-      let N = every (nodeRight t) (bookOrder maxLevels) in
+      let N = every (nodeRight t) (tableOrder maxLevels) in
       let (x, p) = both (B && L && C && N) (every (productHeld t) (productOrder maxLevels)) form in
       let (b, l, c, n) = four B L C N x in
       (b, l, c, n, p)
@@ -113,9 +113,9 @@ module _ (t : WidthTable) (form : T (formRight t)) where
       (every-in (nodeRight t) (in-order maxLevels l a (omega (arith, form-levels .1)) p n) (parts .3))
 
   -- the products of a table with tag 5 (document 02, job 7)
-  pub form-products : T (t .five) → (l : ℕ) → 1 ≤ l → l ≤ t .levels → (p : Pass) (n : Node) → nodeNumber n ≤ productsPerPass → productWidth t l p n ≤ maxProductBits
-  form-products five l a b p n h =
-      held-right (t .five && leb l (t .levels)) (productWidth t l p n) (and-intro (t .five) (leb l (t .levels)) five (le→leb l (t .levels) b))
+  pub form-products : T (t .«has_products») → (l : ℕ) → 1 ≤ l → l ≤ t .levels → (p : Pass) (n : Node) → nodeNumber n ≤ productsPerPass → productWidth t l p n ≤ maxProductBits
+  form-products hasProducts l a b p n h =
+      held-right (t .«has_products» && leb l (t .levels)) (productWidth t l p n) (and-intro (t .«has_products») (leb l (t .levels)) hasProducts (le→leb l (t .levels) b))
       (every-in (productHeld t) (in-product-order maxLevels l a (omega (arith, form-levels .1)) p n h) (parts .4))
 
   -- what enters a pass has no more fractional bits than a node may have
@@ -155,19 +155,19 @@ module _ (t : WidthTable) (form : T (formRight t)) where
         let m : nodeNumber (nodeOf k) ≤ productsPerPass = omega (arith, e) in
         (m, (λ u. productWidthAt t l (sym (pass-number p h) u) (sym e u)) ∙ product-width t l (passOf p) (nodeOf k) least few m)
 
-    pub product-read : T (t .five) → (p k : ℕ) → IsPass p → IsProduct k → (productWidthAt t l p k ≡ productWidth t l (passOf p) (nodeOf k)) × (productWidthAt t l p k ≤ maxProductBits)
-    product-read five p k h i =
+    pub product-read : T (t .«has_products») → (p k : ℕ) → IsPass p → IsProduct k → (productWidthAt t l p k ≡ productWidth t l (passOf p) (nodeOf k)) × (productWidthAt t l p k ≤ maxProductBits)
+    product-read hasProducts p k h i =
         let (m, e) = width-read p k h i in
-        (e, omega (arith, e, form-products five l least most (passOf p) (nodeOf k) m))
+        (e, omega (arith, e, form-products hasProducts l least most (passOf p) (nodeOf k) m))
 
     -- what a product is cut to, with tag 5 and without it
-    pub cut-read : (p k : ℕ) → IsPass p → IsProduct k → (cutAt t l p k ≡ elim (t .five) [ true ↦ productWidth t l (passOf p) (nodeOf k) | false ↦ maxProductBits ]) × (cutAt t l p k ≤ maxProductBits)
+    pub cut-read : (p k : ℕ) → IsPass p → IsProduct k → (cutAt t l p k ≡ elim (t .«has_products») [ true ↦ productWidth t l (passOf p) (nodeOf k) | false ↦ maxProductBits ]) × (cutAt t l p k ≤ maxProductBits)
     unfolding cutAt
     cut-read p k h i =
         let (m, e) = width-read p k h i in
-        (ap (λ (w : ℕ). elim (t .five) [ true ↦ w | false ↦ maxProductBits ]) e, limit (t .five) (productWidthAt t l p k) (λ five. product-read five p k h i .1))
+        (ap (λ (w : ℕ). elim (t .«has_products») [ true ↦ w | false ↦ maxProductBits ]) e, limit (t .«has_products») (productWidthAt t l p k) (λ hasProducts. product-read hasProducts p k h i .1))
       where
-        limit : (five : Bool) (w : ℕ) → (T five → w ≤ maxProductBits) → elim five [ true ↦ w | false ↦ maxProductBits ] ≤ maxProductBits
+        limit : (hasProducts : Bool) (w : ℕ) → (T hasProducts → w ≤ maxProductBits) → elim hasProducts [ true ↦ w | false ↦ maxProductBits ] ≤ maxProductBits
         limit true w h = h tt
         limit false w h = omega arith
 

@@ -12,7 +12,7 @@ use Rattle.numbers.specs.Tests.{between-≤}
 use Rattle.width_table.specs.Table.{maxLevels}
 use Rattle.width_table.specs.Fields.{depthTag, productsTag, tagRight, IsTag, tableSize, valueStart, valueLength}
 use Rattle.width_table.specs.Bytes.{levelsIn, hasFifth, form}
-use Rattle.width_table.specs.Names.{hasTag, nameable, naming, partAt}
+use Rattle.width_table.specs.Names.{hasTag, nameAnswer, naming, partAt}
 use Rattle.width_table.specs.BytesLaws.{form-long, levels-byte, levels-most}
 use Rattle.width_table.specs.ReadLaws.{value-ends, value-within, value-some}
 
@@ -27,7 +27,7 @@ module _ (bytes : List ℕ) (tag : ℕ) where
   there = hasTag bytes tag
 
   decided : (t : Bool) → tagRight tag ≡ t → (o : Answer Unit) → form bytes ≡ o → (h : Bool) → there ≡ h → naming bytes tag ≡ asks t 2 (o then asks h 2 passed) then done (start, long)
-  unfolding naming nameable
+  unfolding naming nameAnswer
   decided t e o f h g = λ u. asks (e u) 2 (f u then asks (g u) 2 passed) then done (start, long)
 
   pub name-wrong : tagRight tag ≡ false → naming bytes tag ≡ refused (2, [])
@@ -51,9 +51,9 @@ module _ (bytes : List ℕ) (tag : ℕ) where
     pub long : length (partAt bytes (naming bytes tag)) ≡ len
 
   pub valued : (from len : ℕ) → naming bytes tag ≡ done (from, len) → Valued from len
-  unfolding naming nameable
+  unfolding naming nameAnswer
   valued from len e =
-      let d = gives-done (nameable bytes tag) (start, long) e in
+      let d = gives-done (nameAnswer bytes tag) (start, long) e in
       let a = asks-done (tagRight tag) _ _ (d .0) in
       let b = then-done (form bytes) _ (a .1) in
       let t = asks-done there _ _ (b .1) in

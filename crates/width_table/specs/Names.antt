@@ -13,12 +13,12 @@ abbrev pub hasTag : List ℕ → ℕ → Bool
 hasTag bytes tag = leb tag nodesTag || hasFifth bytes
 
 -- The name is judged first (2), then the whole form (1 to 5), then whether tag 5 is there (2).
-unfoldable pub nameable : List ℕ → ℕ → Answer Unit
-nameable bytes tag = asks (tagRight tag) 2 (form bytes then asks (hasTag bytes tag) 2 passed)
+unfoldable pub nameAnswer : List ℕ → ℕ → Answer Unit
+nameAnswer bytes tag = asks (tagRight tag) 2 (form bytes then asks (hasTag bytes tag) 2 passed)
 
 -- the call's answer as a place in the caller's bytes: where the value starts, and its length
 unfoldable pub naming : List ℕ → ℕ → Answer (ℕ × ℕ)
-naming bytes tag = nameable bytes tag then done (valueStart (levelsIn bytes) tag, valueLength (levelsIn bytes) tag)
+naming bytes tag = nameAnswer bytes tag then done (valueStart (levelsIn bytes) tag, valueLength (levelsIn bytes) tag)
 
 -- the part of the caller's bytes that lies there: from its start, of its length; empty where the name is refused (no value is empty)
 abbrev pub partAt : List ℕ → Answer (ℕ × ℕ) → List ℕ

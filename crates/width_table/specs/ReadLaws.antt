@@ -129,7 +129,7 @@ unfoldable pub formAfter : ℕ → ℕ → List ℕ → Answer Unit
 formAfter L tag bytes = formBy (fieldsAfter (fifthAfter L tag bytes) L tag) bytes
 
 -- of a tag before the fourth: field by field
-module _ (L tag : ℕ) (bytes : List ℕ) (f : Field) (due : (five : Bool) → fieldsAfter five L tag ≡ f ∷ fieldsAfter five L (tag + 1)) where
+module _ (L tag : ℕ) (bytes : List ℕ) (f : Field) (due : (hasProducts : Bool) → fieldsAfter hasProducts L tag ≡ f ∷ fieldsAfter hasProducts L (tag + 1)) where
   pub after-refused : (r : Reason) → field f bytes ≡ refused r → formAfter L tag bytes ≡ refused r
   unfolding formAfter
   after-refused r e = ap (λ (fs : List Field). formBy fs bytes) (due (fifthAfter L tag bytes)) ∙ next-refused f bytes _ r e
@@ -138,8 +138,8 @@ module _ (L tag : ℕ) (bytes : List ℕ) (f : Field) (due : (five : Bool) → f
   unfolding formAfter
   after-read e =
       let rest = drop (headBytes + f .size) bytes in
-      let five : fifthAfter L tag bytes ≡ fifthAfter L (tag + 1) rest = ap (λ (fs : List Field). eqb (getD bytes (sizeOf fs) 0) productsTag) (due false) ∙ ap (λ (b : ℕ). eqb b productsTag) (sym (getD-drop (headBytes + f .size) bytes (sizeOf (fieldsAfter false L (tag + 1))) 0)) in
-      ap (λ (fs : List Field). formBy fs bytes) (due (fifthAfter L tag bytes)) ∙ next-read f bytes _ e ∙ ap (λ (b : Bool). formBy (fieldsAfter b L (tag + 1)) rest) five
+      let hasProducts : fifthAfter L tag bytes ≡ fifthAfter L (tag + 1) rest = ap (λ (fs : List Field). eqb (getD bytes (sizeOf fs) 0) productsTag) (due false) ∙ ap (λ (b : ℕ). eqb b productsTag) (sym (getD-drop (headBytes + f .size) bytes (sizeOf (fieldsAfter false L (tag + 1))) 0)) in
+      ap (λ (fs : List Field). formBy fs bytes) (due (fifthAfter L tag bytes)) ∙ next-read f bytes _ e ∙ ap (λ (b : Bool). formBy (fieldsAfter b L (tag + 1)) rest) hasProducts
 
 -- after the fourth: nothing, tag 5, or another byte (document 02, job 7)
 module _ (L : ℕ) (bytes : List ℕ) where
@@ -194,12 +194,12 @@ module _ (L : ℕ) where
 
   -- and ends where the table ends, or before: a table has tags 1 to 4, and it may have tag 5
   abbrev Ends : Bool → ℕ → Type 0
-  Ends five tag = valueStart L tag + valueLength L tag ≤ tableSize five L
+  Ends hasProducts tag = valueStart L tag + valueLength L tag ≤ tableSize hasProducts L
 
   pub value-ends : (tag : ℕ) → IsTag tag → Ends true tag
   value-ends = by-tag (Ends true) (omega arith) (omega arith) (omega arith) (omega arith) (omega arith)
 
-  pub value-within : (five : Bool) (tag : ℕ) → IsTag tag → T (leb tag nodesTag || five) → Ends five tag
+  pub value-within : (hasProducts : Bool) (tag : ℕ) → IsTag tag → T (leb tag nodesTag || hasProducts) → Ends hasProducts tag
   value-within true tag h k = value-ends tag h
   value-within false tag h k = by-tag (λ (tag : ℕ). T (leb tag nodesTag || false) → Ends false tag) (λ i. omega arith) (λ i. omega arith) (λ i. omega arith) (λ i. omega arith) (λ i. absurd i) tag h k
 

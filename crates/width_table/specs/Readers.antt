@@ -35,7 +35,7 @@ productWidthAt t level pass product = orZero (hasProduct maxLevels level pass pr
 
 -- the bits that a product is cut to: without tag 5 the limit, which no product of a right table is above
 unfoldable pub cutAt : WidthTable → ℕ → ℕ → ℕ → ℕ
-cutAt t level pass product = elim (t .five) [ true ↦ productWidthAt t level pass product | false ↦ maxProductBits ]
+cutAt t level pass product = elim (t .«has_products») [ true ↦ productWidthAt t level pass product | false ↦ maxProductBits ]
 
 -- f of what enters a pass
 unfoldable pub inputBitsAt : WidthTable → ℕ → ℕ → ℕ
@@ -95,11 +95,11 @@ product-width t l p n a b h = ap (λ (x : Bool). orZero x (productWidth t l p n)
 
 -- what a product is cut to, with tag 5 and without it
 module _ (t : WidthTable) (l p k : ℕ) where
-  pub cut-width : t .five ≡ true → cutAt t l p k ≡ productWidthAt t l p k
+  pub cut-width : t .«has_products» ≡ true → cutAt t l p k ≡ productWidthAt t l p k
   unfolding cutAt
   cut-width e = ap (λ (x : Bool). elim x [ true ↦ productWidthAt t l p k | false ↦ maxProductBits ]) e
 
-  pub cut-none : t .five ≡ false → cutAt t l p k ≡ maxProductBits
+  pub cut-none : t .«has_products» ≡ false → cutAt t l p k ≡ maxProductBits
   unfolding cutAt
   cut-none e = ap (λ (x : Bool). elim x [ true ↦ productWidthAt t l p k | false ↦ maxProductBits ]) e
 

@@ -16,14 +16,14 @@ use Rattle.width_table.specs.declared.WidthTable.{WidthTable}
 use Rattle.width_table.specs.Nodes.{nodesPerPass}
 use Rattle.width_table.specs.Table.{maxLevels, depthRight, levelsRight, constantRight, productRight, formRight}
 use Rattle.width_table.specs.Fields.{constantsTag, nodesTag, productsTag, nodeBytes, productBytes, widthsRight, tableSize, valueStart}
-use Rattle.width_table.specs.Bytes.{levelsIn, hasFifth, form, valueIn, productsIn, tableIn, tableRead, tableBytes, writable, writing, bytesAfter}
-use Rattle.width_table.specs.FormLists.{Sized, usedProducts, formLists, form-lists}
+use Rattle.width_table.specs.Bytes.{levelsIn, hasFifth, form, valueIn, productsIn, tableIn, tableRead, tableBytes, writeAnswer, writing, bytesAfter}
+use Rattle.width_table.specs.FormLists.{FullLists, usedProducts, formLists, form-lists}
 use Rattle.width_table.specs.BytesLaws.{form-done, form-long, four-there, depth-byte, levels-byte, levels-most, nodes-long, products-long, products-right, RightForm, right-form, read-written, form-written, bytes-length, written-read}
 use Rattle.width_table.specs.ReadLaws.{table-read}
 use Rattle.width_table.specs.WriteLaws.{table-written}
 
 -- the rules by lists make the form
-rules-form : (t : WidthTable) → Sized t → RightForm t → formRight t ≡ true
+rules-form : (t : WidthTable) → FullLists t → RightForm t → formRight t ≡ true
 unfolding formLists
 rules-form t s r =
     let a = depthRight (t .depth) in
@@ -33,8 +33,8 @@ rules-form t s r =
     let e = every (eqb 0) (drop (nodeBytes (t .levels)) (t .nodes)) in
     let f = every productRight (take (usedProducts t) (t .products)) in
     let g = every (eqb 0) (drop (usedProducts t) (t .products)) in
-    let five = and-intro (a && b && c && d) e (and-intro (a && b && c) d (and-intro (a && b) c (and-intro a b (r .depth) (r .levels)) (r .constants)) (r .widths)) (r .unused) in
-    form-lists t s ∙ is-true (formLists t) (and-intro (a && b && c && d && e && f) g (and-intro (a && b && c && d && e) f five (r .products)) (r .unused-products))
+    let hasProducts = and-intro (a && b && c && d) e (and-intro (a && b && c) d (and-intro (a && b) c (and-intro a b (r .depth) (r .levels)) (r .constants)) (r .widths)) (r .unused) in
+    form-lists t s ∙ is-true (formLists t) (and-intro (a && b && c && d && e && f) g (and-intro (a && b && c && d && e) f hasProducts (r .products)) (r .unused-products))
 
 -- ---- read, then written
 
@@ -49,26 +49,26 @@ module _ (bytes : List ℕ) (e : form bytes ≡ passed) where
   M = productBytes (levelsIn bytes)
 
   abbrev usedIn : Bool → ℕ
-  usedIn five = elim five [ true ↦ M | false ↦ 0 ]
+  usedIn hasProducts = elim hasProducts [ true ↦ M | false ↦ 0 ]
 
   abbrev rest : List ℕ
   rest = replicate (productBytes maxLevels - M) 0
 
   -- the products' numbers, with tag 5 and without it
-  record ProductsRead (five : Bool) : Type 0 where
-    pub sized : length (productsIn five bytes) ≡ productBytes maxLevels
-    pub right : T (every productRight (take (usedIn five) (productsIn five bytes)))
-    pub unused : T (every (eqb 0) (drop (usedIn five) (productsIn five bytes)))
+  record ProductsRead (hasProducts : Bool) : Type 0 where
+    pub sized : length (productsIn hasProducts bytes) ≡ productBytes maxLevels
+    pub right : T (every productRight (take (usedIn hasProducts) (productsIn hasProducts bytes)))
+    pub unused : T (every (eqb 0) (drop (usedIn hasProducts) (productsIn hasProducts bytes)))
 
-  products-read : (five : Bool) → hasFifth bytes ≡ five → ProductsRead five
+  products-read : (hasProducts : Bool) → hasFifth bytes ≡ hasProducts → ProductsRead hasProducts
   unfolding every
-  products-read true five =
+  products-read true hasProducts =
       let v = valueIn bytes productsTag in
       let few = levels-most bytes e in
-      let long = products-long bytes e five in
+      let long = products-long bytes e hasProducts in
       record {
         sized = length-append v rest ∙ omega (arith, long, length-replicate {A = ℕ} (productBytes maxLevels - M) 0);
-        right = subst (λ (l : List ℕ). T (every productRight l)) (sym (take-at v rest M long)) (products-right bytes e five);
+        right = subst (λ (l : List ℕ). T (every productRight l)) (sym (take-at v rest M long)) (products-right bytes e hasProducts);
         unused = subst (λ (l : List ℕ). T (every (eqb 0) l)) (sym (drop-at v rest M long)) (zeros-right (productBytes maxLevels - M));
       }
   products-read false none = record {
@@ -77,7 +77,7 @@ module _ (bytes : List ℕ) (e : form bytes ≡ passed) where
     unused = zeros-right (productBytes maxLevels);
   }
 
-  pub read-sized : Sized (tableIn bytes)
+  pub read-sized : FullLists (tableIn bytes)
   unfolding tableIn
   read-sized =
       let few = levels-most bytes e in
@@ -112,9 +112,9 @@ module _ (bytes : List ℕ) (e : form bytes ≡ passed) where
 
 -- ---- written, then read
 
-module _ (t : WidthTable) (s : Sized t) where
+module _ (t : WidthTable) (s : FullLists t) where
   abbrev size : ℕ
-  size = tableSize (t .five) (t .levels)
+  size = tableSize (t .«has_products») (t .levels)
 
   right : formRight t ≡ true → RightForm t
   right h = right-form t s (subst T (sym h) tt)
@@ -138,10 +138,10 @@ module _ (t : WidthTable) (s : Sized t) where
 
   -- whatever the answer
   pub past-kept : (lent : List ℕ) → drop size (bytesAfter t lent) ≡ drop size lent
-  unfolding bytesAfter writable
-  past-kept lent = go (writable t lent) refl
+  unfolding bytesAfter writeAnswer
+  past-kept lent = go (writeAnswer t lent) refl
     where
-      go : (o : Answer Unit) → writable t lent ≡ o → drop size (answered o (over (tableBytes t) lent) lent) ≡ drop size lent
+      go : (o : Answer Unit) → writeAnswer t lent ≡ o → drop size (answered o (over (tableBytes t) lent) lent) ≡ drop size lent
       go (done a) e =
           let long = bytes-length t s (right-form t s (asks-done (formRight t) _ _ e .0)) in
           drop-at (tableBytes t) (drop (length (tableBytes t)) lent) size long ∙ ap (λ (n : ℕ). drop n lent) long

@@ -6,7 +6,7 @@ use lib.Dec.{leb, eqb}
 use lib.ListN.{getD}
 use Rattle.numbers.specs.Tests.{between, every}
 use Rattle.width_table.specs.declared.WidthTable.{WidthTable}
-use Rattle.width_table.specs.Nodes.{nodesPerPass, passesPerLevel, productsPerPass, everyNode, Node, G1, G2, Pass, Rows, LowColumns, HighColumns, TableNode, passNumber, nodeNumber, bookOrder, productOrder}
+use Rattle.width_table.specs.Nodes.{nodesPerPass, passesPerLevel, productsPerPass, everyNode, Node, G1, G2, Pass, Rows, LowColumns, HighColumns, TableNode, passNumber, nodeNumber, tableOrder, productOrder}
 
 -- ---- limits
 
@@ -107,7 +107,7 @@ nodeRight t p =
 abbrev pub productHeld : WidthTable → TableNode → Bool
 productHeld t p =
     let fp = productWidth t (p .level) (p .pass) (p .node) in
-    elim (t .five && leb (p .level) (t .levels)) [
+    elim (t .«has_products» && leb (p .level) (t .levels)) [
       | true ↦ productRight fp
       | false ↦ eqb fp 0
     ]
@@ -117,5 +117,5 @@ formRight t =
     depthRight (t .depth)
     && levelsRight (t .levels)
     && every (λ n. constantRight (constantBits t n)) everyNode
-    && every (nodeRight t) (bookOrder maxLevels)
+    && every (nodeRight t) (tableOrder maxLevels)
     && every (productHeld t) (productOrder maxLevels)

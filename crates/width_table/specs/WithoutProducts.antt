@@ -15,9 +15,9 @@ use Rattle.width_table.specs.declared.WidthTable.{WidthTable}
 use Rattle.width_table.specs.Table.{maxLevels, formRight}
 use Rattle.width_table.specs.Fields.{depthTag, levelsTag, nodesTag, productsTag, tagRight, headBytes, Field, productBytes, fixedFields, lastFields, fields, startOf, tableSize, bytesOf}
 use Rattle.width_table.specs.Bytes.{headed, field, formBy, levelsIn, hasFifth, form, productsIn, tableIn, tableBytes}
-use Rattle.width_table.specs.Names.{nameable}
+use Rattle.width_table.specs.Names.{nameAnswer}
 use Rattle.width_table.specs.EarlierForms.{formWithout, nameableWithout}
-use Rattle.width_table.specs.FormLists.{Sized}
+use Rattle.width_table.specs.FormLists.{FullLists}
 use Rattle.width_table.specs.BytesLaws.{FieldAt, field-done, field-right, right-from, right-long, right-form, bytes-length}
 use Rattle.width_table.specs.ReadLaws.{more-follows}
 
@@ -67,7 +67,7 @@ module _ (bytes : List ℕ) where
 
   -- Where it is 5, the answer was a refusal.
   pub was-refused : hasFifth bytes ≡ true → formWithout bytes ≡ passed → ⊥
-  was-refused five e = subst T (sym (sym (none-after e) ∙ five)) tt
+  was-refused hasProducts e = subst T (sym (sym (none-after e) ∙ hasProducts)) tt
 
   -- Of the answers of before none but 5 became another.
   pub only-five : (formWithout bytes ≡ refused (5, []) → ⊥) → form bytes ≡ formWithout bytes
@@ -75,11 +75,11 @@ module _ (bytes : List ℕ) where
   only-five h = go (hasFifth bytes) refl
     where
       go : (b : Bool) → hasFifth bytes ≡ b → form bytes ≡ formWithout bytes
-      go true five = front-refused (fields false (levelsIn bytes)) (lastFields (hasFifth bytes) (levelsIn bytes)) bytes (was-refused five) h
+      go true hasProducts = front-refused (fields false (levelsIn bytes)) (lastFields (hasFifth bytes) (levelsIn bytes)) bytes (was-refused hasProducts) h
       go false none = reads-as-before none
 
   -- Bytes that were right are right, and hold a table without tag 5, with zeros for products.
-  pub right-as-before : formWithout bytes ≡ passed → (form bytes ≡ passed) × (tableIn bytes .five ≡ false) × (tableIn bytes .products ≡ replicate (productBytes maxLevels) 0)
+  pub right-as-before : formWithout bytes ≡ passed → (form bytes ≡ passed) × (tableIn bytes .«has_products» ≡ false) × (tableIn bytes .products ≡ replicate (productBytes maxLevels) 0)
   unfolding tableIn
   right-as-before e = (reads-as-before (none-after e) ∙ e, none-after e, ap (λ (b : Bool). productsIn b bytes) (none-after e))
 
@@ -91,8 +91,8 @@ module _ (bytes : List ℕ) where
 
   module _ (tag : ℕ) where
     -- tags 1 to 4, which every table has, are answered by the form
-    pub four-names : T (between depthTag nodesTag tag) → nameable bytes tag ≡ form bytes
-    unfolding nameable
+    pub four-names : T (between depthTag nodesTag tag) → nameAnswer bytes tag ≡ form bytes
+    unfolding nameAnswer
     four-names h =
         let (least, most) = between-≤ depthTag nodesTag tag h in
         asks-right (tagRight tag) _ _ (to-between depthTag productsTag tag least (omega arith))
@@ -100,8 +100,8 @@ module _ (bytes : List ℕ) where
         ∙ then-passed (form bytes)
 
     -- every tag but 5, which was 2 before the form was judged
-    pub names-as-before : hasFifth bytes ≡ false → (tag ≡ productsTag → ⊥) → nameable bytes tag ≡ nameableWithout bytes tag
-    unfolding nameable nameableWithout
+    pub names-as-before : hasFifth bytes ≡ false → (tag ≡ productsTag → ⊥) → nameAnswer bytes tag ≡ nameableWithout bytes tag
+    unfolding nameAnswer nameableWithout
     names-as-before none other =
         by-leb (λ (b : Bool). asks (leb depthTag tag && leb tag productsTag) 2 (form bytes then asks (b || hasFifth bytes) 2 passed) ≡ asks (leb depthTag tag && b) 2 (formWithout bytes)) tag nodesTag
         (λ h. ap (λ (b : Bool). asks (leb depthTag tag && b) 2 (form bytes then passed)) (le-leb tag productsTag (omega arith)) ∙ ap (asks (leb depthTag tag && true) 2) (then-passed (form bytes) ∙ reads-as-before none))
@@ -116,23 +116,23 @@ module _ (bytes : List ℕ) where
 
     -- What stands where a tag is named, and where not, is the same for every tag where the form is answered as before: tag 5 is named in
     -- none of these bytes.
-    pub named-as-before : form bytes ≡ formWithout bytes → {B : Type 0} (x y : B) → answered (nameable bytes tag) x y ≡ answered (nameableWithout bytes tag) x y
-    unfolding nameable nameableWithout
+    pub named-as-before : form bytes ≡ formWithout bytes → {B : Type 0} (x y : B) → answered (nameAnswer bytes tag) x y ≡ answered (nameableWithout bytes tag) x y
+    unfolding nameAnswer nameableWithout
     named-as-before same {B} x y =
         by-leb (λ (b : Bool). answered (asks (leb depthTag tag && leb tag productsTag) 2 (form bytes then asks (b || hasFifth bytes) 2 passed)) x y ≡ answered (asks (leb depthTag tag && b) 2 (formWithout bytes)) x y) tag nodesTag
         (λ h. (λ u. answered (asks (leb depthTag tag && le-leb tag productsTag (omega arith) u) 2 ((then-passed (form bytes) ∙ same) u)) x y))
         (λ h. judged-none (leb depthTag tag && leb tag productsTag) _ (fifth-none (hasFifth bytes) refl) ∙ sym (no-name (leb depthTag tag) (formWithout bytes)))
       where
         never-read : hasFifth bytes ≡ true → (o : Answer Unit) → form bytes ≡ o → answered (o then passed) x y ≡ y
-        never-read five (done u) e = absurd (was-refused five (sym same ∙ e))
-        never-read five (refused r) e = refl
+        never-read hasProducts (done u) e = absurd (was-refused hasProducts (sym same ∙ e))
+        never-read hasProducts (refused r) e = refl
 
         lacking : (o : Answer Unit) → answered (o then asks false 2 passed) x y ≡ y
         lacking (done tt) = refl
         lacking (refused r) = refl
 
-        fifth-none : (five : Bool) → hasFifth bytes ≡ five → answered (form bytes then asks five 2 passed) x y ≡ y
-        fifth-none true five = never-read five (form bytes) refl
+        fifth-none : (hasProducts : Bool) → hasFifth bytes ≡ hasProducts → answered (form bytes then asks hasProducts 2 passed) x y ≡ y
+        fifth-none true hasProducts = never-read hasProducts (form bytes) refl
         fifth-none false none = lacking (form bytes)
 
         judged-none : (b : Bool) (o : Answer Unit) → answered o x y ≡ y → answered (asks b 2 o) x y ≡ y
@@ -207,7 +207,7 @@ module _ (bytes : List ℕ) (e : formWithout bytes ≡ passed) where
 -- ---- writing
 
 -- A table without tag 5 has the bytes of before, 20 + 36 L of them.
-pub writes-as-before : (t : WidthTable) → t .five ≡ false → (tableBytes t ≡ bytesOf (fields false (t .levels)) t) × (Sized t → formRight t ≡ true → length (tableBytes t) ≡ 20 + 36 * t .levels)
+pub writes-as-before : (t : WidthTable) → t .«has_products» ≡ false → (tableBytes t ≡ bytesOf (fields false (t .levels)) t) × (FullLists t → formRight t ≡ true → length (tableBytes t) ≡ 20 + 36 * t .levels)
 unfolding tableBytes
 writes-as-before t none =
     (ap (λ (b : Bool). bytesOf (fields b (t .levels)) t) none, λ s h. bytes-length t s (right-form t s (subst T (sym h) tt)) ∙ ap (λ (b : Bool). tableSize b (t .levels)) none ∙ omega arith)

@@ -34,7 +34,7 @@ table B L inner last = record {
   levels = L;
   constants = 24 ∷ 24 ∷ 24 ∷ 24 ∷ 24 ∷ 24 ∷ [];
   nodes = repeat (L - 1) inner ++ last ++ repeat (maxLevels - L) (level 0 0 0 0 0);
-  five = false;
+  «has_products» = false;
   products = noProducts maxLevels;
 }
 
@@ -66,7 +66,7 @@ wide = table 8 1 [] (level 12 13 2 2 20)
 
 -- a table with tag 5 and these widths of products
 abbrev pub holding : WidthTable → List ℕ → WidthTable
-holding t widths = record { depth = t .depth; levels = t .levels; constants = t .constants; nodes = t .nodes; five = true; products = widths }
+holding t widths = record { depth = t .depth; levels = t .levels; constants = t .constants; nodes = t .nodes; «has_products» = true; products = widths }
 
 -- the usual table of L levels with tag 5: in each pass these four widths
 abbrev pub cut : ℕ → List ℕ → WidthTable
@@ -74,4 +74,4 @@ cut L widths = holding (usual L) (repeat (passesPerLevel * L) widths ++ noProduc
 
 -- without tag 5 a width is held nevertheless
 abbrev pub stray : WidthTable
-stray = record { depth = 8; levels = 1; constants = usual 1 .constants; nodes = usual 1 .nodes; five = false; products = 1 ∷ 0 ∷ 0 ∷ 0 ∷ repeat 14 (four 0) }
+stray = record { depth = 8; levels = 1; constants = usual 1 .constants; nodes = usual 1 .nodes; «has_products» = false; products = 1 ∷ 0 ∷ 0 ∷ 0 ∷ repeat 14 (four 0) }

@@ -13,8 +13,8 @@ use Rattle.refusals.specs.Answers.{Answer, done, refused, passed, asks, _then_,
 use Rattle.width_table.specs.declared.WidthTable.{WidthTable}
 use Rattle.width_table.specs.Table.{maxLevels, formRight}
 use Rattle.width_table.specs.Fields.{depthTag, levelsTag, constantsTag, nodesTag, productsTag, IsTag, headBytes, Field, nodeBytes, productBytes, nodesField, productsField, fields, fieldOf, tableSize, valueStart, valueLength, fieldBytes, bytesOf}
-use Rattle.width_table.specs.Bytes.{tableBytes, writable, writing, bytesAfter}
-use Rattle.width_table.specs.FormLists.{Sized}
+use Rattle.width_table.specs.Bytes.{tableBytes, writeAnswer, writing, bytesAfter}
+use Rattle.width_table.specs.FormLists.{FullLists}
 use Rattle.width_table.specs.ReadLaws.{tag-is, start-after}
 
 -- ---- the rules
@@ -25,14 +25,14 @@ Writes t lent answer left = (answer ≡ writing t lent) × (left ≡ bytesAfter 
 
 module _ (t : WidthTable) (lent : List ℕ) where
   abbrev size : ℕ
-  size = tableSize (t .five) (t .levels)
+  size = tableSize (t .«has_products») (t .levels)
 
-  decided : (o : Answer Unit) → writable t lent ≡ o → Writes t lent (o then done size) (answered o (over (tableBytes t) lent) lent)
+  decided : (o : Answer Unit) → writeAnswer t lent ≡ o → Writes t lent (o then done size) (answered o (over (tableBytes t) lent) lent)
   unfolding writing bytesAfter
   decided o e = (sym (ap (λ (p : Answer Unit). p then done size) e), sym (ap (λ (p : Answer Unit). answered p (over (tableBytes t) lent) lent) e))
 
-  rules : (x y : Bool) → formRight t ≡ x → leb size (length lent) ≡ y → writable t lent ≡ asks x 4 (asks y 9 passed)
-  unfolding writable
+  rules : (x y : Bool) → formRight t ≡ x → leb size (length lent) ≡ y → writeAnswer t lent ≡ asks x 4 (asks y 9 passed)
+  unfolding writeAnswer
   rules x y e f = ap₂ (λ (a b : Bool). asks a 4 (asks b 9 passed)) e f
 
   pub not-formed : formRight t ≡ false → Writes t lent (refused (4, [])) lent
@@ -64,7 +64,7 @@ field-put L tag h n start value e a b long fits i j =
     ∙ put-both e head value (n - headBytes) (omega arith)
     ∙ (λ u. paste e (start u - headBytes) (sym (tag-is L tag h) u ∷ long u / 256 ∷ long u % 256 ∷ value) (whole u))
 
-module _ (t : WidthTable) (s : Sized t) where
+module _ (t : WidthTable) (s : FullLists t) where
   abbrev L : ℕ
   L = t .levels
 
@@ -72,8 +72,8 @@ module _ (t : WidthTable) (s : Sized t) where
   abbrev four : List ℕ
   four = bytesOf (fields false L) t
 
-  abbrev five : List ℕ
-  five = bytesOf (fields true L) t
+  abbrev hasProducts : List ℕ
+  hasProducts = bytesOf (fields true L) t
 
   abbrev used : List ℕ
   used = take (nodeBytes L) (t .nodes)
@@ -105,7 +105,7 @@ module _ (t : WidthTable) (s : Sized t) where
       d′ ∙ ap (λ (l : List ℕ). over (w1 ++ w2 ++ fieldBytes (f constantsTag) (t .constants ++ fieldBytes (f nodesTag) l)) e) (sym (append-nil used))
 
   -- and the fifth after them
-  pub five-put : L ≤ maxLevels → (e a b : List ℕ) → a ≡ over four e → b ≡ placed L productsTag products a → b ≡ over five e
+  pub five-put : L ≤ maxLevels → (e a b : List ℕ) → a ≡ over four e → b ≡ placed L productsTag products a → b ≡ over hasProducts e
   five-put few e a b h i =
       let w4 : List ℕ = fieldBytes (nodesField L) (used ++ []) in
       let w5 : List ℕ = fieldBytes (productsField L) products in
@@ -118,6 +118,6 @@ module _ (t : WidthTable) (s : Sized t) where
       ∙ (λ u. over (take (valueStart L constantsTag) four ++ (t .constants ++ fieldBytes (nodesField L) (append-nil used u ++ fieldBytes (productsField L) (sym (append-nil products) u)))) e)
 
   -- the whole table, with tag 5 and without it
-  pub all-put : (x : Bool) → t .five ≡ x → (e l : List ℕ) → l ≡ over (bytesOf (fields x L) t) e → l ≡ over (tableBytes t) e
+  pub all-put : (x : Bool) → t .«has_products» ≡ x → (e l : List ℕ) → l ≡ over (bytesOf (fields x L) t) e → l ≡ over (tableBytes t) e
   unfolding tableBytes
   all-put x h e l i = i ∙ ap (λ (y : Bool). over (bytesOf (fields y L) t) e) (sym h)

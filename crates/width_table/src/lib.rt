@@ -17,7 +17,7 @@ ghost use Rattle.width_table.specs.Table.{maxLevels, depthRight, levelsR
 ghost use Rattle.width_table.specs.Fields.{depthTag, levelsTag, constantsTag, nodesTag, productsTag, IsTag, headBytes, nodeBytes, productBytes, widthsRight, fields, fieldsAfter, fieldOf, tableSize, valueStart, valueLength, bytesOf};
 ghost use Rattle.width_table.specs.Bytes.{headed, field, formBy, levelsIn, hasFifth, form, productsIn, tableRead, emptyTable, tableIn, tableBytes, writing, bytesAfter};
 ghost use Rattle.width_table.specs.Names.{hasTag, naming, partAt};
-ghost use Rattle.width_table.specs.Changes.{hasNode, changeable, tableAfterWidth, constantChangeable, tableAfterConstant, hasProduct, productChangeable, tableAfterProduct};
+ghost use Rattle.width_table.specs.Changes.{hasNode, widthAnswer, tableAfterWidth, constantAnswer, tableAfterConstant, hasProduct, productAnswer, tableAfterProduct};
 ghost use Rattle.width_table.specs.Told.{toldWritten, toldNamed};
 ghost use Rattle.width_table.specs.Readers.{constantBitsAt, integerBitsAt, fractionBitsAt, productWidthAt, inputBitsAt};
 ghost use Rattle.width_table.specs.FormLists.{usedProducts};
@@ -26,14 +26,14 @@ ghost use Rattle.width_table.specs.WriteLaws.{placed};
 
 // A width table. Level l, pass p and node k, counted from 1, have their integer bits at place
 // ((l - 1) * PASSES + (p - 1)) * PASS_BYTES + (k - 1) * WIDTH_BYTES of `nodes` and their fractional bits after them; places of unused
-// levels hold 0. `five` says whether the table has tag 5; where it has, the product of P1, U1, P2, U2, counted from 1, has its width at
+// levels hold 0. `has_products` says whether the table has tag 5; where it has, the product of P1, U1, P2, U2, counted from 1, has its width at
 // place ((l - 1) * PASSES + (p - 1)) * PRODUCTS + (k - 1) of `products`; all other places there hold 0.
 pub struct WidthTable {
     pub depth: u8,
     pub levels: u8,
     pub constants: [u8; WidthTable::CONSTANTS],
     pub nodes: [u8; WidthTable::NODE_BYTES],
-    pub five: bool,
+    pub has_products: bool,
     pub products: [u8; WidthTable::PRODUCT_BYTES],
 }
 
@@ -407,10 +407,10 @@ fn products_of(bytes: &[u8], n: usize) -> [u8; WidthTable::PRODUCT_BYTES]
 }
 
 // How many bytes a table of so many levels has, with tag 5 or without it: they end with the last tag's value.
-fn table_size(five: bool, levels: u8) -> usize
-    ensures { λ r. ⌜ r ≡ tableSize five levels ⌝ }
+fn table_size(has_products: bool, levels: u8) -> usize
+    ensures { λ r. ⌜ r ≡ tableSize «has_products» levels ⌝ }
 {
-    if five {
+    if has_products {
         return value_start(levels, WidthTable::PRODUCTS_TAG)
             + value_length(levels, WidthTable::PRODUCTS_TAG);
     }
@@ -463,9 +463,9 @@ fn table_of(bytes: &[u8]) -> WidthTable
         &bytes[nodes_at..],
         value_length(levels, WidthTable::NODES_TAG),
     );
-    let five = has_fifth(bytes);
+    let has_products = has_fifth(bytes);
     let products = products_in(bytes);
-    WidthTable::new(depth, levels, constants, nodes, five, products)
+    WidthTable::new(depth, levels, constants, nodes, has_products, products)
 }
 
 impl WidthTable {
@@ -475,17 +475,17 @@ impl WidthTable {
         levels: u8,
         constants: [u8; WidthTable::CONSTANTS],
         nodes: [u8; WidthTable::NODE_BYTES],
-        five: bool,
+        has_products: bool,
         products: [u8; WidthTable::PRODUCT_BYTES],
     ) -> WidthTable
-        ensures { λ r. ⌜ r ≡ record { depth = depth; levels = levels; constants = constants; nodes = nodes; five = five; products = products } ⌝ }
+        ensures { λ r. ⌜ r ≡ record { depth = depth; levels = levels; constants = constants; nodes = nodes; «has_products» = «has_products»; products = products } ⌝ }
     {
         WidthTable {
             depth,
             levels,
             constants,
             nodes,
-            five,
+            has_products,
             products,
         }
     }
@@ -572,7 +572,7 @@ impl WidthTable {
     fn used_products(self) -> usize
         ensures { λ r. ⌜ r ≡ usedProducts self ⌝ }
     {
-        if self.five {
+        if self.has_products {
             return WidthTable::LEVEL_PRODUCTS * (self.levels as usize);
         }
         0
@@ -663,7 +663,7 @@ impl WidthTable {
         integer: u8,
         fraction: u8,
     ) -> TableAnswer
-        ensures outcome { λ r. ⌜ told (r .outcome) ≡ changeable self level pass node integer fraction ⌝ }
+        ensures outcome { λ r. ⌜ told (r .outcome) ≡ widthAnswer self level pass node integer fraction ⌝ }
         ensures table { λ r. ⌜ r .table ≡ tableAfterWidth self level pass node integer fraction ⌝ }
     {
         if self.form_right() {} else {
@@ -696,7 +696,7 @@ impl WidthTable {
 
     // The table with one constant's bits changed; the old one where the change is refused.
     pub fn with_constant(mut self, node: u8, bits: u8) -> TableAnswer
-        ensures outcome { λ r. ⌜ told (r .outcome) ≡ constantChangeable self node bits ⌝ }
+        ensures outcome { λ r. ⌜ told (r .outcome) ≡ constantAnswer self node bits ⌝ }
         ensures table { λ r. ⌜ r .table ≡ tableAfterConstant self node bits ⌝ }
     {
         if self.form_right() {} else {
@@ -726,7 +726,7 @@ impl WidthTable {
 
     // The table with one product's width changed; the old one where the change is refused, as it is without tag 5.
     pub fn with_product(mut self, level: u8, pass: u8, product: u8, bits: u8) -> TableAnswer
-        ensures outcome { λ r. ⌜ told (r .outcome) ≡ productChangeable self level pass product bits ⌝ }
+        ensures outcome { λ r. ⌜ told (r .outcome) ≡ productAnswer self level pass product bits ⌝ }
         ensures table { λ r. ⌜ r .table ≡ tableAfterProduct self level pass product bits ⌝ }
     {
         if self.form_right() {} else {
@@ -735,7 +735,7 @@ impl WidthTable {
                 table: self,
             };
         }
-        if self.five {} else {
+        if self.has_products {} else {
             return TableAnswer {
                 outcome: Outcome::Refused(Refusal::OutsideLimits),
                 table: self,
@@ -866,11 +866,11 @@ fn put_four(table: WidthTable, lent: &mut [u8])
 
 // The bytes of the whole table: these, and tag 5 where the table has it.
 fn put_table(table: WidthTable, lent: &mut [u8])
-    requires { ⌜ (table .levels ≤ maxLevels) × (tableSize (table .five) (table .levels) ≤ length (now lent)) ⌝ }
+    requires { ⌜ (table .levels ≤ maxLevels) × (tableSize (table .«has_products») (table .levels) ≤ length (now lent)) ⌝ }
     ensures { λ _. ⌜ now (lent .exit) ≡ over (tableBytes table) (now (lent .entry)) ⌝ }
 {
     put_four(table, lent);
-    if table.five {
+    if table.has_products {
         let products = table.products;
         let n = WidthTable::LEVEL_PRODUCTS * (table.levels as usize);
         put_field(lent, table.levels, WidthTable::PRODUCTS_TAG, &products[..n]);
@@ -886,7 +886,7 @@ impl WidthTable {
         if self.form_right() {} else {
             return Written::NotWritten(Refusal::OutsideLimits);
         }
-        let n = table_size(self.five, self.levels);
+        let n = table_size(self.has_products, self.levels);
         if lent.len() < n {
             return Written::NotWritten(Refusal::SliceTooShort);
         }

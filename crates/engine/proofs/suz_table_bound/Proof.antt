@@ -4,7 +4,7 @@ use Rattle.refusals.specs.Told.{told}
 use Rattle.refusals.specs.AnswerLaws.{answered-done}
 use Rattle.width_table.specs.declared.WidthTable.{WidthTable}
 use Rattle.width_table.specs.ReadLaws.{table-read}
-use Rattle.precision.specs.BoundCalls.{boundable, rangeTold, errorTold}
+use Rattle.precision.specs.BoundCalls.{boundAnswer, rangeTold, errorTold}
 use Rattle.engine.specs.AnswerLaws.{bound-unread, bound-read}
 use borrow.Author.Needs.{needs}
 use Rattle.engine.proofs.suz_table_bound.Statement.{statement}
@@ -27,7 +27,7 @@ returns-2 c =
     let b = a .table .now in
     let right = sym (v .read .ensures .0) ∙ ap told (t .enum-told .given .1) in
     let n = v .read .ensures .1 ∙ table-read b right in
-    let g = bound-read b (a .level) (a .pass) (a .node) (a .range .now) (a .error .now) right _ (sym (ap (λ (x : WidthTable). boundable x (a .level) (a .pass) (a .node)) n) ∙ sym (w .bound-of .ensures .0) ∙ ap told (c .before .before .answer .given .1)) in
+    let g = bound-read b (a .level) (a .pass) (a .node) (a .range .now) (a .error .now) right _ (sym (ap (λ (x : WidthTable). boundAnswer x (a .level) (a .pass) (a .node)) n) ∙ sym (w .bound-of .ensures .0) ∙ ap told (c .before .before .answer .given .1)) in
     (c .refusal-code2 .ensures ∙ sym (ap code (g .answers)), (g .leaves-range, g .leaves-error))
 
 returns-3 : tie.Need-returns-3
@@ -39,7 +39,7 @@ returns-3 c =
     let b = a .table .now in
     let right = sym (v .read .ensures .0) ∙ ap told (t .enum-told .given .1) in
     let n = v .read .ensures .1 ∙ table-read b right in
-    let answer = sym (ap (λ (x : WidthTable). boundable x (a .level) (a .pass) (a .node)) n) ∙ sym (w .bound-of .ensures .0) ∙ ap told (c .enum-told2 .given .1) in
+    let answer = sym (ap (λ (x : WidthTable). boundAnswer x (a .level) (a .pass) (a .node)) n) ∙ sym (w .bound-of .ensures .0) ∙ ap told (c .enum-told2 .given .1) in
     let g = bound-read b (a .level) (a .pass) (a .node) (a .range .now) (a .error .now) right _ answer in (
       sym (ap code (g .answers)),
       (

@@ -2,7 +2,7 @@ use mathlib.Core.Path.{sym, _∙_, ap}
 use Rattle.refusals.specs.Answers.{code}
 use Rattle.refusals.specs.Told.{told}
 use Rattle.width_table.specs.declared.WidthTable.{WidthTable}
-use Rattle.width_table.specs.Changes.{constantChangeable, tableAfterConstant}
+use Rattle.width_table.specs.Changes.{constantAnswer, tableAfterConstant}
 use Rattle.width_table.specs.ReadLaws.{table-read}
 use Rattle.engine.specs.AnswerLaws.{change-unread, constant-changed}
 use borrow.Author.Needs.{needs}
@@ -27,7 +27,7 @@ returns-2 c =
     let b = a .table .now in
     let right = sym (v .read .ensures .0) ∙ ap told (t .enum-told .given .1) in
     let n = v .read .ensures .1 ∙ table-read b right in
-    let g = constant-changed b (a .out .now) right _ _ (a .node) (a .bits) (w .with-constant .ensures .0 ∙ ap (λ (x : WidthTable). constantChangeable x (a .node) (a .bits)) n) (w .with-constant .ensures .1 ∙ ap (λ (x : WidthTable). tableAfterConstant x (a .node) (a .bits)) n) in
+    let g = constant-changed b (a .out .now) right _ _ (a .node) (a .bits) (w .with-constant .ensures .0 ∙ ap (λ (x : WidthTable). constantAnswer x (a .node) (a .bits)) n) (w .with-constant .ensures .1 ∙ ap (λ (x : WidthTable). tableAfterConstant x (a .node) (a .bits)) n) in
     (x .change-written .ensures .0 ∙ sym (ap code (g .answers)), x .change-written .ensures .1 ∙ g .leaves)
 
 pub suz-table-change-constant-spec : {M : Type 1} → statement M

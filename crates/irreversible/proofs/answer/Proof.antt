@@ -2,7 +2,7 @@ use mathlib.Core.Path.{sym, _∙_, ap}
 use Rattle.refusals.specs.Told.{told}
 use lib.ListN.{length}
 use Rattle.refusals.specs.AnswerLaws.{then-right, then-refused}
-use Rattle.pictures.specs.PictureLaws.{sized, sized-then, sized-done}
+use Rattle.pictures.specs.PictureLaws.{roomAnswer, sized-then, sized-done}
 use Rattle.precision.specs.Verdict.{verdict}
 use Rattle.width_table.specs.Limits.{form-depth}
 use Rattle.precision.specs.Promise.{promise}
@@ -35,7 +35,7 @@ returns-2 c =
     let a = j .before .before .args in
     sym (then-right (verdict (a .table)) _ (sym (j .judge .ensures) ∙ ap told (m .before .enum-told .given .1))
     ∙ sized-then (a .w) (a .h) (length (a .pixels .now)) (a .second) (a .third) _
-    ∙ then-refused (sized (a .w) (a .h) (length (a .pixels .now)) (a .second) (a .third)) _ _ (sym (m .room-right .ensures) ∙ ap told (c .before .why2 .given .1)))
+    ∙ then-refused (roomAnswer (a .w) (a .h) (length (a .pixels .now)) (a .second) (a .third)) _ _ (sym (m .room-right .ensures) ∙ ap told (c .before .why2 .given .1)))
 
 returns-3 : tie.Need-returns-3
 unfolding answerOf
@@ -46,7 +46,7 @@ returns-3 c =
     c .pixels-right .ensures
     ∙ sym (then-right (verdict (a .table)) _ (sym (j .judge .ensures) ∙ ap told (m .before .enum-told .given .1))
     ∙ sized-then (a .w) (a .h) (length (a .pixels .now)) (a .second) (a .third) _
-    ∙ then-right (sized (a .w) (a .h) (length (a .pixels .now)) (a .second) (a .third)) _ (sym (m .room-right .ensures) ∙ ap told (c .before .enum-told2 .given .1)))
+    ∙ then-right (roomAnswer (a .w) (a .h) (length (a .pixels .now)) (a .second) (a .third)) _ (sym (m .room-right .ensures) ∙ ap told (c .before .enum-told2 .given .1)))
 
 pub answer-spec : {M : Type 1} → statement M
 answer-spec =

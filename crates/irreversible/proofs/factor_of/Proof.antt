@@ -10,19 +10,19 @@ use Rattle.irreversible.proofs.factor_of.Statement.{statement}
 use Rattle.irreversible.proofs.factor_of.Tie as tie
 
 -- the constant at the product's bits, or the node's where they are more
-raised : (c : tie.After-power) → let a = c .before .before .args in back (a .constant) *ℤ back (c .power .result) ≡ a .constant *ℤ pos (2 ^ (max (a .bits + a .value) (a .kept) - (a .bits + a .value)))
-raised c =
+scaledUp : (c : tie.After-power) → let a = c .before .before .args in back (a .constant) *ℤ back (c .power .result) ≡ a .constant *ℤ pos (2 ^ (max (a .bits + a .value) (a .kept) - (a .bits + a .value)))
+scaledUp c =
     let s = c .before .before in
     ap₂ _*ℤ_ (toZ-ofZ (s .fits .constant)) (got (c .power .ok) (c .power .ensures ∙ ap (λ (k : ℕ). pos (2 ^ (k - (s .args .bits + s .args .value)))) (c .before .larger .ensures)))
 
 times-requires : tie.Need-times-requires
-times-requires c κs = fits-at (raised c) (c .before .before .pre .1)
+times-requires c κs = fits-at (scaledUp c) (c .before .before .pre .1)
 
 returns : tie.Need-returns
 unfolding factorOf
 returns c =
     let l = c .before .before in
-    let d = got (c .times .ok) (c .times .ensures ∙ raised (c .before)) in
+    let d = got (c .times .ok) (c .times .ensures ∙ scaledUp (c .before)) in
     λ u. Plain (d u) (l .larger .ensures u - l .before .args .kept)
 
 pub factor-of-spec : {M : Type 1} → statement M

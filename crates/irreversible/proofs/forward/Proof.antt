@@ -33,15 +33,15 @@ transform-requires : tie.Need-transform-requires
 transform-requires c κs = let a = c .before .before .before .before .before .before .args in ready (a .table) (a .w) (a .h) (a .pixels .now) (a .plane .now) (a .work .now) (done (c .before .before))
 
 -- the tile keeps its length
-tile : (c : tie.After-transform) → let a = c .before .before .before .before .before .before .before .args in length (c .transform .last .1 .1 .1 .0) ≡ a .w * a .h
-tile c = omega (arith, long (c .before .before .before))
+buffer : (c : tie.After-transform) → let a = c .before .before .before .before .before .before .before .args in length (c .transform .last .1 .1 .1 .0) ≡ a .w * a .h
+buffer c = omega (arith, long (c .before .before .before))
 
 clear-requires : tie.Need-clear-requires
 clear-requires c κs =
     let t = c .before .before .before in
     let a = t .before .before .before .before .before .before .before .args in
     let r = room (a .table) (a .w) (a .h) (a .pixels .now) (a .plane .now) (a .work .now) (done (t .before .before .before)) in
-    omega (arith, r .second, tile t, length-append (t .transform .last .1 .1 .1 .0) (drop (a .w * a .h) (a .work .now)))
+    omega (arith, r .second, buffer t, length-append (t .transform .last .1 .1 .1 .0) (drop (a .w * a .h) (a .work .now)))
 
 returns : tie.Need-returns
 returns c =
@@ -55,7 +55,7 @@ returns-2 c =
     let q = c .before .before .before .before .before in
     let d = q .before .before .before in
     let a = d .before .before .before .before .args in
-    (sym (done d), (q .transform .ensures ∙ plane-done (a .table) (a .w) (a .h) (a .pixels .now) (a .plane .now) (a .work .now) (done d), c .before .clear .ensures ∙ zeroed-part (a .w * a .h) (q .transform .last .1 .1 .1 .0) (a .work .now) (tile q) ∙ work-done (a .table) (a .w) (a .h) (a .pixels .now) (a .plane .now) (a .work .now) (done d)))
+    (sym (done d), (q .transform .ensures ∙ plane-done (a .table) (a .w) (a .h) (a .pixels .now) (a .plane .now) (a .work .now) (done d), c .before .clear .ensures ∙ zeroed-part (a .w * a .h) (q .transform .last .1 .1 .1 .0) (a .work .now) (buffer q) ∙ work-done (a .table) (a .w) (a .h) (a .pixels .now) (a .plane .now) (a .work .now) (done d)))
 
 same-length-2 : tie.Need-same-length-2
 same-length-2 c =
@@ -63,7 +63,7 @@ same-length-2 c =
     let d = q .before .before .before in
     let a = d .before .before .before .before .args in
     let n : ℕ = a .w * a .h in
-    omega (arith, tile q, length-append (q .transform .last .1 .1 .1 .0) (drop n (a .work .now)), length-drop n (a .work .now), room (a .table) (a .w) (a .h) (a .pixels .now) (a .plane .now) (a .work .now) (done d) .third)
+    omega (arith, buffer q, length-append (q .transform .last .1 .1 .1 .0) (drop n (a .work .now)), length-drop n (a .work .now), room (a .table) (a .w) (a .h) (a .pixels .now) (a .plane .now) (a .work .now) (done d) .third)
 
 pub forward-spec : {M : Type 1} → statement M
 forward-spec =

@@ -32,9 +32,9 @@ module _ (node : ℕ) (i : IsNode node) (half : ℤ) (h : natAbs half ≤ 2 ^ 31
   sum-is = auto-exact (search (values, v-arg (getD fineTable (node - 1) (pos 0)) 8589934592 small, v-arg half 2147483648 h) depth 40) tt ∙ ap (λ (z : ℤ). z +ℤ half) (fine-read node i)
 
 -- the array is the table
-add-lowered : tie.Need-add-lowered
+add-floor-shifted : tie.Need-add-floor-shifted
 unfolding fineTable tabulate nearest
-add-lowered c = sum-fits (c .before .before .args .node) (omega arith) (c .before .power .result) (half-small (c .before))
+add-floor-shifted c = sum-fits (c .before .before .args .node) (omega arith) (c .before .power .result) (half-small (c .before))
 
 returns : tie.Need-returns
 unfolding fineTable tabulate nearest
@@ -42,7 +42,7 @@ returns c =
     let p = c .before .before in
     let a = p .before .args in
     let below : ℤ → ℤ = λ z. floorDiv z (2 ^ (fineBits - a .bits)) in
-    got (c .lowered .ok) (c .lowered .ensures ∙ ap below (sum-is (a .node) (omega arith) (p .power .result) (half-small p) ∙ ap (λ (z : ℤ). fineAt (a .node) +ℤ z) (p .power .ensures)) ∙ rounded-is (a .node) (a .bits) (omega arith) (omega arith))
+    got (c .floor-shifted .ok) (c .floor-shifted .ensures ∙ ap below (sum-is (a .node) (omega arith) (p .power .result) (half-small p) ∙ ap (λ (z : ℤ). fineAt (a .node) +ℤ z) (p .power .ensures)) ∙ rounded-is (a .node) (a .bits) (omega arith) (omega arith))
 
 pub nearest-at-spec : {M : Type 1} → statement M
-nearest-at-spec = tie.close (tie.spec (λ c. omega arith) (λ c. omega arith) (λ c κs. omega arith) (λ c. omega arith) (λ c. omega arith) (λ c. omega arith) add-lowered (λ c κs. omega arith) returns)
+nearest-at-spec = tie.close (tie.spec (λ c. omega arith) (λ c. omega arith) (λ c κs. omega arith) (λ c. omega arith) (λ c. omega arith) (λ c. omega arith) add-floor-shifted (λ c κs. omega arith) returns)

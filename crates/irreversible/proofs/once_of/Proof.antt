@@ -14,20 +14,20 @@ top : (c : tie.After-larger2) → let a = c .before .before .args in c .larger2 
 top c = c .larger2 .ensures ∙ ap (λ (m : ℕ). max m (c .before .before .args .kept)) (c .before .larger .ensures)
 
 -- the constant at these bits
-raised : (c : tie.After-power) → let a = c .before .before .before .args in back (a .constant) *ℤ back (c .power .result) ≡ a .constant *ℤ pos (2 ^ (stepTop (a .bits) (a .sides) (a .own) (a .kept) - (a .bits + a .sides)))
-raised c =
+scaledUp : (c : tie.After-power) → let a = c .before .before .before .args in back (a .constant) *ℤ back (c .power .result) ≡ a .constant *ℤ pos (2 ^ (stepTop (a .bits) (a .sides) (a .own) (a .kept) - (a .bits + a .sides)))
+scaledUp c =
     let s = c .before .before .before in
     ap₂ _*ℤ_ (toZ-ofZ (s .fits .constant)) (got (c .power .ok) (c .power .ensures ∙ ap (λ (k : ℕ). pos (2 ^ (k - (s .args .bits + s .args .sides)))) (top (c .before))))
 
 times-requires : tie.Need-times-requires
-times-requires c κs = fits-at (raised c) (c .before .before .before .pre .1)
+times-requires c κs = fits-at (scaledUp c) (c .before .before .before .pre .1)
 
 returns : tie.Need-returns
 unfolding onceOf
 returns c =
     let p = c .before in
     let s = p .before .before .before in
-    let d = got (c .times .ok) (c .times .ensures ∙ raised p) in
+    let d = got (c .times .ok) (c .times .ensures ∙ scaledUp p) in
     λ u. Scaled (top (p .before) u - s .args .own) (d u) (top (p .before) u - s .args .kept)
 
 pub once-of-spec : {M : Type 1} → statement M

@@ -6,7 +6,7 @@ use Rattle.stages.specs.Fixed.{nearest}
 use Rattle.irreversible.specs.Constants.{constantOf}
 use Rattle.width_table.specs.Numbered.{nodeOf}
 use Rattle.irreversible.specs.StepLaws.{factorOf}
-use Rattle.irreversible.specs.SafeLaws.{constant-raised}
+use Rattle.irreversible.specs.SafeLaws.{constant-scaled-up}
 use Rattle.irreversible.proofs.Read.{back, got, fits-at}
 use Rattle.irreversible.proofs.scaling.Statement.{statement}
 use Rattle.irreversible.proofs.scaling.Tie as tie
@@ -20,7 +20,7 @@ factor-of-requires c κs =
     let a = s .args in
     let top : ℕ = max (a .bits + a .value) (a .kept) in (
       (s .pre .1, s .pre .2, s .pre .3),
-      fits-at (ap (λ (z : ℤ). z *ℤ pos (2 ^ (top - (a .bits + a .value)))) (constant c)) (constant-raised (nodeOf (a .node)) (a .bits) (a .value) top (s .pre .1) (omega arith) (omega arith)),
+      fits-at (ap (λ (z : ℤ). z *ℤ pos (2 ^ (top - (a .bits + a .value)))) (constant c)) (constant-scaled-up (nodeOf (a .node)) (a .bits) (a .value) top (s .pre .1) (omega arith) (omega arith)),
     )
 
 returns : tie.Need-returns

@@ -21,7 +21,7 @@ kept c = let s = c .before .before in fraction-is (s .args .table) (s .args .lev
 returns : tie.Need-returns
 returns c =
     let f = c .before .before in
-    as-type (λ u. SameFactor ((c .before .single-factor .ensures ∙ (λ v. singleOf (enters (f .before) .0 v) (kept f .0 v))) u) (c .quickest-factor .result)) (c .quickest-factor .ensures)
+    as-type (λ u. SameFactor ((c .before .single-factor .ensures ∙ (λ v. singleOf (enters (f .before) .0 v) (kept f .0 v))) u) (c .fastest-factor .result)) (c .fastest-factor .ensures)
 
 pub single-of-spec : {M : Type 1} → statement M
 single-of-spec = tie.close (tie.spec (λ c κs. tt) (λ c κs. tt) (λ c κs. (enters (c .before) .1, kept c .1)) (λ c κs. tt) returns)

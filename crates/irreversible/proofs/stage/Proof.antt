@@ -7,7 +7,7 @@ use Rattle.stages.specs.Fixed.{nearest}
 use Rattle.irreversible.specs.Constants.{constantOf}
 use Rattle.width_table.specs.Numbered.{nodeOf}
 use Rattle.irreversible.specs.StepLaws.{stepTop, stepOf}
-use Rattle.irreversible.specs.SafeLaws.{constant-raised}
+use Rattle.irreversible.specs.SafeLaws.{constant-scaled-up}
 use Rattle.irreversible.proofs.Read.{back, got, fits-at}
 use Rattle.irreversible.proofs.stage.Statement.{statement}
 use Rattle.irreversible.proofs.stage.Tie as tie
@@ -21,7 +21,7 @@ step-of-requires c κs =
     let a = s .args in
     let top : ℕ = stepTop (a .bits) (a .sides) (a .own) (a .kept) in (
       (s .pre .1, s .pre .2, s .pre .3, s .pre .4),
-      fits-at (ap (λ (z : ℤ). z *ℤ pos (2 ^ (top - (a .bits + a .sides)))) (constant c)) (constant-raised (nodeOf (a .node)) (a .bits) (a .sides) top (s .pre .1) (omega arith) (omega arith)),
+      fits-at (ap (λ (z : ℤ). z *ℤ pos (2 ^ (top - (a .bits + a .sides)))) (constant c)) (constant-scaled-up (nodeOf (a .node)) (a .bits) (a .sides) top (s .pre .1) (omega arith) (omega arith)),
     )
 
 returns : tie.Need-returns

@@ -67,7 +67,7 @@ fraction q n =
 abbrev from : tie.After-products → ℕ
 from q = q .before .before .before .product-place .result
 
-lifted : (q : tie.After-products) (n : Node) → nodeNumber n ≤ productsPerPass → (m : ℕ) → m ≡ from q + (nodeNumber n - 1) → {w : ℕ} → let a = start q .args in w ≡ cutBits (a .table .five) (getD (a .table .products) m 0)
+lifted : (q : tie.After-products) (n : Node) → nodeNumber n ≤ productsPerPass → (m : ℕ) → m ≡ from q + (nodeNumber n - 1) → {w : ℕ} → let a = start q .args in w ≡ cutBits (a .table .«has_products») (getD (a .table .products) m 0)
     → (c : Frac) (fm fo f : ℕ) → fm ≤ maxFractionBits → stageOf (cutTo w) c (constantBits (a .table) n) fm fo f ≡ stageOf (productOf (a .table) (a .level) (passOf (a .pass)) n) c (constantBits (a .table) n) fm fo f
 lifted q n i m e is c fm fo f most =
     let s = start q in
@@ -117,10 +117,10 @@ returns c =
     let s = c .before .before .before .before in
     let (first, second, low, high) = found s in
     record {
-      first = as-type (λ u. SamePair (first u) (c .before .before .before .quickest-pair .result)) (c .before .before .before .quickest-pair .ensures);
-      second = as-type (λ u. SamePair (second u) (c .before .before .quickest-pair2 .result)) (c .before .before .quickest-pair2 .ensures);
-      low = as-type (λ u. SameFactor (low u) (c .before .quickest-factor .result)) (c .before .quickest-factor .ensures);
-      high = as-type (λ u. SameFactor (high u) (c .quickest-factor2 .result)) (c .quickest-factor2 .ensures);
+      first = as-type (λ u. SamePair (first u) (c .before .before .before .fastest-pair .result)) (c .before .before .before .fastest-pair .ensures);
+      second = as-type (λ u. SamePair (second u) (c .before .before .fastest-pair2 .result)) (c .before .before .fastest-pair2 .ensures);
+      low = as-type (λ u. SameFactor (low u) (c .before .fastest-factor .result)) (c .before .fastest-factor .ensures);
+      high = as-type (λ u. SameFactor (high u) (c .fastest-factor2 .result)) (c .fastest-factor2 .ensures);
     }
 
 pub stages-of-spec : {M : Type 1} → statement M

@@ -19,11 +19,11 @@ use Rattle.irreversible.proofs.transform.Statement.{statement}
 use Rattle.irreversible.proofs.transform.Tie as tie
 
 abbrev Inv-loop : tie.InvT-loop
-Inv-loop table pixels plane₀ tile₀ w h levels across₀ down₀ k₀ plane tile across down k =
-    (k ≤ levels) × (length plane ≡ length plane₀) × (length tile ≡ length tile₀) × (across ≡ side k w) × (down ≡ side k h) × After table pixels w h k (at plane₀) (at plane)
+Inv-loop table pixels plane₀ buffer₀ w h levels across₀ down₀ k₀ plane buffer across down k =
+    (k ≤ levels) × (length plane ≡ length plane₀) × (length buffer ≡ length buffer₀) × (across ≡ side k w) × (down ≡ side k h) × After table pixels w h k (at plane₀) (at plane)
 
 abbrev μ-loop : tie.MeasureT-loop
-μ-loop table pixels plane₀ tile₀ w h levels across₀ down₀ k₀ plane tile across down k = levels - k
+μ-loop table pixels plane₀ buffer₀ w h levels across₀ down₀ k₀ plane buffer across down k = levels - k
 
 abbrev start : tie.After-first-level Inv-loop μ-loop → tie.Start Inv-loop μ-loop
 start c = c .before .before .before .before
@@ -51,8 +51,8 @@ work-level-requires c κs =
     let l = c .before .before .before in
     let s = start (l .before .before .before) in
     let t = l .loop in
-    as-type (λ u. LevelReady (s .args .table) (sym (add-one (t .k)) u) (t .plane) (t .tile) (s .args .w) (sym (t .inv .3) u) (sym (t .inv .4) u))
-    (level-ready (s .args .table) (s .args .pixels .now) (s .args .plane .now) (s .args .tile .now) (t .plane) (t .tile) (s .args .w) (s .args .h) (s .pre) (omega arith) (omega arith) (t .k) (c .before .before .loop-test .taken) _ _ (t .inv .5) refl)
+    as-type (λ u. LevelReady (s .args .table) (sym (add-one (t .k)) u) (t .plane) (t .buffer) (s .args .w) (sym (t .inv .3) u) (sym (t .inv .4) u))
+    (level-ready (s .args .table) (s .args .pixels .now) (s .args .plane .now) (s .args .buffer .now) (t .plane) (t .buffer) (s .args .w) (s .args .h) (s .pre) (omega arith) (omega arith) (t .k) (c .before .before .loop-test .taken) _ _ (t .inv .5) refl)
 
 add-across : tie.Need-add-across-2 Inv-loop μ-loop
 add-across c =

@@ -11,22 +11,22 @@ use Rattle.lifting.proofs.columns.Statement.{statement}
 use Rattle.lifting.proofs.columns.Tie as tie
 
 abbrev Inv-loop : tie.InvT-loop
-Inv-loop plane₀ tile₀ stride from w h kernel most done₀ plane tile done =
-    (done ≤ w) × (length plane ≡ length plane₀) × (length tile ≡ length tile₀) × (at plane ≡ columnsWorked kernel stride from done h (at plane₀))
+Inv-loop plane₀ buffer₀ stride from w h kernel most done₀ plane buffer done =
+    (done ≤ w) × (length plane ≡ length plane₀) × (length buffer ≡ length buffer₀) × (at plane ≡ columnsWorked kernel stride from done h (at plane₀))
 
 abbrev μ-loop : tie.MeasureT-loop
-μ-loop plane₀ tile₀ stride from w h kernel most done₀ plane tile done = w - done
+μ-loop plane₀ buffer₀ stride from w h kernel most done₀ plane buffer done = w - done
 
 loop-holds : tie.Need-loop-holds Inv-loop μ-loop
 loop-holds c = (omega arith, refl, refl, columns-none (worked (c .before .args .kernel)) _ _ _ _)
 
 -- the strip's width
 width : (c : tie.After-smaller2 Inv-loop μ-loop) → let a = c .before .before .before .before .args in
-    (1 ≤ c .smaller2 .result) × (c .before .before .loop .done + c .smaller2 .result ≤ a .w) × (a .h * c .smaller2 .result ≤ length (a .tile .now))
+    (1 ≤ c .smaller2 .result) × (c .before .before .loop .done + c .smaller2 .result ≤ a .w) × (a .h * c .smaller2 .result ≤ length (a .buffer .now))
 width c =
     let a = c .before .before .before .before in
-    let one = some-width (length (a .args .tile .now)) (a .args .h) (omega arith) (omega arith) in
-    (omega arith, omega arith, enough-room (length (a .args .tile .now)) (a .args .h) (c .smaller2 .result) (omega arith))
+    let one = some-width (length (a .args .buffer .now)) (a .args .h) (omega arith) (omega arith) in
+    (omega arith, omega arith, enough-room (length (a .args .buffer .now)) (a .args .h) (c .smaller2 .result) (omega arith))
 
 strip-requires : tie.Need-strip-requires Inv-loop μ-loop
 strip-requires c κs =

@@ -5,7 +5,7 @@ use Prim.Native.Nat.{ℕ}
 use borrow.Author.Needs.{needs}
 use lib.IntN.{ℤ}
 use Rattle.lifting.specs.declared.Step.{Step}
-use Rattle.lifting.specs.declared.Step.the-variants.{RaisedCut}
+use Rattle.lifting.specs.declared.Step.the-variants.{BiasedCut}
 use Rattle.lifting.specs.Steps.{applied}
 use Rattle.lifting.specs.Patch.{at}
 use Rattle.lifting.specs.Runs.{ran, Runs, SafeRun}
@@ -15,7 +15,7 @@ use Rattle.lifting.proofs.cut_run.Tie as tie
 
 module _ (s : tie.Start) {k cut : ℕ} (d : s .args .k ≡ k) (e : s .args .cut ≡ cut) where
   abbrev step : ℕ → ℕ → Step
-  step k cut = RaisedCut (s .args .down) k (s .args .c) (s .args .pad) (s .args .first) (s .args .up) (s .args .base) cut
+  step k cut = BiasedCut (s .args .down) k (s .args .c) (s .args .offset) (s .args .first) (s .args .up) (s .args .base) cut
 
   same : step (s .args .k) (s .args .cut) ≡ step k cut
   same = λ u. step (d u) (e u)

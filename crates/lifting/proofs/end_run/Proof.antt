@@ -9,7 +9,7 @@ use mir.Syntax.{w32}
 use Rattle.lifting.specs.Steps.{applied, Safe}
 use Rattle.lifting.specs.Patch.{at, patch-none, patch-set, patch-to}
 use Rattle.lifting.specs.Runs.{ran}
-use Rattle.lifting.specs.Turns.{turn-safe, turn-gives}
+use Rattle.lifting.specs.SignedRuns.{turn-safe, turn-gives}
 use Rattle.lifting.specs.Ends.{ended-is}
 use Rattle.lifting.proofs.end_run.Statement.{statement}
 use Rattle.lifting.proofs.end_run.Tie as tie

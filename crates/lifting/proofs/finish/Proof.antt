@@ -8,16 +8,16 @@ use lib.IntN.{ℤ}
 use Rattle.lifting.specs.declared.Kernel.{Kernel}
 use Rattle.lifting.specs.Patch.{at}
 use Rattle.lifting.specs.Kernels.{forwards}
-use Rattle.lifting.specs.Strips.{Strip, Ready, Finished}
+use Rattle.lifting.specs.Strips.{StripRoom, Ready, Finished}
 use Rattle.lifting.proofs.finish.Statement.{statement}
 use Rattle.lifting.proofs.finish.Tie as tie
 
 module _ (a : tie.Start) (k : Kernel) (e : a .args .kernel ≡ k) where
-  asks : Strip (a .args .plane .now) (a .args .tile .now) (a .args .stride) (a .args .from) (a .args .s) (a .args .n) × Ready k (a .args .s) (a .args .n) (at (a .args .tile .now))
-  asks = (a .pre .0 .0, subst (λ (k : Kernel). Ready k (a .args .s) (a .args .n) (at (a .args .tile .now))) e (a .pre .1))
+  asks : StripRoom (a .args .plane .now) (a .args .buffer .now) (a .args .stride) (a .args .from) (a .args .s) (a .args .n) × Ready k (a .args .s) (a .args .n) (at (a .args .buffer .now))
+  asks = (a .pre .0 .0, subst (λ (k : Kernel). Ready k (a .args .s) (a .args .n) (at (a .args .buffer .now))) e (a .pre .1))
 
   abbrev Done : Kernel → (ℕ → ℤ) → Type 0
-  Done k z = Finished k (a .args .stride) (a .args .from) (a .args .s) (a .args .n) (at (a .args .tile .now)) (at (a .args .plane .now)) z
+  Done k z = Finished k (a .args .stride) (a .args .from) (a .args .s) (a .args .n) (at (a .args .buffer .now)) (at (a .args .plane .now)) z
 
   gives : (z : ℕ → ℤ) → Done k z → Done (a .args .kernel) z
   gives z d = subst (λ (k : Kernel). Done k z) (sym e) d

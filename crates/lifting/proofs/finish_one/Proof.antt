@@ -4,20 +4,20 @@ use mathlib.Core.Path.{_∙_}
 use native.Mathlib.Omega.{arith}
 use Rattle.lifting.specs.PatchLines.{lines-ext}
 use Rattle.lifting.specs.Kernels.{worked}
-use Rattle.lifting.specs.Tiles.{lift-held, lift-asked, held-at}
-use Rattle.lifting.specs.Strips.{tile-of, tile-lines, plane-lines}
+use Rattle.lifting.specs.Buffers.{lift-held, lift-asked, held-at}
+use Rattle.lifting.specs.Strips.{buffer-of, buffer-lines, plane-lines}
 use Rattle.lifting.proofs.finish_one.Statement.{statement}
 use Rattle.lifting.proofs.finish_one.Tie as tie
 
 lift-requires : tie.Need-lift-requires
 lift-requires c κs =
     let a = c .before in
-    (tile-of (a .pre .0) _ (omega arith), lift-asked (a .args .pair) (a .pre .0 .two) (a .pre .1 .held) (a .pre .1 .safe))
+    (buffer-of (a .pre .0) _ (omega arith), lift-asked (a .args .pair) (a .pre .0 .two) (a .pre .1 .held) (a .pre .1 .safe))
 
 copy-lines-requires : tie.Need-copy-lines-requires
 copy-lines-requires c κs =
     let a = c .before .before .before .before .before in
-    (tile-lines (a .pre .0) _ (omega arith), plane-lines (a .pre .0) _ (omega arith))
+    (buffer-lines (a .pre .0) _ (omega arith), plane-lines (a .pre .0) _ (omega arith))
 
 returns : tie.Need-returns
 unfolding worked

@@ -11,8 +11,8 @@ use Rattle.lines.specs.LineLaws.{first-low, first-high}
 use Rattle.lifting.specs.Steps.{scaledBy, FactorSafe}
 use Rattle.lifting.specs.Passes.{evens, odds}
 use Rattle.lifting.specs.Kernels.{worked, secondHighs, secondLows}
-use Rattle.lifting.specs.Tiles.{Held, sizes, lift-held, lift-asked}
-use Rattle.lifting.specs.Strips.{tile-of, tile-lines, plane-lines, some-lines, both-halves}
+use Rattle.lifting.specs.Buffers.{BufferHolds, sizes, lift-held, lift-asked}
+use Rattle.lifting.specs.Strips.{buffer-of, buffer-lines, plane-lines, some-lines, both-halves}
 use Rattle.lifting.proofs.finish_two.Statement.{statement}
 use Rattle.lifting.proofs.finish_two.Tie as tie
 
@@ -26,29 +26,29 @@ module _ (a : tie.Start) (line : ℕ → ℕ → ℤ) where
 
   -- the tile holds them
   abbrev Holds : Type 0
-  Holds = Held (a .args .s) (a .args .n) (λ j. evens (line j)) (λ j. odds (line j)) (at (a .args .tile .now))
+  Holds = BufferHolds (a .args .s) (a .args .n) (λ j. evens (line j)) (λ j. odds (line j)) (at (a .args .buffer .now))
 
 lift-requires : tie.Need-lift-requires
 lift-requires c κs =
     let a = c .before in
-    (tile-of (a .pre .0) _ (omega arith), lift-asked (a .args .first) (a .pre .0 .two) (a .pre .1 .held) (λ j g. a .pre .1 .safe j g .at-first))
+    (buffer-of (a .pre .0) _ (omega arith), lift-asked (a .args .first) (a .pre .0 .two) (a .pre .1 .held) (λ j g. a .pre .1 .safe j g .at-first))
 
 lift-requires-2 : tie.Need-lift-requires-2
 lift-requires-2 c κs =
     let l = c .before .before in
     let a = l .before .before in
     let held = lift-held (a .args .first) (a .pre .0 .two) (a .pre .1 .held) _ (l .lift .ensures) in
-    (tile-of (a .pre .0) _ (omega arith), lift-asked (a .args .second) (a .pre .0 .two) held (λ j g. a .pre .1 .safe j g .at-second))
+    (buffer-of (a .pre .0) _ (omega arith), lift-asked (a .args .second) (a .pre .0 .two) held (λ j g. a .pre .1 .safe j g .at-second))
 
 abbrev start : tie.After-lift2 → tie.Start
 start c = c .before .before .before .before .before
 
 -- the tile is as long as it was
-as-long : (c : tie.After-lift2) → length (c .lift2 .last .0) ≡ length (start c .args .tile .now)
-as-long c = omega (arith, c .before .before .tile .given)
+as-long : (c : tie.After-lift2) → length (c .lift2 .last .0) ≡ length (start c .args .buffer .now)
+as-long c = omega (arith, c .before .before .buffer .given)
 
 module _ (c : tie.After-lift2) (line : ℕ → ℕ → ℤ) (held : Holds (start c) line) where
-  lifted : Held (start c .args .s) (start c .args .n) (lowLine (start c) line) (highLine (start c) line) (at (c .lift2 .last .0))
+  lifted : BufferHolds (start c .args .s) (start c .args .n) (lowLine (start c) line) (highLine (start c) line) (at (c .lift2 .last .0))
   lifted =
       let l = c .before .before .before in
       let a = l .before .before in
@@ -66,7 +66,7 @@ scale-lines-requires c κs =
     let a = start f in
     let n = a .args .n in
     let two = a .pre .0 .two in (
-      (some-lines (tile-lines (a .pre .0) _ (omega (arith, as-long f))) 0 (lows n) 0 (omega arith) (omega arith) (omega arith), some-lines (plane-lines (a .pre .0) _ (omega arith)) 0 (lows n) (a .args .from) (omega arith) (omega arith) (omega arith)),
+      (some-lines (buffer-lines (a .pre .0) _ (omega (arith, as-long f))) 0 (lows n) 0 (omega arith) (omega arith) (omega arith), some-lines (plane-lines (a .pre .0) _ (omega arith)) 0 (lows n) (a .args .from) (omega arith) (omega arith) (omega arith)),
       λ i j p g. subst (FactorSafe (a .args .low)) (sym (low-at f (a .pre .1 .line) (a .pre .1 .held) i j p g)) (a .pre .1 .safe j g .at-lows i p),
     )
 
@@ -76,7 +76,7 @@ scale-lines-requires-2 c κs =
     let a = start f in
     let n = a .args .n in
     let two = a .pre .0 .two in (
-      (some-lines (tile-lines (a .pre .0) _ (omega (arith, as-long f))) (lows n) (highs n) _ (omega arith) (omega arith) (omega arith), some-lines (plane-lines (a .pre .0) _ (omega arith)) (lows n) (highs n) _ (omega arith) (omega arith) (omega arith)),
+      (some-lines (buffer-lines (a .pre .0) _ (omega (arith, as-long f))) (lows n) (highs n) _ (omega arith) (omega arith) (omega arith), some-lines (plane-lines (a .pre .0) _ (omega arith)) (lows n) (highs n) _ (omega arith) (omega arith) (omega arith)),
       λ i j p g. subst (FactorSafe (a .args .high)) (sym (high-at f (a .pre .1 .line) (a .pre .1 .held) i j p g)) (a .pre .1 .safe j g .at-highs i p),
     )
 

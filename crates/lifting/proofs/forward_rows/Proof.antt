@@ -12,11 +12,11 @@ use Rattle.lifting.proofs.forward_rows.Statement.{statement}
 use Rattle.lifting.proofs.forward_rows.Tie as tie
 
 abbrev Inv-loop : tie.InvT-loop
-Inv-loop plane₀ tile₀ stride w h kernel r₀ plane tile r =
-    (r ≤ h) × (length plane ≡ length plane₀) × (length tile ≡ length tile₀) × (at plane ≡ rowsWorked kernel stride w r (at plane₀))
+Inv-loop plane₀ buffer₀ stride w h kernel r₀ plane buffer r =
+    (r ≤ h) × (length plane ≡ length plane₀) × (length buffer ≡ length buffer₀) × (at plane ≡ rowsWorked kernel stride w r (at plane₀))
 
 abbrev μ-loop : tie.MeasureT-loop
-μ-loop plane₀ tile₀ stride w h kernel r₀ plane tile r = h - r
+μ-loop plane₀ buffer₀ stride w h kernel r₀ plane buffer r = h - r
 
 loop-holds : tie.Need-loop-holds Inv-loop μ-loop
 loop-holds c = (omega arith, refl, refl, lines-none _ _ _ _)

@@ -10,8 +10,8 @@ use lib.Signed.{shrZ}
 use mir.Syntax.{w32, w64}
 use mir.Val.{toZ}
 use mir.Facts.{toZ-ofZ, toZ-pos}
-use Rattle.lifting.specs.RaisedCut.{joined}
-use Rattle.lifting.specs.Turns.{back, got, fits-at}
+use Rattle.lifting.specs.BiasedCut.{joined}
+use Rattle.lifting.specs.SignedRuns.{back, got, fits-at}
 use Rattle.lifting.proofs.join.Statement.{statement}
 use Rattle.lifting.proofs.join.Tie as tie
 

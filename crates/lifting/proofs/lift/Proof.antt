@@ -3,7 +3,7 @@
 use mathlib.Core.Path.{ap, sym, subst, _∙_}
 use native.Mathlib.Omega.{arith}
 use Rattle.lifting.specs.Steps.{applied, Safe}
-use Rattle.lifting.specs.Tiles.{AtLows, lowsDone, tile-as}
+use Rattle.lifting.specs.Buffers.{AtLows, lowsDone, buffer-as}
 use Rattle.lifting.proofs.lift.Statement.{statement}
 use Rattle.lifting.proofs.lift.Tie as tie
 
@@ -14,7 +14,7 @@ on-lows-requires : tie.Need-on-lows-requires
 on-lows-requires c κs =
     let f = c .before .before in
     let a = f .before .before in
-    (tile-as (a .pre .0) _ (omega arith), subst (AtLows (Safe (a .args .pair .lows)) (a .args .s) (a .args .n)) (sym (f .on-highs .ensures)) (a .pre .1 .on-lows))
+    (buffer-as (a .pre .0) _ (omega arith), subst (AtLows (Safe (a .args .pair .lows)) (a .args .s) (a .args .n)) (sym (f .on-highs .ensures)) (a .pre .1 .on-lows))
 
 returns : tie.Need-returns
 returns c =

@@ -50,17 +50,17 @@ run-requires-5 c κs = let h = asks (c .before .before .before .before) (scaled-
 returns-5 : tie.Need-returns-5
 returns-5 c = gives (c .before .before .before .before .before .before) (scaled-back (search needs) (c .before .before .before .before .step .given .1)) (c .before .run5 .ensures)
 
-near-run-requires : tie.Need-near-run-requires
-near-run-requires c κs = asks (c .before .before .before .before) (c .before .before .step2 .given .1)
+separate-run-requires : tie.Need-separate-run-requires
+separate-run-requires c κs = asks (c .before .before .before .before) (c .before .before .step2 .given .1)
 
 returns-6 : tie.Need-returns-6
-returns-6 c = gives (c .before .before .before .before .before .before) (c .before .before .before .before .step2 .given .1) (c .before .near-run .ensures)
+returns-6 c = gives (c .before .before .before .before .before .before) (c .before .before .before .before .step2 .given .1) (c .before .separate-run .ensures)
 
-far-run-requires : tie.Need-far-run-requires
-far-run-requires c κs = asks (c .before .before .before .before) (c .before .before .step3 .given .1)
+combined-run-requires : tie.Need-combined-run-requires
+combined-run-requires c κs = asks (c .before .before .before .before) (c .before .before .step3 .given .1)
 
 returns-7 : tie.Need-returns-7
-returns-7 c = gives (c .before .before .before .before .before .before) (c .before .before .before .before .step3 .given .1) (c .before .far-run .ensures)
+returns-7 c = gives (c .before .before .before .before .before .before) (c .before .before .before .before .step3 .given .1) (c .before .combined-run .ensures)
 
 -- the step, made anew
 made : (c : tie.After-cut-step) → c .before .before .before .before .before .args .step ≡ c .cut-step .result
@@ -93,9 +93,9 @@ lift-run-spec =
     (λ c. search needs)
     run-requires-5
     (λ c. search needs)
-    near-run-requires
+    separate-run-requires
     (λ c. search needs)
-    far-run-requires
+    combined-run-requires
     (λ c. search needs)
     (λ c κs. search needs)
     run-requires-6

@@ -11,7 +11,7 @@ returns c =
     let f = c .before in
     let a = f .before .before .before in
     let e = f .before .before .if1 .taken in
-    woven-row _ _ _ _ (at (a .args .tile .now)) _ e (one-column (a .pre) e) _ (f .merge-lines .ensures)
+    woven-row _ _ _ _ (at (a .args .buffer .now)) _ e (one-column (a .pre) e) _ (f .merge-lines .ensures)
 
 pub merge-spec : {M : Type 1} → statement M
 merge-spec =

@@ -7,17 +7,17 @@ use lib.ListN.{length}
 use Rattle.lines.specs.Lines.{highs}
 use Rattle.lifting.specs.Patch.{at}
 use Rattle.lifting.specs.PatchLines.{lineAt, patchLines, lines-none, lines-to}
-use Rattle.lifting.specs.Tiles.{sizes}
+use Rattle.lifting.specs.Buffers.{sizes}
 use Rattle.lifting.specs.Strips.{two-lines, last-line, woven, woven-pair, woven-last}
 use Rattle.lifting.proofs.merge_lines.Statement.{statement}
 use Rattle.lifting.proofs.merge_lines.Tie as tie
 
 abbrev Inv-loop : tie.InvT-loop
-Inv-loop tile plane₀ stride from s n low high top i₀ plane i =
-    (i ≤ highs n) × (length plane ≡ length plane₀) × (at plane ≡ patchLines (lineAt from stride) s (2 * i) (woven s n (at tile)) (at plane₀))
+Inv-loop buffer plane₀ stride from s n low high top i₀ plane i =
+    (i ≤ highs n) × (length plane ≡ length plane₀) × (at plane ≡ patchLines (lineAt from stride) s (2 * i) (woven s n (at buffer)) (at plane₀))
 
 abbrev μ-loop : tie.MeasureT-loop
-μ-loop tile plane₀ stride from s n low high top i₀ plane i = highs n - i
+μ-loop buffer plane₀ stride from s n low high top i₀ plane i = highs n - i
 
 mul-top : tie.Need-mul-top Inv-loop μ-loop
 mul-top c = omega (arith, c .pre .room, sizes (c .args .s) (c .args .n) (c .pre .two) .all)
@@ -28,13 +28,13 @@ loop-holds c = (omega arith, refl, lines-none _ _ _ _)
 loop-again : tie.Need-loop-again Inv-loop μ-loop
 loop-again c =
     let t = c .before .before .before in
-    (omega arith, omega arith, woven-pair _ _ _ _ (at (t .before .before .args .tile .now)) _ _ _ _ (t .before .loop .inv .2) (c .before .copy-pair .ensures))
+    (omega arith, omega arith, woven-pair _ _ _ _ (at (t .before .before .args .buffer .now)) _ _ _ _ (t .before .loop .inv .2) (c .before .copy-pair .ensures))
 
 returns : tie.Need-returns Inv-loop μ-loop
 returns c =
     let t = c .before .before .before .before in
     let a = t .before .before in
-    woven-last _ _ _ _ (at (a .args .tile .now)) _ (c .before .before .before .if1 .taken) _ _ (lines-to _ _ _ (2 * highs (a .args .n)) _ _ _ (t .before .loop .inv .2) (omega arith)) (c .before .copy-run .ensures)
+    woven-last _ _ _ _ (at (a .args .buffer .now)) _ (c .before .before .before .if1 .taken) _ _ (lines-to _ _ _ (2 * highs (a .args .n)) _ _ _ (t .before .loop .inv .2) (omega arith)) (c .before .copy-run .ensures)
 
 returns-2 : tie.Need-returns-2 Inv-loop μ-loop
 returns-2 c = lines-to _ _ _ _ _ _ _ (c .before .before .loop .inv .2) (omega arith)

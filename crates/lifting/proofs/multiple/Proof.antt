@@ -3,7 +3,7 @@
 use Prim.Native.Nat.{_^_}
 use native.Mathlib.Omega.{arith}
 use native.Mathlib.Nat.{div-le-self}
-use Rattle.lifting.specs.Raise.{multiple-above}
+use Rattle.lifting.specs.Bias.{multiple-above}
 use Rattle.lifting.proofs.multiple.Statement.{statement}
 use Rattle.lifting.proofs.multiple.Tie as tie
 

@@ -8,7 +8,7 @@ use lib.IntN.{ℤ}
 use Rattle.lifting.specs.Patch.{at}
 use Rattle.lifting.specs.Steps.{scaledBy, FactorSafe}
 use Rattle.lifting.specs.Kernels.{worked, firstLows, firstHighs, secondLows, secondHighs}
-use Rattle.lifting.specs.Tiles.{Held, lift-held, lift-asked, row-low, row-high, row-at, lows-each, highs-each}
+use Rattle.lifting.specs.Buffers.{BufferHolds, lift-held, lift-asked, row-low, row-high, row-at, lows-each, highs-each}
 use Rattle.lifting.specs.Strips.{pixelLine}
 use Rattle.lifting.proofs.pixel_row.Statement.{statement}
 use Rattle.lifting.proofs.pixel_row.Tie as tie
@@ -32,13 +32,13 @@ before-lift2 c = before-lift (c .before .before .before)
 abbrev before-scale : tie.After-scale-here → tie.Start
 before-scale c = before-lift2 (c .before .before .before)
 
-once : (c : tie.After-lift) → let a = before-lift c in Held 1 (a .args .w) (λ j. firstLows (a .args .first) (a .args .second) (a .args .w) (line a)) (λ j. firstHighs (a .args .first) (a .args .second) (a .args .w) (line a)) (at (c .lift .last .0))
+once : (c : tie.After-lift) → let a = before-lift c in BufferHolds 1 (a .args .w) (λ j. firstLows (a .args .first) (a .args .second) (a .args .w) (line a)) (λ j. firstHighs (a .args .first) (a .args .second) (a .args .w) (line a)) (at (c .lift .last .0))
 once c = let a = before-lift c in lift-held (a .args .first) (a .pre .0 .1) (c .before .before .before .split-pixels .ensures) _ (c .lift .ensures)
 
-twice : (c : tie.After-lift2) → let a = before-lift2 c in Held 1 (a .args .w) (λ j. lowLine a) (λ j. highLine a) (at (c .lift2 .last .0))
+twice : (c : tie.After-lift2) → let a = before-lift2 c in BufferHolds 1 (a .args .w) (λ j. lowLine a) (λ j. highLine a) (at (c .lift2 .last .0))
 twice c = let a = before-lift2 c in lift-held (a .args .second) (a .pre .0 .1) (once (c .before .before .before)) _ (c .lift2 .ensures)
 
-lows-scaled : (c : tie.After-scale-here) → let a = before-scale c in Held 1 (a .args .w) (λ j i. scaledBy (a .args .low) (lowLine a i)) (λ j. highLine a) (at (c .scale-here .last .0))
+lows-scaled : (c : tie.After-scale-here) → let a = before-scale c in BufferHolds 1 (a .args .w) (λ j i. scaledBy (a .args .low) (lowLine a i)) (λ j. highLine a) (at (c .scale-here .last .0))
 lows-scaled c = let a = before-scale c in lows-each (a .args .w) (twice (c .before .before .before)) (scaledBy (a .args .low)) _ (c .scale-here .ensures)
 
 lift-requires : tie.Need-lift-requires

@@ -13,11 +13,11 @@ use Rattle.lifting.proofs.pixel_rows.Statement.{statement}
 use Rattle.lifting.proofs.pixel_rows.Tie as tie
 
 abbrev Inv-loop : tie.InvT-loop
-Inv-loop pixels middle plane₀ tile₀ w h kernel r₀ plane tile r =
-    (r ≤ h) × (length plane ≡ length plane₀) × (length tile ≡ length tile₀) × (at plane ≡ patchLines (lineAt 0 w) w r (λ r. worked kernel w (pixelLine pixels middle (r * w))) (at plane₀))
+Inv-loop pixels middle plane₀ buffer₀ w h kernel r₀ plane buffer r =
+    (r ≤ h) × (length plane ≡ length plane₀) × (length buffer ≡ length buffer₀) × (at plane ≡ patchLines (lineAt 0 w) w r (λ r. worked kernel w (pixelLine pixels middle (r * w))) (at plane₀))
 
 abbrev μ-loop : tie.MeasureT-loop
-μ-loop pixels middle plane₀ tile₀ w h kernel r₀ plane tile r = h - r
+μ-loop pixels middle plane₀ buffer₀ w h kernel r₀ plane buffer r = h - r
 
 loop-holds : tie.Need-loop-holds Inv-loop μ-loop
 loop-holds c = (omega arith, refl, refl, lines-none _ _ _ _)

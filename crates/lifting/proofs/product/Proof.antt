@@ -6,24 +6,24 @@ use native.Mathlib.Omega.{arith}
 use borrow.Author.Needs.{needs}
 use mir.Syntax.{w32}
 use mir.Facts.{toZ-ofZ}
-use Rattle.lifting.specs.Steps.{turnedSum}
-use Rattle.lifting.specs.Raise.{raised, fused-small, fused-most}
-use Rattle.lifting.specs.Turns.{got}
+use Rattle.lifting.specs.Steps.{signedSum}
+use Rattle.lifting.specs.Bias.{biased, fused-small, fused-most}
+use Rattle.lifting.specs.SignedRuns.{got}
 use Rattle.lifting.proofs.product.Statement.{statement}
 use Rattle.lifting.proofs.product.Tie as tie
 
 fused-requires : tie.Need-fused-requires
-fused-requires c κs = let a = c .before .before in fused-small (a .args .c) (c .raise .result) (a .args .pad) 4611686018427387904 (c .raise .ok) (a .pre .2) (omega (arith, a .pre .1))
+fused-requires c κs = let a = c .before .before in fused-small (a .args .c) (c .bias .result) (a .args .offset) 4611686018427387904 (c .bias .ok) (a .pre .2) (omega (arith, a .pre .1))
 
 returns : tie.Need-returns
 returns c =
     let s = c .before in
     let t = s .before in
     let a = t .before in
-    let sum : s .raise .result ≡ raised (turnedSum (a .args .down) (a .args .x) (a .args .y)) =
-    s .raise .ensures ∙ ap raised (got w32 (t .turned .ok) (t .turned .ensures ∙ (λ u. turnedSum (a .args .down) (toZ-ofZ (a .fits .x) u) (toZ-ofZ (a .fits .y) u)))) in (
-      c .fused .ensures ∙ ap (λ (n : ℕ). a .args .c * n + a .args .pad) sum,
-      omega (arith, c .fused .ensures, fused-most (a .args .c) (s .raise .result) (a .args .pad) (s .raise .ok), a .pre .1, a .pre .2),
+    let sum : s .bias .result ≡ biased (signedSum (a .args .down) (a .args .x) (a .args .y)) =
+    s .bias .ensures ∙ ap biased (got w32 (t .signed-sum .ok) (t .signed-sum .ensures ∙ (λ u. signedSum (a .args .down) (toZ-ofZ (a .fits .x) u) (toZ-ofZ (a .fits .y) u)))) in (
+      c .fused .ensures ∙ ap (λ (n : ℕ). a .args .c * n + a .args .offset) sum,
+      omega (arith, c .fused .ensures, fused-most (a .args .c) (s .bias .result) (a .args .offset) (s .bias .ok), a .pre .1, a .pre .2),
     )
 
 pub product-spec : {M : Type 1} → statement M

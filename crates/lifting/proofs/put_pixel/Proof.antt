@@ -16,7 +16,7 @@ use Rattle.lifting.proofs.put_pixel.Tie as tie
 returns : tie.Need-returns
 returns c =
     let a = c .before .before .before in
-    patch-one (a .args .to) (pixelLine (a .args .pixels .now) (a .args .middle) (a .args .from)) (a .args .tile .now) (pos 0) (a .pre .1) _
+    patch-one (a .args .to) (pixelLine (a .args .pixels .now) (a .args .middle) (a .args .from)) (a .args .buffer .now) (pos 0) (a .pre .1) _
     (toZ-ofZ {w = w32} (sfits-of (c .centred .ok)) ∙ c .centred .ensures ∙ ap (λ (k : ℕ). pos (getD (a .args .pixels .now) k 0) -ℤ pos (a .args .middle)) (let e : a .args .from ≡ a .args .from + 0 = omega arith in e))
 
 pub put-pixel-spec : {M : Type 1} → statement M

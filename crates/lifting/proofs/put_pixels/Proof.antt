@@ -9,7 +9,7 @@ use lib.ListN.{length, getD, set, length-set}
 use mir.Syntax.{w32}
 use Rattle.lifting.specs.Patch.{at, patch, patch-none, patch-set, patch-to}
 use Rattle.lifting.specs.Strips.{pixelLine}
-use Rattle.lifting.specs.Turns.{back, got}
+use Rattle.lifting.specs.SignedRuns.{back, got}
 use Rattle.lifting.proofs.put_pixels.Statement.{statement}
 use Rattle.lifting.proofs.put_pixels.Tie as tie
 

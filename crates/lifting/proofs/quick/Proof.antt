@@ -10,9 +10,9 @@ use mir.Syntax.{w64}
 use mir.Facts.{toZ-ofZ}
 use Rattle.lifting.specs.declared.Step.the-variants.{Scaled}
 use Rattle.lifting.specs.Runs.{as-type}
-use Rattle.lifting.specs.Steps.{Same, signed}
-use Rattle.lifting.specs.Raise.{signed-is}
-use Rattle.lifting.specs.Turns.{back}
+use Rattle.lifting.specs.Steps.{SameStep, signed}
+use Rattle.lifting.specs.Bias.{signed-is}
+use Rattle.lifting.specs.SignedRuns.{back}
 use Rattle.lifting.proofs.quick.Statement.{statement}
 use Rattle.lifting.proofs.quick.Tie as tie
 
@@ -25,7 +25,7 @@ returns-4 c =
     let s = c .before .before .before .before .before .before in
     let a = s .before .args in
     let e = constant s (omega arith) in
-    as-type (λ u. Same (Scaled (a .k) (e u) (a .cut)) (c .far .result)) (c .far .ensures)
+    as-type (λ u. SameStep (Scaled (a .k) (e u) (a .cut)) (c .combined .result)) (c .combined .ensures)
 
 returns-8 : tie.Need-returns-8
 returns-8 c =
@@ -33,7 +33,7 @@ returns-8 c =
     let a = s .before .args in
     let e = constant s (omega arith) in
     let k : a .cut + (a .k - a .cut) ≡ a .k = omega arith in
-    as-type (λ u. Same (Scaled (k u) (e u) (a .cut)) (c .near .result)) (c .near .ensures)
+    as-type (λ u. SameStep (Scaled (k u) (e u) (a .cut)) (c .separate .result)) (c .separate .ensures)
 
 pub quick-spec : {M : Type 1} → statement M
 quick-spec =

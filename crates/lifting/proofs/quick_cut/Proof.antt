@@ -10,9 +10,9 @@ use mir.Syntax.{w64}
 use mir.Facts.{toZ-ofZ}
 use Rattle.lifting.specs.declared.Step.the-variants.{Cut}
 use Rattle.lifting.specs.Runs.{as-type}
-use Rattle.lifting.specs.Steps.{Same, signed}
-use Rattle.lifting.specs.Raise.{signed-is}
-use Rattle.lifting.specs.Turns.{back}
+use Rattle.lifting.specs.Steps.{SameStep, signed}
+use Rattle.lifting.specs.Bias.{signed-is}
+use Rattle.lifting.specs.SignedRuns.{back}
 use Rattle.lifting.proofs.quick_cut.Statement.{statement}
 use Rattle.lifting.proofs.quick_cut.Tie as tie
 
@@ -25,7 +25,7 @@ returns c =
     let s = c .before .before .before .before .before .before in
     let a = s .before .args in
     let e = constant s (omega arith) in
-    as-type (λ u. Same (Cut (a .k) (e u) (a .first) (a .up) (a .cut)) (c .raised-cut .result)) (c .raised-cut .ensures)
+    as-type (λ u. SameStep (Cut (a .k) (e u) (a .first) (a .up) (a .cut)) (c .biased-cut .result)) (c .biased-cut .ensures)
 
 pub quick-cut-spec : {M : Type 1} → statement M
 quick-cut-spec =

@@ -8,10 +8,10 @@ use borrow.Author.Needs.{needs}
 use lib.IntN.{ℤ, pos, natAbs}
 use lib.Signed.{ltZ}
 use mir.Facts.{toZ-ofZ}
-use Rattle.lifting.specs.declared.Factor.the-variants.{Plain, Raised}
+use Rattle.lifting.specs.declared.Factor.the-variants.{Plain, Biased}
 use Rattle.lifting.specs.Runs.{as-type}
 use Rattle.lifting.specs.Steps.{SameFactor}
-use Rattle.lifting.specs.Raise.{Padded, padded, raised-same, positive}
+use Rattle.lifting.specs.Bias.{Padded, padded, biased-same, positive}
 use Rattle.lifting.proofs.quick_factor.Statement.{statement}
 use Rattle.lifting.proofs.quick_factor.Tie as tie
 
@@ -29,9 +29,9 @@ returns-5 : tie.Need-returns-5
 returns-5 c =
     let s = c .before .before .before .before .before .before in
     let base = c .before .multiple .result in
-    let pad = base * c .power .result - s .size .result * 2147483648 in
-    as-type (λ u. SameFactor (Plain (constant c u) (s .before .args .cut)) (Raised (s .size .result) pad base (s .before .args .cut)))
-    (raised-same _ _ _ _ (omega arith) (omega arith) (omega arith) (omega (arith, pads c .little)) (omega (arith, pads c .tied)))
+    let offset = base * c .power .result - s .size .result * 2147483648 in
+    as-type (λ u. SameFactor (Plain (constant c u) (s .before .args .cut)) (Biased (s .size .result) offset base (s .before .args .cut)))
+    (biased-same _ _ _ _ (omega arith) (omega arith) (omega arith) (omega (arith, pads c .little)) (omega (arith, pads c .tied)))
 
 pub quick-factor-spec : {M : Type 1} → statement M
 quick-factor-spec =

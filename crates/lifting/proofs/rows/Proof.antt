@@ -25,10 +25,10 @@ module _ (a : tie.Start) where
 gives : (a : tie.Start) (k : Kernel) (y : ℕ → ℤ) → a .args .kernel ≡ k → y ≡ done a k → y ≡ done a (a .args .kernel)
 gives a k y e is = is ∙ ap (done a) (sym e)
 
-undo-rows-requires : tie.Need-undo-rows-requires
-undo-rows-requires c κs = let a = c .before .before .before .before .before in (a .pre .0, subst (Safe a) (c .before .before .before .kernel .given .1) (a .pre .1))
+inverse-rows-requires : tie.Need-inverse-rows-requires
+inverse-rows-requires c κs = let a = c .before .before .before .before .before in (a .pre .0, subst (Safe a) (c .before .before .before .kernel .given .1) (a .pre .1))
 
-forward-asks : (a : tie.Start) → Forward (a .args .kernel) → (Part (a .args .plane .now) (a .args .stride) 0 (a .args .w) (a .args .h) × Liftable (a .args .w) × (a .args .w ≤ length (a .args .tile .now)) × Forward (a .args .kernel)) × Safe a (a .args .kernel)
+forward-asks : (a : tie.Start) → Forward (a .args .kernel) → (Part (a .args .plane .now) (a .args .stride) 0 (a .args .w) (a .args .h) × Liftable (a .args .w) × (a .args .w ≤ length (a .args .buffer .now)) × Forward (a .args .kernel)) × Safe a (a .args .kernel)
 forward-asks a h = ((a .pre .0 .0, a .pre .0 .1, a .pre .0 .2, h), a .pre .1)
 
 forward-rows-requires : tie.Need-forward-rows-requires
@@ -38,14 +38,14 @@ forward-rows-requires-2 : tie.Need-forward-rows-requires-2
 forward-rows-requires-2 c κs = forward-asks (c .before .before .before .before) (subst Forward (sym (c .before .before .enum-told2 .given .1)) tt)
 
 returns : tie.Need-returns
-returns c = let f = c .before .before in (gives (f .before .before .before .before .before .before) _ _ (f .before .before .before .before .kernel .given .1) (f .undo-rows .ensures), omega arith)
+returns c = let f = c .before .before in (gives (f .before .before .before .before .before .before) _ _ (f .before .before .before .before .kernel .given .1) (f .inverse-rows .ensures), omega arith)
 
 pub rows-spec : {M : Type 1} → statement M
 rows-spec =
     tie.close
     (tie.spec
     (λ c. search needs)
-    undo-rows-requires
+    inverse-rows-requires
     (λ c. search needs)
     forward-rows-requires
     (λ c. search needs)

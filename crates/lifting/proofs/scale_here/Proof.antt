@@ -25,14 +25,14 @@ module _ (a : tie.Start) {g : Factor} (e : a .args .g ≡ g) where
 plain-scale-here-requires : tie.Need-plain-scale-here-requires
 plain-scale-here-requires c κs = asks (c .before .before .before .before) (plain-back (search needs) (c .before .before .g .given .1))
 
-raised-scale-here-requires : tie.Need-raised-scale-here-requires
-raised-scale-here-requires c κs = asks (c .before .before .before .before) (c .before .before .g2 .given .1)
+biased-scale-here-requires : tie.Need-biased-scale-here-requires
+biased-scale-here-requires c κs = asks (c .before .before .before .before) (c .before .before .g2 .given .1)
 
 returns : tie.Need-returns
 returns c = gives (c .before .before .before .before .before .before) (plain-back (search needs) (c .before .before .before .before .g .given .1)) (c .before .plain-scale-here .ensures)
 
 returns-2 : tie.Need-returns-2
-returns-2 c = gives (c .before .before .before .before .before .before) (c .before .before .before .before .g2 .given .1) (c .before .raised-scale-here .ensures)
+returns-2 c = gives (c .before .before .before .before .before .before) (c .before .before .before .before .g2 .given .1) (c .before .biased-scale-here .ensures)
 
 pub scale-here-spec : {M : Type 1} → statement M
 scale-here-spec =
@@ -41,7 +41,7 @@ scale-here-spec =
     (λ c. search needs)
     plain-scale-here-requires
     (λ c. search needs)
-    raised-scale-here-requires
+    biased-scale-here-requires
     (λ c. search needs)
     returns
     (λ c. search needs)

@@ -9,7 +9,7 @@ use lib.ListN.{length}
 use Rattle.lifting.specs.Steps.{scaledBy, FactorSafe}
 use Rattle.lifting.specs.Patch.{at}
 use Rattle.lifting.specs.PatchLines.{lineAt, patchLines, lines-apart, lines-out, lines-none, lines-more, lines-to, packed-is}
-use Rattle.lifting.specs.Tiles.{by-line}
+use Rattle.lifting.specs.Buffers.{by-line}
 use Rattle.lifting.specs.Kernels.{Part}
 use Rattle.lifting.proofs.scale_part.Statement.{statement}
 use Rattle.lifting.proofs.scale_part.Tie as tie

@@ -23,14 +23,14 @@ module _ (a : tie.Start) {g : Factor} (e : a .args .g ≡ g) where
 plain-scale-run-requires : tie.Need-plain-scale-run-requires
 plain-scale-run-requires c κs = asks (c .before .before .before .before) (plain-back (search needs) (c .before .before .g .given .1))
 
-raised-scale-run-requires : tie.Need-raised-scale-run-requires
-raised-scale-run-requires c κs = asks (c .before .before .before .before) (c .before .before .g2 .given .1)
+biased-scale-run-requires : tie.Need-biased-scale-run-requires
+biased-scale-run-requires c κs = asks (c .before .before .before .before) (c .before .before .g2 .given .1)
 
 returns : tie.Need-returns
 returns c = gives (c .before .before .before .before .before .before) (plain-back (search needs) (c .before .before .before .before .g .given .1)) (c .before .plain-scale-run .ensures)
 
 returns-2 : tie.Need-returns-2
-returns-2 c = gives (c .before .before .before .before .before .before) (c .before .before .before .before .g2 .given .1) (c .before .raised-scale-run .ensures)
+returns-2 c = gives (c .before .before .before .before .before .before) (c .before .before .before .before .g2 .given .1) (c .before .biased-scale-run .ensures)
 
 pub scale-run-spec : {M : Type 1} → statement M
 scale-run-spec =
@@ -39,7 +39,7 @@ scale-run-spec =
     (λ c. search needs)
     plain-scale-run-requires
     (λ c. search needs)
-    raised-scale-run-requires
+    biased-scale-run-requires
     (λ c. search needs)
     returns
     (λ c. search needs)

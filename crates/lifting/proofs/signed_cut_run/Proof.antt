@@ -4,23 +4,23 @@ use mathlib.Core.Path.{ap}
 use mathlib.Core.Bool.{Bool}
 use borrow.Author.Needs.{needs}
 use Rattle.lifting.specs.declared.Step.{Step}
-use Rattle.lifting.specs.declared.Step.the-variants.{RaisedCut}
+use Rattle.lifting.specs.declared.Step.the-variants.{BiasedCut}
 use Rattle.lifting.specs.Patch.{at}
 use Rattle.lifting.proofs.Turn.{run-asks, run-gives}
 use Rattle.lifting.proofs.signed_cut_run.Statement.{statement}
 use Rattle.lifting.proofs.signed_cut_run.Tie as tie
 
 abbrev step : tie.Start → Bool → Step
-step s down = RaisedCut down (s .args .k) (s .args .c) (s .args .pad) (s .args .first) (s .args .up) (s .args .base) (s .args .cut)
+step s down = BiasedCut down (s .args .k) (s .args .c) (s .args .offset) (s .args .first) (s .args .up) (s .args .base) (s .args .cut)
 
-raised-cut-run-requires : tie.Need-raised-cut-run-requires
-raised-cut-run-requires c κs =
+biased-cut-run-requires : tie.Need-biased-cut-run-requires
+biased-cut-run-requires c κs =
     let i = c .before in
     let s = i .before in
     (s .pre .0, run-asks (s .args .t) (s .args .a) (s .args .b) (s .args .n) (at (s .args .buf .now)) (ap (step s) (i .if1 .taken)) (s .pre .1))
 
-raised-cut-run-requires-2 : tie.Need-raised-cut-run-requires-2
-raised-cut-run-requires-2 c κs =
+biased-cut-run-requires-2 : tie.Need-biased-cut-run-requires-2
+biased-cut-run-requires-2 c κs =
     let i = c .before in
     let s = i .before in
     (s .pre .0, run-asks (s .args .t) (s .args .a) (s .args .b) (s .args .n) (at (s .args .buf .now)) (ap (step s) (i .if1 .left)) (s .pre .1))
@@ -29,20 +29,20 @@ returns : tie.Need-returns
 returns c =
     let i = c .before .before .before in
     let s = i .before in
-    run-gives (s .args .t) (s .args .a) (s .args .b) (s .args .n) (at (s .args .buf .now)) (ap (step s) (i .if1 .taken)) (c .before .raised-cut-run .ensures)
+    run-gives (s .args .t) (s .args .a) (s .args .b) (s .args .n) (at (s .args .buf .now)) (ap (step s) (i .if1 .taken)) (c .before .biased-cut-run .ensures)
 
 returns-2 : tie.Need-returns-2
 returns-2 c =
     let i = c .before .before .before in
     let s = i .before in
-    run-gives (s .args .t) (s .args .a) (s .args .b) (s .args .n) (at (s .args .buf .now)) (ap (step s) (i .if1 .left)) (c .before .raised-cut-run2 .ensures)
+    run-gives (s .args .t) (s .args .a) (s .args .b) (s .args .n) (at (s .args .buf .now)) (ap (step s) (i .if1 .left)) (c .before .biased-cut-run2 .ensures)
 
 pub signed-cut-run-spec : {M : Type 1} → statement M
 signed-cut-run-spec =
     tie.close
     (tie.spec
-    raised-cut-run-requires
-    raised-cut-run-requires-2
+    biased-cut-run-requires
+    biased-cut-run-requires-2
     (λ c. search needs)
     returns
     (λ c. search needs)

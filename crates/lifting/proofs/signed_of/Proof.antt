@@ -10,8 +10,8 @@ use mir.Val.{toZ, SFits}
 use mir.Facts.{toZ-ofZ, toZ-pos}
 use Rattle.numbers.specs.Laws.{zero-less}
 use Rattle.lifting.specs.Steps.{signed}
-use Rattle.lifting.specs.Raise.{difference-fits}
-use Rattle.lifting.specs.Turns.{fits-at}
+use Rattle.lifting.specs.Bias.{difference-fits}
+use Rattle.lifting.specs.SignedRuns.{fits-at}
 use Rattle.lifting.proofs.signed_of.Statement.{statement}
 use Rattle.lifting.proofs.signed_of.Tie as tie
 

@@ -11,27 +11,27 @@ use lib.Signed.{ltZ, nonNeg}
 use mir.Syntax.{w32, w64}
 use mir.Val.{SFits, Fits}
 use mir.Facts.{toZ-ofZ}
-use Rattle.lifting.specs.Raise.{below-zero, above-zero}
-use Rattle.lifting.specs.Turns.{back}
+use Rattle.lifting.specs.Bias.{below-zero, above-zero}
+use Rattle.lifting.specs.SignedRuns.{back}
 use Rattle.lifting.proofs.size.Statement.{statement}
 use Rattle.lifting.proofs.size.Tie as tie
 
 -- a number below 0, turned
-turned : (c : tie.Then3) → let z = c .before .before .before .args .z in (pos 0 -ℤ back w64 z ≡ pos (natAbs z)) × (natAbs z < 2147483648)
-turned c =
+negated : (c : tie.Then3) → let z = c .before .before .before .args .z in (pos 0 -ℤ back w64 z ≡ pos (natAbs z)) × (natAbs z < 2147483648)
+negated c =
     let a = c .before .before .before in
     let e = toZ-ofZ (a .fits .z) in
     let l = below-zero (a .args .z) (subst (λ (z : ℤ). ltZ z (pos 0) ≡ true) e (c .if3 .taken)) (subst (λ (z : ℤ). ltZ z (negsuc 2147483646) ≡ false) e (c .before .before .if1 .left)) in
     (ap (λ (z : ℤ). pos 0 -ℤ z) e ∙ l .0, l .1)
 
 sub-result : tie.Need-sub-result
-sub-result c = let l = turned c in subst (SFits w64) (sym (l .0)) (record { sfits = omega arith })
+sub-result c = let l = negated c in subst (SFits w64) (sym (l .0)) (record { sfits = omega arith })
 
 same : (c : tie.Then3) → let z = c .before .before .before .args .z in back w64 (pos 0 -ℤ back w64 z) ≡ pos (natAbs z)
-same c = let l = turned c in toZ-ofZ (sub-result c) ∙ l .0
+same c = let l = negated c in toZ-ofZ (sub-result c) ∙ l .0
 
 cast-result : tie.Need-cast-result
-cast-result c = let l = turned c in subst (λ (z : ℤ). T (nonNeg z) × Fits w32 (natAbs z)) (sym (same c)) (tt, record { fits = omega arith })
+cast-result c = let l = negated c in subst (λ (z : ℤ). T (nonNeg z) × Fits w32 (natAbs z)) (sym (same c)) (tt, record { fits = omega arith })
 
 cast-result-2 : tie.Need-cast-result-2
 cast-result-2 c =

@@ -6,7 +6,7 @@ use Rattle.lifting.specs.Patch.{at}
 use Rattle.lifting.specs.Runs.{as-type}
 use Rattle.lifting.specs.Passes.{evens, odds}
 use Rattle.lifting.specs.Kernels.{columnOf}
-use Rattle.lifting.specs.Tiles.{Held}
+use Rattle.lifting.specs.Buffers.{BufferHolds}
 use Rattle.lifting.specs.Strips.{as-row, one-column}
 use Rattle.lifting.proofs.split.Statement.{statement}
 use Rattle.lifting.proofs.split.Tie as tie
@@ -17,7 +17,7 @@ returns c =
     let a = f .before .before .before in
     let e = f .before .before .if1 .taken in
     let x = at (a .args .plane .now) in
-    as-type (λ u. Held (sym (one-column (a .pre) e) u) (a .args .n) (λ j. evens (columnOf (sym e u) (a .args .from) x j)) (λ j. odds (columnOf (sym e u) (a .args .from) x j)) (at (f .split-lines .last .1 .0))) (f .split-lines .ensures)
+    as-type (λ u. BufferHolds (sym (one-column (a .pre) e) u) (a .args .n) (λ j. evens (columnOf (sym e u) (a .args .from) x j)) (λ j. odds (columnOf (sym e u) (a .args .from) x j)) (at (f .split-lines .last .1 .0))) (f .split-lines .ensures)
 
 pub split-spec : {M : Type 1} → statement M
 split-spec =

@@ -8,17 +8,17 @@ use Rattle.lines.specs.Lines.{lows, highs}
 use Rattle.lifting.specs.Patch.{at}
 use Rattle.lifting.specs.Passes.{evens, odds}
 use Rattle.lifting.specs.Kernels.{columnOf}
-use Rattle.lifting.specs.Tiles.{Filled, filled-none, filled-low, filled-high, filled-to, sizes}
+use Rattle.lifting.specs.Buffers.{Filled, filled-none, filled-low, filled-high, filled-to, sizes}
 use Rattle.lifting.specs.Strips.{two-lines, last-line}
 use Rattle.lifting.proofs.split_lines.Statement.{statement}
 use Rattle.lifting.proofs.split_lines.Tie as tie
 
 abbrev Inv-loop : tie.InvT-loop
-Inv-loop plane tile₀ stride from s n low high top i₀ tile i =
-    (i ≤ highs n) × (length tile ≡ length tile₀) × Filled s (lows n * s) i i (λ j. evens (columnOf stride from (at plane) j)) (λ j. odds (columnOf stride from (at plane) j)) (at tile)
+Inv-loop plane buffer₀ stride from s n low high top i₀ buffer i =
+    (i ≤ highs n) × (length buffer ≡ length buffer₀) × Filled s (lows n * s) i i (λ j. evens (columnOf stride from (at plane) j)) (λ j. odds (columnOf stride from (at plane) j)) (at buffer)
 
 abbrev μ-loop : tie.MeasureT-loop
-μ-loop plane tile₀ stride from s n low high top i₀ tile i = highs n - i
+μ-loop plane buffer₀ stride from s n low high top i₀ buffer i = highs n - i
 
 mul-top : tie.Need-mul-top Inv-loop μ-loop
 mul-top c = omega (arith, c .pre .room, sizes (c .args .s) (c .args .n) (c .pre .two) .all)

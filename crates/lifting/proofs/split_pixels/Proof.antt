@@ -8,17 +8,17 @@ use lib.ListN.{length}
 use Rattle.lines.specs.Lines.{lows, highs}
 use Rattle.lifting.specs.Patch.{at, patch}
 use Rattle.lifting.specs.Passes.{evens, odds}
-use Rattle.lifting.specs.Tiles.{Filled, filled-none, filled-low, filled-high, filled-to}
+use Rattle.lifting.specs.Buffers.{Filled, filled-none, filled-low, filled-high, filled-to}
 use Rattle.lifting.specs.Strips.{pixelLine, pixel-at}
 use Rattle.lifting.proofs.split_pixels.Statement.{statement}
 use Rattle.lifting.proofs.split_pixels.Tie as tie
 
 abbrev Inv-loop : tie.InvT-loop
-Inv-loop pixels from tile₀ n middle low high i₀ tile i =
-    (i ≤ highs n) × (length tile ≡ length tile₀) × Filled 1 (lows n * 1) i i (λ j. evens (pixelLine pixels middle from)) (λ j. odds (pixelLine pixels middle from)) (at tile)
+Inv-loop pixels from buffer₀ n middle low high i₀ buffer i =
+    (i ≤ highs n) × (length buffer ≡ length buffer₀) × Filled 1 (lows n * 1) i i (λ j. evens (pixelLine pixels middle from)) (λ j. odds (pixelLine pixels middle from)) (at buffer)
 
 abbrev μ-loop : tie.MeasureT-loop
-μ-loop pixels from tile₀ n middle low high i₀ tile i = highs n - i
+μ-loop pixels from buffer₀ n middle low high i₀ buffer i = highs n - i
 
 -- one value is a line of one
 line-of-one : (t u : ℕ) (row x z : ℕ → ℤ) → t ≡ u → z ≡ patch t 1 row x → z ≡ patch u 1 row x

@@ -7,7 +7,7 @@ use lib.IntN.{ℤ}
 use Rattle.lifting.specs.declared.Kernel.{Kernel}
 use Rattle.lifting.specs.Patch.{at}
 use Rattle.lifting.specs.Kernels.{Forward, SafeKernel, columnOf, columnsWorked}
-use Rattle.lifting.specs.Strips.{Strip}
+use Rattle.lifting.specs.Strips.{StripRoom}
 use Rattle.lifting.proofs.strip.Statement.{statement}
 use Rattle.lifting.proofs.strip.Tie as tie
 
@@ -20,16 +20,16 @@ module _ (a : tie.Start) where
   abbrev done : Kernel → ℕ → ℤ
   done k = columnsWorked k (a .args .stride) (a .args .from) (a .args .s) (a .args .n) (at (a .args .plane .now))
 
-asks : (a : tie.Start) (k : Kernel) → a .args .kernel ≡ k → Strip (a .args .plane .now) (a .args .tile .now) (a .args .stride) (a .args .from) (a .args .s) (a .args .n) × Safe a k
+asks : (a : tie.Start) (k : Kernel) → a .args .kernel ≡ k → StripRoom (a .args .plane .now) (a .args .buffer .now) (a .args .stride) (a .args .from) (a .args .s) (a .args .n) × Safe a k
 asks a k e = (a .pre .0, subst (Safe a) e (a .pre .1))
 
 gives : (a : tie.Start) (k : Kernel) (y : ℕ → ℤ) → a .args .kernel ≡ k → y ≡ done a k → y ≡ done a (a .args .kernel)
 gives a k y e is = is ∙ ap (done a) (sym e)
 
-strip-undo-requires : tie.Need-strip-undo-requires
-strip-undo-requires c κs = asks (c .before .before .before .before .before) _ (c .before .before .before .kernel .given .1)
+strip-inverse-requires : tie.Need-strip-inverse-requires
+strip-inverse-requires c κs = asks (c .before .before .before .before .before) _ (c .before .before .before .kernel .given .1)
 
-forward-asks : (a : tie.Start) → Forward (a .args .kernel) → (Strip (a .args .plane .now) (a .args .tile .now) (a .args .stride) (a .args .from) (a .args .s) (a .args .n) × Forward (a .args .kernel)) × Safe a (a .args .kernel)
+forward-asks : (a : tie.Start) → Forward (a .args .kernel) → (StripRoom (a .args .plane .now) (a .args .buffer .now) (a .args .stride) (a .args .from) (a .args .s) (a .args .n) × Forward (a .args .kernel)) × Safe a (a .args .kernel)
 forward-asks a h = ((a .pre .0, h), a .pre .1)
 
 strip-forward-requires : tie.Need-strip-forward-requires
@@ -39,14 +39,14 @@ strip-forward-requires-2 : tie.Need-strip-forward-requires-2
 strip-forward-requires-2 c κs = forward-asks (c .before .before .before .before) (subst Forward (sym (c .before .before .enum-told2 .given .1)) tt)
 
 returns : tie.Need-returns
-returns c = let f = c .before .before in gives (f .before .before .before .before .before .before) _ _ (f .before .before .before .before .kernel .given .1) (f .strip-undo .ensures)
+returns c = let f = c .before .before in gives (f .before .before .before .before .before .before) _ _ (f .before .before .before .before .kernel .given .1) (f .strip-inverse .ensures)
 
 pub strip-spec : {M : Type 1} → statement M
 strip-spec =
     tie.close
     (tie.spec
     (λ c. search needs)
-    strip-undo-requires
+    strip-inverse-requires
     (λ c. search needs)
     strip-forward-requires
     (λ c. search needs)

@@ -9,7 +9,7 @@ use borrow.Author.Needs.{needs}
 use lib.ListN.{length}
 use Rattle.width_table.specs.Table.{depthRight, levelsRight}
 use Rattle.refusals.specs.Answers.{_then_}
-use Rattle.pictures.specs.Pictures.{sided, holds}
+use Rattle.pictures.specs.Pictures.{sideAnswer, lengthAnswer}
 use Rattle.listing.specs.declared.Head.{Head}
 use Rattle.listing.specs.Listing.{copyDepth, copyLevels, copyWidth, copyHeight, copySize, headBytes, maxPixels}
 use Rattle.listing.specs.InputLaws.{sizes-done, form-short, form-limits, form-size, form-cut, form-long, form-right}
@@ -27,8 +27,8 @@ limited c = (c .before .before .before .if1 .left, sym (limits (c .before)) ∙ 
 
 -- the answer on the sizes is that on the head's
 judged : (c : tie.After-size-right) → let b = c .before .before .before .before .before .before .before .before .args .bytes .now in
-    told (c .size-right .result) ≡ (sided (copyWidth b) (copyHeight b) then holds (copySize b) maxPixels)
-judged c = c .size-right .ensures ∙ ap (λ (t : Head). sided (t .w) (t .h) then holds (t .w * t .h) maxPixels) (c .before .before .before .before .before .head-of .ensures)
+    told (c .size-right .result) ≡ (sideAnswer (copyWidth b) (copyHeight b) then lengthAnswer (copySize b) maxPixels)
+judged c = c .size-right .ensures ∙ ap (λ (t : Head). sideAnswer (t .w) (t .h) then lengthAnswer (t .w * t .h) maxPixels) (c .before .before .before .before .before .head-of .ensures)
 
 -- where they are right, the code's product is the number of pixels, and small
 size : (c : tie.After-enum-told) → let h = c .before .before .before .before .before .before .before in let b = h .before .before .before .args .bytes .now in

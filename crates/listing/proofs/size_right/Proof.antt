@@ -6,12 +6,12 @@ use native.Mathlib.Omega.{arith}
 use borrow.Author.Needs.{needs}
 use Rattle.refusals.specs.Answers.{passed}
 use Rattle.refusals.specs.AnswerLaws.{then-right, then-refused}
-use Rattle.pictures.specs.Pictures.{sided}
+use Rattle.pictures.specs.Pictures.{sideAnswer}
 use Rattle.pictures.specs.PixelLaws.{size-fits}
 use Rattle.listing.proofs.size_right.Statement.{statement}
 use Rattle.listing.proofs.size_right.Tie as tie
 
-sides : (c : tie.After-enum-told) → let a = c .before .before .before .args in sided (a .w) (a .h) ≡ passed
+sides : (c : tie.After-enum-told) → let a = c .before .before .before .args in sideAnswer (a .w) (a .h) ≡ passed
 sides c = sym (c .before .before .sides-right .ensures) ∙ ap told (c .enum-told .given .1)
 
 mul-slice-holds : tie.Need-mul-slice-holds

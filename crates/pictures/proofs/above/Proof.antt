@@ -4,8 +4,8 @@ use Prim.Native.Nat.{ℕ, _+_, _%_}
 use mathlib.Core.Path.{_≡_, _∙_, ap}
 use borrow.Author.Needs.{needs}
 use mir.Facts.{toZ-ofZ}
-use Rattle.lifting.specs.Raise.{raised}
-use Rattle.pictures.specs.Looks.{above-is}
+use Rattle.lifting.specs.Bias.{biased}
+use Rattle.pictures.specs.RangeChecks.{above-is}
 use Rattle.pictures.proofs.above.Statement.{statement}
 use Rattle.pictures.proofs.above.Tie as tie
 
@@ -14,8 +14,8 @@ returns c =
     let b = c .before in
     let s = b .before .before in
     let a = s .args in
-    let raise : b .before .raise .result ≡ raised (a .v) = b .before .raise .ensures ∙ ap raised (toZ-ofZ (s .fits .v)) in
-    c .wrapping-add-u322 .ensures ∙ ap (λ (n : ℕ). (n + a .top) % 4294967296) (b .wrapping-add-u32 .ensures ∙ ap (λ (n : ℕ). (n + 2147483648) % 4294967296) raise) ∙ above-is (a .top) (raised (a .v))
+    let bias : b .before .bias .result ≡ biased (a .v) = b .before .bias .ensures ∙ ap biased (toZ-ofZ (s .fits .v)) in
+    c .wrapping-add-u322 .ensures ∙ ap (λ (n : ℕ). (n + a .top) % 4294967296) (b .wrapping-add-u32 .ensures ∙ ap (λ (n : ℕ). (n + 2147483648) % 4294967296) bias) ∙ above-is (a .top) (biased (a .v))
 
 pub above-spec : {M : Type 1} → statement M
 above-spec = tie.close (tie.spec (λ c κs. search needs) (λ c κs. search needs) (λ c κs. search needs) returns)

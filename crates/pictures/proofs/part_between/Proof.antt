@@ -9,7 +9,7 @@ use mir.Val.{toZ}
 use mir.Facts.{toZ-ofZ}
 use Rattle.lifting.specs.Patch.{at}
 use Rattle.lifting.specs.Kernels.{rowOf}
-use Rattle.pictures.specs.Looks.{Tells, Every, Between, every-none, every-more}
+use Rattle.pictures.specs.RangeChecks.{Tells, Every, Between, every-none, every-more}
 use Rattle.numbers.specs.Auto.{rd}
 use Rattle.pictures.proofs.part_between.Statement.{statement}
 use Rattle.pictures.proofs.part_between.Tie as tie

@@ -7,19 +7,19 @@ use borrow.Author.Needs.{needs}
 use Rattle.refusals.specs.Answers.{passed}
 use Rattle.refusals.specs.Told.{told}
 use Rattle.refusals.specs.AnswerLaws.{then-right, then-refused}
-use Rattle.pictures.specs.Pictures.{sided, holds}
+use Rattle.pictures.specs.Pictures.{sideAnswer, lengthAnswer}
 use Rattle.pictures.specs.PixelLaws.{size-fits}
 use Rattle.pictures.proofs.room_right.Statement.{statement}
 use Rattle.pictures.proofs.room_right.Tie as tie
 
 -- the sides are admitted, and then the first slice, and then the second is long enough
-sides : (c : tie.After-enum-told) → let a = c .before .before .before .args in sided (a .w) (a .h) ≡ passed
+sides : (c : tie.After-enum-told) → let a = c .before .before .before .args in sideAnswer (a .w) (a .h) ≡ passed
 sides c = sym (c .before .before .sides-right .ensures) ∙ ap told (c .enum-told .given .1)
 
-first : (c : tie.After-enum-told2) → let a = c .before .before .before .before .before .before .args in holds (a .w * a .h) (a .first) ≡ passed
+first : (c : tie.After-enum-told2) → let a = c .before .before .before .before .before .before .args in lengthAnswer (a .w * a .h) (a .first) ≡ passed
 first c = sym (c .before .before .slice-holds .ensures) ∙ ap told (c .enum-told2 .given .1)
 
-second : (c : tie.After-enum-told3) → let a = c .before .before .before .before .before .before .before .before .before .args in holds (a .w * a .h) (a .second) ≡ passed
+second : (c : tie.After-enum-told3) → let a = c .before .before .before .before .before .before .before .before .before .args in lengthAnswer (a .w * a .h) (a .second) ≡ passed
 second c = sym (c .before .before .slice-holds2 .ensures) ∙ ap told (c .enum-told3 .given .1)
 
 mul-n : tie.Need-mul-n

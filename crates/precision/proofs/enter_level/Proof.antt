@@ -5,7 +5,7 @@ use borrow.Author.Needs.{needs}
 use lib.Dec.{lit≤}
 use Rattle.refusals.specs.Answers.{passed}
 use Rattle.refusals.specs.Told.{told}
-use Rattle.width_table.specs.Nodes.{bookOrder}
+use Rattle.width_table.specs.Nodes.{tableOrder}
 use Rattle.precision.specs.Bounds.{entering}
 use Rattle.precision.specs.Verdict.{firstRefusal}
 use Rattle.precision.specs.Places.{mostFitting, asHeld, Reached}
@@ -14,7 +14,7 @@ use Rattle.precision.proofs.enter_level.Statement.{statement}
 use Rattle.precision.proofs.enter_level.Tie as tie
 
 abbrev Inv-loop : tie.InvT-loop
-Inv-loop table done input₀ before₀ input before = (before ≤ done) × (input ≡ asHeld (entering table (before + 1))) × (input .range + input .error ≤ mostFitting) × (firstRefusal table (bookOrder before) ≡ passed)
+Inv-loop table done input₀ before₀ input before = (before ≤ done) × (input ≡ asHeld (entering table (before + 1))) × (input .range + input .error ≤ mostFitting) × (firstRefusal table (tableOrder before) ≡ passed)
 
 abbrev μ-loop : tie.MeasureT-loop
 μ-loop table done input₀ before₀ input before = done - before
@@ -34,7 +34,7 @@ returns c =
     let e = c .before .before .before in
     let i = e .before .before in
     let a = i .before .args in
-    not-reached (a .table) (bookOrder (a .done)) _ _ _ (level-refused (a .table) _ (i .loop .before) (a .done) (omega arith) (i .loop .inv .3) (sym (e .enter-pass .ensures .0) ∙ ap told (c .before .outcome .given .1)))
+    not-reached (a .table) (tableOrder (a .done)) _ _ _ (level-refused (a .table) _ (i .loop .before) (a .done) (omega arith) (i .loop .inv .3) (sym (e .enter-pass .ensures .0) ∙ ap told (c .before .outcome .given .1)))
 
 loop-again : tie.Need-loop-again Inv-loop μ-loop
 loop-again c =
@@ -50,7 +50,7 @@ returns-2 c =
     let i = c .before in
     let a = i .before .args in
     let end : i .loop .before ≡ a .done = omega arith in
-    subst (λ (k : ℕ). (passed ≡ firstRefusal (a .table) (bookOrder k)) × (passed ≡ passed → Reached (entering (a .table) (k + 1)) (i .loop .input))) end
+    subst (λ (k : ℕ). (passed ≡ firstRefusal (a .table) (tableOrder k)) × (passed ≡ passed → Reached (entering (a .table) (k + 1)) (i .loop .input))) end
     (sym (i .loop .inv .3), λ d. record { is = i .loop .inv .1; small = i .loop .inv .2 })
 
 pub enter-level-spec : {M : Type 1} → statement M

@@ -9,7 +9,7 @@ use Rattle.refusals.specs.Told.{told}
 use Rattle.width_table.specs.declared.WidthTable.{WidthTable}
 use Rattle.width_table.specs.Nodes.{passNodes}
 use Rattle.width_table.specs.Numbered.{nodeOf, passOf}
-use Rattle.precision.specs.Places.{judgedAs, Holds}
+use Rattle.precision.specs.Places.{judgedAs, BoundsOf}
 use Rattle.precision.specs.Verdict.{keptAt, firstRefusal}
 use Rattle.precision.specs.JudgeLaws.{limited, judged-is}
 use Rattle.precision.specs.OrderLaws.{node-next, stays}
@@ -18,7 +18,7 @@ use Rattle.precision.proofs.judge_nodes.Tie as tie
 
 -- whatever table has these levels and this pass: it is not at hand any more
 abbrev Inv-loop : tie.InvT-loop
-Inv-loop level pass count bounds levels widths done₀ done = (done ≤ count) × ((t : WidthTable) → Holds t level pass bounds → levels ≡ t .levels → firstRefusal t (take done (passNodes level (passOf pass))) ≡ passed)
+Inv-loop level pass count bounds levels widths done₀ done = (done ≤ count) × ((t : WidthTable) → BoundsOf t level pass bounds → levels ≡ t .levels → firstRefusal t (take done (passNodes level (passOf pass))) ≡ passed)
 
 abbrev μ-loop : tie.MeasureT-loop
 μ-loop level pass count bounds levels widths done₀ done = count - done
@@ -36,7 +36,7 @@ judge-bound-requires c κs =
     (h .small n (omega arith), l .integer n (omega arith) .0, l .integer n (omega arith) .1, l .fraction n (omega arith))
 
 -- with the verdict on one node more
-judged-next : (c : tie.After-judge-bound Inv-loop μ-loop) → let i = c .before .before .before .before .before .before .before in let a = i .before .before .args in (t : WidthTable) → Holds t (a .level) (a .pass) (a .t4) → a .table .levels ≡ t .levels → firstRefusal t (take (i .loop .done + 1) (passNodes (a .level) (passOf (a .pass)))) ≡ told (c .judge-bound .result)
+judged-next : (c : tie.After-judge-bound Inv-loop μ-loop) → let i = c .before .before .before .before .before .before .before in let a = i .before .before .args in (t : WidthTable) → BoundsOf t (a .level) (a .pass) (a .t4) → a .table .levels ≡ t .levels → firstRefusal t (take (i .loop .done + 1) (passNodes (a .level) (passOf (a .pass)))) ≡ told (c .judge-bound .result)
 judged-next c t h e =
     let i = c .before .before .before .before .before .before .before in
     let a = i .before .before .args in

@@ -10,7 +10,7 @@ use Rattle.lifting.specs.Patch.{at, patch-ext}
 use Rattle.pictures.specs.MemoryLaws.{loaded}
 use Rattle.reversible.specs.Sizes.{forwardKernel}
 use Rattle.reversible.specs.LevelLaws.{columnsFrom, columns-one, columns-more}
-use Rattle.reversible.specs.Needs.{first-columns}
+use Rattle.reversible.specs.Preconditions.{first-columns}
 use Rattle.reversible.proofs.first_columns.Statement.{statement}
 use Rattle.reversible.proofs.first_columns.Tie as tie
 

@@ -5,7 +5,7 @@ use native.Mathlib.Omega.{arith}
 use borrow.Author.Needs.{needs}
 use Rattle.reversible.specs.Sizes.{forwardKernel}
 use Rattle.reversible.specs.LevelLaws.{rowsFrom}
-use Rattle.reversible.specs.Needs.{first-rows}
+use Rattle.reversible.specs.Preconditions.{first-rows}
 use Rattle.reversible.proofs.first_level.Statement.{statement}
 use Rattle.reversible.proofs.first_level.Tie as tie
 

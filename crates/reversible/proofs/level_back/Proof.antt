@@ -6,17 +6,17 @@ use borrow.Author.Needs.{needs}
 use Prim.Native.Nat.{ℕ}
 use lib.IntN.{ℤ}
 use Rattle.lifting.specs.Patch.{at}
-use Rattle.reversible.specs.declared.First.{First}
+use Rattle.reversible.specs.declared.CopyOrder.{CopyOrder}
 use Rattle.reversible.specs.Orders.{orderOf}
-use Rattle.reversible.specs.Sizes.{backKernel}
-use Rattle.reversible.specs.LevelLaws.{rowsFrom, columnsFrom, levelBack}
-use Rattle.reversible.specs.Needs.{back-columns, back-rows, first-back, then-back-columns, then-back-rows}
+use Rattle.reversible.specs.Sizes.{inverseKernel}
+use Rattle.reversible.specs.LevelLaws.{rowsFrom, columnsFrom, levelInverse}
+use Rattle.reversible.specs.Preconditions.{back-columns, back-rows, first-back, then-back-columns, then-back-rows}
 use Rattle.reversible.proofs.level_back.Statement.{statement}
 use Rattle.reversible.proofs.level_back.Tie as tie
 
-gives : (a : tie.Start) (f : First) (y : ℕ → ℤ) → a .args .first ≡ f → y ≡ levelBack (orderOf f) (a .args .stride) (a .args .w) (a .args .h) (at (a .args .values .now))
-    → y ≡ levelBack (orderOf (a .args .first)) (a .args .stride) (a .args .w) (a .args .h) (at (a .args .values .now))
-gives a f y e is = is ∙ ap (λ (g : First). levelBack (orderOf g) (a .args .stride) (a .args .w) (a .args .h) (at (a .args .values .now))) (sym e)
+gives : (a : tie.Start) (f : CopyOrder) (y : ℕ → ℤ) → a .args .first ≡ f → y ≡ levelInverse (orderOf f) (a .args .stride) (a .args .w) (a .args .h) (at (a .args .values .now))
+    → y ≡ levelInverse (orderOf (a .args .first)) (a .args .stride) (a .args .w) (a .args .h) (at (a .args .values .now))
+gives a f y e is = is ∙ ap (λ (g : CopyOrder). levelInverse (orderOf g) (a .args .stride) (a .args .w) (a .args .h) (at (a .args .values .now))) (sym e)
 
 columns-from-requires : tie.Need-columns-from-requires
 columns-from-requires c κs = back-columns (then-back-columns (c .before .before .before .before .before .before .before .before .before .pre) _ _ (omega arith) (omega arith) (c .before .before .before .before .rows-from .ensures))
@@ -27,12 +27,12 @@ rows-from-requires-2 c κs = back-rows (then-back-rows (c .before .before .befor
 returns : tie.Need-returns
 returns c =
     let t = c .before .before .before .before .before .before .before .before .before .before in
-    gives (t .before .before) _ _ (t .enum-told .given .1) (c .before .before .columns-from .ensures ∙ ap (columnsFrom backKernel _ _ _) (c .before .before .before .before .before .before .before .rows-from .ensures))
+    gives (t .before .before) _ _ (t .enum-told .given .1) (c .before .before .columns-from .ensures ∙ ap (columnsFrom inverseKernel _ _ _) (c .before .before .before .before .before .before .before .rows-from .ensures))
 
 returns-2 : tie.Need-returns-2
 returns-2 c =
     let t = c .before .before .before .before .before .before .before .before .before .before in
-    gives (t .before .before) _ _ (t .enum-told2 .given .1) (c .before .before .rows-from2 .ensures ∙ ap (rowsFrom backKernel _ _ _) (c .before .before .before .before .before .before .before .columns-from2 .ensures))
+    gives (t .before .before) _ _ (t .enum-told2 .given .1) (c .before .before .rows-from2 .ensures ∙ ap (rowsFrom inverseKernel _ _ _) (c .before .before .before .before .before .before .before .columns-from2 .ensures))
 
 pub level-back-spec : {M : Type 1} → statement M
 level-back-spec =

@@ -5,7 +5,7 @@ use native.Mathlib.Omega.{arith}
 use borrow.Author.Needs.{needs}
 use Rattle.reversible.specs.Sizes.{forwardKernel}
 use Rattle.reversible.specs.LevelLaws.{rowsFrom}
-use Rattle.reversible.specs.Needs.{forward-columns, forward-rows, first-forward, then-forward-rows}
+use Rattle.reversible.specs.Preconditions.{forward-columns, forward-rows, first-forward, then-forward-rows}
 use Rattle.reversible.proofs.level_forward.Statement.{statement}
 use Rattle.reversible.proofs.level_forward.Tie as tie
 

@@ -6,20 +6,20 @@ use native.Mathlib.Omega.{arith}
 use lib.Dec.{T}
 use lib.ListN.{length}
 use Rattle.lifting.specs.Patch.{at}
-use Rattle.reversible.specs.LevelLaws.{levelBack}
+use Rattle.reversible.specs.LevelLaws.{levelInverse}
 use Rattle.reversible.specs.LoopLaws.{BackLeft, one-more, back-none, back-more}
-use Rattle.reversible.specs.Needs.{level-room, part-here}
+use Rattle.reversible.specs.Preconditions.{level-room, part-here}
 use Rattle.reversible.specs.Orders.{orderOf}
 use Rattle.reversible.specs.BackLaws.{look-small, look-large, back-all, largest}
 use Rattle.reversible.proofs.levels_back.Statement.{statement}
 use Rattle.reversible.proofs.levels_back.Tie as tie
 
 abbrev Inv-loop : tie.InvT-loop
-Inv-loop values₀ tile₀ w h levels first k₀ values tile k =
-    (k ≤ levels) × (length values ≡ length values₀) × (length tile ≡ length tile₀) × BackLeft (orderOf first) levels w h k (at values₀) (at values)
+Inv-loop values₀ buffer₀ w h levels first k₀ values buffer k =
+    (k ≤ levels) × (length values ≡ length values₀) × (length buffer ≡ length buffer₀) × BackLeft (orderOf first) levels w h k (at values₀) (at values)
 
 abbrev μ-loop : tie.MeasureT-loop
-μ-loop values₀ tile₀ w h levels first k₀ values tile k = k
+μ-loop values₀ buffer₀ w h levels first k₀ values buffer k = k
 
 part-between-requires : tie.Need-part-between-requires Inv-loop μ-loop
 part-between-requires c κs =
@@ -47,7 +47,7 @@ loop-again c =
       omega (arith, t .inv .1),
       omega (arith, t .inv .2),
       back-more _ _ (orderOf (s .args .first)) _ (t .k - 1) _ (at (t .values)) _ (one-more (t .k - 1) (omega arith) (t .inv .3))
-          (c .before .before .level-back .ensures ∙ (λ u. levelBack (orderOf (s .args .first)) (s .args .w) (ea u) (ed u) (at (t .values)))),
+          (c .before .before .level-back .ensures ∙ (λ u. levelInverse (orderOf (s .args .first)) (s .args .w) (ea u) (ed u) (at (t .values)))),
     )
 
 returns : tie.Need-returns Inv-loop μ-loop

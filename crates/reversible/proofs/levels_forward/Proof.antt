@@ -12,18 +12,18 @@ use Rattle.lifting.specs.Patch.{at}
 use Rattle.pictures.specs.MemoryLaws.{loaded}
 use Rattle.reversible.specs.LevelLaws.{levelForward}
 use Rattle.reversible.specs.LoopLaws.{ForwardDone, forward-first, forward-more, forward-part}
-use Rattle.reversible.specs.Needs.{levels-room, level-room}
+use Rattle.reversible.specs.Preconditions.{levels-room, level-room}
 use Rattle.reversible.specs.StepLaws.{first-room, loaded-small}
 use Rattle.reversible.proofs.levels_forward.Statement.{statement}
 use Rattle.reversible.proofs.levels_forward.Tie as tie
 use Rattle.pictures.specs.Pictures.{maxSide}
 
 abbrev Inv-loop : tie.InvT-loop
-Inv-loop pixels depth plane₀ tile₀ w h levels across₀ down₀ k₀ plane tile across down k =
-    (k ≤ levels) × (length plane ≡ length plane₀) × (length tile ≡ length tile₀) × (across ≡ side k w) × (down ≡ side k h) × ((x : ℕ → ℤ) → ForwardDone w h 1 x (at plane₀) → ForwardDone w h k x (at plane))
+Inv-loop pixels depth plane₀ buffer₀ w h levels across₀ down₀ k₀ plane buffer across down k =
+    (k ≤ levels) × (length plane ≡ length plane₀) × (length buffer ≡ length buffer₀) × (across ≡ side k w) × (down ≡ side k h) × ((x : ℕ → ℤ) → ForwardDone w h 1 x (at plane₀) → ForwardDone w h k x (at plane))
 
 abbrev μ-loop : tie.MeasureT-loop
-μ-loop pixels depth plane₀ tile₀ w h levels across₀ down₀ k₀ plane tile across down k = levels - k
+μ-loop pixels depth plane₀ buffer₀ w h levels across₀ down₀ k₀ plane buffer across down k = levels - k
 
 first-level-requires : tie.Need-first-level-requires Inv-loop μ-loop
 first-level-requires c κs = let p = c .before .before .before .pre in first-room p _ _ refl (p .call .room .third)
@@ -32,7 +32,7 @@ loop-holds : tie.Need-loop-holds Inv-loop μ-loop
 loop-holds c = let s = c .before .before .before .before .before .before in (omega (arith, s .pre .call .some), refl, refl, side-one (s .args .w), side-one (s .args .h), λ x f. f)
 
 -- the first level is done
-first-done : (c : tie.After-tile Inv-loop μ-loop) → let a = c .before .before .before .before .before .before .args in ForwardDone (a .w) (a .h) 1 (loaded (a .pixels .now) (2 ^ (a .depth - 1)) (a .w) (a .h) (at (a .plane .now))) (at (c .before .before .first-level .last .1 .1 .0))
+first-done : (c : tie.After-buffer Inv-loop μ-loop) → let a = c .before .before .before .before .before .before .args in ForwardDone (a .w) (a .h) 1 (loaded (a .pixels .now) (2 ^ (a .depth - 1)) (a .w) (a .h) (at (a .plane .now))) (at (c .before .before .first-level .last .1 .1 .0))
 first-done c =
     let a = c .before .before .before .before .before .before .args in
     forward-first (a .w) (a .h) _ _ (c .before .before .first-level .ensures)
@@ -42,11 +42,11 @@ level-forward-requires c κs =
     let s = c .before .before .before .before .before .before .before .before .before .before in
     let t = c .before .before .before .loop in
     let p = s .pre .call in
-    level-room (2 ^ 21) (levels-room p (length (t .plane)) (length (t .tile)) (omega (arith, p .room .second)) (omega (arith, p .room .third))) (t .k) _ _ _ _ refl refl (t .inv .3) (t .inv .4)
+    level-room (2 ^ 21) (levels-room p (length (t .plane)) (length (t .buffer)) (omega (arith, p .room .second)) (omega (arith, p .room .third))) (t .k) _ _ _ _ refl refl (t .inv .3) (t .inv .4)
     (forward-part _ _ (t .k) (omega (arith, p .few, t .inv .0)) _ _ (t .inv .5 _ (first-done (c .before .before .before .before))) (loaded-small (s .pre) _))
 
 -- the sides of the level that was worked are at most those of a picture
-small-sides : (c : tie.After-tile2 Inv-loop μ-loop) → (c .before .before .before .before .before .before .loop .across ≤ maxSide) × (c .before .before .before .before .before .before .loop .down ≤ maxSide)
+small-sides : (c : tie.After-buffer2 Inv-loop μ-loop) → (c .before .before .before .before .before .before .loop .across ≤ maxSide) × (c .before .before .before .before .before .before .loop .down ≤ maxSide)
 small-sides c =
     let s = c .before .before .before .before .before .before .before .before .before .before .before .before .before in
     let t = c .before .before .before .before .before .before .loop in

@@ -11,7 +11,7 @@ use Rattle.numbers.specs.Auto.{values, v-arg, auto-fits, auto-exact, rd}
 use Rattle.lifting.specs.Patch.{at}
 use Rattle.lifting.specs.Runs.{as-type}
 use Rattle.numbers.specs.Laws.{zero-less}
-use Rattle.pictures.specs.Looks.{Tells, Between}
+use Rattle.pictures.specs.RangeChecks.{Tells, Between}
 use Rattle.reversible.proofs.samples_right.Statement.{statement}
 use Rattle.reversible.proofs.samples_right.Tie as tie
 

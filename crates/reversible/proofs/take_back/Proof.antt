@@ -13,7 +13,7 @@ use Rattle.lifting.specs.Patch.{at}
 use Rattle.reversible.specs.Orders.{orderOf}
 use Rattle.reversible.specs.FoundLaws.{Found, found-front, taken, taken-none}
 use Rattle.pictures.specs.MemoryLaws.{zeroed-part}
-use Rattle.reversible.specs.Needs.{other-slices}
+use Rattle.reversible.specs.Preconditions.{other-slices}
 use Rattle.reversible.proofs.take_back.Statement.{statement}
 use Rattle.reversible.proofs.take_back.Tie as tie
 

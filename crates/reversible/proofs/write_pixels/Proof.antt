@@ -13,7 +13,7 @@ use Rattle.lifting.specs.Patch.{at, patch, patch-none, patch-above, patch-to}
 use Rattle.lifting.specs.Runs.{as-type}
 use Rattle.pictures.specs.MemoryLaws.{patch-next, patch-zeroed}
 use Rattle.numbers.specs.Auto.{rd}
-use Rattle.pictures.specs.Looks.{Between}
+use Rattle.pictures.specs.RangeChecks.{Between}
 use Rattle.reversible.proofs.write_pixels.Statement.{statement}
 use Rattle.reversible.proofs.write_pixels.Tie as tie
 

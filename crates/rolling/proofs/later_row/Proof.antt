@@ -11,7 +11,7 @@ use Rattle.rolling.specs.Calls.{heldLines}
 use Rattle.rolling.specs.Program.{LaterFits, laterDone, laterKept, twoGiven}
 use Rattle.rolling.specs.ProgramLaws.{past-later}
 use Rattle.rolling.specs.Rows.{rowOf}
-use Rattle.rolling.specs.Works.{later-even}
+use Rattle.rolling.specs.Worked.{later-even}
 use Rattle.rolling.specs.WorkLaws.{kept-from, kept-then, later-same, later-given, later-kept, later-fits}
 use Rattle.rolling.proofs.later_row.Statement.{statement}
 use Rattle.rolling.proofs.later_row.Tie as tie

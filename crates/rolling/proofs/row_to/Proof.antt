@@ -19,7 +19,7 @@ use Rattle.irreversible.specs.KernelLaws.{kernelOf, kernel-line}
 use Rattle.irreversible.specs.StagesLaws.{stages-kernel}
 use Rattle.rolling.specs.Memory.{setLine, Lent, in-lent}
 use Rattle.rolling.specs.Rows.{LineRight, rowOf, pixels-sampled}
-use Rattle.rolling.specs.Small.{row-safe}
+use Rattle.rolling.specs.FiveBits.{row-safe}
 use Rattle.rolling.proofs.row_to.Statement.{statement}
 use Rattle.rolling.proofs.row_to.Tie as tie
 

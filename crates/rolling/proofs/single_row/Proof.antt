@@ -17,7 +17,7 @@ use Rattle.precision.specs.Promise.{promise}
 use Rattle.irreversible.specs.KernelLaws.{factor-line}
 use Rattle.rolling.specs.Memory.{setLine, changed-there}
 use Rattle.rolling.specs.Rows.{pixels-sampled}
-use Rattle.rolling.specs.Small.{row-safe}
+use Rattle.rolling.specs.FiveBits.{row-safe}
 use Rattle.rolling.proofs.single_row.Statement.{statement}
 use Rattle.rolling.proofs.single_row.Tie as tie
 

@@ -16,7 +16,7 @@ use Rattle.rolling.specs.Schedule.{Line, lineGives, endGives}
 use Rattle.rolling.specs.Calls.{heldLines, heldIn, Sound, KeptFrom, outAfter}
 use Rattle.rolling.specs.Program.{HeldFits, PastSame, oneEnded, twoEnded, evenEnded, oddEnded}
 use Rattle.rolling.specs.Memory.{moved}
-use Rattle.rolling.specs.Works.{EndWorked}
+use Rattle.rolling.specs.Worked.{EndWorked}
 use Rattle.rolling.specs.WorkLaws.{kept-from, kept-then, sound-fits, one-end-kept, one-ended, two-end-kept, two-ended, even-end-kept, four-ended, many-ended, odd-end-kept, three-ended, odd-ended, quiet-end}
 use Rattle.rolling.proofs.work_end.Statement.{statement}
 use Rattle.rolling.proofs.work_end.Tie as tie

@@ -15,7 +15,7 @@ use Rattle.rolling.specs.Schedule.{Line, heldAfter, lineGives}
 use Rattle.rolling.specs.Calls.{heldLines, heldIn, SameHeld}
 use Rattle.rolling.specs.Memory.{setLine, past-set}
 use Rattle.rolling.specs.Rows.{rowOf}
-use Rattle.rolling.specs.Works.{LineWorked, fifth, later}
+use Rattle.rolling.specs.Worked.{LineWorked, fifth, later}
 use Rattle.rolling.specs.WorkLaws.{kept-from, quiet, one-same, three-same, odd-same}
 use Rattle.rolling.proofs.work_line.Statement.{statement}
 use Rattle.rolling.proofs.work_line.Tie as tie

@@ -2,7 +2,7 @@ use mathlib.Core.Path.{sym, _∙_, ap}
 use native.Mathlib.Omega.{arith}
 use lib.ListN.{length-map}
 use Rattle.width_table.specs.Bytes.{bytesAfter}
-use Rattle.width_table.specs.FormLists.{Sized}
+use Rattle.width_table.specs.FormLists.{FullLists}
 use Rattle.scan_bytes.specs.ScanBytes.{numbersAfter}
 use Rattle.scan_bytes.specs.ByteLaws.{Keepable, kept-is, not-kept, no-room, kept, all-written}
 use borrow.Author.Needs.{needs}
@@ -10,7 +10,7 @@ use Rattle.scan_bytes.proofs.write.Statement.{statement}
 use Rattle.scan_bytes.proofs.write.Tie as tie
 
 -- what its type says of the table
-sized : (s : tie.Start) → Sized (s .args .scan .table)
+sized : (s : tie.Start) → FullLists (s .args .scan .table)
 sized s =
     let t = s .args .scan .table in
     let g = s .good .0 .1 .1 .0 .1 .1 .1 .1 in record {

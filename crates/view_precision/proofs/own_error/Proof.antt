@@ -1,7 +1,7 @@
 use Prim.Native.Nat.{ℕ, _+_, _-_, _^_}
 use mathlib.Core.Path.{_∙_, ap}
 use native.Mathlib.Omega.{arith}
-use Rattle.unlifting.specs.Fixed.{nodeBits}
+use Rattle.inverse_lifting.specs.Fixed.{nodeBits}
 use Rattle.view_precision.specs.PlaceLaws.{own-scales, own-lifts}
 use Rattle.view_precision.proofs.own_error.Statement.{statement}
 use Rattle.view_precision.proofs.own_error.Tie as tie

@@ -6,7 +6,7 @@ use Rattle.width_table.specs.Table.{maxIntegerBits, maxFractionBits, integerBit
 use Rattle.width_table.specs.Limits.{integer-read, fraction-read}
 use Rattle.stages.specs.Rule.{Bound}
 use Rattle.view_precision.specs.Bounds.{stored}
-use Rattle.view_precision.specs.Places.{Within}
+use Rattle.view_precision.specs.Places.{AtMostStored}
 use Rattle.view_precision.specs.LevelLaws.{stored-within}
 use Rattle.view_precision.proofs.stored_bound.Statement.{statement}
 use Rattle.view_precision.proofs.stored_bound.Tie as tie
@@ -35,13 +35,13 @@ error : (c : tie.After-power2) → c .before .before .before .before .args .step
 unfolding stored
 error c = ap (λ (x : ℕ). c .before .before .before .before .args .steps * x) (c .power2 .ensures ∙ ap (λ (n : ℕ). 2 ^ (32 - n)) (fraction (c .before .before) .0))
 
-within : (s : tie.Start) → Within 1 (stored (s .args .table) (s .args .steps) (s .args .level) (passOf (s .args .pass)) (nodeOf (s .args .node)))
+within : (s : tie.Start) → AtMostStored 1 (stored (s .args .table) (s .args .steps) (s .args .level) (passOf (s .args .pass)) (nodeOf (s .args .node)))
 within s = stored-within (s .args .table) (s .pre .0 .form) (s .args .steps) (s .pre .1 .1) (s .args .level) (s .pre .0 .level-from) (s .pre .0 .level-to) (passOf (s .args .pass)) (nodeOf (s .args .node))
 
 returns : tie.Need-returns
 returns c =
     let e = ap₂ {C = Bound} (λ (r e : ℕ). record { range = r; error = e }) (range (c .before)) (error c) in
-    (e, subst (Within 1) (sym e) (within (c .before .before .before .before)))
+    (e, subst (AtMostStored 1) (sym e) (within (c .before .before .before .before)))
 
 pub stored-bound-spec : {M : Type 1} → statement M
 stored-bound-spec =

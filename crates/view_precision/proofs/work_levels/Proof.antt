@@ -3,13 +3,13 @@ use mathlib.Core.Path.{_∙_, ap}
 use native.Mathlib.Omega.{arith}
 use lib.Dec.{lit≤}
 use Rattle.width_table.specs.Limits.{form-levels}
-use Rattle.view_precision.specs.Places.{meant}
+use Rattle.view_precision.specs.Places.{asBound}
 use Rattle.view_precision.specs.LevelLaws.{Reached, reached-first, reached-next, reached-small, reached-last}
 use Rattle.view_precision.proofs.work_levels.Statement.{statement}
 use Rattle.view_precision.proofs.work_levels.Tie as tie
 
 abbrev Inv-loop : tie.InvT-loop
-Inv-loop table steps level₀ right₀ bound₀ level right bound = Reached table steps level right (meant bound)
+Inv-loop table steps level₀ right₀ bound₀ level right bound = Reached table steps level right (asBound bound)
 
 abbrev μ-loop : tie.MeasureT-loop
 μ-loop table steps level₀ right₀ bound₀ level right bound = level

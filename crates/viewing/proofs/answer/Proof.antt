@@ -5,7 +5,7 @@ use lib.ListN.{length}
 use borrow.Author.Needs.{needs}
 use Rattle.refusals.specs.Told.{told}
 use Rattle.refusals.specs.AnswerLaws.{then-right, then-refused}
-use Rattle.pictures.specs.PictureLaws.{sized, sized-then}
+use Rattle.pictures.specs.PictureLaws.{roomAnswer, sized-then}
 use Rattle.view_precision.specs.Bounds.{viewVerdict}
 use Rattle.viewing.specs.CallSteps.{answerOf, lookable}
 use Rattle.viewing.proofs.answer.Statement.{statement}
@@ -33,7 +33,7 @@ returns-2 c =
     let a = j .before .args in
     sym (then-right (viewVerdict (a .table)) _ (sym (j .judge .ensures) ∙ ap told (m .before .enum-told .given .1))
     ∙ sized-then (a .w) (a .h) (a .first) (length (a .plane .now)) (a .third) _
-    ∙ then-refused (sized (a .w) (a .h) (a .first) (length (a .plane .now)) (a .third)) _ _ (sym (m .room-right .ensures) ∙ ap told (c .before .why2 .given .1)))
+    ∙ then-refused (roomAnswer (a .w) (a .h) (a .first) (length (a .plane .now)) (a .third)) _ _ (sym (m .room-right .ensures) ∙ ap told (c .before .why2 .given .1)))
 
 returns-3 : tie.Need-returns-3
 unfolding answerOf
@@ -44,7 +44,7 @@ returns-3 c =
     c .coefficients-right .ensures
     ∙ sym (then-right (viewVerdict (a .table)) _ (sym (j .judge .ensures) ∙ ap told (m .before .enum-told .given .1))
     ∙ sized-then (a .w) (a .h) (a .first) (length (a .plane .now)) (a .third) _
-    ∙ then-right (sized (a .w) (a .h) (a .first) (length (a .plane .now)) (a .third)) _ (sym (m .room-right .ensures) ∙ ap told (c .before .enum-told2 .given .1)))
+    ∙ then-right (roomAnswer (a .w) (a .h) (a .first) (length (a .plane .now)) (a .third)) _ (sym (m .room-right .ensures) ∙ ap told (c .before .enum-told2 .given .1)))
 
 pub answer-spec : {M : Type 1} → statement M
 answer-spec =

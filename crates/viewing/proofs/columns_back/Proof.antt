@@ -5,8 +5,8 @@ use native.Mathlib.Omega.{arith}
 use Rattle.lines.specs.Lines.{lows, highs}
 use Rattle.lifting.specs.Patch.{at}
 use Rattle.lifting.specs.Runs.{as-type}
-use Rattle.unlifting.specs.Planes.{Safe}
-use Rattle.unlifting.specs.Strips.{source, undone}
+use Rattle.inverse_lifting.specs.Planes.{Safe}
+use Rattle.inverse_lifting.specs.Strips.{source, inverted}
 use Rattle.viewing.specs.LevelSteps.{lowSite, highSite, lowed}
 use Rattle.viewing.proofs.columns_back.Statement.{statement}
 use Rattle.viewing.proofs.columns_back.Tie as tie
@@ -37,7 +37,7 @@ once : (c : tie.After-columns) → let a = c .before .before .before .before .be
 once c =
     let a = c .before .before .before .before .before .before .args in
     c .columns .ensures .0
-    ∙ (λ u. undone (lowSite (a .table) (a .level) (a .width) (a .stride) (a .w)) (c .before .before .low-low-bits .ensures .0 u) (c .before .stored-bits .ensures .0 u) (lows (a .w)) (a .h) (at (a .plane .now)) (at (a .work .now)))
+    ∙ (λ u. inverted (lowSite (a .table) (a .level) (a .width) (a .stride) (a .w)) (c .before .before .low-low-bits .ensures .0 u) (c .before .stored-bits .ensures .0 u) (lows (a .w)) (a .h) (at (a .plane .now)) (at (a .work .now)))
 
 columns-requires-2 : tie.Need-columns-requires-2
 columns-requires-2 c κs =
@@ -67,7 +67,7 @@ returns c =
     let o = l .before .before .before .before .before .before .before .before .before in
     let a = o .before .before .before .before .before .before .args in
     l .columns2 .ensures .0
-    ∙ (λ u. undone (highSite (a .table) (a .level) (a .width) (a .stride) (a .w)) (l .before .before .stored-bits2 .ensures .0 u) (l .before .stored-bits3 .ensures .0 u) (highs (a .w)) (a .h) (at (a .plane .now)) (once o u))
+    ∙ (λ u. inverted (highSite (a .table) (a .level) (a .width) (a .stride) (a .w)) (l .before .before .stored-bits2 .ensures .0 u) (l .before .stored-bits3 .ensures .0 u) (highs (a .w)) (a .h) (at (a .plane .now)) (once o u))
 
 pub columns-back-spec : {M : Type 1} → statement M
 columns-back-spec =

@@ -11,12 +11,12 @@ use Rattle.viewing.proofs.finish_rows.Statement.{statement}
 use Rattle.viewing.proofs.finish_rows.Tie as tie
 
 abbrev Inv-loop : tie.InvT-loop
-Inv-loop work₀ tile₀ pixels₀ w h depth r₀ work tile pixels r =
-    (r ≤ h) × (length work ≡ length work₀) × (length tile ≡ length tile₀) × (length pixels ≡ length pixels₀)
+Inv-loop work₀ buffer₀ pixels₀ w h depth r₀ work buffer pixels r =
+    (r ≤ h) × (length work ≡ length work₀) × (length buffer ≡ length buffer₀) × (length pixels ≡ length pixels₀)
     × ((λ k. getD pixels k 0) ≡ shownRows depth w r (at work₀) (λ k. getD pixels₀ k 0)) × (at work ≡ clearedRows w r (at work₀))
 
 abbrev μ-loop : tie.MeasureT-loop
-μ-loop work₀ tile₀ pixels₀ w h depth r₀ work tile pixels r = h - r
+μ-loop work₀ buffer₀ pixels₀ w h depth r₀ work buffer pixels r = h - r
 
 finish-row-requires : tie.Need-finish-row-requires Inv-loop μ-loop
 finish-row-requires c κs =

@@ -11,7 +11,7 @@ use mir.Syntax.{w64}
 use Rattle.numbers.specs.Abs.{abs-add}
 use Rattle.numbers.specs.Auto.{values, v-arg, auto-fits, auto-exact, rd}
 use Rattle.numbers.specs.Floor.{floorDiv, floor-abs}
-use Rattle.unlifting.specs.Fixed.{nodeBits}
+use Rattle.inverse_lifting.specs.Fixed.{nodeBits}
 use Rattle.viewing.specs.PixelSteps.{power-small, grey-cut}
 use Rattle.viewing.proofs.greys.Statement.{statement}
 use Rattle.viewing.proofs.greys.Tie as tie
@@ -26,10 +26,10 @@ sum-is c =
     ∙ ap (λ (z : ℤ). c .before .args .v +ℤ z) (c .power .ensures)
 
 -- the wholes
-whole-is : (c : tie.After-lowered) → c .lowered .result ≡ floorDiv (c .before .before .args .v +ℤ pos (2 ^ (nodeBits - c .before .before .args .depth - 1))) (2 ^ (nodeBits - c .before .before .args .depth))
-whole-is c = c .lowered .ensures ∙ ap (λ (z : ℤ). floorDiv z (2 ^ (nodeBits - c .before .before .args .depth))) (sum-is (c .before))
+whole-is : (c : tie.After-floor-shifted) → c .floor-shifted .result ≡ floorDiv (c .before .before .args .v +ℤ pos (2 ^ (nodeBits - c .before .before .args .depth - 1))) (2 ^ (nodeBits - c .before .before .args .depth))
+whole-is c = c .floor-shifted .ensures ∙ ap (λ (z : ℤ). floorDiv z (2 ^ (nodeBits - c .before .before .args .depth))) (sum-is (c .before))
 
-whole-size : (c : tie.After-lowered) → natAbs (c .lowered .result) ≤ 2 ^ 37
+whole-size : (c : tie.After-floor-shifted) → natAbs (c .floor-shifted .result) ≤ 2 ^ 37
 whole-size c =
     let a = c .before .before .args in
     let half = 2 ^ (nodeBits - a .depth - 1) in
@@ -45,7 +45,7 @@ middle-size c = subst (λ (z : ℤ). natAbs z ≤ 4096) (sym (c .power2 .ensures
 returns : tie.Need-returns
 returns c =
     let a = c .before .before .before .args in
-    auto-exact (search (values, v-arg (c .before .lowered .result) 137438953472 (whole-size (c .before)), v-arg (c .power2 .result) 4096 (middle-size c)) depth 40) tt
+    auto-exact (search (values, v-arg (c .before .floor-shifted .result) 137438953472 (whole-size (c .before)), v-arg (c .power2 .result) 4096 (middle-size c)) depth 40) tt
     ∙ (λ u. whole-is (c .before) u +ℤ c .power2 .ensures u)
     ∙ grey-cut (a .depth) (a .v) (omega arith) (omega arith)
 
@@ -60,5 +60,5 @@ greys-spec =
     (λ c κs. search needs)
     (λ c. search needs)
     (λ c κs. search needs)
-    (λ c. auto-fits (search (values, v-arg (c .before .lowered .result) 137438953472 (whole-size (c .before)), v-arg (c .power2 .result) 4096 (middle-size c)) depth 40) tt)
+    (λ c. auto-fits (search (values, v-arg (c .before .floor-shifted .result) 137438953472 (whole-size (c .before)), v-arg (c .power2 .result) 4096 (middle-size c)) depth 40) tt)
     returns)

@@ -5,8 +5,8 @@ use Prim.Native.Nat.{ℕ}
 use native.Mathlib.Omega.{arith}
 use lib.IntN.{ℤ}
 use Rattle.lifting.specs.Kernels.{rowOf, rowsBy}
-use Rattle.unlifting.specs.Fixed.{nodeBits, fixedBack}
-use Rattle.unlifting.specs.Planes.{Safe}
+use Rattle.inverse_lifting.specs.Fixed.{nodeBits, fixedInverse}
+use Rattle.inverse_lifting.specs.Planes.{Safe}
 use Rattle.viewing.specs.View.{viewLine}
 use Rattle.viewing.proofs.level_back.Statement.{statement}
 use Rattle.viewing.proofs.level_back.Tie as tie
@@ -26,7 +26,7 @@ returns c =
     let r = c .before .before in
     let o = r .before .before .before .before .before .before in
     let a = o .before .before .before .before .args in
-    r .rows .ensures .0 ∙ ap (rowsBy (fixedBack nodeBits nodeBits) (a .stride) (a .w) (a .h)) (o .columns-back .ensures)
+    r .rows .ensures .0 ∙ ap (rowsBy (fixedInverse nodeBits nodeBits) (a .stride) (a .w) (a .h)) (o .columns-back .ensures)
 
 pub level-back-spec : {M : Type 1} → statement M
 level-back-spec =

@@ -8,23 +8,23 @@ use lib.IntN.{ℤ}
 use lib.ListN.{length}
 use Rattle.lifting.specs.Patch.{at}
 use Rattle.lifting.specs.Runs.{as-type}
-use Rattle.viewing.specs.LevelSteps.{levelBack}
-use Rattle.viewing.specs.CallSteps.{LevelReady, Left, levels-some, levels-few, left-all, level-ready, left-less}
+use Rattle.viewing.specs.LevelSteps.{levelInverse}
+use Rattle.viewing.specs.CallSteps.{LevelReady, LevelsLeft, levels-some, levels-few, left-all, level-ready, left-less}
 use Rattle.viewing.proofs.levels_back.Statement.{statement}
 use Rattle.viewing.proofs.levels_back.Tie as tie
 
 abbrev Inv-loop : tie.InvT-loop
 Inv-loop table plane work₀ state₀ line₀ w h k₀ work state line k =
-    (1 ≤ k) × (k ≤ table .levels) × (length work ≡ length work₀) × (length state ≡ length state₀) × (length line ≡ length line₀) × Left table w h k (at plane) (at work₀) (at work)
+    (1 ≤ k) × (k ≤ table .levels) × (length work ≡ length work₀) × (length state ≡ length state₀) × (length line ≡ length line₀) × LevelsLeft table w h k (at plane) (at work₀) (at work)
 
 abbrev μ-loop : tie.MeasureT-loop
 μ-loop table plane work₀ state₀ line₀ w h k₀ work state line k = k
 
 -- level k of those that are left
-last-left : {t : _} {w h : ℕ} {p x₀ x : ℕ → ℤ} (k : ℕ) → 1 < k → Left t w h k p x₀ x → Left t w h (suc (k - 1)) p x₀ x
+last-left : {t : _} {w h : ℕ} {p x₀ x : ℕ → ℤ} (k : ℕ) → 1 < k → LevelsLeft t w h k p x₀ x → LevelsLeft t w h (suc (k - 1)) p x₀ x
 last-left {t} {w} {h} {p} {x₀} {x} k more left =
     let e : k ≡ suc (k - 1) = omega arith in
-    subst (λ (j : ℕ). Left t w h j p x₀ x) e left
+    subst (λ (j : ℕ). LevelsLeft t w h j p x₀ x) e left
 
 level-back-requires : tie.Need-level-back-requires Inv-loop μ-loop
 level-back-requires c κs =
@@ -54,7 +54,7 @@ loop-again c =
       omega (arith, t .inv .3),
       omega (arith, t .inv .4),
       left-less (s .pre) j (omega (arith, t .inv .1)) _ _ (last-left (t .k) more (t .inv .5)) _
-          (v .level-back .ensures ∙ (λ u. levelBack (a .table) (add-one j u) (a .w) (d .spread .ensures u) (b .before .side-after .ensures u) (b .side-after2 .ensures u) (at (a .plane .now)) (at (t .work)))),
+          (v .level-back .ensures ∙ (λ u. levelInverse (a .table) (add-one j u) (a .w) (d .spread .ensures u) (b .before .side-after .ensures u) (b .side-after2 .ensures u) (at (a .plane .now)) (at (t .work)))),
     )
 
 returns : tie.Need-returns Inv-loop μ-loop
@@ -62,7 +62,7 @@ returns c =
     let l = c .before in
     let a = l .before .args in
     let e : l .loop .k ≡ 1 = omega (arith, l .loop .inv .0) in
-    subst (λ (k : ℕ). Left (a .table) (a .w) (a .h) k (at (a .plane .now)) (at (a .work .now)) (at (l .loop .work))) e (l .loop .inv .5)
+    subst (λ (k : ℕ). LevelsLeft (a .table) (a .w) (a .h) k (at (a .plane .now)) (at (a .work .now)) (at (l .loop .work))) e (l .loop .inv .5)
 
 pub levels-back-spec : {M : Type 1} → statement M
 levels-back-spec =

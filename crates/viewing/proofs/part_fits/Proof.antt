@@ -10,7 +10,7 @@ use Rattle.width_table.specs.Numbered.{nodeOf, passOf}
 use Rattle.width_table.specs.Table.{maxIntegerBits, maxFractionBits, integerBits, fractionBits}
 use Rattle.lifting.specs.Patch.{at}
 use Rattle.lifting.specs.Kernels.{rowOf}
-use Rattle.pictures.specs.Looks.{Tells, OfBits}
+use Rattle.pictures.specs.RangeChecks.{Tells, OfBits}
 use Rattle.viewing.specs.WidthLaws.{tells-fits}
 use Rattle.viewing.proofs.part_fits.Statement.{statement}
 use Rattle.viewing.proofs.part_fits.Tie as tie

@@ -9,7 +9,7 @@ use lib.ListN.{length, length-set, getD}
 use mir.Syntax.{w64}
 use mir.Facts.{toZ-ofZ}
 use Rattle.lifting.specs.Patch.{at, patch, patch-none, patch-set, patch-to}
-use Rattle.unlifting.specs.Fixed.{limit}
+use Rattle.inverse_lifting.specs.Fixed.{limit}
 use Rattle.viewing.specs.View.{pixel}
 use Rattle.viewing.proofs.show_row.Statement.{statement}
 use Rattle.viewing.proofs.show_row.Tie as tie

@@ -23,7 +23,7 @@ unfolding form formAfter
 returns c =
     let h = c .before .before .before in
     let s = h .before .before .args in
-    sym (after-refused (levelsIn (s .bytes .now)) 0 (s .bytes .now) _ (λ five. refl) _ (sym (h .field .ensures) ∙ ap told (c .before .why .given .1)))
+    sym (after-refused (levelsIn (s .bytes .now)) 0 (s .bytes .now) _ (λ hasProducts. refl) _ (sym (h .field .ensures) ∙ ap told (c .before .why .given .1)))
 
 returns-2 : tie.Need-returns-2
 unfolding form formAfter
@@ -32,7 +32,7 @@ returns-2 c =
     let s = d .before .before .before .before .args in
     let b = s .bytes .now in
     sym (
-    after-read (levelsIn b) 0 b _ (λ five. refl) (done d)
+    after-read (levelsIn b) 0 b _ (λ hasProducts. refl) (done d)
     ∙ ap (λ (L : ℕ). formAfter L depthTag (drop (headBytes + 1) b)) (sym (getD-drop (headBytes + 1) b headBytes 0))
     ∙ ap (λ (l : List ℕ). formAfter (getD l headBytes 0) depthTag l) (sym (c .before .after-field .ensures))
     ∙ sym (c .from-second .ensures))

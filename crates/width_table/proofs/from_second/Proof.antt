@@ -19,14 +19,14 @@ returns : tie.Need-returns
 returns c =
     let h = c .before .before .before in
     let s = h .before .before .args in
-    sym (after-refused (getD (s .bytes .now) headBytes 0) depthTag (s .bytes .now) _ (λ five. refl) _ (sym (h .field .ensures) ∙ ap told (c .before .why .given .1)))
+    sym (after-refused (getD (s .bytes .now) headBytes 0) depthTag (s .bytes .now) _ (λ hasProducts. refl) _ (sym (h .field .ensures) ∙ ap told (c .before .why .given .1)))
 
 returns-2 : tie.Need-returns-2
 returns-2 c =
     let d = c .before .before .before in
     let s = d .before .before .before .before .args in
     let L = getD (s .bytes .now) headBytes 0 in
-    sym (after-read L depthTag (s .bytes .now) _ (λ five. refl) (done d) ∙ ap (formAfter L levelsTag) (sym (c .before .after-field .ensures)) ∙ sym (c .from-third .ensures))
+    sym (after-read L depthTag (s .bytes .now) _ (λ hasProducts. refl) (done d) ∙ ap (formAfter L levelsTag) (sym (c .before .after-field .ensures)) ∙ sym (c .from-third .ensures))
 
 pub from-second-spec : {M : Type 1} → statement M
 from-second-spec =

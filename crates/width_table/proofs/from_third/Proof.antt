@@ -18,13 +18,13 @@ returns : tie.Need-returns
 returns c =
     let h = c .before .before .before in
     let s = h .before .before .args in
-    sym (after-refused (s .levels) levelsTag (s .bytes .now) _ (λ five. refl) _ (sym (h .field .ensures) ∙ ap told (c .before .why .given .1)))
+    sym (after-refused (s .levels) levelsTag (s .bytes .now) _ (λ hasProducts. refl) _ (sym (h .field .ensures) ∙ ap told (c .before .why .given .1)))
 
 returns-2 : tie.Need-returns-2
 returns-2 c =
     let d = c .before .before in
     let s = d .before .before .before .before .args in
-    sym (after-read (s .levels) levelsTag (s .bytes .now) _ (λ five. refl) (done d) ∙ ap (formAfter (s .levels) constantsTag) (sym (c .before .after-field .ensures)) ∙ sym (c .from-fourth .ensures))
+    sym (after-read (s .levels) levelsTag (s .bytes .now) _ (λ hasProducts. refl) (done d) ∙ ap (formAfter (s .levels) constantsTag) (sym (c .before .after-field .ensures)) ∙ sym (c .from-fourth .ensures))
 
 pub from-third-spec : {M : Type 1} → statement M
 from-third-spec =

@@ -17,7 +17,7 @@ returns : tie.Need-returns
 returns c =
     let f = c .before in
     let b = f .before .before .args .bytes .now in
-    sym (ap (λ (five : Bool). productsIn five b) (sym (f .has-fifth .ensures) ∙ c .if1 .left))
+    sym (ap (λ (hasProducts : Bool). productsIn hasProducts b) (sym (f .has-fifth .ensures) ∙ c .if1 .left))
 
 -- where the products start, and how long the bytes are
 start : (v : tie.After-value-start) → let n = v .before .levels-in .result in (v .value-start .result ≡ valueStart n productsTag) × (length (v .before .before .before .before .before .args .bytes .now) ≡ tableSize true n) × (n ≤ maxLevels)
@@ -47,7 +47,7 @@ returns-2 c =
     c .products-of .ensures
     ∙ ap (λ (r : List ℕ). take (m .value-length .result) r ++ replicate (productBytes maxLevels - m .value-length .result) 0) (rest-whole (v .value-start .result) b)
     ∙ (λ u. take (many u) (drop (place u) b) ++ replicate (productBytes maxLevels - many u) 0)
-    ∙ sym (ap (λ (five : Bool). productsIn five b) (sym (i .before .has-fifth .ensures) ∙ i .if1 .taken))
+    ∙ sym (ap (λ (hasProducts : Bool). productsIn hasProducts b) (sym (i .before .has-fifth .ensures) ∙ i .if1 .taken))
 
 pub products-in-spec : {M : Type 1} → statement M
 products-in-spec =

@@ -4,14 +4,14 @@ use native.Mathlib.Omega.{arith}
 use lib.ListN.{length, length-map}
 use lib.Seq.{length-take-le}
 use Rattle.width_table.specs.Fields.{nodeBytes}
-use Rattle.width_table.specs.FormLists.{Sized}
+use Rattle.width_table.specs.FormLists.{FullLists}
 use Rattle.width_table.specs.WriteLaws.{four-put}
 use borrow.Author.Needs.{needs}
 use Rattle.width_table.proofs.put_four.Statement.{statement}
 use Rattle.width_table.proofs.put_four.Tie as tie
 
 -- what its type says of the table
-sized : (s : tie.Start) → Sized (s .args .table)
+sized : (s : tie.Start) → FullLists (s .args .table)
 sized s = record {
   constants = sym (length-map (s .args .table .constants) (λ v. v)) ∙ s .good .0 .1 .1 .1 .1 .0 .1 .0 .1;
   nodes = sym (length-map (s .args .table .nodes) (λ v. v)) ∙ s .good .0 .1 .1 .1 .1 .1 .0 .1 .0 .1;

@@ -5,7 +5,7 @@ use native.Mathlib.Omega.{arith}
 use lib.ListN.{length, length-map}
 use lib.Seq.{length-take-le}
 use Rattle.width_table.specs.Fields.{productBytes, tableSize}
-use Rattle.width_table.specs.FormLists.{Sized}
+use Rattle.width_table.specs.FormLists.{FullLists}
 use Rattle.width_table.specs.BytesLaws.{without-less}
 use Rattle.width_table.specs.WriteLaws.{five-put, all-put}
 use borrow.Author.Needs.{needs}
@@ -13,7 +13,7 @@ use Rattle.width_table.proofs.put_table.Statement.{statement}
 use Rattle.width_table.proofs.put_table.Tie as tie
 
 -- what its type says of the table
-sized : (s : tie.Start) → Sized (s .args .table)
+sized : (s : tie.Start) → FullLists (s .args .table)
 sized s = record {
   constants = sym (length-map (s .args .table .constants) (λ v. v)) ∙ s .good .0 .1 .1 .1 .1 .0 .1 .0 .1;
   nodes = sym (length-map (s .args .table .nodes) (λ v. v)) ∙ s .good .0 .1 .1 .1 .1 .1 .0 .1 .0 .1;
@@ -26,12 +26,12 @@ taken s = omega (arith, s .pre .0, sized s .products)
 
 -- with tag 5
 whole : (i : tie.Then1) → let s = i .before .before .before .before .before .before in tableSize true (s .args .table .levels) ≤ length (s .args .lent .now)
-whole i = let s = i .before .before .before .before .before .before in subst (λ (five : Bool). tableSize five (s .args .table .levels) ≤ length (s .args .lent .now)) (i .if1 .taken) (s .pre .1)
+whole i = let s = i .before .before .before .before .before .before in subst (λ (hasProducts : Bool). tableSize hasProducts (s .args .table .levels) ≤ length (s .args .lent .now)) (i .if1 .taken) (s .pre .1)
 
 put-four-requires : tie.Need-put-four-requires
 put-four-requires c κs =
     let s = c .before .before in
-    (s .pre .0, omega (arith, s .pre .1, without-less (s .args .table .five) (s .args .table .levels)))
+    (s .pre .0, omega (arith, s .pre .1, without-less (s .args .table .«has_products») (s .args .table .levels)))
 
 put-field-requires : tie.Need-put-field-requires
 put-field-requires c κs =

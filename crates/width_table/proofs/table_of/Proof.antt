@@ -62,7 +62,7 @@ returns c =
     c .new .ensures ∙ (λ u. made (depth u) (levels u) (constants u) (nodes u) (f .has-fifth .ensures u) (q .products-in .ensures u))
   where
     made : ℕ → ℕ → List ℕ → List ℕ → Bool → List ℕ → WidthTable
-    made d l k m h p = record { depth = d; levels = l; constants = k; nodes = m; five = h; products = p }
+    made d l k m h p = record { depth = d; levels = l; constants = k; nodes = m; «has_products» = h; products = p }
 
 pub table-of-spec : {M : Type 1} → statement M
 table-of-spec =

@@ -9,12 +9,12 @@ use Rattle.width_table.proofs.table_size.Tie as tie
 returns : tie.Need-returns
 returns c =
     let v = c .before in
-    omega (arith, v .value-start .ensures, c .value-length .ensures) ∙ sym (ap (λ (five : Bool). tableSize five (v .before .before .args .levels)) (v .before .if1 .taken))
+    omega (arith, v .value-start .ensures, c .value-length .ensures) ∙ sym (ap (λ (hasProducts : Bool). tableSize hasProducts (v .before .before .args .levels)) (v .before .if1 .taken))
 
 returns-2 : tie.Need-returns-2
 returns-2 c =
     let v = c .before in
-    omega (arith, v .value-start2 .ensures, c .value-length2 .ensures) ∙ sym (ap (λ (five : Bool). tableSize five (v .before .before .args .levels)) (v .before .if1 .left))
+    omega (arith, v .value-start2 .ensures, c .value-length2 .ensures) ∙ sym (ap (λ (hasProducts : Bool). tableSize hasProducts (v .before .before .args .levels)) (v .before .if1 .left))
 
 pub table-size-spec : {M : Type 1} → statement M
 table-size-spec =

@@ -9,14 +9,14 @@ use Rattle.width_table.specs.Fields.{nodeBytes}
 use Rattle.numbers.specs.Tests.{between, every}
 use Rattle.numbers.specs.Lists.{rest-whole}
 use Rattle.width_table.specs.Table.{maxLevels, productRight, formRight}
-use Rattle.width_table.specs.FormLists.{Sized, formLists, form-lists}
+use Rattle.width_table.specs.FormLists.{FullLists, formLists, form-lists}
 use Rattle.width_table.specs.FormLaws.{zeros-test, used-few, limits-wrong, levels-few, constants-wrong, widths-wrong, unused-wrong, products-wrong, unused-products-decide}
 use borrow.Author.Needs.{needs}
 use Rattle.width_table.proofs.WidthTable.form_right.Statement.{statement}
 use Rattle.width_table.proofs.WidthTable.form_right.Tie as tie
 
 -- what its type says of the table
-sized : (s : tie.Start) → Sized (s .args .self)
+sized : (s : tie.Start) → FullLists (s .args .self)
 sized s = record {
   constants = sym (length-map (s .args .self .constants) (λ v. v)) ∙ s .good .0 .1 .1 .1 .1 .0 .1 .0 .1;
   nodes = sym (length-map (s .args .self .nodes) (λ v. v)) ∙ s .good .0 .1 .1 .1 .1 .1 .0 .1 .0 .1;

@@ -49,7 +49,7 @@ returns-5 c =
     (w .0, ap (λ (n : ℕ). changed (a .t1) (set (a .t1 .products) n (a .bits))) (c .product-place .ensures .0) ∙ w .1)
   where
     changed : WidthTable → List ℕ → WidthTable
-    changed t l = record { depth = t .depth; levels = t .levels; constants = t .constants; nodes = t .nodes; five = t .five; products = l }
+    changed t l = record { depth = t .depth; levels = t .levels; constants = t .constants; nodes = t .nodes; «has_products» = t .«has_products»; products = l }
 
 pub with-product-spec : {M : Type 1} → statement M
 with-product-spec =

@@ -43,7 +43,7 @@ returns-4 c =
     (w .0, ap (λ (n : ℕ). changed (a .t1) (set (set (a .t1 .nodes) n (a .integer)) (n + 1) (a .fraction))) (c .node-place .ensures .0) ∙ w .1)
   where
     changed : WidthTable → List ℕ → WidthTable
-    changed t l = record { depth = t .depth; levels = t .levels; constants = t .constants; nodes = l; five = t .five; products = t .products }
+    changed t l = record { depth = t .depth; levels = t .levels; constants = t .constants; nodes = l; «has_products» = t .«has_products»; products = t .products }
 
 pub with-width-spec : {M : Type 1} → statement M
 with-width-spec =

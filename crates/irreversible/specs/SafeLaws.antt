@@ -61,8 +61,8 @@ swap : (k P s : ℤ) → k *ℤ s *ℤ P ≡ k *ℤ P *ℤ s
 swap = by-dif _ λ a b. by-dif _ λ c d. by-dif _ λ e f. simp difs (omega arith)
 
 -- the negative of a number is as large
-signed-sum-size : (b : ℕ) (z : ℤ) → natAbs z ≤ b → natAbs (pos 0 -ℤ z) ≤ b
-signed-sum-size b = by-dif _ λ a a'. simp difs (omega arith)
+negated-size : (b : ℕ) (z : ℤ) → natAbs z ≤ b → natAbs (pos 0 -ℤ z) ≤ b
+negated-size b = by-dif _ λ a a'. simp difs (omega arith)
 
 -- ---- one stage
 
@@ -97,7 +97,7 @@ module _ (n : Node) (F fm : ℕ) (const : ConstantBits F) (small : fm ≤ maxFra
   sides-safe : (x y : ℤ) → BelowPower10 fm x → BelowPower10 fm y → SumSafe x y
   sides-safe x y hx hy = record {
     sum = record { sfits = mag-of-abs (x +ℤ y) small-sum };
-    negated = record { sfits = mag-of-abs (pos 0 -ℤ (x +ℤ y)) (lt-of-le-of-lt (signed-sum-size _ (x +ℤ y) (le-refl _)) small-sum) };
+    negated = record { sfits = mag-of-abs (pos 0 -ℤ (x +ℤ y)) (lt-of-le-of-lt (negated-size _ (x +ℤ y) (le-refl _)) small-sum) };
   }
     where
       small-sum : natAbs (x +ℤ y) < 2 ^ 31

@@ -72,16 +72,16 @@ both-padded m c offset base cut tied own s fo fs = unbiased (pos m *ℤ own +ℤ
 
 -- ---- the forms of a scaled step
 
-signed-sum-product : (c s : ℤ) → negℤ c *ℤ s ≡ c *ℤ (pos 0 -ℤ s)
-signed-sum-product c s = let ρ : List ℤ = c ∷ s ∷ [] in ring ρ (search (terms, vars ρ) depth 30) (search (terms, vars ρ) depth 30) tt
+negated-product : (c s : ℤ) → negℤ c *ℤ s ≡ c *ℤ (pos 0 -ℤ s)
+negated-product c s = let ρ : List ℤ = c ∷ s ∷ [] in ring ρ (search (terms, vars ρ) depth 30) (search (terms, vars ρ) depth 30) tt
 
 -- a constant of either sign times a sum
 pub signed-product : (down : Bool) (c : ℕ) (x y : ℤ) → signed down c *ℤ (x +ℤ y) ≡ pos c *ℤ signedSum down x y
-signed-product true c x y = signed-sum-product (pos c) (x +ℤ y)
+signed-product true c x y = negated-product (pos c) (x +ℤ y)
 signed-product false c x y = refl
 
 pub signed-sum-fits : (down : Bool) (x y : ℤ) → SumSafe x y → SFits w32 (signedSum down x y)
-signed-sum-fits true x y h = h .signed-sum
+signed-sum-fits true x y h = h .negated
 signed-sum-fits false x y h = h .sum
 
 pub power-out : (P R own : ℤ) → P *ℤ R *ℤ own ≡ P *ℤ (own *ℤ R)

@@ -274,6 +274,19 @@ fn tables_that_the_document_names() {
     }
 }
 
+/// Two integer bits or one are too few for the first node, whatever the other
+/// numbers of the table are.
+#[test]
+fn the_first_node_of_any_table() {
+    let mut chance = Chance::new(17);
+    for _ in 0..rounds(6000) {
+        let mut table = any_form(&mut chance);
+        table.width_mut(place(1, 1, 1)).integer_bits = chance.within(1, 2) as u8;
+        let refusal = both::table_check(&table.bytes().unwrap()).unwrap_err();
+        assert_eq!((refusal.number, refusal.place), (6, Some(place(1, 1, 1))));
+    }
+}
+
 #[test]
 fn every_node_can_be_the_refused_one() {
     for levels in 1..=5 {

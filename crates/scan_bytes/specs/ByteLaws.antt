@@ -98,7 +98,7 @@ as-many false L false h = (refl, omega arith)
 
 module _ (s : Scan) (k : Keepable s) where
   abbrev hasProducts : Bool
-  «has_products» = s .table .«has_products»
+  hasProducts = s .table .«has_products»
 
   abbrev size : ℕ
   size = tableSize hasProducts 1

@@ -7,7 +7,8 @@ use Rattle.numbers.specs.Quote.{terms, vars, ring}
 use Rattle.lines.specs.Lines.{lows, highs, Liftable}
 use Rattle.lines.specs.LineLaws.{first-low, first-high, even-place, odd-place, by-parity, by-half}
 use Rattle.lines.specs.OneLaws.{one-long}
-use Rattle.lines.specs.CaseLaws.{Reduced, highs-are, lows-are}
+use Rattle.lines.specs.Cases.{Reduced}
+use Rattle.lines.specs.CaseLaws.{highs-are, lows-are}
 use Rattle.exact.specs.Fractions.{Frac, _≈_, _⊕_, _⊗_, whole}
 use Rattle.exact.specs.FracLaws.{≈-refl, ≈-sym, ≈-trans, ⊕-cong, ⊗-cong, neg-cong}
 use Rattle.exact.specs.Exact.{alpha, beta, gamma, delta, zeta, zetaInverse, lift, low₀, high₀, p1, u1, p2, u2, g1, g2, exactLong, exactPass}

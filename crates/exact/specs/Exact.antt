@@ -1,5 +1,5 @@
 -- The constants, and the exact 9/7 lifting of one line (document 01: the lifting; the exact transform).
-use Prim.Native.Nat.{ℕ, _+_, _*_}
+use Prim.Native.Nat.{ℕ, _+_, _*_, _^_}
 use lib.IntN.{pos, negℤ}
 use lib.Dec.{lit<}
 use Rattle.exact.specs.Fractions.{Frac, _⊕_, _⊗_}
@@ -8,27 +8,27 @@ use Rattle.lines.specs.Planes.{OnLine, fromOne}
 
 -- -1.586134342
 abbrev pub alpha : Frac
-alpha = record { num = negℤ (pos 1586134342); den = 1000000000; above = lit< tt }
+alpha = record { num = negℤ (pos 1586134342); den = 10 ^ 9; above = lit< tt }
 
 -- -0.05298011854
 abbrev pub beta : Frac
-beta = record { num = negℤ (pos 5298011854); den = 100000000000; above = lit< tt }
+beta = record { num = negℤ (pos 5298011854); den = 10 ^ 11; above = lit< tt }
 
 -- 0.8829110762
 abbrev pub gamma : Frac
-gamma = record { num = pos 8829110762; den = 10000000000; above = lit< tt }
+gamma = record { num = pos 8829110762; den = 10 ^ 10; above = lit< tt }
 
 -- 0.4435068522
 abbrev pub delta : Frac
-delta = record { num = pos 4435068522; den = 10000000000; above = lit< tt }
+delta = record { num = pos 4435068522; den = 10 ^ 10; above = lit< tt }
 
 -- 1.149604398
 abbrev pub zeta : Frac
-zeta = record { num = pos 1149604398; den = 1000000000; above = lit< tt }
+zeta = record { num = pos 1149604398; den = 10 ^ 9; above = lit< tt }
 
 -- 1 / 1.149604398, the exact quotient
 abbrev pub zetaInverse : Frac
-zetaInverse = record { num = pos 1000000000; den = 1149604398; above = lit< tt }
+zetaInverse = record { num = pos (10 ^ 9); den = 1149604398; above = lit< tt }
 
 -- own value and a constant times the sum of two neighbours
 unfoldable pub lift : Frac → Frac → Frac → Frac → Frac

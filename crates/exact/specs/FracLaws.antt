@@ -7,7 +7,7 @@ use lib.IntN.{ℤ, pos, negℤ, natAbs, _+ℤ_, _*ℤ_, *ℤ-comm, +ℤ-comm, +�
 use Rattle.numbers.specs.Dif.{by-dif, difs}
 use Rattle.numbers.specs.Laws.{*ℤ-assoc, *ℤ-distl, *ℤ-distr, *ℤ-left-comm, *ℤ-cancel, *ℤ-neg-l, *ℤ-neg-r, +ℤ-left-comm, *ℤ-one-l, *ℤ-one-r}
 use Rattle.numbers.specs.Abs.{abs-add, abs-mul}
-use Rattle.exact.specs.Fractions.{Frac, _≈_, _⊕_, _⊗_, neg, whole}
+use Rattle.exact.specs.Fractions.{Frac, _≈_, _⊕_, _⊗_, neg, whole, zeroF, oneF, Within}
 
 pub ruleset ring = (*ℤ-distr, *ℤ-distl, *ℤ-assoc, *ℤ-comm, *ℤ-left-comm, +ℤ-assoc, +ℤ-comm, +ℤ-left-comm)
 
@@ -87,12 +87,6 @@ pub ⊗-assoc : (c d x : Frac) → (c ⊗ d) ⊗ x ≈ c ⊗ (d ⊗ x)
 unfolding _⊗_
 ⊗-assoc c d x = record { eq = eq-of _ _ _ _ (*ℤ-assoc (c .num) (d .num) (x .num)) (sym (*ℤ-assoc (pos (c .den)) (pos (d .den)) (pos (x .den)))) }
 
-abbrev pub zeroF : Frac
-zeroF = whole (pos 0)
-
-abbrev pub oneF : Frac
-oneF = whole (pos 1)
-
 pub ⊕-zero-l : (x : Frac) → zeroF ⊕ x ≈ x
 unfolding _⊕_ whole
 ⊕-zero-l x = record { eq = law (x .num) (pos (x .den)) }
@@ -143,10 +137,7 @@ unfolding _⊕_ neg whole
     law : (a p : ℤ) → (a *ℤ p +ℤ negℤ a *ℤ p) *ℤ pos 1 ≡ pos 0 *ℤ (p *ℤ p)
     law = by-dif _ λ a a'. by-dif _ λ p p'. simp difs (omega arith)
 
--- ---- the size: |x| ≤ p / q
-pub record Within (x : Frac) (p q : ℕ) : Type 0 where
-  pub most : natAbs (x .num) * q ≤ p * x .den
-
+-- ---- the size
 pub within-≈ : {x y : Frac} {p q : ℕ} → x ≈ y → Within x p q → Within y p q
 within-≈ {x} {y} {p} {q} e h = record { most = le-of-mul-le-mul-right {m = natAbs (y .num) * q} {n = p * y .den} {k = x .den} (law (natAbs (x .num)) (natAbs (y .num)) (x .den) (y .den) p q abs (h .most)) (x .above) }
   where

@@ -11,10 +11,10 @@ use Rattle.lines.specs.Planes.{Plane, OnPart, levelRowsFirst, levelColumnsFirst
 use Rattle.lines.specs.InverseLaws.{Equivalence, Inverses, InversesPart, rows-first-inverses, levels-left-inverse, levels-right-inverse}
 use Rattle.lines.specs.OneLaws.{one-inverses}
 use Rattle.lines.specs.CaseLaws.{Congruence}
-use Rattle.exact.specs.Fractions.{Frac, _≈_, _⊕_, _⊗_, neg, whole}
-use Rattle.exact.specs.FracLaws.{≈-refl, ≈-sym, ≈-trans, ⊕-cong, ⊗-cong, ⊕-swap, ⊕-neg, neg-cong, ⊕-zero-l, ⊕-zero-r, ⊗-assoc, ⊗-one-l, zeroF, oneF, plus-back}
+use Rattle.exact.specs.Fractions.{Frac, _≈_, _⊕_, _⊗_, neg, whole, zeroF, oneF}
+use Rattle.exact.specs.FracLaws.{≈-refl, ≈-sym, ≈-trans, ⊕-cong, ⊗-cong, ⊕-swap, ⊕-neg, neg-cong, ⊕-zero-l, ⊕-zero-r, ⊗-assoc, ⊗-one-l, plus-back}
 use Rattle.exact.specs.Exact.{alpha, beta, gamma, delta, zeta, zetaInverse, lift, low₀, high₀, p1, u1, p2, u2, g1, g2, exactLong, exactPass}
-use Rattle.exact.specs.Picture.{exactSample, exactPlane}
+use Rattle.exact.specs.Picture.{exactLevel, exactSample, exactPlane}
 use Rattle.exact.specs.Inverse.{inverseLift, unG1, unG2, unU2, unP2, unU1, unP1, exactInverseLong, exactInversePass, exactInverse}
 
 pub same-≈ : Equivalence _≈_
@@ -194,10 +194,6 @@ module _ (n : ℕ) (x : ℕ → Frac) where
   line-right-inverse = lines-left-inverse .back .left-inverse n x
 
 -- ---- a plane
-
--- a level of the exact transform
-abbrev pub exactLevel : OnPart Frac
-exactLevel = levelRowsFirst exactPass (λ low. exactPass)
 
 level-left-inverse : InversesPart _≈_ exactLevel (levelColumnsFirst exactInversePass (λ low. exactInversePass))
 level-left-inverse = rows-first-inverses same-≈ lines-left-inverse (λ low. lines-left-inverse)

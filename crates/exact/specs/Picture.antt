@@ -4,7 +4,7 @@ use mathlib.Core.List.{List}
 use lib.IntN.{pos, _-ℤ_}
 use lib.ListN.{getD}
 use lib.Pow.{pow-pos}
-use Rattle.lines.specs.Planes.{Plane, levelRowsFirst, levels}
+use Rattle.lines.specs.Planes.{Plane, OnPart, levelRowsFirst, levels}
 use Rattle.exact.specs.Fractions.{Frac}
 use Rattle.exact.specs.Exact.{exactPass}
 
@@ -12,6 +12,10 @@ use Rattle.exact.specs.Exact.{exactPass}
 unfoldable pub exactSample : List ℕ → ℕ → ℕ → Plane Frac
 exactSample pixels B w r c = record { num = pos (getD pixels (r * w + c) 0) -ℤ pos (2 ^ (B - 1)); den = 2 ^ B; above = pow-pos B }
 
--- Each level works its rows, then its columns; each further level takes this transform's own low-low.
+-- a level: the rows, then the columns
+abbrev pub exactLevel : OnPart Frac
+exactLevel = levelRowsFirst exactPass (λ low. exactPass)
+
+-- each further level takes this transform's own low-low
 unfoldable pub exactPlane : List ℕ → ℕ → ℕ → ℕ → ℕ → Plane Frac
-exactPlane pixels B L w h = levels (λ l. levelRowsFirst exactPass (λ low. exactPass)) L w h (exactSample pixels B w)
+exactPlane pixels B L w h = levels (λ l. exactLevel) L w h (exactSample pixels B w)

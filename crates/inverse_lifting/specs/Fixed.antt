@@ -15,9 +15,12 @@ nodeBits = 20
 abbrev pub inverseBits : ℕ
 inverseBits = 24
 
--- 2^15 at the bits of a node: what no value of the inverse may exceed in magnitude (document 02, job 1: refusal 13)
+-- what no value of the inverse may exceed in magnitude (document 02, job 1: refusal 13), and that at the bits of a node
+abbrev pub maxValue : ℕ
+maxValue = 2 ^ 15
+
 abbrev pub limit : ℕ
-limit = 2 ^ 15 * 2 ^ nodeBits
+limit = maxValue * 2 ^ nodeBits
 
 -- A stage P1, U1, P2, U2 undone. The constant times the sum of the neighbours is taken from the own value without loss and cut once
 -- downwards.

@@ -1,17 +1,20 @@
--- The 9/7 lifting undone in fixed point (document 02, jobs 1 and 6), in 64-bit values.
+-- The inverse 9/7 lifting in fixed point (document 02, jobs 1 and 6), in 64-bit values.
+--
+-- Definitions:
 --   Fixed      the fixed-point inverse of one line
 --   Cases      the same by cases, ends apart from the middle
---   Planes     the rows of a plane in memory, and what keeps the machine's numbers in 64 bits
---   Strips     where the columns of a plane come from and go to (`source`, `inverted`); what a strip's turns ask and leave
+--   Strips     where the columns of a plane come from and go to (`source`, `inverted`); what the steps of a strip ask and leave
 -- Proved of them:
+--   CaseLaws   back-is: the inverse by cases is the inverse
+--   Steps      a line inverted step by step, its four stages together as a pipeline
+--   Examples   worked lines
+-- For the code:
+--   Planes     the rows of a plane in memory, and what keeps the machine's numbers in 64 bits
 --   Stages     a stage as it is worked with 64-bit numbers, and the constants
 --   Single     a single value, and two or more
---   CaseLaws   back-is: the inverse by cases is the inverse
---   Turns      a line undone turn by turn, its four stages together
---   Rows       a row's turns; rows of a single value
---   Columns    a turn of the columns of a strip, side by side
---   StripTurns, StripLoop   a strip's turns on the plane and the work area, one after the other
---   Examples   worked lines
+--   Rows       a row's steps; rows of a single value
+--   Columns    a step of the columns of a strip, side by side
+--   StripSteps, StripLoop   a strip's steps on the plane and the work area, one after the other
 pub mod Fixed
 pub mod Cases
 pub mod Planes

@@ -24,7 +24,7 @@ use Rattle.width_table.specs.declared.WidthTable.{WidthTable}
 use Rattle.width_table.specs.Table.{maxFractionBits, integerBits, fractionBits, inputBits}
 use Rattle.precision.specs.Bounds.{entering, boundOf}
 use Rattle.precision.specs.Verdict.{Accepted, AcceptPromise}
-use Rattle.exact.specs.Picture.{exactSample, exactPlane}
+use Rattle.exact.specs.Picture.{exactSample, exactLevel, exactPlane}
 use Rattle.pictures.specs.Pictures.{sample}
 use Rattle.irreversible.specs.Transforms.{fixedLine, fixedAfter, fixedPlane}
 use Rattle.irreversible.specs.Claims.{Picture, Strip, keptNode, bitsPlane, Near, TwoSteps, InNodeWidth, LevelInWidth, Widths}
@@ -63,7 +63,7 @@ pixel-law p H h = simp difs (omega arith)
 
 module _ (t : WidthTable) (ok : AcceptPromise t) (pixels : List ℕ) (w h : ℕ) (strip : Strip t pixels w h) where
   pub exactAfter : ℕ → Plane Frac
-  exactAfter k = levels (λ l. levelRowsFirst exactPass (λ low. exactPass)) k w h (exactSample pixels (t .depth) w)
+  exactAfter k = levels (λ l. exactLevel) k w h (exactSample pixels (t .depth) w)
 
   -- the value at a place is good for a node
   GoodFor : TableNode → ℕ → ℕ → ℕ → Type 0

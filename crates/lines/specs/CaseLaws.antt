@@ -9,10 +9,11 @@ use Rattle.numbers.specs.Tests.{by-ltb, by-eqb}
 use lib.IntN.{pos, _+ℤ_, _-ℤ_, +ℤ-negℤ-cancel}
 use Rattle.lines.specs.Lines.{lows, highs, Liftable, lowAfter, highBefore, highAfter, onHighs, onLows}
 use Rattle.lines.specs.LineLaws.{some-highs}
-use Rattle.lines.specs.Mirror.{mirrored, mirror, low-after, high-after}
+use Rattle.lines.specs.Mirror.{mirror}
+use Rattle.lines.specs.MirrorLaws.{low-after, high-after}
 use Rattle.lines.specs.Neighbours.{low-after-in, high-before-in, high-after-in, high-before-next}
 use Rattle.lines.specs.InverseLaws.{Equivalence}
-use Rattle.lines.specs.Cases.{Neighbours, one, two, ofHigh, ofLow, byCase, highsByCases, lowsByCases}
+use Rattle.lines.specs.Cases.{Neighbours, one, two, ofHigh, ofLow, byCase, highsByCases, lowsByCases, Reduced}
 
 -- the places before and after
 abbrev pub before : Neighbours → ℕ
@@ -39,7 +40,7 @@ low-sides n (suc i) works h = by-eqb (λ t. let p : Neighbours = elim t [ true �
 -- ---- they are the mirrored samples
 
 -- a place of the line is its own
-own-place : (n j : ℕ) → j < n → j ≡ mirrored n j
+own-place : (n j : ℕ) → j < n → j ≡ mirror n (pos j)
 own-place n j h = by-ltb (λ t. j ≡ elim t [ true ↦ j | false ↦ 2 * (n - 1) - j ]) j n (λ l. refl) (λ l. absurd (omega arith))
 
 -- high i is sample 2 i + 1
@@ -48,7 +49,7 @@ high-mirrored n i h =
     let s = high-sides n i h in
     let a : 2 * before (ofHigh n i) ≡ 2 * i = ap (λ (k : ℕ). 2 * k) (s .0) in
     let b : 2 * i + 2 ≡ 2 * i + 1 + 1 = omega arith in
-    (a ∙ own-place n (2 * i) (omega arith) ∙ ap (mirror n) (sym (+ℤ-negℤ-cancel (pos (2 * i)) (pos 1))), ap (λ (k : ℕ). 2 * k) (s .1) ∙ low-after n i h ∙ ap (mirrored n) b)
+    (a ∙ own-place n (2 * i) (omega arith) ∙ ap (mirror n) (sym (+ℤ-negℤ-cancel (pos (2 * i)) (pos 1))), ap (λ (k : ℕ). 2 * k) (s .1) ∙ low-after n i h ∙ ap (λ (k : ℕ). mirror n (pos k)) b)
 
 -- low i is sample 2 i
 pub low-mirrored : (n i : ℕ) → Liftable n → i < lows n → (2 * before (ofLow n i) + 1 ≡ mirror n (pos (2 * i) -ℤ pos 1)) × (2 * after (ofLow n i) + 1 ≡ mirror n (pos (2 * i) +ℤ pos 1))
@@ -68,10 +69,6 @@ pub record Congruence {A : Type 0} (R : A → A → Type 0) (step : A → A → 
 
 pub congruence-equal : {A : Type 0} (step : A → A → A → A) → Congruence (_≡_ {A = A}) step
 congruence-equal step = record { alike = λ a b c. λ u. step (a u) (b u) (c u) }
-
--- the reduced equation is the step of one neighbour twice
-abbrev pub Reduced : {A : Type 0} → (A → A → Type 0) → (A → A → A → A) → (A → A → A) → Type 0
-Reduced {A} R step end = (own x : A) → R (end own x) (step own x x)
 
 -- what is read by cases, l and h, is alike to what is read by the neighbours of Lines, m and g
 module _ {A : Type 0} {R : A → A → Type 0} (e : Equivalence R) {step : A → A → A → A} {end : A → A → A} (respects : Congruence R step) (reduced : Reduced R step end) where

@@ -37,3 +37,7 @@ module _ {A : Type 0} {B : Type 0} (step : A → A → A → B) (end : A → A �
   -- at each low
   unfoldable pub lowsByCases : ℕ → (ℕ → A) → (ℕ → A) → ℕ → B
   lowsByCases n low high i = byCase (low i) high (ofLow n i)
+
+-- the reduced equation is the step of one neighbour twice
+abbrev pub Reduced : {A : Type 0} → (A → A → Type 0) → (A → A → A → A) → (A → A → A) → Type 0
+Reduced {A} R step end = (own x : A) → R (end own x) (step own x x)

@@ -1,37 +1,11 @@
--- The neighbours of Lines are the mirrored ones: a sample past the last place of a line is the one as far before it (mirrored about
--- the last sample, which is not repeated), and the sample before the first is the second.
-use Prim.Native.Nat.{ℕ, suc, _+_, _*_, _-_, _<_, _≤_}
+-- Samples before the first place of a line and past its last one (document 01: edges).
+use Prim.Native.Nat.{ℕ, suc, _*_, _-_}
 use mathlib.Core.Bool.{true, false}
-use mathlib.Core.Path.{_≡_, refl}
-use native.Mathlib.Omega.{arith}
 use lib.Dec.{ltb}
 use lib.IntN.{ℤ, pos, negsuc}
-use Rattle.lines.specs.Lines.{lows, highs, lowAfter, highBefore, highAfter}
-use Rattle.numbers.specs.Tests.{by-ltb}
 
--- the place of a sample of a line of n, mirrored about place n - 1
-abbrev pub mirrored : ℕ → ℕ → ℕ
-mirrored n j = elim (ltb j n) [ true ↦ j | false ↦ 2 * (n - 1) - j ]
-
--- high i is sample 2 i + 1; its neighbours are samples 2 i and 2 i + 2
-pub low-after : (n i : ℕ) → i < highs n → 2 * lowAfter n i ≡ mirrored n (2 * i + 2)
-unfolding lowAfter
-low-after n i h = by-ltb (λ q. 2 * lowAfter n i ≡ elim q [ true ↦ 2 * i + 2 | false ↦ 2 * (n - 1) - (2 * i + 2) ]) (2 * i + 2) n (λ j. omega arith) (λ j. omega arith)
-
--- low i is sample 2 i; its neighbours are samples 2 i - 1 (at the first low the mirrored one, 1) and 2 i + 1
-pub high-after : (n i : ℕ) → 2 ≤ n → i < lows n → 2 * highAfter n i + 1 ≡ mirrored n (2 * i + 1)
-unfolding highAfter
-high-after n i big h = by-ltb (λ q. 2 * highAfter n i + 1 ≡ elim q [ true ↦ 2 * i + 1 | false ↦ 2 * (n - 1) - (2 * i + 1) ]) (2 * i + 1) n (λ j. omega arith) (λ j. omega arith)
-
-pub high-before-first : 2 * highBefore 0 + 1 ≡ 1
-unfolding highBefore
-high-before-first = refl
-
-pub high-before : (i : ℕ) → 2 * highBefore (suc i) + 1 ≡ 2 * suc i - 1
-unfolding highBefore
-high-before i = omega arith
-
--- the place of the sample that stands at place z: mirrored about the first sample, too (document 01: edges)
+-- The place of the sample that stands at place z of a line of n: past the last place the one as far before it (mirrored about the last sample,
+-- which is not repeated), before the first the one as far behind it.
 abbrev pub mirror : ℕ → ℤ → ℕ
-mirror n (pos j) = mirrored n j
+mirror n (pos j) = elim (ltb j n) [ true ↦ j | false ↦ 2 * (n - 1) - j ]
 mirror n (negsuc j) = suc j

@@ -1,14 +1,19 @@
--- Whole numbers of either sign: laws, and the tactics that the proofs above use.
+-- Whole numbers of either sign.
+--
+-- Definitions (cited by promises and contracts above):
+--   Parts      the positive and the negative part of an integer
+--   Floor      division rounded down, with its laws: `>>` of a signed number
+--   Tests      computed tests (`between`, `every`), with their laws
+--   Lists      writing over the front of a list (`over`), parts of lists, with their laws
+-- Laws, and the tactics that the proofs above use:
 --   Dif        linear facts over ℤ, as differences of naturals (`by-dif`, `difs`)
 --   Laws       ordered ring laws of ℤ
 --   Abs        magnitudes
---   Floor      division rounded down; `>>` of a signed number
 --   Auto       overflow needs of signed code
 --   Compared   tests of signed locals
 --   Ring, Quote   identities of polynomials (`ring`)
---   Tests      computed tests (`between`, `every`) and their laws
---   Lists      writing over the front of a list (`over`), parts of lists
 --   Examples   worked examples of the tactics
+pub mod Parts
 pub mod Dif
 pub mod Laws
 pub mod Abs

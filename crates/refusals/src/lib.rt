@@ -1,7 +1,7 @@
 // What calls answer. specs/Told sets out the documents' numbers and values for each case.
 ghost use mathlib.Core.Path.{_≡_};
 ghost use mathlib.Core.List.{[], _∷_};
-ghost use Prim.Native.Nat.{_*_};
+ghost use Prim.Native.Nat.{_*_, _≤_};
 ghost use Rattle.refusals.specs.Answers.{bytesUp, code};
 ghost use Rattle.refusals.specs.Told.{toldRefusal, told};
 
@@ -37,31 +37,9 @@ pub enum Outcome {
 
 // A place as the bytes above the lowest: level, pass, node.
 fn place_code(place: NodePlace) -> u32
-    ensures { λ r. ⌜ r ≡ 256 * bytesUp (place .level ∷ place .pass ∷ place .node ∷ []) ⌝ }
+    ensures { λ r. ⌜ (r ≡ 256 * bytesUp (place .level ∷ place .pass ∷ place .node ∷ [])) × (r ≤ 4294967040) ⌝ }
 {
     256 * (place.level as u32) + 65536 * (place.pass as u32) + 16777216 * (place.node as u32)
-}
-
-// A refusal as one number: its own in the lowest byte, its values above.
-pub fn refusal_code(refusal: Refusal) -> u32
-    ensures { λ r. ⌜ r ≡ bytesUp (toldRefusal refusal .0 ∷ toldRefusal refusal .1) ⌝ }
-{
-    match refusal {
-        Refusal::CutShort => 1,
-        Refusal::WrongTag => 2,
-        Refusal::WrongLength => 3,
-        Refusal::OutsideLimits => 4,
-        Refusal::TrailingBytes => 5,
-        Refusal::DoesNotFit(place) => 6 + place_code(place),
-        Refusal::ErrorTooLarge(place) => 7 + place_code(place),
-        Refusal::SideNotAdmitted => 8,
-        Refusal::SliceTooShort => 9,
-        Refusal::PixelTooLarge => 10,
-        Refusal::NoPicture => 11,
-        Refusal::OutsideWidth => 12,
-        Refusal::NotViewable => 13,
-        Refusal::OutOfTurn => 14,
-    }
 }
 
 // The number of a refusal.
@@ -84,6 +62,36 @@ pub fn number(refusal: Refusal) -> u8
         Refusal::NotViewable => 13,
         Refusal::OutOfTurn => 14,
     }
+}
+
+// The values of a refusal, in the bytes above its number: those of 6 and 7.
+fn values_code(refusal: Refusal) -> u32
+    ensures { λ r. ⌜ (r ≡ 256 * bytesUp (toldRefusal refusal .1)) × (r ≤ 4294967040) ⌝ }
+{
+    match refusal {
+        Refusal::DoesNotFit(place) => place_code(place),
+        Refusal::ErrorTooLarge(place) => place_code(place),
+        Refusal::CutShort => 0,
+        Refusal::WrongTag => 0,
+        Refusal::WrongLength => 0,
+        Refusal::OutsideLimits => 0,
+        Refusal::TrailingBytes => 0,
+        Refusal::SideNotAdmitted => 0,
+        Refusal::SliceTooShort => 0,
+        Refusal::PixelTooLarge => 0,
+        Refusal::NoPicture => 0,
+        Refusal::OutsideWidth => 0,
+        Refusal::NotViewable => 0,
+        Refusal::OutOfTurn => 0,
+    }
+}
+
+// A refusal as one number: its own in the lowest byte, its values above.
+pub fn refusal_code(refusal: Refusal) -> u32
+    ensures { λ r. ⌜ r ≡ bytesUp (toldRefusal refusal .0 ∷ toldRefusal refusal .1) ⌝ }
+{
+    let own = number(refusal);
+    (own as u32) + values_code(refusal)
 }
 
 // An outcome as one number: 0 where the call was done.

@@ -5,11 +5,11 @@ use lib.Dec.{lit<, lit≤}
 use lib.IntN.{ℤ, pos, _+ℤ_, _-ℤ_}
 use Rattle.numbers.specs.Floor.{floorDiv, half-twice, quarter-twice}
 use Rattle.lines.specs.Lines.{lows, highs, Liftable, lowsFirst}
-use Rattle.lines.specs.Cases.{highsByCases, lowsByCases, ofHigh, ofLow}
+use Rattle.lines.specs.Cases.{highsByCases, lowsByCases, ofHigh, ofLow, Reduced}
 use Rattle.lines.specs.LineLaws.{Equal, first-equal, interleaved-equal}
 use Rattle.lines.specs.InverseLaws.{equal}
 use Rattle.lines.specs.OneLaws.{one-long}
-use Rattle.lines.specs.CaseLaws.{congruence-equal, Reduced, highs-are, lows-are}
+use Rattle.lines.specs.CaseLaws.{congruence-equal, highs-are, lows-are}
 use Rattle.reversible.specs.Reversible.{predict, update, inversePredict, inverseUpdate, high, low, reversibleLong, reversiblePass, lowInverse, highInverse, inverseLong, inversePass}
 use Rattle.reversible.specs.Cases.{predictEnd, updateEnd, inversePredictEnd, inverseUpdateEnd, highByCases, lowByCases, passByCases, lowInverseByCases, highInverseByCases, inverseByCases}
 

@@ -9,7 +9,8 @@ use lib.Signed.{shrZ}
 use mir.Syntax.{w32}
 use mir.Val.{SFits}
 use Rattle.numbers.specs.Abs.{abs-add, abs-sub, mag-of-abs}
-use Rattle.numbers.specs.Dif.{plus, minus, is-self, is-pos, is-add, is-abs}
+use Rattle.numbers.specs.Parts.{positivePart, negativePart}
+use Rattle.numbers.specs.Dif.{is-self, is-pos, is-add, is-abs}
 use Rattle.lines.specs.Lines.{lows, highs, Liftable, lowAfter, highBefore, highAfter, onHighs, onLows}
 use Rattle.lines.specs.LineLaws.{some-highs, first-low, first-high, even-place, odd-place, by-parity, by-half}
 use Rattle.lines.specs.Planes.{OnLine, fromOne}
@@ -56,7 +57,7 @@ half-small (negsuc a) c h = omega arith
 quarter-small : (z : ℤ) (c : ℕ) → natAbs z ≤ 4 * c → natAbs (quarter z) ≤ c
 quarter-small z c h = go (z +ℤ pos 2) (is-add (is-self z) (is-pos 2) .eq) (is-abs (is-self z) .0 h)
   where
-    go : (y : ℤ) → plus y + (minus z + 0) ≡ minus y + (plus z + 2) → (plus z ≤ minus z + 4 * c) × (minus z ≤ plus z + 4 * c) → natAbs (shrZ y 4) ≤ c
+    go : (y : ℤ) → positivePart y + (negativePart z + 0) ≡ negativePart y + (positivePart z + 2) → (positivePart z ≤ negativePart z + 4 * c) × (negativePart z ≤ positivePart z + 4 * c) → natAbs (shrZ y 4) ≤ c
     go (pos a) e k = omega arith
     go (negsuc a) e k = omega arith
 

@@ -8,8 +8,8 @@ use native.Mathlib.Decide.{decLt}
 use native.Mathlib.Nat.{mul-le-mul-right, le-antisymm, le-of-mul-le-mul-right, lt-of-mul-lt-mul-right, div-mul-le-self}
 use lib.IntN.{sucℤ-+ℤ, predℤ-+ℤ, +ℤ-idl, ℤ, pos, negsuc, sucℤ, natAbs, _+ℤ_, predℤ}
 use Rattle.numbers.specs.Abs.{abs-mul}
-use Rattle.exact.specs.Fractions.{Frac, _≈_, _⊕_, whole, magnitude, upDiv, roundedUp}
-use Rattle.exact.specs.FracLaws.{≈-refl, ≈-trans, ⊕-cong, zeroF, ⊕-zero-r}
+use Rattle.exact.specs.Fractions.{Frac, _≈_, _⊕_, whole, magnitude, upDiv, roundedUp, zeroF}
+use Rattle.exact.specs.FracLaws.{≈-refl, ≈-trans, ⊕-cong, ⊕-zero-r}
 use Rattle.stages.specs.Stages.{Side, low, high, Stage, stage, made, worked}
 use Rattle.stages.specs.Gains.{Line, before, after, valuesAfter, sumTo, Source, samples, lows, highs, node, inputAnswer, nodeAnswer, sumFrom, exactGain, gain}
 use Rattle.stages.specs.Linear.{upDiv-most, linear-none}

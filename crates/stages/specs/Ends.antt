@@ -3,7 +3,7 @@ use Prim.Native.Nat.{ℕ, _+_, _-_, _^_, max}
 use mathlib.Core.Path.{_≡_, refl, ap}
 use lib.IntN.{ℤ, pos, negℤ, _+ℤ_, _*ℤ_}
 use Rattle.numbers.specs.Laws.{twice-times}
-use Rattle.lines.specs.CaseLaws.{Reduced}
+use Rattle.lines.specs.Cases.{Reduced}
 use Rattle.exact.specs.Fractions.{Frac, whole, _⊗_}
 use Rattle.exact.specs.Exact.{alpha}
 use Rattle.stages.specs.Stages.{Product, productBits}

@@ -8,8 +8,8 @@ use native.Mathlib.Decide.{decLe}
 use native.Mathlib.Nat.{mul-le-mul-right, mul-pos, lt-div-mul-add}
 use lib.Dec.{T, eqb→eq, eqb-refl}
 use lib.IntN.{ℤ, pos, negsuc, natAbs, _+ℤ_, _*ℤ_, *ℤ-comm}
-use Rattle.exact.specs.Fractions.{Frac, _≈_, _⊕_, _⊗_, whole, magnitude, upDiv, roundedUp}
-use Rattle.exact.specs.FracLaws.{≈-refl, ≈-sym, ≈-trans, ⊕-cong, ⊗-cong, ⊕-zero-l, ⊕-zero-r, ⊗-zero-r, ⊗-one-l, zeroF, oneF, Within, within-≈, within-⊕, within-⊗, within-weaken}
+use Rattle.exact.specs.Fractions.{Frac, _≈_, _⊕_, _⊗_, whole, magnitude, upDiv, roundedUp, zeroF, oneF, Within}
+use Rattle.exact.specs.FracLaws.{≈-refl, ≈-sym, ≈-trans, ⊕-cong, ⊗-cong, ⊕-zero-l, ⊕-zero-r, ⊗-zero-r, ⊗-one-l, within-≈, within-⊕, within-⊗, within-weaken}
 use Rattle.stages.specs.Gains.{Line, same, unit, sumTo}
 use Rattle.stages.specs.Rule.{timesGain}
 

@@ -10,8 +10,8 @@ use lib.Dec.{lit<}
 use lib.Pow.{pow-pos}
 use lib.IntN.{ℤ, pos, negsuc}
 use Rattle.numbers.specs.Tests.{ltb-true, ltb-false}
-use Rattle.exact.specs.Fractions.{Frac, _≈_, _⊕_, whole, magnitude, upDiv, roundedUp}
-use Rattle.exact.specs.FracLaws.{≈-trans, ⊕-cong, ⊕-zero-r, zeroF}
+use Rattle.exact.specs.Fractions.{Frac, _≈_, _⊕_, whole, magnitude, upDiv, roundedUp, zeroF}
+use Rattle.exact.specs.FracLaws.{≈-trans, ⊕-cong, ⊕-zero-r}
 use Rattle.stages.specs.Stages.{Side, low, high, Kind, lifts, scales, Stage, stage, Product, made, worked}
 use Rattle.stages.specs.OnLine.{other}
 use Rattle.stages.specs.Gains.{Line, before, after, valuesAfter, nothing, unit, feed, only, sumTo, Source, samples, lows, highs, node, inputAnswer, nodeAnswer, sumFrom, exactGain, gain}

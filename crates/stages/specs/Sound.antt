@@ -10,9 +10,9 @@ use lib.IntN.{ℤ}
 use Rattle.lines.specs.Lines.{Liftable, lowAfter, highBefore, highAfter}
 use Rattle.lines.specs.LineLaws.{some-highs}
 use Rattle.lines.specs.Neighbours.{low-after-in, high-before-in, high-after-in}
-use Rattle.exact.specs.Fractions.{Frac, _≈_, _⊕_, _⊗_, neg}
+use Rattle.exact.specs.Fractions.{Frac, _≈_, _⊕_, _⊗_, neg, zeroF, Within}
 use Rattle.exact.specs.Exact.{lift}
-use Rattle.exact.specs.FracLaws.{≈-refl, ≈-sym, ≈-trans, ⊕-cong, ⊗-cong, ⊕-zero-r, neg-cong, zeroF, through, times-sub, sub-sum, Within, within-≈, within-zero, within-near}
+use Rattle.exact.specs.FracLaws.{≈-refl, ≈-sym, ≈-trans, ⊕-cong, ⊗-cong, ⊕-zero-r, neg-cong, through, times-sub, sub-sum, within-≈, within-zero, within-near}
 use Rattle.stages.specs.Stages.{Side, low, high, Kind, lifts, scales, Stage, stage, made, worked, replaced, Product, bits}
 use Rattle.stages.specs.OnLine.{other, beforeIn, afterIn, count, exactAfter, fixedMade, fixedAfter}
 use Rattle.stages.specs.Rule.{Bound, Entering, rangeAt, ownErrorOf, errorAt, sideBound}

@@ -2,8 +2,7 @@
 use Prim.Native.Nat.{ℕ, zero, suc, min}
 use mathlib.Core.List.{List, [], _∷_}
 use lib.ListN.{getD}
-use Rattle.exact.specs.Fractions.{Frac, _⊗_, neg}
-use Rattle.exact.specs.FracLaws.{oneF}
+use Rattle.exact.specs.Fractions.{Frac, _⊗_, neg, oneF}
 use Rattle.exact.specs.Exact.{alpha, beta, gamma, delta, zeta, zetaInverse, lift}
 
 pub data Side : Type 0 where

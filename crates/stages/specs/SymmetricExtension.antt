@@ -10,8 +10,8 @@ use lib.IntN.{ℤ, pos, negsuc, sucℤ, predℤ}
 use Rattle.lines.specs.Lines.{Liftable, lowAfter, highBefore, highAfter}
 use Rattle.lines.specs.LineLaws.{some-highs}
 use Rattle.lines.specs.Neighbours.{Beside, low-after-beside, high-before-beside, high-after-beside, low-after-next, high-before-next, high-after-next}
-use Rattle.exact.specs.Fractions.{Frac, _≈_, _⊕_}
-use Rattle.exact.specs.FracLaws.{≈-refl, ≈-sym, ≈-trans, ⊕-cong, ⊗-cong, ⊕-comm, zeroF, Within, within-≈}
+use Rattle.exact.specs.Fractions.{Frac, _≈_, _⊕_, zeroF, Within}
+use Rattle.exact.specs.FracLaws.{≈-refl, ≈-sym, ≈-trans, ⊕-cong, ⊗-cong, ⊕-comm, within-≈}
 use Rattle.exact.specs.Exact.{lift}
 use Rattle.stages.specs.Stages.{Side, low, high, Kind, lifts, scales, Stage, stage, made, worked}
 use Rattle.stages.specs.OnLine.{other, beforeIn, afterIn, count}

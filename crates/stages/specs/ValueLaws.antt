@@ -8,8 +8,8 @@ use native.Mathlib.Omega.{arith}
 use native.Mathlib.Decide.{decLt}
 use lib.Dec.{T, eqb, eqb→eq, eqb-refl}
 use lib.IntN.{ℤ, pos, negsuc, sucℤ, predℤ, natAbs}
-use Rattle.exact.specs.Fractions.{Frac, _≈_, _⊕_, _⊗_}
-use Rattle.exact.specs.FracLaws.{≈-refl, ≈-sym, ≈-trans, ⊕-cong, ⊗-cong, ⊕-swap, ⊕-zero-l, ⊕-zero-r, ⊗-zero-r, ⊗-distl, ⊗-assoc, zeroF, Within, within-≈, within-⊕, within-zero}
+use Rattle.exact.specs.Fractions.{Frac, _≈_, _⊕_, _⊗_, zeroF, Within}
+use Rattle.exact.specs.FracLaws.{≈-refl, ≈-sym, ≈-trans, ⊕-cong, ⊗-cong, ⊕-swap, ⊕-zero-l, ⊕-zero-r, ⊗-zero-r, ⊗-distl, ⊗-assoc, within-≈, within-⊕, within-zero}
 use Rattle.exact.specs.Exact.{lift}
 use Rattle.stages.specs.Stages.{Side, low, high, Kind, lifts, scales, Stage, stage, made, worked}
 use Rattle.stages.specs.Gains.{Line, before, after, valuesAfter, nothing, feed, only, sumTo, inputAnswer, nodeAnswer, sumFrom, exactGain, gain, samples, node}

@@ -12,11 +12,11 @@ use Rattle.refusals.specs.AnswerLaws.{asks-done, asks-right, then-done, then-ri
 use Rattle.stages.specs.Stages.{Side, low, high, inverse, uncut}
 use Rattle.stages.specs.Rule.{Bound, apart}
 use Rattle.stages.specs.RuleLaws.{AtMost, apart-at-most, bound-grows}
-use Rattle.inverse_lifting.specs.Fixed.{nodeBits, inverseBits}
+use Rattle.inverse_lifting.specs.Fixed.{nodeBits, inverseBits, maxValue}
 use Rattle.width_table.specs.Nodes.{Node, P1, U1, P2, U2, G1, G2, Pass, Rows, LowColumns, HighColumns}
 use Rattle.width_table.specs.declared.WidthTable.{WidthTable}
 use Rattle.precision.specs.Verdict.{verdict}
-use Rattle.view_precision.specs.Bounds.{larger, boundAfter, even, inverseBound, passGives, fromLow, fromHigh, passBound, levelGives, givesFrom, startBound, pixelBound, atMost15, passRight, nodesRight, viewable, viewVerdict}
+use Rattle.view_precision.specs.Bounds.{larger, boundAfter, even, inverseBound, passGives, fromLow, fromHigh, passBound, levelGives, givesFrom, startBound, pixelBound, withinMax, passRight, nodesRight, viewable, viewVerdict}
 use Rattle.view_precision.specs.Odd.{odd-range, odd-error}
 use Rattle.view_precision.specs.Before.{boundAtBefore, passGivesBefore, fromLowBefore, fromHighBefore, passBoundBefore, levelGivesBefore, givesFromBefore, pixelBoundBefore, nodesRightBefore, viewableBefore, viewVerdictBefore}
 
@@ -44,16 +44,16 @@ module _ {a a' b b' : Bound} (h : AtMost a a') (k : AtMost b b') where
 
 -- ---- no table is newly viewable
 
-still : (x y : Bound) → AtMost x y → T (atMost15 y) → T (atMost15 x)
-still x y m h = le→leb (x .range + x .error) (2 ^ 15 * 2 ^ 32) (omega (arith, m .range, m .error, leb→le (y .range + y .error) (2 ^ 15 * 2 ^ 32) h))
+still : (x y : Bound) → AtMost x y → T (withinMax y) → T (withinMax x)
+still x y m h = le→leb (x .range + x .error) (maxValue * 2 ^ 32) (omega (arith, m .range, m .error, leb→le (y .range + y .error) (maxValue * 2 ^ 32) h))
 
 module _ (x y : Node → Bound) (m : (n : Node) → AtMost (x n) (y n)) where
-  all-still : (ns : List Node) → T (every (λ n. atMost15 (y n)) ns) → T (every (λ n. atMost15 (x n)) ns)
+  all-still : (ns : List Node) → T (every (λ n. withinMax (y n)) ns) → T (every (λ n. withinMax (x n)) ns)
   unfolding every
   all-still [] h = tt
   all-still (n ∷ ns) h =
-      let (this, others) = both (atMost15 (y n)) _ h in
-      and-intro (atMost15 (x n)) _ (still (x n) (y n) (m n) this) (all-still ns others)
+      let (this, others) = both (withinMax (y n)) _ h in
+      and-intro (withinMax (x n)) _ (still (x n) (y n) (m n) this) (all-still ns others)
 
 same : {a : Bound} → AtMost a a
 same = record { range = omega arith; error = omega arith }

@@ -9,7 +9,7 @@ use Rattle.refusals.specs.Answers.{Answer, passed, asks, _then_}
 use Rattle.stages.specs.Stages.{Side, low, high, inverse, uncut}
 use Rattle.stages.specs.Rule as Rule
 use Rattle.stages.specs.Rule.{Bound, apart, ownLift, inputPart}
-use Rattle.inverse_lifting.specs.Fixed.{nodeBits, inverseBits}
+use Rattle.inverse_lifting.specs.Fixed.{nodeBits, inverseBits, maxValue}
 use Rattle.width_table.specs.Nodes.{Node, P1, U1, P2, U2, G1, G2, Pass, Rows, LowColumns, HighColumns}
 use Rattle.width_table.specs.declared.WidthTable.{WidthTable}
 use Rattle.width_table.specs.Table.{integerBits, fractionBits}
@@ -99,11 +99,11 @@ viewDistance t = givesFrom t stepsAllowed (t .levels) (startBound t stepsAllowed
 -- ---- 13
 
 -- range plus error is at most 2^15
-abbrev pub atMost15 : Bound → Bool
-atMost15 b = leb (b .range + b .error) (2 ^ 15 * 2 ^ 32)
+abbrev pub withinMax : Bound → Bool
+withinMax b = leb (b .range + b .error) (maxValue * 2 ^ 32)
 
 abbrev pub passRight : (Node → Bound) → Bool
-passRight b = every (λ n. atMost15 (b n)) (G1 ∷ G2 ∷ U2 ∷ P2 ∷ U1 ∷ P1 ∷ [])
+passRight b = every (λ n. withinMax (b n)) (G1 ∷ G2 ∷ U2 ∷ P2 ∷ U1 ∷ P1 ∷ [])
 
 -- every node of levels k to 1
 unfoldable pub nodesRight : WidthTable → ℕ → Bound → Bool

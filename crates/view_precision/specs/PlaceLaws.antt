@@ -10,7 +10,7 @@ use borrow.Author.Tests.{le-leb, lt-leb, eq-eqb, ne-eqb}
 use lib.ListN.{set}
 use Rattle.numbers.specs.Tests.{every, ltb-true, ltb-false, left-false, right-false}
 use Rattle.exact.specs.Fractions.{upDiv}
-use Rattle.inverse_lifting.specs.Fixed.{nodeBits, inverseBits}
+use Rattle.inverse_lifting.specs.Fixed.{nodeBits, inverseBits, maxValue}
 use Rattle.width_table.specs.Nodes.{Node, P1, U1, P2, U2, G1, G2}
 use Rattle.stages.specs.Stages.{Side, low, high, stage, inverse, uncut, bits}
 use Rattle.stages.specs.Gains.{lows, highs, node, gain}
@@ -21,7 +21,7 @@ use Rattle.stages.specs.ProductLaws.{own-uncut}
 use Rattle.stages.specs.ValueLaws.{weighed}
 use Rattle.stages.specs.RuleLaws as RuleLaws
 use Rattle.stages.specs.RuleLaws.{timesGain-zero, timesGain-none, weighed-ext, error-sum, bound-start, bound-kept}
-use Rattle.view_precision.specs.Bounds.{larger, boundAfter, even, odd, inverseBound, atMost15, passRight}
+use Rattle.view_precision.specs.Bounds.{larger, boundAfter, even, odd, inverseBound, withinMax, passRight}
 use Rattle.view_precision.specs.Odd.{ownOdd, odd-differs}
 use Rattle.view_precision.specs.Places.{stages, sources, scalings, evenStage, nodeAfter, gainAt, carriedTo, boundFrom, nodeFrom, total, totalFrom, inverseOwnError, ownAt, ownsBelow}
 
@@ -179,32 +179,32 @@ module _ (j r : ℕ) where
 
 -- 2^15
 abbrev pub mostNode : ℕ
-mostNode = 2 ^ 15 * 2 ^ 32
+mostNode = maxValue * 2 ^ 32
 
 module _ (bound : Node → Bound) where
   -- the first j of them are right
   abbrev pub RightBelow : ℕ → Type 0
-  RightBelow j = (i : ℕ) → i < j → atMost15 (bound (nodeAfter i)) ≡ true
+  RightBelow j = (i : ℕ) → i < j → withinMax (bound (nodeAfter i)) ≡ true
 
   -- one more, or none
   module _ (j : ℕ) (x : Bound) (e : x ≡ bound (nodeAfter j)) where
     pub right-next : RightBelow j → total x ≤ mostNode → RightBelow (j + 1)
     right-next before h i l = go (decLt i j)
       where
-        go : Dec (i < j) → atMost15 (bound (nodeAfter i)) ≡ true
+        go : Dec (i < j) → withinMax (bound (nodeAfter i)) ≡ true
         go (yes k) = before i k
         go (no k) =
             let z : j ≡ i = omega arith in
-            subst (λ (i : ℕ). atMost15 (bound (nodeAfter i)) ≡ true) z (subst (λ (y : Bound). atMost15 y ≡ true) e (le-leb (total x) mostNode h))
+            subst (λ (i : ℕ). withinMax (bound (nodeAfter i)) ≡ true) z (subst (λ (y : Bound). withinMax y ≡ true) e (le-leb (total x) mostNode h))
 
-    pub wrong-here : mostNode < total x → atMost15 (bound (nodeAfter j)) ≡ false
-    wrong-here h = subst (λ (y : Bound). atMost15 y ≡ false) e (lt-leb (total x) mostNode h)
+    pub wrong-here : mostNode < total x → withinMax (bound (nodeAfter j)) ≡ false
+    wrong-here h = subst (λ (y : Bound). withinMax y ≡ false) e (lt-leb (total x) mostNode h)
 
   pub all-right : RightBelow stages → passRight bound ≡ true
   unfolding every
   all-right h = simp (h 0 (lit< tt), h 1 (lit< tt), h 2 (lit< tt), h 3 (lit< tt), h 4 (lit< tt), h 5 (lit< tt)) refl
 
-  pub one-wrong : (j : ℕ) → j < stages → atMost15 (bound (nodeAfter j)) ≡ false → passRight bound ≡ false
+  pub one-wrong : (j : ℕ) → j < stages → withinMax (bound (nodeAfter j)) ≡ false → passRight bound ≡ false
   unfolding every
   one-wrong = by-stage _
       (λ e. left-false (at G1) _ e)
@@ -215,4 +215,4 @@ module _ (bound : Node → Bound) where
       (λ e. right-false (at G1) _ (right-false (at G2) _ (right-false (at U2) _ (right-false (at P2) _ (right-false (at U1) _ (left-false (at P1) _ e))))))
     where
       at : Node → Bool
-      at n = atMost15 (bound n)
+      at n = withinMax (bound n)

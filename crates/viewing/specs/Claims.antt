@@ -10,8 +10,7 @@ use lib.Signed.{ltZ}
 use Rattle.refusals.specs.Answers.{passed}
 use Rattle.lines.specs.Lines.{lows}
 use Rattle.lines.specs.Planes.{Plane, columns, side}
-use Rattle.exact.specs.Fractions.{Frac, _⊕_, _⊖_, _⊗_, whole, _<F_}
-use Rattle.exact.specs.FracLaws.{Within}
+use Rattle.exact.specs.Fractions.{Frac, _⊕_, _⊖_, _⊗_, whole, _<F_, Within}
 use Rattle.exact.specs.Picture.{exactSample}
 use Rattle.width_table.specs.Nodes.{G1, G2, TableNode, columnPass}
 use Rattle.width_table.specs.declared.WidthTable.{WidthTable}

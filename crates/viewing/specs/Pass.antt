@@ -30,7 +30,7 @@ use Rattle.stages.specs.Sound.{Good, good-≈, good}
 use Rattle.stages.specs.Single.{single-good, good-most}
 use Rattle.width_table.specs.Nodes.{Node, P1, U1, P2, U2, G1, G2}
 use Rattle.inverse_lifting.specs.Fixed.{nodeBits, inverseBits, inverseStep, atG1, atG2, atU2, atP2, atU1, atP1, fixedInverseLong, fixedInverse, Small, limit}
-use Rattle.view_precision.specs.Bounds.{larger, boundAfter, even, odd, inverseBound, passGives, atMost15, passRight}
+use Rattle.view_precision.specs.Bounds.{larger, boundAfter, even, odd, inverseBound, passGives, withinMax, passRight}
 use Rattle.view_precision.specs.Odd.{odd-range, odd-error}
 use Rattle.irreversible.specs.Fixed.{countAt}
 
@@ -277,7 +277,7 @@ inverted-nodes P1 = there (there (there (there (there here))))
 
 -- each node of a pass that 13 does not turn away
 each-right : (b : Node → Bound) → T (passRight b) → (i : Node) → b i .range + b i .error ≤ 2 ^ 15 * 2 ^ 32
-each-right b ok i = leb→le _ _ (every-in (λ n. atMost15 (b n)) (inverted-nodes i) ok)
+each-right b ok i = leb→le _ _ (every-in (λ n. withinMax (b n)) (inverted-nodes i) ok)
 
 module _ {fl fh : ℕ} {a b : Bound} {n : ℕ} {v : ℕ → ℤ} {x : ℕ → Frac} (fed : Fed fl fh a b n v x) (right : T (passRight (inverseBound a b))) where
   pub pass-small : Small fl fh n v

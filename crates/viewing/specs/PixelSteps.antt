@@ -9,7 +9,8 @@ use native.Mathlib.Nat.{mul-pos, mul-le-mul-left}
 use Rattle.numbers.specs.Floor.{floorDiv, floor-≤, floor-<, floor-unique}
 use Rattle.inverse_lifting.specs.Fixed.{nodeBits}
 use lib.Signed.{_≤ℤ_, _<ℤ_}
-use Rattle.numbers.specs.Dif.{plus, by-dif, difs}
+use Rattle.numbers.specs.Parts.{positivePart}
+use Rattle.numbers.specs.Dif.{by-dif, difs}
 use Rattle.numbers.specs.Laws.{≤ℤ-not-<ℤ}
 use Rattle.width_table.specs.Table.{maxDepth}
 use Rattle.viewing.specs.View.{grey, pixel}
@@ -29,15 +30,15 @@ from-less = by-dif _ λ a b. by-dif _ λ c d. simp difs (omega arith)
 to-less : (x y : ℤ) → y ≤ℤ (x -ℤ pos 1) → y <ℤ x
 to-less = by-dif _ λ a b. by-dif _ λ c d. simp difs (omega arith)
 
-limit-below : (z : ℤ) (m : ℕ) → z <ℤ pos 0 → 0 ≡ min (plus z) m
+limit-below : (z : ℤ) (m : ℕ) → z <ℤ pos 0 → 0 ≡ min (positivePart z) m
 limit-below (pos k) m h = absurd (≤ℤ-not-<ℤ (pos 0) (pos k) (simp difs (omega arith)) h)
 limit-below (negsuc k) m h = omega arith
 
-limit-above : (z : ℤ) (n : ℕ) → 1 ≤ n → (pos n -ℤ pos 1) <ℤ z → n - 1 ≡ min (plus z) (n - 1)
+limit-above : (z : ℤ) (n : ℕ) → 1 ≤ n → (pos n -ℤ pos 1) <ℤ z → n - 1 ≡ min (positivePart z) (n - 1)
 limit-above (pos k) n one h = let l = leb→le n k (from-less (pos n) (pos k) h .le) in omega arith
 limit-above (negsuc k) n one h = absurd (from-less (pos n) (negsuc k) h .le)
 
-limit-inside : (z : ℤ) (n : ℕ) → pos 0 ≤ℤ z → z ≤ℤ (pos n -ℤ pos 1) → natAbs z ≡ min (plus z) (n - 1)
+limit-inside : (z : ℤ) (n : ℕ) → pos 0 ≤ℤ z → z ≤ℤ (pos n -ℤ pos 1) → natAbs z ≡ min (positivePart z) (n - 1)
 limit-inside (pos k) n low h = let l = ltb→lt k n (to-less (pos n) (pos k) h .lt) in omega arith
 limit-inside (negsuc k) n low h = absurd (low .le)
 

@@ -10,7 +10,8 @@ use lib.Pow.{pow-pos}
 use lib.ListN.{getD}
 use lib.IntN.{ℤ, pos, negsuc, negℤ, natAbs, _+ℤ_, _-ℤ_, _*ℤ_}
 use lib.Signed.{_≤ℤ_, _<ℤ_}
-use Rattle.numbers.specs.Dif.{by-dif, difs, plus}
+use Rattle.numbers.specs.Parts.{positivePart}
+use Rattle.numbers.specs.Dif.{by-dif, difs}
 use Rattle.numbers.specs.Floor.{floor-≤, floor-<}
 use Rattle.lines.specs.Planes.{Plane}
 use Rattle.lines.specs.PlaneLaws.{Agree}
@@ -74,7 +75,7 @@ grey-off : (p H K m : ℕ) (w g : ℤ)
 grey-off p H K m = by-dif _ λ a a'. by-dif _ λ b b'. simp difs (omega arith)
 
 -- limiting moves no grey away from p, which is in the limits
-limited-off : (p M K : ℕ) → p ≤ M → (g : ℤ) → natAbs (g -ℤ pos p) ≤ K → natAbs (pos (min (plus g) M) -ℤ pos p) ≤ K
+limited-off : (p M K : ℕ) → p ≤ M → (g : ℤ) → natAbs (g -ℤ pos p) ≤ K → natAbs (pos (min (positivePart g) M) -ℤ pos p) ≤ K
 limited-off p M K i (pos n) = simp difs (omega arith)
 limited-off p M K i (negsuc n) = simp difs (omega arith)
 

@@ -11,7 +11,8 @@ use lib.Pow.{pow-pos, pow-add}
 use lib.IntN.{ℤ, pos, negsuc, negℤ, natAbs, _+ℤ_, _*ℤ_}
 use lib.Signed.{ltZ, ltZ-yes, ltZ-no, _≤ℤ_, _<ℤ_}
 use Rattle.numbers.specs.Abs.{abs-mul}
-use Rattle.numbers.specs.Dif.{by-dif, difs, plus}
+use Rattle.numbers.specs.Parts.{positivePart}
+use Rattle.numbers.specs.Dif.{by-dif, difs}
 use Rattle.numbers.specs.Floor.{floor-≤, floor-<}
 use Rattle.exact.specs.Fractions.{Frac, _⊕_, _⊗_, neg, whole}
 use Rattle.stages.specs.Fixed.{fixedValue}
@@ -80,7 +81,7 @@ grey-around B b v x shallow h close =
 -- a grey g and an exact value X / d
 module _ (M d : ℕ) (some : 0 < d) where
   abbrev limit : ℤ → ℕ
-  limit g = min (plus g) M
+  limit g = min (positivePart g) M
 
   under : (g X : ℤ) → (g *ℤ pos d) <ℤ (X +ℤ pos d) → X <ℤ pos 0 → limit g ≡ 0
   under (pos zero) X h i = omega arith
@@ -125,12 +126,12 @@ module _ (M d : ℕ) (some : 0 < d) where
       least : (X : ℤ) → X <ℤ (negsuc n *ℤ pos d +ℤ pos d) → pos 0 ≤ℤ X → Apart 0 X
       least = by-dif _ λ a a'. simp difs (omega arith)
 
-one-apart : (M : ℕ) (g : ℤ) (x : Frac) → Around g x → LessThanOne (min (plus g) M) (clamped M x)
+one-apart : (M : ℕ) (g : ℤ) (x : Frac) → Around g x → LessThanOne (min (positivePart g) M) (clamped M x)
 unfolding clamped whole _⊕_
 one-apart M g x a = go (ltZ (x .num) (pos 0)) (λ t. ltZ-yes t) (λ t. ltZ-no t)
   where
     q : ℕ
-    q = min (plus g) M
+    q = min (positivePart g) M
 
     whole-apart : (k : ℕ) → q ≡ k → LessThanOne q (whole (pos k))
     whole-apart k e = (simp difs (omega arith), simp difs (omega arith))

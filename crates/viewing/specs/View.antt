@@ -2,7 +2,7 @@
 use Prim.Native.Nat.{ℕ, _*_, _-_, _^_, min}
 use mathlib.Core.Bool.{true, false}
 use lib.IntN.{ℤ, pos, _+ℤ_, _*ℤ_}
-use Rattle.numbers.specs.Dif.{plus}
+use Rattle.numbers.specs.Parts.{positivePart}
 use Rattle.numbers.specs.Floor.{floorDiv}
 use Rattle.lines.specs.Planes.{Plane, OnLine, OnPart, levelColumnsFirst, inverseLevels}
 use Rattle.exact.specs.Fractions.{Frac}
@@ -43,9 +43,9 @@ viewPlane t = viewFrom t (t .levels)
 unfoldable pub grey : ℕ → ℤ → ℤ
 grey B v = floorDiv (v *ℤ pos (2 ^ B) +ℤ pos (2 ^ (B - 1) * 2 ^ nodeBits) +ℤ pos (2 ^ (nodeBits - 1))) (2 ^ nodeBits)
 
--- the same, limited to the depth: from 0 to 2^B - 1 (plus z is z, or 0 where z is below 0)
+-- the same, limited to the depth: from 0 to 2^B - 1
 unfoldable pub pixel : ℕ → ℤ → ℕ
-pixel B v = min (plus (grey B v)) (2 ^ B - 1)
+pixel B v = min (positivePart (grey B v)) (2 ^ B - 1)
 
 -- the picture that is shown
 unfoldable pub viewPicture : WidthTable → ℕ → ℕ → Plane ℤ → Plane ℕ

@@ -4,12 +4,13 @@ use mathlib.Core.Bool.{Bool, true, false}
 use mathlib.Core.List.{List, [], _∷_, _++_}
 use lib.Dec.{leb, eqb}
 use lib.ListN.{length, getD, take, drop, replicate}
+use lib.Seq.{paste}
 use Rattle.numbers.specs.Lists.{over}
 use Rattle.refusals.specs.Answers.{Answer, done, passed, asks, _then_, answered}
 use Rattle.width_table.specs.declared.WidthTable.{WidthTable}
 use Rattle.width_table.specs.Nodes.{nodesPerPass}
 use Rattle.width_table.specs.Table.{maxLevels, formRight}
-use Rattle.width_table.specs.Fields.{depthTag, levelsTag, constantsTag, nodesTag, productsTag, headBytes, Field, nodeBytes, productBytes, fixedFields, fields, startOf, tableSize, valueStart, valueLength, bytesOf}
+use Rattle.width_table.specs.Fields.{depthTag, levelsTag, constantsTag, nodesTag, productsTag, headBytes, Field, nodeBytes, productBytes, fixedFields, fields, startOf, tableSize, valueStart, valueLength, bytesOf, sizeOf, fieldOf, fieldsAfter, fieldBytes}
 
 -- ---- reading
 
@@ -51,6 +52,14 @@ hasFifth bytes = eqb (getD bytes (tableSize false (levelsIn bytes)) 0) productsT
 unfoldable pub form : List ℕ → Answer Unit
 form bytes = formBy (fields (hasFifth bytes) (levelsIn bytes)) bytes
 
+-- What follows the field of a tag, in a table of L levels: whether tag 5 is there (the byte right after the fourth field is 5),
+abbrev pub fifthAfter : ℕ → ℕ → List ℕ → Bool
+fifthAfter L tag bytes = eqb (getD bytes (sizeOf (fieldsAfter false L tag)) 0) productsTag
+
+-- and the form from there on; that of 0 is `form`.
+unfoldable pub formAfter : ℕ → ℕ → List ℕ → Answer Unit
+formAfter L tag bytes = formBy (fieldsAfter (fifthAfter L tag bytes) L tag) bytes
+
 -- the value of a tag in bytes of a right form
 abbrev pub valueIn : List ℕ → ℕ → List ℕ
 valueIn bytes tag = take (valueLength (levelsIn bytes) tag) (drop (valueStart (levelsIn bytes) tag) bytes)
@@ -91,6 +100,10 @@ tableRead bytes = answered (form bytes) (tableIn bytes) emptyTable
 -- a table's bytes: its fields in order
 unfoldable pub tableBytes : WidthTable → List ℕ
 tableBytes t = bytesOf (fields (t .«has_products») (t .levels)) t
+
+-- lent bytes after a field of a table of L levels was put into its place
+abbrev pub placed : ℕ → ℕ → List ℕ → List ℕ → List ℕ
+placed L tag value lent = paste lent (valueStart L tag - headBytes) (fieldBytes (fieldOf (fields true L) tag) value) (headBytes + length value)
 
 -- 4, then 9
 unfoldable pub writeAnswer : WidthTable → List ℕ → Answer Unit

@@ -14,9 +14,9 @@ use Rattle.numbers.specs.Tests.{four, and-intro, every, between-≤, ltb-true, 
 use Rattle.numbers.specs.Lists.{next-one, next-two, one-of, every-one, zeros}
 use Rattle.width_table.specs.declared.WidthTable.{WidthTable}
 use Rattle.width_table.specs.Table.{maxLevels, depthRight, levelsRight, constantRight, productRight, formRight}
-use Rattle.width_table.specs.Fields.{depthTag, levelsTag, constantsTag, nodesTag, productsTag, tagRight, headBytes, Field, nodeBytes, productBytes, widthsRight, fixedFields, nodesField, productsField, lastFields, fields, sizeOf, fieldOf, startOf, tableSize, valueStart, valueLength, fieldBytes, bytesOf}
+use Rattle.width_table.specs.Fields.{depthTag, levelsTag, constantsTag, nodesTag, productsTag, tagRight, headBytes, Field, nodeBytes, productBytes, widthsRight, fixedFields, nodesField, productsField, lastFields, fields, sizeOf, fieldOf, startOf, tableSize, valueStart, valueLength, fieldBytes, bytesOf, usedProducts}
 use Rattle.width_table.specs.Bytes.{announced, headed, field, formBy, depthIn, levelsIn, hasFifth, form, valueIn, productsIn, tableIn, tableBytes}
-use Rattle.width_table.specs.FormLists.{FullLists, usedProducts, formLists, form-lists}
+use Rattle.width_table.specs.FormLists.{FullLists, formLists, form-lists}
 use Rattle.width_table.specs.Names.{hasTag, nameAnswer, naming, partAt}
 
 -- ---- one field

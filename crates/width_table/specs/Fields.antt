@@ -51,6 +51,10 @@ nodeBytes L = levelBytes * L
 abbrev pub productBytes : ℕ → ℕ
 productBytes L = productsPerLevel * L
 
+-- how many of the products' numbers are widths: none without tag 5
+abbrev pub usedProducts : WidthTable → ℕ
+usedProducts t = elim (t .«has_products») [ true ↦ productBytes (t .levels) | false ↦ 0 ]
+
 -- of each node IB, then f
 unfoldable pub widthsRight : List ℕ → Bool
 widthsRight [] = true

@@ -12,10 +12,10 @@ use Rattle.numbers.specs.Tests.{both, three, left-false, right-false, between-�
 use Rattle.width_table.specs.Nodes.{nodesPerPass, passesPerLevel, productsPerPass}
 use Rattle.width_table.specs.Numbered.{IsNode, IsPass, IsProduct}
 use Rattle.width_table.specs.Table.{maxLevels, depthRight, levelsRight, constantRight, widthRight, productRight, formRight}
-use Rattle.width_table.specs.Fields.{widthsRight, nodeBytes, productBytes}
+use Rattle.width_table.specs.Fields.{widthsRight, nodeBytes, productBytes, usedProducts}
 use Rattle.width_table.specs.Changes.{hasNode, widthAnswer, withWidth, tableAfterWidth, constantAnswer, withConstant, tableAfterConstant, hasProduct, productAnswer, withProduct, tableAfterProduct}
 use Rattle.width_table.specs.Limits.{form-levels}
-use Rattle.width_table.specs.FormLists.{usedProducts, formLists}
+use Rattle.width_table.specs.FormLists.{formLists}
 
 zero-test : (n : ℕ) → between 0 0 n ≡ eqb 0 n
 zero-test zero = refl

@@ -13,17 +13,13 @@ use Rattle.numbers.specs.Lists.{next-one, next-two, rest-whole}
 use Rattle.width_table.specs.declared.WidthTable.{WidthTable}
 use Rattle.width_table.specs.Nodes.{everyNode, nodesPerPass, nodesPerLevel, productsPerLevel, nodeNumber, tableOrder, productOrder}
 use Rattle.width_table.specs.Table.{maxLevels, widthBytes, depthRight, levelsRight, constantRight, widthRight, productRight, nodeRight, productHeld, formRight}
-use Rattle.width_table.specs.Fields.{nodeBytes, productBytes, widthsRight}
+use Rattle.width_table.specs.Fields.{nodeBytes, productBytes, widthsRight, usedProducts}
 
 -- what its type says of every table in memory
 pub record FullLists (t : WidthTable) : Type 0 where
   pub constants : length (t .constants) ≡ nodesPerPass
   pub nodes : length (t .nodes) ≡ nodeBytes maxLevels
   pub products : length (t .products) ≡ productBytes maxLevels
-
--- how many of the products' numbers are widths: none without tag 5
-abbrev pub usedProducts : WidthTable → ℕ
-usedProducts t = elim (t .«has_products») [ true ↦ productBytes (t .levels) | false ↦ 0 ]
 
 -- the same form by lists
 unfoldable pub formLists : WidthTable → Bool

@@ -14,7 +14,7 @@ use Rattle.numbers.specs.Lists.{next-two}
 use Rattle.width_table.specs.Nodes.{nodesPerPass}
 use Rattle.width_table.specs.Table.{widthRight, widthBytes}
 use Rattle.width_table.specs.Fields.{depthTag, levelsTag, constantsTag, nodesTag, productsTag, IsTag, headBytes, Field, widthsRight, productsField, fields, fieldsAfter, sizeOf, fieldOf, tableSize, valueStart, valueLength}
-use Rattle.width_table.specs.Bytes.{announced, headed, field, formBy, form, tableIn, tableRead, emptyTable}
+use Rattle.width_table.specs.Bytes.{announced, headed, field, formBy, form, tableIn, tableRead, emptyTable, fifthAfter, formAfter}
 use Rattle.width_table.specs.BytesLaws.{field-done}
 
 -- ---- widths
@@ -119,14 +119,6 @@ unfolding formBy
 more-follows bytes h = asks-wrong (eqb (length bytes) 0) _ _ (ne-eqb _ _ h)
 
 -- ---- what follows the field of a tag, in a table of L levels
-
--- the byte right after the fourth field is 5
-abbrev pub fifthAfter : ℕ → ℕ → List ℕ → Bool
-fifthAfter L tag bytes = eqb (getD bytes (sizeOf (fieldsAfter false L tag)) 0) productsTag
-
--- the form from there on: `form` is that of 0
-unfoldable pub formAfter : ℕ → ℕ → List ℕ → Answer Unit
-formAfter L tag bytes = formBy (fieldsAfter (fifthAfter L tag bytes) L tag) bytes
 
 -- of a tag before the fourth: field by field
 module _ (L tag : ℕ) (bytes : List ℕ) (f : Field) (due : (hasProducts : Bool) → fieldsAfter hasProducts L tag ≡ f ∷ fieldsAfter hasProducts L (tag + 1)) where

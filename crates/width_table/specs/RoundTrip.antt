@@ -15,9 +15,9 @@ use Rattle.refusals.specs.AnswerLaws.{asks-done}
 use Rattle.width_table.specs.declared.WidthTable.{WidthTable}
 use Rattle.width_table.specs.Nodes.{nodesPerPass}
 use Rattle.width_table.specs.Table.{maxLevels, depthRight, levelsRight, constantRight, productRight, formRight}
-use Rattle.width_table.specs.Fields.{constantsTag, nodesTag, productsTag, nodeBytes, productBytes, widthsRight, tableSize, valueStart}
+use Rattle.width_table.specs.Fields.{constantsTag, nodesTag, productsTag, nodeBytes, productBytes, widthsRight, tableSize, valueStart, usedProducts}
 use Rattle.width_table.specs.Bytes.{levelsIn, hasFifth, form, valueIn, productsIn, tableIn, tableRead, tableBytes, writeAnswer, writing, bytesAfter}
-use Rattle.width_table.specs.FormLists.{FullLists, usedProducts, formLists, form-lists}
+use Rattle.width_table.specs.FormLists.{FullLists, formLists, form-lists}
 use Rattle.width_table.specs.BytesLaws.{form-done, form-long, four-there, depth-byte, levels-byte, levels-most, nodes-long, products-long, products-right, RightForm, right-form, read-written, form-written, bytes-length, written-read}
 use Rattle.width_table.specs.ReadLaws.{table-read}
 use Rattle.width_table.specs.WriteLaws.{table-written}

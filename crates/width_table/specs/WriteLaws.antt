@@ -13,7 +13,7 @@ use Rattle.refusals.specs.Answers.{Answer, done, refused, passed, asks, _then_,
 use Rattle.width_table.specs.declared.WidthTable.{WidthTable}
 use Rattle.width_table.specs.Table.{maxLevels, formRight}
 use Rattle.width_table.specs.Fields.{depthTag, levelsTag, constantsTag, nodesTag, productsTag, IsTag, headBytes, Field, nodeBytes, productBytes, nodesField, productsField, fields, fieldOf, tableSize, valueStart, valueLength, fieldBytes, bytesOf}
-use Rattle.width_table.specs.Bytes.{tableBytes, writeAnswer, writing, bytesAfter}
+use Rattle.width_table.specs.Bytes.{tableBytes, writeAnswer, writing, bytesAfter, placed}
 use Rattle.width_table.specs.FormLists.{FullLists}
 use Rattle.width_table.specs.ReadLaws.{tag-is, start-after}
 
@@ -45,10 +45,6 @@ module _ (t : WidthTable) (lent : List ℕ) where
   table-written e h = decided passed (rules true true e (le-leb _ _ h))
 
 -- ---- the fields
-
--- lent bytes after a field of a table of L levels was put into its place
-abbrev pub placed : ℕ → ℕ → List ℕ → List ℕ → List ℕ
-placed L tag value lent = paste lent (valueStart L tag - headBytes) (fieldBytes (fieldOf (fields true L) tag) value) (headBytes + length value)
 
 -- head and value are put one after the other
 pub field-put : (L tag : ℕ) → IsTag tag → (n : ℕ) → n ≡ valueStart L tag → (value e a b : List ℕ) → length value ≡ valueLength L tag → n ≤ length e

@@ -14,15 +14,12 @@ ghost use Rattle.numbers.specs.Lists.{over};
 ghost use Rattle.width_table.specs.Nodes.{nodesPerPass};
 ghost use Rattle.width_table.specs.Numbered.{IsNode, IsPass, IsProduct};
 ghost use Rattle.width_table.specs.Table.{maxLevels, depthRight, levelsRight, widthRight, formRight, widthBytes, nodePlace, productPlace};
-ghost use Rattle.width_table.specs.Fields.{depthTag, levelsTag, constantsTag, nodesTag, productsTag, IsTag, headBytes, nodeBytes, productBytes, widthsRight, fields, fieldsAfter, fieldOf, tableSize, valueStart, valueLength, bytesOf};
-ghost use Rattle.width_table.specs.Bytes.{headed, field, formBy, levelsIn, hasFifth, form, productsIn, tableRead, emptyTable, tableIn, tableBytes, writing, bytesAfter};
+ghost use Rattle.width_table.specs.Fields.{depthTag, levelsTag, constantsTag, nodesTag, productsTag, IsTag, headBytes, nodeBytes, productBytes, widthsRight, fields, fieldsAfter, fieldOf, tableSize, valueStart, valueLength, bytesOf, usedProducts};
+ghost use Rattle.width_table.specs.Bytes.{headed, field, formBy, levelsIn, hasFifth, form, productsIn, tableRead, emptyTable, tableIn, tableBytes, writing, bytesAfter, formAfter, placed};
 ghost use Rattle.width_table.specs.Names.{hasTag, naming, partAt};
 ghost use Rattle.width_table.specs.Changes.{hasNode, widthAnswer, tableAfterWidth, constantAnswer, tableAfterConstant, hasProduct, productAnswer, tableAfterProduct};
 ghost use Rattle.width_table.specs.Told.{toldWritten, toldNamed};
 ghost use Rattle.width_table.specs.Readers.{constantBitsAt, integerBitsAt, fractionBitsAt, productWidthAt, inputBitsAt};
-ghost use Rattle.width_table.specs.FormLists.{usedProducts};
-ghost use Rattle.width_table.specs.ReadLaws.{formAfter};
-ghost use Rattle.width_table.specs.WriteLaws.{placed};
 
 // A width table. Level l, pass p and node k, counted from 1, have their integer bits at place
 // ((l - 1) * PASSES + (p - 1)) * PASS_BYTES + (k - 1) * WIDTH_BYTES of `nodes` and their fractional bits after them; places of unused

@@ -5,7 +5,7 @@ use Rattle.refusals.proofs.place_code.Statement.{statement}
 use Rattle.refusals.proofs.place_code.Tie as tie
 
 returns : tie.Need-returns
-returns c = omega arith
+returns c = (omega arith, omega arith)
 
 pub place-code-spec : {M : Type 1} → statement M
 place-code-spec =

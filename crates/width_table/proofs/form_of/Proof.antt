@@ -8,8 +8,8 @@ use mathlib.Core.List.{List}
 use Rattle.refusals.specs.Answers.{passed}
 use Rattle.refusals.specs.Told.{told}
 use Rattle.width_table.specs.Fields.{depthTag, headBytes, fields, fieldOf}
-use Rattle.width_table.specs.Bytes.{field, levelsIn, form}
-use Rattle.width_table.specs.ReadLaws.{field-holds, formAfter, after-refused, after-read}
+use Rattle.width_table.specs.Bytes.{field, levelsIn, form, formAfter}
+use Rattle.width_table.specs.ReadLaws.{field-holds, after-refused, after-read}
 use borrow.Author.Needs.{needs}
 use Rattle.width_table.proofs.form_of.Statement.{statement}
 use Rattle.width_table.proofs.form_of.Tie as tie

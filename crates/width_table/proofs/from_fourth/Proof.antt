@@ -4,8 +4,8 @@ use native.Mathlib.Omega.{arith}
 use Rattle.refusals.specs.Answers.{passed}
 use Rattle.refusals.specs.Told.{told}
 use Rattle.width_table.specs.Fields.{constantsTag, nodesTag, fields, fieldOf}
-use Rattle.width_table.specs.Bytes.{field}
-use Rattle.width_table.specs.ReadLaws.{field-holds, formAfter, after-refused, after-read}
+use Rattle.width_table.specs.Bytes.{field, formAfter}
+use Rattle.width_table.specs.ReadLaws.{field-holds, after-refused, after-read}
 use borrow.Author.Needs.{needs}
 use Rattle.width_table.proofs.from_fourth.Statement.{statement}
 use Rattle.width_table.proofs.from_fourth.Tie as tie

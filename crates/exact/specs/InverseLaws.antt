@@ -7,7 +7,7 @@ use native.Mathlib.Omega.{arith}
 use Rattle.lines.specs.Lines.{lows, highs, Liftable, lowAfter, highBefore, highAfter, onHighs, onLows}
 use Rattle.lines.specs.LineLaws.{some-highs, first-low, first-high, even-place, odd-place, by-parity, by-half}
 use Rattle.lines.specs.Neighbours.{low-after-in, high-before-in, high-after-in}
-use Rattle.lines.specs.Planes.{Plane, OnPart, levelRowsFirst, levelColumnsFirst, levels}
+use Rattle.lines.specs.Planes.{Plane, levelColumnsFirst, levels}
 use Rattle.lines.specs.InverseLaws.{Equivalence, Inverses, InversesPart, rows-first-inverses, levels-left-inverse, levels-right-inverse}
 use Rattle.lines.specs.OneLaws.{one-inverses}
 use Rattle.lines.specs.CaseLaws.{Congruence}

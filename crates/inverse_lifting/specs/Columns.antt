@@ -1,5 +1,4 @@
 -- A strip of columns undone turn by turn side by side: what the turns ask of memory, and what they leave there.
--- Assumes nothing.
 use mathlib.Core.Path.{_≡_, refl, sym, ap, subst, _∙_}
 use mathlib.Core.Bool.{Bool, true}
 use mathlib.Core.List.{List}

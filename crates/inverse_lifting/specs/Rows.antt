@@ -1,5 +1,4 @@
 -- A row undone turn by turn into a line: what the turns ask, and what they leave.
--- Assumes nothing.
 use mathlib.Core.Path.{_≡_, refl, sym, ap, subst, _∙_}
 use mathlib.Core.Bool.{Bool, true, false, false≢true}
 use mathlib.Core.List.{List}

@@ -1,5 +1,4 @@
 -- A stage undone, as it is worked with 64-bit numbers: the cut product of a constant is added to the own value.
--- Assumes nothing.
 use mathlib.Core.Path.{_≡_, refl, sym, ap, subst, _∙_, fun-ext}
 use mathlib.Core.List.{List, [], _∷_}
 use Prim.Native.Nat.{ℕ, _+_, _*_, _^_, _-_, _<_, _≤_}

@@ -2,7 +2,6 @@
 -- high i - 1, U1 at low i - 1 and P1 at high i - 2, which gives places 2 (i - 2) and 2 (i - 2) + 1. The ends are by cases (document 02,
 -- job 2). Past the last low and the last high a turn keeps what it has, and what it reads there (the last one again) is not used; so
 -- lows n + 2 turns undo a line of n values.
--- Assumes nothing.
 use mathlib.Core.Path.{_≡_, refl, sym, ap, subst, _∙_}
 use Prim.Native.Nat.{ℕ, _+_, _-_, _<_, _≤_, min}
 use native.Mathlib.Omega.{arith}

@@ -1,5 +1,4 @@
 -- One turn of a strip in a plane: the places that it reads and writes, and what it leaves, written at once or by way of a line.
--- Assumes nothing.
 use mathlib.Core.Path.{_≡_, refl, sym, ap, subst, _∙_}
 use mathlib.Core.Bool.{true, false, false≢true}
 use mathlib.Core.List.{List}

@@ -1,5 +1,4 @@
 -- Strips of a plane: where their columns come from, where they go, and what the turns leave of them in memory.
--- Assumes nothing.
 use mathlib.Core.Path.{_≡_, sym, ap, _∙_, fun-ext}
 use mathlib.Core.Bool.{Bool, true, false}
 use mathlib.Core.List.{List}

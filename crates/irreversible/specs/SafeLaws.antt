@@ -75,11 +75,7 @@ constant-small : (n : Node) (F : ℕ) → ConstantBits F → natAbs (nearest (co
 constant-small n F ok =
     subst (λ (z : ℤ). natAbs z ≤ 2 ^ (13 + F)) (*ℤ-one-r (nearest (constantOf n) F)) (le-trans (product-size n F 0 (ok .0) (ok .1) (omega arith) (pos 1) (pos 0) (omega arith) (omega arith)) (pow-up (13 + F + 0) (13 + F) (omega arith)))
 
--- 64 bits hold it
-pub constant-fits : (n : Node) (F : ℕ) → ConstantBits F → SFits w64 (nearest (constantOf n) F)
-constant-fits n F ok = fits-64 (13 + F) _ (omega (arith, ok .1)) (constant-small n F ok)
-
--- and so it is at the bits of a stage
+-- at the bits of a stage, too
 constant-size : (n : Node) (F fm top : ℕ) → ConstantBits F → F + fm ≤ top → top ≤ 44 → natAbs (nearest (constantOf n) F *ℤ pos (2 ^ (top - (F + fm)))) ≤ 2 ^ 57
 constant-size n F fm top ok a b = times-size (13 + F) (top - (F + fm)) 57 (nearest (constantOf n) F) (pos (2 ^ (top - (F + fm)))) (constant-small n F ok) (le-refl _) (omega (arith, ok .1))
 

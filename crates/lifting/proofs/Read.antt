@@ -1,5 +1,4 @@
 -- A signed local holds bits. What a step asks and gives of numbers that are read back from their bits is what it asks and gives of the numbers.
--- Assumes nothing.
 use Prim.Native.Nat.{ℕ, _<_, _^_}
 use mathlib.Core.Path.{_≡_, sym, subst, _∙_}
 use lib.IntN.{ℤ}

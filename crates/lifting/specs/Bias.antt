@@ -1,5 +1,4 @@
 -- Steps by unsigned numbers: a value is raised by 2 ^ 31, and a sum of raised values is shifted and lowered again.
--- Assumes nothing.
 use mathlib.Core.Path.{_≡_, refl, sym, ap, _∙_, subst}
 use mathlib.Core.Bool.{Bool, true, false, cond}
 use mathlib.Core.List.{List, [], _∷_}

@@ -1,6 +1,5 @@
 -- Steps whose product is cut by itself, by unsigned numbers: product and own value are raised, the product is shifted to the right and back to
 -- the left, and the sum is shifted and lowered again.
--- Assumes nothing.
 use mathlib.Core.Path.{_≡_, refl, sym, ap, subst, _∙_}
 use mathlib.Core.Bool.{Bool}
 use mathlib.Core.List.{List, [], _∷_}

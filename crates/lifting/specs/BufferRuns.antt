@@ -1,6 +1,5 @@
 -- A step at the highs or the lows of a tile by runs: the middle, and the ends, where a neighbour stands for the one that is missing.
 -- What each run asks and what it leaves, for any step f and any fact P that it asks.
--- Assumes nothing.
 use mathlib.Core.Path.{_≡_, sym, ap, _∙_}
 use mathlib.Core.List.{List}
 use Prim.Native.Nat.{ℕ, _+_, _*_, _-_, _<_}

@@ -1,5 +1,4 @@
 -- A tile: n lines of s values, one after the other, the lines of the lows first and then those of the highs. A row is a tile with s = 1.
--- Assumes nothing.
 use mathlib.Core.Path.{_≡_, sym, ap, subst, _∙_}
 use mathlib.Core.List.{List}
 use Prim.Native.Nat.{ℕ, zero, suc, _+_, _*_, _-_, _/_, _%_, _<_, _≤_, _^_}

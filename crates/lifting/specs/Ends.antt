@@ -1,6 +1,5 @@
 -- Steps at an end of a line, where both neighbours are one: the reduced equations give what the step gives of x and x (`ended-is`), and
 -- what they ask follows from what it asks.
--- Assumes nothing.
 use mathlib.Core.Path.{_≡_, refl, sym, ap, subst, _∙_}
 use mathlib.Core.Bool.{Bool, true, false}
 use Prim.Native.Nat.{ℕ, suc, _+_, _*_, _^_, _<_, _≤_}

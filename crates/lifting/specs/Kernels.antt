@@ -80,9 +80,6 @@ pub record SameKernel (k r : Kernel) : Type 0 where
   pub way : Forward k → Forward r
   pub safe : (n : ℕ) (x : ℕ → ℤ) → SafeKernel k n x → SafeKernel r n x
 
-pub as-it-is : (k : Kernel) → SameKernel k k
-as-it-is k = record { same = refl; way = λ h. h; safe = λ n x h. h }
-
 -- the steps of r do what those of p do
 pub record SamePair (p r : Pair) : Type 0 where
   pub on-highs : SameStep (p .highs) (r .highs)

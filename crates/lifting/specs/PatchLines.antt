@@ -1,5 +1,4 @@
 -- Lines of m values in a slice, line i from place line i on, and such lines replaced.
--- Assumes nothing.
 use mathlib.Core.Path.{_≡_, refl, sym, ap, _∙_, fun-ext}
 use mathlib.Core.List.{List}
 use mathlib.Core.Logic.{_⊎_, inl, inr}

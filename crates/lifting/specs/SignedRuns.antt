@@ -1,5 +1,4 @@
 -- A turn of a run on signed numbers: what the step asks and gives there of numbers that are read back from their bits.
--- Assumes nothing.
 use mathlib.Core.Path.{_≡_, sym, subst, _∙_}
 use mathlib.Core.List.{List}
 use Prim.Native.Nat.{ℕ, _+_, _<_, _^_}

@@ -1,5 +1,4 @@
 -- A strip's lines in the plane and in the tile, and a plane that is worked row by row or strip by strip. A row is a strip of one column whose stride is 1.
--- Assumes nothing.
 use mathlib.Core.Path.{_≡_, refl, sym, ap, _∙_, fun-ext}
 use mathlib.Core.List.{List}
 use Prim.Native.Nat.{ℕ, suc, _+_, _*_, _-_, _/_, _<_, _≤_}

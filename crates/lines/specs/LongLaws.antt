@@ -1,6 +1,6 @@
 -- Nothing changes where it was admitted before document 02's job 6: of a side greater than 2^(L-1) each level works two samples or more
 -- (`long-sides`), and there the levels from one sample on are those of the papers' equations (`levels-long`, `inverseLevels-long`).
-use Prim.Native.Nat.{ℕ, zero, suc, _+_, _-_, _^_, _<_, _≤_}
+use Prim.Native.Nat.{ℕ, zero, suc, _+_, _-_, _^_, _<_}
 use mathlib.Core.Bool.{Bool}
 use mathlib.Core.Path.{_≡_, refl, _∙_, ap, subst}
 use native.Mathlib.Omega.{arith}

@@ -1,8 +1,7 @@
 -- Laws of passes from length 1: what holds of a single sample and of a line of two or more holds of both.
-use Prim.Native.Nat.{ℕ, _<_, _≤_}
+use Prim.Native.Nat.{ℕ, _<_}
 use mathlib.Core.Bool.{Bool, true, false}
 use mathlib.Core.Path.{_≡_, ap, subst, fun-ext}
-use lib.Dec.{ltb}
 use Rattle.numbers.specs.Tests.{by-ltb, ltb-true, ltb-false}
 use Rattle.lines.specs.Lines.{Liftable}
 use Rattle.lines.specs.Planes.{OnLine, fromOne}

@@ -1,5 +1,4 @@
 -- The program's answer is that of the forward call on what its input holds, and its text is that of the plane that comes back.
--- Assumes nothing.
 use Prim.Native.Nat.{ℕ, zero, suc, _+_, _*_, _-_, _<_, _≤_}
 use mathlib.Core.Bool.{Bool, true, false, _&&_}
 use mathlib.Core.List.{List, [], _++_}

@@ -1,5 +1,4 @@
 -- The pixels of the input; the rules that the code finds one by one; what its answer says; and how much of the input decides.
--- Assumes nothing.
 use Prim.Native.Nat.{ℕ, zero, suc, _+_, _*_, _-_, _/_, _<_, _≤_}
 use mathlib.Core.Bool.{Bool, true, false, _&&_}
 use mathlib.Core.List.{List, [], _∷_}

@@ -1,5 +1,4 @@
 -- A plane in memory under passes: rows and columns of a part worked in place, and what is written at last.
--- Assumes nothing.
 use Prim.Native.Nat.{ℕ, _+_, _*_, _-_, _/_, _%_, _<_, _≤_}
 use mathlib.Core.Bool.{Bool, true, false, _&&_}
 use mathlib.Core.List.{List, _++_}

@@ -4,13 +4,10 @@ use Prim.Native.Nat.{ℕ, zero, suc, _≤_}
 use mathlib.Core.Bool.{Bool, true, false}
 use mathlib.Core.Path.{_≡_, refl, sym, _∙_, ap}
 use native.Mathlib.Omega.{arith}
-use lib.IntN.{ℤ}
 use lib.ListN.{getD}
-use Rattle.exact.specs.Fractions.{Frac}
 use Rattle.stages.specs.Stages.{Product, uncut, cutTo}
-use Rattle.stages.specs.Fixed.{step}
 use Rattle.stages.specs.Rule.{ownLift}
-use Rattle.stages.specs.ProductLaws.{step-wide, own-wide}
+use Rattle.stages.specs.ProductLaws.{own-wide}
 use Rattle.width_table.specs.declared.WidthTable.{WidthTable}
 use Rattle.width_table.specs.Numbered.{nodeOf, passOf, IsProduct, node-number, pass-number}
 use Rattle.width_table.specs.Table.{maxConstantBits, maxFractionBits, maxProductBits, productPlace, productWidth}
@@ -54,6 +51,3 @@ module _ {t : WidthTable} {l p : ℕ} (h : At t l p) (k : ℕ) (i : IsProduct k)
 
   pub own-number : (F fm fo f r : ℕ) → F ≤ maxConstantBits → fm ≤ maxFractionBits → ownLift (productOf t l (passOf p) (nodeOf k)) F fm fo f r ≡ ownLift (cutTo (cutAt t l p k)) F fm fo f r
   own-number F fm fo f r a b = as-number (λ q. ownLift q F fm fo f r) (own-wide maxProductBits F fm fo f r (omega arith))
-
-  pub step-number : (c : Frac) (F fm fo f : ℕ) (own x y : ℤ) → F ≤ maxConstantBits → fm ≤ maxFractionBits → step (productOf t l (passOf p) (nodeOf k)) c F fm fo f own x y ≡ step (cutTo (cutAt t l p k)) c F fm fo f own x y
-  step-number c F fm fo f own x y a b = as-number (λ q. step q c F fm fo f own x y) (step-wide maxProductBits c F fm fo f own x y (omega arith))

@@ -1,5 +1,4 @@
 -- For the code: what the answers of the calls say of the rules that led to them, and the answer by the rule that does not hold.
--- Assumes nothing.
 use Prim.Native.Nat.{ℕ, _*_, _<_, _≤_}
 use mathlib.Core.Bool.{Bool, true, false, not, _&&_, _||_, cond}
 use mathlib.Core.List.{List, []}

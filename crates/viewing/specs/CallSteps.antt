@@ -12,7 +12,7 @@ use lib.ListN.{length, getD}
 use Rattle.numbers.specs.Lists.{over}
 use Rattle.refusals.specs.Answers.{Reason, Answer, refused, passed, _then_}
 use Rattle.refusals.specs.AnswerLaws.{answered-done, answered-refused}
-use Rattle.lines.specs.Planes.{Plane, rows, columns, inverseLevels, side, rowByRow}
+use Rattle.lines.specs.Planes.{Plane, columns, inverseLevels, side, rowByRow}
 use Rattle.lines.specs.PlaneLaws.{side-le, columns-first-in, columns-first-keeps}
 use Rattle.width_table.specs.declared.WidthTable.{WidthTable}
 use Rattle.width_table.specs.Limits.{form-depth, form-levels}

@@ -95,10 +95,6 @@ product-width t l p n a b h = ap (λ (x : Bool). orZero x (productWidth t l p n)
 
 -- what a product is cut to, with tag 5 and without it
 module _ (t : WidthTable) (l p k : ℕ) where
-  pub cut-width : t .«has_products» ≡ true → cutAt t l p k ≡ productWidthAt t l p k
-  unfolding cutAt
-  cut-width e = ap (λ (x : Bool). elim x [ true ↦ productWidthAt t l p k | false ↦ maxProductBits ]) e
-
   pub cut-none : t .«has_products» ≡ false → cutAt t l p k ≡ maxProductBits
   unfolding cutAt
   cut-none e = ap (λ (x : Bool). elim x [ true ↦ productWidthAt t l p k | false ↦ maxProductBits ]) e

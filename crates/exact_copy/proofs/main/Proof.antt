@@ -1,5 +1,4 @@
 -- `exact_copy::main` meets its contract: what it writes lies in the text that the listing left.
--- Assumes nothing.
 use mathlib.Core.Path.{sym}
 use native.Mathlib.Omega.{arith}
 use borrow.Author.Needs.{needs}

@@ -1,5 +1,4 @@
 -- `inverse_lifting::column_step` meets its contract: what is held and what comes next are taken by `stepped`, and what it gives is kept.
--- Assumes nothing.
 use mathlib.Core.Path.{_≡_, sym, ap, subst, _∙_}
 use Prim.Native.Nat.{_+_, _*_, _≤_}
 use native.Mathlib.Omega.{arith}

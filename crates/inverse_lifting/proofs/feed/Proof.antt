@@ -1,5 +1,4 @@
 -- `inverse_lifting::feed` meets its contract: past the last low nothing is done; else the low comes from the plane or from the work area.
--- Assumes nothing.
 use mathlib.Core.Path.{refl}
 use Prim.Native.Nat.{_*_}
 use native.Mathlib.Omega.{arith}

@@ -1,5 +1,4 @@
 -- `inverse_lifting::inner_step` meets its contract: each stage in turn.
--- Assumes nothing.
 use mathlib.Core.Path.{_≡_, refl}
 use Prim.Native.Nat.{_-_}
 use native.Mathlib.Omega.{arith}

@@ -1,5 +1,4 @@
 -- `inverse_lifting::keep` meets its contract: four stores.
--- Assumes nothing.
 use native.Mathlib.Omega.{arith}
 use lib.ListN.{length-set}
 use Rattle.inverse_lifting.specs.Stages.{again}

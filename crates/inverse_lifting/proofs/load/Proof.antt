@@ -1,5 +1,4 @@
 -- `inverse_lifting::load` meets its contract: the places passed hold what the plane has there.
--- Assumes nothing.
 use mathlib.Core.Path.{_≡_, refl, sym, _∙_, subst}
 use Prim.Native.Nat.{_+_, _-_, _≤_}
 use native.Mathlib.Omega.{arith}

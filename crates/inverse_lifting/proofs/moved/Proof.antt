@@ -1,5 +1,4 @@
 -- `inverse_lifting::moved` meets its contract: every number on the way is at most 2^62.
--- Assumes nothing.
 use Prim.Native.Nat.{_*_, _^_}
 use borrow.Author.Needs.{needs}
 use Rattle.numbers.specs.Auto.{Value, values, v-arg, auto-fits, auto-exact}

@@ -1,5 +1,4 @@
 -- `inverse_lifting::on_high` meets its contract, case by case.
--- Assumes nothing.
 use native.Mathlib.Omega.{arith}
 use mir.Facts.{toZ-ofZ}
 use Rattle.inverse_lifting.specs.Stages.{constant-back, inside-read, moved-got, ended-got}

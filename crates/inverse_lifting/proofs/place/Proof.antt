@@ -1,5 +1,4 @@
 -- `inverse_lifting::place` meets its contract.
--- Assumes nothing.
 use native.Mathlib.Omega.{arith}
 use Rattle.inverse_lifting.proofs.place.Statement.{statement}
 use Rattle.inverse_lifting.proofs.place.Tie as tie

@@ -1,5 +1,4 @@
 -- `inverse_lifting::row_steps` meets its contract. The loop's invariant: turn i - 1 is held, and the turns before turn i have left their values.
--- Assumes nothing.
 use mathlib.Core.Path.{_≡_, refl}
 use Prim.Native.Nat.{_-_, _≤_}
 use native.Mathlib.Omega.{arith}

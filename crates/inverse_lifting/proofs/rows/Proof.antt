@@ -1,5 +1,4 @@
 -- `inverse_lifting::rows` meets its contract. A single value stays. The loop's invariant: the first r rows are done.
--- Assumes nothing.
 use mathlib.Core.Path.{_≡_, refl, sym, subst, _∙_}
 use Prim.Native.Nat.{_*_, _-_, _≤_}
 use native.Mathlib.Omega.{arith}

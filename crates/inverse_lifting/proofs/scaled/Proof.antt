@@ -1,5 +1,4 @@
 -- `inverse_lifting::scaled` meets its contract: the product is at most 2^60, and what the shift leaves is no larger.
--- Assumes nothing.
 use mathlib.Core.Path.{_≡_, ap, _∙_}
 use Prim.Native.Nat.{_*_, _^_}
 use borrow.Author.Needs.{needs}

@@ -1,5 +1,4 @@
 -- `inverse_lifting::single_line` meets its contract. The loop's invariant: the first j columns are done.
--- Assumes nothing.
 use mathlib.Core.Path.{_≡_, refl, sym, ap, subst, _∙_}
 use Prim.Native.Nat.{_-_, _≤_}
 use native.Mathlib.Omega.{arith}

@@ -1,5 +1,4 @@
 -- `inverse_lifting::single_low` meets its contract: the low comes from the plane or from the work area.
--- Assumes nothing.
 use mathlib.Core.Path.{_≡_, sym, ap, subst, _∙_}
 use Prim.Native.Nat.{ℕ, _+_}
 use native.Mathlib.Omega.{arith}

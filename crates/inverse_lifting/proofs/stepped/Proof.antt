@@ -1,5 +1,4 @@
 -- `inverse_lifting::stepped` meets its contract.
--- Assumes nothing.
 use Rattle.inverse_lifting.specs.Steps.{ready-read, stepped-read}
 use Rattle.inverse_lifting.proofs.stepped.Statement.{statement}
 use Rattle.inverse_lifting.proofs.stepped.Tie as tie

@@ -1,5 +1,4 @@
 -- `inverse_lifting::steps` meets its contract. The loop's invariant: the first j columns have taken their turn.
--- Assumes nothing.
 use mathlib.Core.Path.{_≡_, refl, subst}
 use Prim.Native.Nat.{ℕ, _-_, _≤_}
 use native.Mathlib.Omega.{arith}

@@ -1,6 +1,6 @@
 -- The columns follow the rows of the pixels.
-use mathlib.Core.Path.{_≡_, ap, _∙_}
-use Prim.Native.Nat.{ℕ, _-_, _^_}
+use mathlib.Core.Path.{ap, _∙_}
+use Prim.Native.Nat.{_-_, _^_}
 use native.Mathlib.Omega.{arith}
 use Rattle.lifting.specs.Patch.{at}
 use Rattle.pictures.specs.MemoryLaws.{loaded}

@@ -1,8 +1,7 @@
-use mathlib.Core.Path.{_≡_, sym, ap, _∙_}
+use mathlib.Core.Path.{sym, ap, _∙_}
 use native.Mathlib.Omega.{arith}
 use Rattle.lines.specs.Lines.{lows, highs}
-use Rattle.width_table.specs.Nodes.{LowColumns, HighColumns}
-use Rattle.lifting.specs.Patch.{at}
+use Rattle.width_table.specs.Nodes.{HighColumns}
 use Rattle.lifting.specs.Runs.{as-type}
 use Rattle.lifting.specs.Kernels.{columnOf, columnsBy}
 use Rattle.irreversible.specs.Transforms.{fixedLine}

@@ -1,4 +1,4 @@
-use mathlib.Core.Path.{_≡_, ap, _∙_}
+use mathlib.Core.Path.{ap, _∙_}
 use native.Mathlib.Omega.{arith}
 use Rattle.lifting.specs.Patch.{at}
 use Rattle.irreversible.specs.LevelLaws.{columned}

@@ -1,5 +1,4 @@
 -- `lifting::apply` meets its contract: in each arm the step is the one that the arm takes.
--- Assumes nothing.
 use mathlib.Core.List.{[], _∷_}
 use borrow.Author.Needs.{needs}
 use denote.Enum.Declared.{tagOf}

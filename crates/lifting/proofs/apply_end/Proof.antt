@@ -1,5 +1,4 @@
 -- `lifting::apply_end` meets its contract: in each arm the step is the one that the arm takes, or the one that this stands for.
--- Assumes nothing.
 use mathlib.Core.Path.{ap, _∙_}
 use native.Mathlib.Omega.{arith}
 use borrow.Author.Needs.{needs}

@@ -1,5 +1,4 @@
 -- `lifting::bias` meets its contract.
--- Assumes nothing.
 use native.Mathlib.Nat.{lt-trans}
 use lib.Dec.{lit<}
 use mir.Syntax.{w64}

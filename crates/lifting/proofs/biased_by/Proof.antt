@@ -1,5 +1,4 @@
 -- `lifting::biased_by` meets its contract: the raised product, shifted and lowered, is the shifted product.
--- Assumes nothing.
 use mathlib.Core.Path.{_≡_, sym, ap, _∙_}
 use Prim.Native.Nat.{ℕ, _+_, _*_, _/_, _^_}
 use native.Mathlib.Omega.{arith}

@@ -1,5 +1,4 @@
 -- `lifting::biased_cut_of` meets its contract: the sum of the raised own value and the raised product, cut, is the step's sum, shifted and lowered.
--- Assumes nothing.
 use mathlib.Core.Path.{_≡_, sym, ap, _∙_}
 use Prim.Native.Nat.{ℕ, _+_, _*_, _/_, _%_, _^_, _<_, _≤_}
 use native.Mathlib.Omega.{arith}

@@ -1,5 +1,4 @@
 -- `lifting::biased_of` meets its contract: in each branch the step is the one that the branch takes.
--- Assumes nothing.
 use mathlib.Core.Path.{ap}
 use mathlib.Core.Bool.{Bool}
 use mir.Syntax.{w32}

@@ -1,5 +1,4 @@
 -- `lifting::biased_run` meets its contract.
--- Assumes nothing.
 use mathlib.Core.Path.{_≡_, refl}
 use Prim.Native.Nat.{_-_, _≤_}
 use native.Mathlib.Omega.{arith}

@@ -1,5 +1,4 @@
 -- `lifting::biased_scale_here` meets its contract. The loop's invariant: the run's first j places are done; the others are as they were.
--- Assumes nothing.
 use mathlib.Core.Path.{_≡_, refl, sym, ap, subst, _∙_}
 use Prim.Native.Nat.{_+_, _-_, _≤_}
 use native.Mathlib.Omega.{arith}

@@ -1,5 +1,4 @@
 -- `lifting::centred` meets its contract: two numbers below 2^16 differ by less than 2^31.
--- Assumes nothing.
 use native.Mathlib.Omega.{arith}
 use borrow.Author.Needs.{needs}
 use mir.Syntax.{w32}

@@ -1,5 +1,4 @@
 -- `lifting::columns` meets its contract. The loop's invariant: the first `done` columns are worked.
--- Assumes nothing.
 use mathlib.Core.Path.{_≡_, refl, sym, ap, subst, _∙_}
 use Prim.Native.Nat.{ℕ, _+_, _*_, _-_, _≤_}
 use native.Mathlib.Omega.{arith}

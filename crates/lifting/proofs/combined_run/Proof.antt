@@ -1,5 +1,4 @@
 -- `lifting::combined_run` meets its contract: in each branch the step is the one that is handed on.
--- Assumes nothing.
 use mathlib.Core.Path.{ap}
 use mathlib.Core.Bool.{Bool}
 use borrow.Author.Needs.{needs}

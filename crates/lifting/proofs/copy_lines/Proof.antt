@@ -1,5 +1,4 @@
 -- `lifting::copy_lines` meets its contract: one run, or a loop whose invariant is that the first i lines are copied.
--- Assumes nothing.
 use mathlib.Core.Path.{_≡_, refl, ap, _∙_}
 use Prim.Native.Nat.{ℕ, _+_, _*_, _-_, _≤_}
 use native.Mathlib.Omega.{arith}

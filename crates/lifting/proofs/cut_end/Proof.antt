@@ -1,5 +1,4 @@
 -- `lifting::cut_end` meets its contract: each call's result is the number that `cutFirstEnd` has at its place.
--- Assumes nothing.
 use mathlib.Core.Path.{_≡_, sym, ap, ap₂, _∙_}
 use Prim.Native.Nat.{_^_}
 use borrow.Author.Needs.{needs}

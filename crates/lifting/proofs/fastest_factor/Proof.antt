@@ -1,5 +1,4 @@
 -- `lifting::fastest_factor` meets its contract.
--- Assumes nothing.
 use mathlib.Core.Path.{sym, subst}
 use borrow.Author.Needs.{needs}
 use Rattle.lifting.specs.declared.Factor.{Factor}

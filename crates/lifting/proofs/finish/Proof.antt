@@ -1,5 +1,4 @@
 -- `lifting::finish` meets its contract: in each arm the kernel is the one that the arm works by.
--- Assumes nothing.
 use mathlib.Core.Path.{_≡_, sym, subst}
 use Prim.Native.Nat.{ℕ}
 use borrow.Author.Needs.{needs}

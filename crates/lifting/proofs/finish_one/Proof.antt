@@ -1,5 +1,4 @@
 -- `lifting::finish_one` meets its contract: the lines are lifted and put into the plane.
--- Assumes nothing.
 use mathlib.Core.Path.{_∙_}
 use native.Mathlib.Omega.{arith}
 use Rattle.lifting.specs.PatchLines.{lines-ext}

@@ -1,5 +1,4 @@
 -- `lifting::finish_two` meets its contract: the lines are lifted twice, and scaled on their way into the plane.
--- Assumes nothing.
 use mathlib.Core.Path.{_≡_, sym, ap, subst, _∙_}
 use Prim.Native.Nat.{ℕ, _+_, _*_, _<_}
 use native.Mathlib.Omega.{arith}

@@ -1,5 +1,4 @@
 -- `lifting::inverse_lift` meets its contract.
--- Assumes nothing.
 use mathlib.Core.Path.{ap, sym, subst, _∙_}
 use native.Mathlib.Omega.{arith}
 use Rattle.lifting.specs.Steps.{applied, Safe}

@@ -1,5 +1,4 @@
 -- `lifting::inverse_predicted` meets its contract.
--- Assumes nothing.
 use Rattle.lifting.proofs.Signed.{signed}
 use borrow.Author.Needs.{needs}
 use Rattle.lifting.proofs.inverse_predicted.Statement.{statement}

@@ -1,5 +1,4 @@
 -- `lifting::inverse_rows` meets its contract. The loop's invariant: the first r rows are done.
--- Assumes nothing.
 use mathlib.Core.Path.{_≡_, refl, sym, subst}
 use Prim.Native.Nat.{ℕ, _*_, _-_, _≤_}
 use native.Mathlib.Omega.{arith}

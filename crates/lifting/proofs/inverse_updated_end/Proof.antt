@@ -1,5 +1,4 @@
 -- `lifting::inverse_updated_end` meets its contract.
--- Assumes nothing.
 use borrow.Author.Needs.{needs}
 use lib.IntN.{pos, _+ℤ_, _-ℤ_}
 use mir.Syntax.{w32}

@@ -1,5 +1,4 @@
 -- `lifting::join` meets its contract: each call's result is the number that `joined` has at its place.
--- Assumes nothing.
 use mathlib.Core.Path.{_≡_, ap, ap₂, _∙_}
 use Prim.Native.Nat.{_^_, _<_, _≤_}
 use native.Mathlib.Omega.{arith}

@@ -1,5 +1,4 @@
 -- `lifting::lift_run` meets its contract: in each arm the step is the one that the arm hands on.
--- Assumes nothing.
 use mathlib.Core.Path.{_≡_, sym, subst, _∙_}
 use Prim.Native.Nat.{ℕ}
 use borrow.Author.Needs.{needs}

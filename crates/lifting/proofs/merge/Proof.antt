@@ -1,5 +1,4 @@
 -- `lifting::merge` meets its contract.
--- Assumes nothing.
 use native.Mathlib.Omega.{arith}
 use Rattle.lifting.specs.Patch.{at}
 use Rattle.lifting.specs.Strips.{as-row, one-column, woven-row}

@@ -1,5 +1,4 @@
 -- `lifting::merge_lines` meets its contract. The loop's invariant: the first 2 i lines are there.
--- Assumes nothing.
 use mathlib.Core.Path.{_≡_, refl}
 use Prim.Native.Nat.{_*_, _-_, _≤_}
 use native.Mathlib.Omega.{arith}

@@ -1,5 +1,4 @@
 -- `lifting::moved` meets its contract.
--- Assumes nothing.
 use mir.Syntax.{w64}
 use mir.Facts.{toZ-ofZ, sfits-widen}
 use Rattle.lifting.proofs.moved.Statement.{statement}

@@ -1,5 +1,4 @@
 -- `lifting::multiple` meets its contract.
--- Assumes nothing.
 use Prim.Native.Nat.{_^_}
 use native.Mathlib.Omega.{arith}
 use native.Mathlib.Nat.{div-le-self}

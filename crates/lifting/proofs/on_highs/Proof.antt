@@ -1,5 +1,4 @@
 -- `lifting::on_highs` meets its contract: one run for the middle, and one for the last line where n is even.
--- Assumes nothing.
 use mathlib.Core.Path.{_≡_, refl}
 use Prim.Native.Nat.{_*_, _-_}
 use native.Mathlib.Omega.{arith}

@@ -1,5 +1,4 @@
 -- `lifting::on_lows` meets its contract: a run for the first line, one for the middle, and one for the last line where n is odd.
--- Assumes nothing.
 use mathlib.Core.Path.{_≡_, refl}
 use Prim.Native.Nat.{_*_}
 use native.Mathlib.Omega.{arith}

@@ -1,5 +1,4 @@
 -- `lifting::pixel_line` meets its contract: the row is a part of the plane, which comes back with the row in its place.
--- Assumes nothing.
 use Prim.Native.Nat.{_+_, _-_}
 use native.Mathlib.Omega.{arith}
 use borrow.Author.Needs.{needs}

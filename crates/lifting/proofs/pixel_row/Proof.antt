@@ -1,5 +1,4 @@
 -- `lifting::pixel_row` meets its contract: the row holds the pixels split, then lifted, then lifted twice, then with its lows scaled, then with its highs scaled.
--- Assumes nothing.
 use mathlib.Core.Path.{sym, subst}
 use Prim.Native.Nat.{ℕ}
 use native.Mathlib.Omega.{arith}

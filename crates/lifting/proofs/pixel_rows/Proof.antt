@@ -1,5 +1,4 @@
 -- `lifting::pixel_rows` meets its contract. The loop's invariant: the first r rows are done.
--- Assumes nothing.
 use mathlib.Core.Path.{_≡_, refl}
 use Prim.Native.Nat.{suc, _*_, _-_, _≤_}
 use native.Mathlib.Nat.{mul-le-mul-right}

@@ -1,5 +1,4 @@
 -- `lifting::power` meets its contract.
--- Assumes nothing.
 use native.Mathlib.Omega.{arith}
 use lib.Pow.{shl-exact}
 use Rattle.lifting.proofs.power.Statement.{statement}

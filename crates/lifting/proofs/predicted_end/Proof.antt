@@ -1,5 +1,4 @@
 -- `lifting::predicted_end` meets its contract.
--- Assumes nothing.
 use borrow.Author.Needs.{needs}
 use lib.IntN.{_-ℤ_}
 use mir.Syntax.{w32}

@@ -1,5 +1,4 @@
 -- `lifting::put_pixels` meets its contract. The loop's invariant: the first j pixels are there.
--- Assumes nothing.
 use mathlib.Core.Path.{_≡_, refl, ap, _∙_}
 use Prim.Native.Nat.{ℕ, _+_, _-_, _≤_}
 use native.Mathlib.Omega.{arith}

@@ -1,5 +1,4 @@
 -- `lifting::quick_cut` meets its contract: the numbers that it hands on are those that it was given.
--- Assumes nothing.
 use mathlib.Core.Path.{_≡_, _∙_}
 use Prim.Native.Nat.{_<_}
 use native.Mathlib.Omega.{arith}

@@ -1,5 +1,4 @@
 -- `lifting::realigned` meets its contract: nothing is shifted out.
--- Assumes nothing.
 use mathlib.Core.Path.{_≡_}
 use Prim.Native.Nat.{_*_, _/_, _%_, _^_}
 use native.Mathlib.Omega.{arith}

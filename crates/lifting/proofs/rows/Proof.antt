@@ -1,5 +1,4 @@
 -- `lifting::rows` meets its contract: in each arm the kernel is the one that the arm works by.
--- Assumes nothing.
 use mathlib.Core.Path.{_≡_, sym, ap, subst, _∙_}
 use Prim.Native.Nat.{ℕ, _<_, _≤_}
 use native.Mathlib.Omega.{arith}

@@ -1,5 +1,4 @@
 -- `lifting::scale_here` meets its contract: in each arm the scaling is the one that the arm hands on.
--- Assumes nothing.
 use mathlib.Core.Path.{_≡_, sym, subst}
 use Prim.Native.Nat.{ℕ, _+_, _<_, _≤_}
 use borrow.Author.Needs.{needs}

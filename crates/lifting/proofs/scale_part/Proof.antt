@@ -1,5 +1,4 @@
 -- `lifting::scale_part` meets its contract: one run, or a loop whose invariant is that the first r lines are done.
--- Assumes nothing.
 use mathlib.Core.Path.{_≡_, refl, sym, ap, subst, _∙_}
 use mathlib.Core.List.{List}
 use Prim.Native.Nat.{ℕ, zero, suc, _+_, _*_, _-_, _<_, _≤_}

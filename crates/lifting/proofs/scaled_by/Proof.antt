@@ -1,5 +1,4 @@
 -- `lifting::scaled_by` meets its contract: each call's result is the number that `scaledBy` has at its place.
--- Assumes nothing.
 use mathlib.Core.Path.{_≡_, ap, ap₂, _∙_}
 use Prim.Native.Nat.{_^_}
 use borrow.Author.Needs.{needs}

@@ -1,5 +1,4 @@
 -- `lifting::scaled_up` meets its contract.
--- Assumes nothing.
 use Prim.Native.Nat.{_^_}
 use borrow.Author.Needs.{needs}
 use lib.Pow.{pow-pos}

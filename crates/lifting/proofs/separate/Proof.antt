@@ -1,5 +1,4 @@
 -- `lifting::separate` meets its contract: 2 ^ 31 is a multiple of 2 ^ cut.
--- Assumes nothing.
 use mathlib.Core.Path.{sym, ap, _∙_}
 use Prim.Native.Nat.{ℕ, _*_, _/_, _^_}
 use native.Mathlib.Omega.{arith}

@@ -1,5 +1,4 @@
 -- `lifting::separate_run` meets its contract: in each branch the step is the one that is handed on.
--- Assumes nothing.
 use mathlib.Core.Path.{_≡_, refl}
 use mathlib.Core.Bool.{Bool}
 use Prim.Native.Nat.{ℕ}

@@ -1,5 +1,4 @@
 -- `lifting::shifted_unbiased` meets its contract.
--- Assumes nothing.
 use Prim.Native.Nat.{_/_, _^_}
 use native.Mathlib.Omega.{arith}
 use mir.Syntax.{w64}

@@ -1,5 +1,4 @@
 -- `lifting::size` meets its contract.
--- Assumes nothing.
 use mathlib.Core.Path.{_≡_, sym, subst, _∙_, ap}
 use mathlib.Core.Bool.{true, false}
 use Prim.Native.Nat.{_<_}

@@ -1,5 +1,4 @@
 -- `lifting::split` meets its contract.
--- Assumes nothing.
 use mathlib.Core.Path.{sym}
 use native.Mathlib.Omega.{arith}
 use Rattle.lifting.specs.Patch.{at}

@@ -1,5 +1,4 @@
 -- `lifting::split_lines` meets its contract. The loop's invariant: i lines of the lows and i of the highs are there.
--- Assumes nothing.
 use mathlib.Core.Path.{_≡_, refl, ap}
 use Prim.Native.Nat.{_*_, _-_, _≤_}
 use native.Mathlib.Omega.{arith}

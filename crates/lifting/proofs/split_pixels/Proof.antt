@@ -1,5 +1,4 @@
 -- `lifting::split_pixels` meets its contract. The loop's invariant: i lows and i highs are there.
--- Assumes nothing.
 use mathlib.Core.Path.{_≡_, refl, ap, _∙_}
 use Prim.Native.Nat.{ℕ, _+_, _*_, _-_, _≤_}
 use native.Mathlib.Omega.{arith}

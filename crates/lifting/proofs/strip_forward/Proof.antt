@@ -1,5 +1,4 @@
 -- `lifting::strip_forward` meets its contract: the lines are split and finished.
--- Assumes nothing.
 use native.Mathlib.Omega.{arith}
 use Rattle.lifting.specs.Patch.{at}
 use Rattle.lifting.specs.Kernels.{columnOf}

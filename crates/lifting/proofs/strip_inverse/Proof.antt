@@ -1,5 +1,4 @@
 -- `lifting::strip_inverse` meets its contract: the lines are taken as they are, unlifted, and each goes to its place.
--- Assumes nothing.
 use mathlib.Core.Path.{_∙_}
 use Prim.Native.Nat.{_+_}
 use native.Mathlib.Omega.{arith}

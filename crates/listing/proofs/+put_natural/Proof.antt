@@ -1,5 +1,4 @@
 -- `listing::put_natural` meets its contract: each call has a tenth of the number left, so the number is the measure; the digits are those of the tenth part, then the last one.
--- Assumes nothing.
 use mathlib.Core.Path.{sym, ap, _∙_}
 use native.Mathlib.Omega.{arith}
 use lib.ListN.{length}

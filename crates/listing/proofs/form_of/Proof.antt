@@ -1,5 +1,4 @@
 -- `listing::form_of` meets its contract: each way out is one rule of the form.
--- Assumes nothing.
 use mathlib.Core.Path.{_≡_, sym, _∙_, ap}
 use Rattle.refusals.specs.Told.{told}
 use mathlib.Core.Bool.{true, _&&_}

@@ -1,5 +1,4 @@
 -- `listing::head_of` meets its contract: field by field.
--- Assumes nothing.
 use borrow.Author.Needs.{needs}
 use Rattle.listing.specs.Listing.{copyDepth, copyLevels}
 use Rattle.listing.proofs.head_of.Statement.{statement}

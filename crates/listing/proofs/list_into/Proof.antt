@@ -1,5 +1,4 @@
 -- `listing::list_into` meets its contract: the form decides, or the picture does.
--- Assumes nothing.
 use mathlib.Core.Path.{_≡_, sym, _∙_, ap}
 use Rattle.refusals.specs.Told.{told}
 use native.Mathlib.Omega.{arith}

@@ -1,5 +1,4 @@
 -- `listing::list_picture` meets its contract: the forward call on the pixels that were read judges as the program does, and leaves the plane whose rows are printed.
--- Assumes nothing.
 use mathlib.Core.Path.{sym, ap}
 use Rattle.refusals.specs.Told.{told}
 use Prim.Native.Nat.{_*_, _≤_}

@@ -1,5 +1,4 @@
 -- `listing::listing` meets its contract: a text of MAX_TEXT bytes is enough, a shorter one stays.
--- Assumes nothing.
 use mathlib.Core.Path.{sym, _∙_, ap}
 use mathlib.Core.List.{List}
 use Prim.Native.Nat.{ℕ}

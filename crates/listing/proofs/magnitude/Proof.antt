@@ -1,5 +1,4 @@
 -- `listing::magnitude` meets its contract: negated as an i64, which any i32 fits.
--- Assumes nothing.
 use mathlib.Core.Path.{_≡_, sym, _∙_, ap, subst}
 use mathlib.Core.Bool.{Bool}
 use Prim.Native.Nat.{_^_, _≤_}

@@ -1,5 +1,4 @@
 -- `listing::put_all` meets its contract: what is still to be written, from byte i on, leads to all bytes.
--- Assumes nothing.
 use mathlib.Core.Path.{_≡_, refl, _∙_}
 use mathlib.Core.List.{[], _∷_}
 use Prim.Native.Nat.{_+_, _-_, _≤_}

@@ -1,5 +1,4 @@
 -- `listing::put_line` meets its contract: what is still to be written, from number i on, leads to the whole line.
--- Assumes nothing.
 use mathlib.Core.Path.{_≡_, refl, _∙_, ap}
 use mathlib.Core.List.{[], _∷_}
 use Prim.Native.Nat.{ℕ, _+_, _*_, _-_, _≤_}

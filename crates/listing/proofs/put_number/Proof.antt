@@ -1,5 +1,4 @@
 -- `listing::put_number` meets its contract: a size below 2^31 + 1 has at most ten digits.
--- Assumes nothing.
 use mathlib.Core.Path.{_≡_, sym, _∙_, ap}
 use mathlib.Core.Bool.{Bool}
 use mathlib.Core.List.{_∷_}

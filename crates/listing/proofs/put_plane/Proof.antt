@@ -1,5 +1,4 @@
 -- `listing::put_plane` meets its contract: the head, then the rows; the numbers of the head fit an i32.
--- Assumes nothing.
 use mathlib.Core.List.{[], _∷_}
 use native.Mathlib.Omega.{arith}
 use borrow.Author.Needs.{needs}

@@ -1,5 +1,4 @@
 -- `listing::put_refused` meets its contract: the word, then a line of one number.
--- Assumes nothing.
 use Prim.Native.Nat.{ℕ}
 use mathlib.Core.Path.{_∙_, ap}
 use mathlib.Core.List.{[], _∷_}

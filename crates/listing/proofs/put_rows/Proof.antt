@@ -1,5 +1,4 @@
 -- `listing::put_rows` meets its contract: what is still to be written, from row r on, leads to all rows.
--- Assumes nothing.
 use mathlib.Core.Path.{_≡_, refl, sym, _∙_, ap}
 use Prim.Native.Nat.{ℕ, _+_, _*_, _-_, _≤_}
 use native.Mathlib.Omega.{arith}

@@ -1,5 +1,4 @@
 -- `listing::read_pixels` meets its contract: the first i pixels are read.
--- Assumes nothing.
 use mathlib.Core.Path.{_≡_, refl, sym, _∙_}
 use Prim.Native.Nat.{_-_, _≤_}
 use native.Mathlib.Omega.{arith}

@@ -1,5 +1,4 @@
 -- `listing::size_right` meets its contract: 8, then 9; admitted sides make a size that fits.
--- Assumes nothing.
 use mathlib.Core.Path.{_≡_, sym, _∙_, ap}
 use Rattle.refusals.specs.Told.{told}
 use native.Mathlib.Omega.{arith}

@@ -1,5 +1,4 @@
 -- `listing::two` meets its contract: the high byte, then the low one.
--- Assumes nothing.
 use native.Mathlib.Omega.{arith}
 use borrow.Author.Needs.{needs}
 use Rattle.listing.proofs.two.Statement.{statement}

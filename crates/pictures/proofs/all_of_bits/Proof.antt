@@ -1,5 +1,4 @@
 -- `pictures::all_of_bits` meets its contract: what is gathered tells of the values passed.
--- Assumes nothing.
 use mathlib.Core.Path.{_≡_, sym, _∙_, subst}
 use Prim.Native.Nat.{ℕ, _+_, _*_, _-_, _/_, _%_, _^_, _<_, _≤_}
 use native.Mathlib.Omega.{arith}

@@ -1,5 +1,4 @@
 -- `pictures::clear` meets its contract: the first i elements are 0.
--- Assumes nothing.
 use mathlib.Core.Path.{_≡_, refl}
 use Prim.Native.Nat.{_-_, _≤_}
 use native.Mathlib.Omega.{arith}

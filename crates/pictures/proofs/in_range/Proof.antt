@@ -1,5 +1,4 @@
 -- `pictures::in_range` meets its contract: each test refutes one half.
--- Assumes nothing.
 use Rattle.numbers.specs.Laws.{≤ℤ-not-<ℤ}
 use Rattle.numbers.specs.Compared.{test-true, test-false}
 use Rattle.pictures.proofs.in_range.Statement.{statement}

@@ -1,5 +1,4 @@
 -- `pictures::largest` meets its contract: the largest of the first i pixels.
--- Assumes nothing.
 use mathlib.Core.Path.{sym, subst}
 use Prim.Native.Nat.{_+_, _-_, _≤_, _<_}
 use mathlib.Core.Logic.{⊎-elim}

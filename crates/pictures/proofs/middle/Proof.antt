@@ -1,5 +1,4 @@
 -- `pictures::middle` meets its contract.
--- Assumes nothing.
 use Prim.Native.Nat.{_-_}
 use native.Mathlib.Omega.{arith}
 use Rattle.pictures.specs.PixelLaws.{one-shifted}

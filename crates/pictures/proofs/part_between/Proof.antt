@@ -1,5 +1,4 @@
 -- `pictures::part_between` meets its contract: the flag tells of the rows passed.
--- Assumes nothing.
 use mathlib.Core.Path.{_≡_, subst, subst₂}
 use Prim.Native.Nat.{ℕ, _-_, _≤_, _<_}
 use native.Mathlib.Omega.{arith}

@@ -1,5 +1,4 @@
 -- `pictures::pixels_right` meets its contract: all are below 2^B where the largest is.
--- Assumes nothing.
 use mathlib.Core.Path.{sym}
 use Prim.Native.Nat.{_*_}
 use native.Mathlib.Omega.{arith}

@@ -1,5 +1,4 @@
 -- `pictures::room_right` meets its contract: the rules in their order; admitted sides make a size that fits.
--- Assumes nothing.
 use mathlib.Core.Path.{_≡_, sym, _∙_, ap}
 use Prim.Native.Nat.{_*_}
 use native.Mathlib.Omega.{arith}

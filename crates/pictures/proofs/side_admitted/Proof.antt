@@ -1,5 +1,4 @@
 -- `pictures::side_admitted` meets its contract.
--- Assumes nothing.
 use mathlib.Core.Path.{sym}
 use native.Mathlib.Omega.{arith}
 use Rattle.pictures.specs.PixelLaws.{side-long, side-short}

@@ -1,5 +1,4 @@
 -- `pictures::side_after` meets its contract: the side is halved once for each level.
--- Assumes nothing.
 use mathlib.Core.Path.{_≡_, sym, ap, _∙_}
 use Prim.Native.Nat.{ℕ, _-_, _≤_}
 use native.Mathlib.Omega.{arith}

@@ -1,5 +1,4 @@
 -- `pictures::sides_right` meets its contract: each way out is one rule.
--- Assumes nothing.
 use mathlib.Core.Path.{sym, _∙_}
 use borrow.Author.Needs.{needs}
 use Rattle.pictures.specs.PixelLaws.{wide-wrong, tall-wrong, both-right}

@@ -1,5 +1,4 @@
 -- `pictures::slice_holds` meets its contract.
--- Assumes nothing.
 use mathlib.Core.Path.{sym}
 use native.Mathlib.Omega.{arith}
 use Rattle.pictures.specs.PictureLaws.{holds-right}

@@ -1,5 +1,4 @@
 -- `reversible::allowed` meets its contract: the limits, then the room.
--- Assumes nothing.
 use mathlib.Core.Path.{sym, _∙_}
 use borrow.Author.Needs.{needs}
 use Rattle.reversible.specs.AnswerLaws.{limits-kept, limits-broken}

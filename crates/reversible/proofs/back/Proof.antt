@@ -1,5 +1,4 @@
 -- `reversible::back` meets its contract: the way back of a new copy.
--- Assumes nothing.
 use borrow.Author.Needs.{needs}
 use Rattle.reversible.proofs.back.Statement.{statement}
 use Rattle.reversible.proofs.back.Tie as tie

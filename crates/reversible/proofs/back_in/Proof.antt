@@ -1,5 +1,4 @@
 -- `reversible::back_in` meets its contract: the refusals in their order, then the way back.
--- Assumes nothing.
 use mathlib.Core.Path.{sym, _∙_, ap}
 use Rattle.refusals.specs.Told.{told}
 use borrow.Author.Needs.{needs}

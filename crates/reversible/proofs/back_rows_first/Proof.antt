@@ -1,5 +1,4 @@
 -- `reversible::back_rows_first` meets its contract: the way back of a copy made earlier.
--- Assumes nothing.
 use borrow.Author.Needs.{needs}
 use Rattle.reversible.proofs.back_rows_first.Statement.{statement}
 use Rattle.reversible.proofs.back_rows_first.Tie as tie

@@ -1,5 +1,4 @@
 -- `reversible::columns_from` meets its contract: a single value stays, and two or more are worked by the kernel.
--- Assumes nothing.
 use mathlib.Core.Path.{_∙_}
 use native.Mathlib.Omega.{arith}
 use borrow.Author.Needs.{needs}

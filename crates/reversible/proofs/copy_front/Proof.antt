@@ -1,5 +1,4 @@
 -- `reversible::copy_front` meets its contract: the places passed hold what the other slice has there.
--- Assumes nothing.
 use mathlib.Core.Path.{_≡_, refl}
 use Prim.Native.Nat.{_-_, _≤_}
 use native.Mathlib.Omega.{arith}

@@ -1,5 +1,4 @@
 -- `reversible::first_columns` meets its contract: a single line of pixels stays as it is, and the columns of two or more are worked.
--- Assumes nothing.
 use Prim.Native.Nat.{ℕ, _-_, _^_}
 use mathlib.Core.Path.{_≡_, _∙_, ap}
 use native.Mathlib.Omega.{arith}

@@ -1,5 +1,4 @@
 -- `reversible::first_level` meets its contract: samples of a picture keep each step inside its type.
--- Assumes nothing.
 use mathlib.Core.Path.{ap, _∙_}
 use native.Mathlib.Omega.{arith}
 use borrow.Author.Needs.{needs}

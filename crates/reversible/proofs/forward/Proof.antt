@@ -1,5 +1,4 @@
 -- `reversible::forward` meets its contract: the refusals in their order, then the transform.
--- Assumes nothing.
 use mathlib.Core.Path.{sym, _∙_, ap}
 use Rattle.refusals.specs.Told.{told}
 use borrow.Author.Needs.{needs}

@@ -1,5 +1,4 @@
 -- `reversible::high_at` meets its contract: in the middle both lines beside it, at the end of an even height the one.
--- Assumes nothing.
 use mathlib.Core.Path.{sym, _∙_}
 use Prim.Native.Nat.{_+_, _*_, _-_, _<_, _≤_}
 use native.Mathlib.Omega.{arith}

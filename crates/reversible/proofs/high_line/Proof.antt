@@ -1,5 +1,4 @@
 -- `reversible::high_line` meets its contract. The loop's invariant: the first j places of the line are there.
--- Assumes nothing.
 use mathlib.Core.Path.{_≡_, refl, sym, _∙_}
 use Prim.Native.Nat.{_-_, _≤_}
 use native.Mathlib.Omega.{arith}

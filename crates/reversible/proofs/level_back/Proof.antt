@@ -1,5 +1,4 @@
 -- `reversible::level_back` meets its contract: in each arm the passes are those of the arm's order, and values of the size asked give both room.
--- Assumes nothing.
 use mathlib.Core.Path.{_≡_, sym, ap, _∙_}
 use native.Mathlib.Omega.{arith}
 use borrow.Author.Needs.{needs}

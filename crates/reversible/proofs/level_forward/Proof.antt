@@ -1,5 +1,4 @@
 -- `reversible::level_forward` meets its contract: values of the size asked give both passes room.
--- Assumes nothing.
 use mathlib.Core.Path.{ap, _∙_}
 use native.Mathlib.Omega.{arith}
 use borrow.Author.Needs.{needs}

@@ -1,5 +1,4 @@
 -- `reversible::levels_back` meets its contract. The loop's invariant: so many levels are left, and what they will give is what was asked.
--- Assumes nothing.
 use mathlib.Core.Path.{_≡_, refl, sym, _∙_, subst}
 use Prim.Native.Nat.{ℕ, _-_, _≤_}
 use native.Mathlib.Omega.{arith}

@@ -1,5 +1,4 @@
 -- `reversible::levels_forward` meets its contract. The loop's invariant: where the first level was done so many are, and the sides are those of the next.
--- Assumes nothing.
 use mathlib.Core.Path.{_≡_, refl, ap, _∙_, subst}
 use Prim.Native.Nat.{ℕ, _-_, _≤_, _^_}
 use native.Mathlib.Omega.{arith}

@@ -1,5 +1,4 @@
 -- `reversible::low_at` meets its contract: in the middle both lines of highs beside it, at the ends the one.
--- Assumes nothing.
 use mathlib.Core.Path.{_≡_, refl, sym, ap, _∙_}
 use Prim.Native.Nat.{ℕ, suc, _+_, _*_, _-_, _<_, _≤_}
 use native.Mathlib.Omega.{arith}

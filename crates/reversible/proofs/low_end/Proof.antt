@@ -1,5 +1,4 @@
 -- `reversible::low_end` meets its contract. The loop's invariant: the first j places of the line are there.
--- Assumes nothing.
 use mathlib.Core.Path.{_≡_, refl, sym, ap, _∙_}
 use Prim.Native.Nat.{ℕ, _+_, _-_, _≤_}
 use native.Mathlib.Omega.{arith}

@@ -1,5 +1,4 @@
 -- `reversible::middle` meets its contract.
--- Assumes nothing.
 use mathlib.Core.Path.{ap, _∙_}
 use Prim.Native.Nat.{_-_}
 use lib.Pow.{pow-mono}

@@ -1,5 +1,4 @@
 -- `reversible::pixel_columns` meets its contract. The loop's invariant: i lines of highs and i of lows are done.
--- Assumes nothing.
 use mathlib.Core.Path.{_≡_, refl}
 use Prim.Native.Nat.{_+_, _-_, _≤_}
 use native.Mathlib.Omega.{arith}

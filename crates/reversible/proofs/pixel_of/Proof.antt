@@ -1,5 +1,4 @@
 -- `reversible::pixel_of` meets its contract: the sum is small and not negative.
--- Assumes nothing.
 use mathlib.Core.Path.{_≡_, ap, sym, subst}
 use native.Mathlib.Omega.{arith}
 use lib.Dec.{T}

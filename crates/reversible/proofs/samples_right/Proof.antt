@@ -1,5 +1,4 @@
 -- `reversible::samples_right` meets its contract: the two limits are computed without overflow.
--- Assumes nothing.
 use mathlib.Core.Path.{_≡_, ap, sym, _∙_, subst}
 use Prim.Native.Nat.{ℕ, _+_, _-_, _<_, _≤_, _^_}
 use native.Mathlib.Omega.{arith}

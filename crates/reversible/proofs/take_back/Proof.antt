@@ -1,5 +1,4 @@
 -- `reversible::take_back` meets its contract: where a picture is found its pixels are written, and the work area is cleared either way.
--- Assumes nothing.
 use mathlib.Core.List.{List, _++_}
 use mathlib.Core.Path.{_≡_, sym, _∙_, subst}
 use Prim.Native.Nat.{_*_}

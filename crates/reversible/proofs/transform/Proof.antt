@@ -1,5 +1,4 @@
 -- `reversible::transform` meets its contract: the levels, and the work area cleared whatever the levels left in its front.
--- Assumes nothing.
 use mathlib.Core.Path.{sym, _∙_}
 use Prim.Native.Nat.{_*_}
 use native.Mathlib.Omega.{arith}

@@ -1,5 +1,4 @@
 -- `reversible::write_pixels` meets its contract: the places passed hold their pixels, and 0 in place of their samples.
--- Assumes nothing.
 use mathlib.Core.Path.{_≡_, refl, sym, ap, _∙_}
 use Prim.Native.Nat.{ℕ, _+_, _-_, _≤_, _^_}
 use native.Mathlib.Omega.{arith}

@@ -1,5 +1,4 @@
 -- `rolling::begin` meets its contract.
--- Assumes nothing.
 use mathlib.Core.Path.{sym, _∙_, ap}
 use borrow.Author.Needs.{needs}
 use Rattle.refusals.specs.Told.{told}

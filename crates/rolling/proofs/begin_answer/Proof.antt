@@ -1,5 +1,4 @@
 -- `rolling::begin_answer` meets its contract.
--- Assumes nothing.
 use mathlib.Core.Path.{sym, _∙_}
 use borrow.Author.Needs.{needs}
 use Rattle.rolling.specs.AnswerLaws.{one-level, other-levels}

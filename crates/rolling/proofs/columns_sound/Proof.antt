@@ -1,5 +1,4 @@
 -- `rolling::columns_sound` meets its contract: four looks, by the bits that enter the pass and those of its nodes.
--- Assumes nothing.
 use Prim.Native.Nat.{_*_, _+_, _≤_}
 use mathlib.Core.Path.{_≡_}
 use native.Mathlib.Omega.{arith}

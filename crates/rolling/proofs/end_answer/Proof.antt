@@ -1,5 +1,4 @@
 -- `rolling::end_answer` meets its contract: each way out is one rule; an admitted width makes sizes that fit.
--- Assumes nothing.
 use mathlib.Core.Bool.{true}
 use mathlib.Core.Path.{_≡_, sym, _∙_}
 use native.Mathlib.Omega.{arith}

@@ -1,5 +1,4 @@
 -- `rolling::end_one` meets its contract.
--- Assumes nothing.
 use mathlib.Core.Path.{_∙_, ap}
 use native.Mathlib.Omega.{arith}
 use borrow.Author.Needs.{needs}

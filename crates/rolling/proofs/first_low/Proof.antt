@@ -1,5 +1,4 @@
 -- `rolling::first_low` meets its contract.
--- Assumes nothing.
 use mathlib.Core.Path.{_∙_, ap}
 use borrow.Author.Needs.{needs}
 use Rattle.rolling.specs.Program.{firstKept}

@@ -1,5 +1,4 @@
 -- `rolling::first_stages` meets its contract.
--- Assumes nothing.
 use mathlib.Core.Path.{_≡_, sym, subst}
 use native.Mathlib.Omega.{arith}
 use borrow.Author.Needs.{needs}

@@ -1,5 +1,4 @@
 -- `rolling::five_bits` meets its contract: a look over the values' bits.
--- Assumes nothing.
 use native.Mathlib.Omega.{arith}
 use Rattle.lifting.specs.Patch.{at}
 use Rattle.rolling.specs.SoundLaws.{tells-five}

@@ -1,5 +1,4 @@
 -- `rolling::goes_on` meets its contract: each way out is one test.
--- Assumes nothing.
 use mathlib.Core.Path.{sym, _∙_, ap}
 use borrow.Author.Needs.{needs}
 use Rattle.refusals.specs.Told.{told}

@@ -1,5 +1,4 @@
 -- `rolling::keep_first` meets its contract.
--- Assumes nothing.
 use mathlib.Core.Path.{_∙_, ap}
 use Rattle.rolling.specs.Memory.{moved}
 use borrow.Author.Needs.{needs}

@@ -1,5 +1,4 @@
 -- `rolling::later_row` meets its contract.
--- Assumes nothing.
 use mathlib.Core.Path.{sym, _∙_, ap, subst}
 use Prim.Native.Nat.{ℕ, _*_, _≤_}
 use native.Mathlib.Omega.{arith}

@@ -1,5 +1,4 @@
 -- `rolling::line` meets its contract: the answer, and then the work.
--- Assumes nothing.
 use mathlib.Core.Path.{_≡_, sym, _∙_, ap}
 use borrow.Author.Needs.{needs}
 use Rattle.refusals.specs.Answers.{passed}

@@ -1,5 +1,4 @@
 -- `rolling::line_answer` meets its contract: each way out is one rule; an admitted width makes sizes that fit.
--- Assumes nothing.
 use mathlib.Core.Bool.{true, not, _||_}
 use mathlib.Core.Logic.{⊎-elim}
 use mathlib.Core.Path.{_≡_, sym, _∙_}

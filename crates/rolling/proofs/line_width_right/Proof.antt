@@ -1,5 +1,4 @@
 -- `rolling::line_width_right` meets its contract: after a line, or before the first.
--- Assumes nothing.
 use mathlib.Core.Path.{sym, _∙_}
 use borrow.Author.Needs.{needs}
 use Rattle.rolling.specs.AnswerLaws.{width-some, width-none}

@@ -1,5 +1,4 @@
 -- `rolling::low_row` meets its contract.
--- Assumes nothing.
 use mathlib.Core.Path.{sym, _∙_, ap, subst}
 use mathlib.Core.List.{List}
 use Prim.Native.Nat.{ℕ, _*_}

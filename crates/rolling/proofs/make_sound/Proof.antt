@@ -1,5 +1,4 @@
 -- `rolling::make_sound` meets its contract: what is found sound stays, anything else becomes zeros, which are sound.
--- Assumes nothing.
 use Prim.Native.Nat.{_*_}
 use mathlib.Core.Path.{refl, sym, subst}
 use mathlib.Core.List.{List}

@@ -1,5 +1,4 @@
 -- `rolling::move_line` meets its contract. The loop's invariant: the first j values are moved.
--- Assumes nothing.
 use mathlib.Core.Path.{_≡_, refl, _∙_}
 use Prim.Native.Nat.{_+_, _-_, _*_, _≤_}
 use native.Mathlib.Omega.{arith}

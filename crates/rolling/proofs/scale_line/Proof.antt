@@ -1,5 +1,4 @@
 -- `rolling::scale_line` meets its contract: the row-low columns, then the row-high ones.
--- Assumes nothing.
 use mathlib.Core.Path.{_≡_, sym}
 use Prim.Native.Nat.{suc, _+_, _*_, _≤_}
 use native.Mathlib.Nat.{mul-le-mul-right}

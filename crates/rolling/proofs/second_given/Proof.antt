@@ -1,5 +1,4 @@
 -- `rolling::second_given` meets its contract.
--- Assumes nothing.
 use mathlib.Core.Path.{sym, _∙_, ap, subst}
 use Prim.Native.Nat.{ℕ}
 use native.Mathlib.Omega.{arith}

@@ -1,5 +1,4 @@
 -- `rolling::second_stages` meets its contract.
--- Assumes nothing.
 use mathlib.Core.Path.{_≡_, refl, sym, subst}
 use native.Mathlib.Omega.{arith}
 use borrow.Author.Needs.{needs}

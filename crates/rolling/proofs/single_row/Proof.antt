@@ -1,5 +1,4 @@
 -- `rolling::single_row` meets its contract: the sample is put, and cut where it stands.
--- Assumes nothing.
 use mathlib.Core.Path.{_≡_, refl, sym, _∙_, ap, subst}
 use Prim.Native.Nat.{ℕ, _+_, _*_}
 use native.Mathlib.Omega.{arith}

@@ -1,5 +1,4 @@
 -- `rolling::stage_line` meets its contract: the row-low columns, then the row-high ones.
--- Assumes nothing.
 use mathlib.Core.Path.{sym}
 use Prim.Native.Nat.{_+_, _*_, _≤_}
 use native.Mathlib.Omega.{arith}

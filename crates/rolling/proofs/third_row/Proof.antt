@@ -1,5 +1,4 @@
 -- `rolling::third_row` meets its contract.
--- Assumes nothing.
 use mathlib.Core.Path.{sym, _∙_, ap, subst}
 use Prim.Native.Nat.{ℕ, _*_}
 use native.Mathlib.Omega.{arith}

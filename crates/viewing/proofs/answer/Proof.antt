@@ -1,5 +1,4 @@
 -- `viewing::answer` meets its contract: the steps in their order, the last one where those before it passed.
--- Assumes nothing.
 use mathlib.Core.Path.{sym, _∙_, ap}
 use lib.ListN.{length}
 use borrow.Author.Needs.{needs}

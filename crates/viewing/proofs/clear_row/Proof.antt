@@ -1,5 +1,4 @@
 -- `viewing::clear_row` meets its contract: the places passed are 0.
--- Assumes nothing.
 use mathlib.Core.Path.{_≡_, refl}
 use Prim.Native.Nat.{_-_, _≤_}
 use native.Mathlib.Omega.{arith}

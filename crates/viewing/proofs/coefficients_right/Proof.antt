@@ -1,5 +1,4 @@
 -- `viewing::coefficients_right` meets its contract. The loop's invariant: what lies outside of the part that the levels so far leave is right.
--- Assumes nothing.
 use Prim.Native.Nat.{_-_, _≤_}
 use mathlib.Core.Path.{_≡_, sym, _∙_, ap}
 use native.Mathlib.Omega.{arith}

@@ -1,5 +1,4 @@
 -- `viewing::columns_back` meets its contract: the columns of row-low, then those of row-high.
--- Assumes nothing.
 use mathlib.Core.Path.{_≡_, sym, _∙_}
 use native.Mathlib.Omega.{arith}
 use Rattle.lines.specs.Lines.{lows, highs}

@@ -1,5 +1,4 @@
 -- `viewing::details_fit` meets its contract: the three parts right of and below the low-low one.
--- Assumes nothing.
 use native.Mathlib.Omega.{arith}
 use Rattle.viewing.specs.WidthLaws.{high-part, low-part, last-part, start-small, no-hl, no-lh, last-tells}
 use Rattle.viewing.proofs.details_fit.Statement.{statement}

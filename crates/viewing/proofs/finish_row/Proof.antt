@@ -1,5 +1,4 @@
 -- `viewing::finish_row` meets its contract: what the row gives is small, and so it can be shown.
--- Assumes nothing.
 use mathlib.Core.Path.{ap, _∙_}
 use native.Mathlib.Omega.{arith}
 use lib.ListN.{getD}

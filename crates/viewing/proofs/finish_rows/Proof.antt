@@ -1,5 +1,4 @@
 -- `viewing::finish_rows` meets its contract. The loop's invariant: the first r rows are shown and cleared, the others as they were.
--- Assumes nothing.
 use mathlib.Core.Path.{_≡_, refl}
 use Prim.Native.Nat.{_-_, _≤_}
 use native.Mathlib.Omega.{arith}

@@ -1,5 +1,4 @@
 -- `viewing::greys` meets its contract: no number on the way reaches 2^37.
--- Assumes nothing.
 use Prim.Native.Nat.{_+_, _-_, _^_, _≤_}
 use mathlib.Core.Path.{_≡_, sym, _∙_, ap, subst}
 use native.Mathlib.Omega.{arith}

@@ -1,5 +1,4 @@
 -- `viewing::level_back` meets its contract: the columns, then the rows.
--- Assumes nothing.
 use mathlib.Core.Path.{sym, ap, _∙_, subst}
 use Prim.Native.Nat.{ℕ}
 use native.Mathlib.Omega.{arith}

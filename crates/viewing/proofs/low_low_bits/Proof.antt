@@ -1,5 +1,4 @@
 -- `viewing::low_low_bits` meets its contract: stored at the last level alone.
--- Assumes nothing.
 use mathlib.Core.Path.{_∙_}
 use native.Mathlib.Omega.{arith}
 use Rattle.viewing.specs.CallSteps.{low-stored, low-left}

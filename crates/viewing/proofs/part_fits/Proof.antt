@@ -1,5 +1,4 @@
 -- `viewing::part_fits` meets its contract: a look over the values' bits.
--- Assumes nothing.
 use Prim.Native.Nat.{ℕ, _+_, _-_, _≤_, _<_}
 use mathlib.Core.Path.{_≡_, _∙_, ap₂, subst}
 use native.Mathlib.Omega.{arith}

@@ -1,5 +1,4 @@
 -- `viewing::show` meets its contract: all levels but the first, its columns, its rows.
--- Assumes nothing.
 use mathlib.Core.Path.{refl}
 use native.Mathlib.Omega.{arith}
 use Rattle.viewing.specs.CallSteps.{first-ready, rows-ready, pixels-shown, work-cleared}

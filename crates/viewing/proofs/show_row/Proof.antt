@@ -1,5 +1,4 @@
 -- `viewing::show_row` meets its contract: the places passed hold their pixels.
--- Assumes nothing.
 use mathlib.Core.Path.{_≡_, refl, sym, _∙_, ap, subst}
 use Prim.Native.Nat.{_+_, _-_, _≤_}
 use native.Mathlib.Omega.{arith}

@@ -1,5 +1,4 @@
 -- `viewing::shown` meets its contract: below, above or within the depth.
--- Assumes nothing.
 use Prim.Native.Nat.{_-_, _^_, _≤_}
 use mathlib.Core.Path.{_≡_, sym, _∙_, ap, subst, subst₂}
 use native.Mathlib.Omega.{arith}

@@ -1,5 +1,4 @@
 -- `viewing::spread` meets its contract: after i turns the stride is w times 2^i.
--- Assumes nothing.
 use mathlib.Core.Path.{_≡_, sym, ap, _∙_}
 use Prim.Native.Nat.{ℕ, _*_, _^_, _+_, _-_, _≤_}
 use native.Mathlib.Nat.{mul-le-mul, mul-left-comm, pow-succ', pow-le-pow-right}

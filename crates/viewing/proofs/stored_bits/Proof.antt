@@ -1,5 +1,4 @@
 -- `viewing::stored_bits` meets its contract: what is read of the table, in 32 bits.
--- Assumes nothing.
 use borrow.Author.Needs.{needs}
 use Rattle.irreversible.specs.LevelBits.{fraction-is}
 use Rattle.viewing.proofs.stored_bits.Statement.{statement}

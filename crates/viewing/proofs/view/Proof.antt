@@ -1,5 +1,4 @@
 -- `viewing::view` meets its contract: the answer, then the picture.
--- Assumes nothing.
 use mathlib.Core.Path.{_≡_, sym, _∙_, ap}
 use native.Mathlib.Omega.{arith}
 use borrow.Author.Needs.{needs}

@@ -11,18 +11,22 @@ use Rattle.width_table.specs.Table.{formRight}
 use Rattle.width_table.specs.Changes.{hasNode}
 use Rattle.stages.specs.Rule.{Bound}
 use Rattle.precision.specs.Bounds.{boundOf}
-use Rattle.precision.specs.Verdict.{firstRefusal}
+use Rattle.precision.specs.Verdict.{firstRefusalWith, firstRefusal}
 
 -- The nodes of a table of L levels that come before a node in book order. Level, pass and node count from 1.
 abbrev pub nodesBefore : ℕ → ℕ → ℕ → ℕ → List TableNode
 nodesBefore L level pass node = take ((level - 1) * nodesPerLevel + ((pass - 1) * nodesPerPass + (node - 1))) (tableOrder L)
 
--- 4 for the form and for a node that the table lacks, then 6 or 7 of the nodes before it
-unfoldable pub boundAnswer : WidthTable → ℕ → ℕ → ℕ → Answer Unit
-boundAnswer t level pass node =
+-- 4 for the form and for a node that the table lacks, then 6 or 7 of the nodes before it, where the nodes have the bounds `bound`
+abbrev pub boundAnswerWith : WidthTable → (TableNode → Bound) → ℕ → ℕ → ℕ → Answer Unit
+boundAnswerWith t bound level pass node =
     asks (formRight t) 4
     (asks (hasNode (t .levels) level pass node) 4
-    (firstRefusal t (nodesBefore (t .levels) level pass node)))
+    (firstRefusalWith t bound (nodesBefore (t .levels) level pass node)))
+
+unfoldable pub boundAnswer : WidthTable → ℕ → ℕ → ℕ → Answer Unit
+unfolding firstRefusal
+boundAnswer t = boundAnswerWith t (boundOf t)
 
 -- the bound of a node by its numbers
 abbrev pub boundNumbered : WidthTable → ℕ → ℕ → ℕ → Bound

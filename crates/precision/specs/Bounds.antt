@@ -26,22 +26,46 @@ module _ (F : Node → ℕ) (fp : Node → Product) (fi : ℕ) (b : Bound) (f : 
   nodeBound G1 = record { range = boundAfter low 5 .range; error = max (boundAfter low 5 .error) (singleError fi b (f G1)) }
   nodeBound G2 = boundAfter high 6
 
--- The nodes of each pass of level l, where b bounds what enters the level. Columns take range and error of the G node that feeds them.
-module _ (t : WidthTable) (l : ℕ) (b : Bound) where
-  unfoldable pub rowBound : Node → Bound
-  rowBound = nodeBound (constantBits t) (productOf t l Rows) (inputBits t l Rows) b (fractionBits t l Rows)
+-- ---- a table, by nodeBound and by the rules before jobs 6 and 7 (Before, Uncut)
 
-  unfoldable pub passBound : Pass → Node → Bound
-  passBound Rows = rowBound
-  passBound LowColumns = nodeBound (constantBits t) (productOf t l LowColumns) (inputBits t l LowColumns) (rowBound G1) (fractionBits t l LowColumns)
-  passBound HighColumns = nodeBound (constantBits t) (productOf t l HighColumns) (inputBits t l HighColumns) (rowBound G2) (fractionBits t l HighColumns)
+-- a rule of a pass, as above
+abbrev pub PassRule : Type 0
+PassRule = (F : Node → ℕ) (fp : Node → Product) (fi : ℕ) (b : Bound) (f : Node → ℕ) → Node → Bound
 
--- What enters a level: level 1 starts with range 1/2 and error 0, later levels take the low-low of the level before. (Level 0 is none.)
+-- pass p of level l of a table by such a rule, where b bounds what enters the pass
+abbrev pub byRule : PassRule → WidthTable → ℕ → Pass → Bound → Node → Bound
+byRule rule t l p b = rule (constantBits t) (productOf t l p) (inputBits t l p) b (fractionBits t l p)
+
+-- From the passes to all nodes: pass l p b has the bounds of the nodes of a pass where b bounds what enters it.
+module _ (pass : ℕ → Pass → Bound → Node → Bound) where
+  -- The nodes of each pass of level l, where b bounds what enters the level. Columns take range and error of the G node that feeds them.
+  abbrev pub passBoundBy : ℕ → Bound → Pass → Node → Bound
+  passBoundBy l b Rows = pass l Rows b
+  passBoundBy l b LowColumns = pass l LowColumns (pass l Rows b G1)
+  passBoundBy l b HighColumns = pass l HighColumns (pass l Rows b G2)
+
+  -- What enters a level: level 1 starts with range 1/2 and error 0, later levels take the low-low of the level before. (Level 0 is none.)
+  abbrev pub enteringBy : ℕ → Bound
+  enteringBy zero = record { range = 0; error = 0 }
+  enteringBy (suc zero) = record { range = 2 ^ 31; error = 0 }
+  enteringBy (suc (suc l)) = passBoundBy (suc l) (enteringBy (suc l)) LowColumns G1
+
+  -- the bound of a node of the table
+  abbrev pub boundOfBy : TableNode → Bound
+  boundOfBy p = passBoundBy (p .level) (enteringBy (p .level)) (p .pass) (p .node)
+
+-- The judge's bounds: these by nodeBound. To unfold one is to unfold those above it.
+unfoldable pub rowBound : WidthTable → ℕ → Bound → Node → Bound
+rowBound t l b = byRule nodeBound t l Rows b
+
+unfoldable pub passBound : WidthTable → ℕ → Bound → Pass → Node → Bound
+unfolding rowBound
+passBound t = passBoundBy (byRule nodeBound t)
+
 unfoldable pub entering : WidthTable → ℕ → Bound
-entering t zero = record { range = 0; error = 0 }
-entering t (suc zero) = record { range = 2 ^ 31; error = 0 }
-entering t (suc (suc l)) = passBound t (suc l) (entering t (suc l)) LowColumns G1
+unfolding passBound
+entering t = enteringBy (byRule nodeBound t)
 
--- the bound of a node of the table
 unfoldable pub boundOf : WidthTable → TableNode → Bound
-boundOf t p = passBound t (p .level) (entering t (p .level)) (p .pass) (p .node)
+unfolding entering
+boundOf t = boundOfBy (byRule nodeBound t)

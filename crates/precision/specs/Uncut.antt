@@ -1,26 +1,24 @@
 -- The analysis as it was before document 02's job 7, by the rule in which no product is cut. A table without tag 5 has its old ranges and
 -- errors (`old-bounds`), which are told as before (`old-boundable`), and its old verdict (`old-verdict`).
-use Prim.Native.Nat.{ℕ, zero, suc, _^_, max}
+use Prim.Native.Nat.{ℕ, suc, max}
 use mathlib.Core.Bool.{false}
-use mathlib.Core.List.{List, [], _∷_}
-use mathlib.Core.Path.{_≡_, refl, _∙_, ap, ap₂}
-use Rattle.refusals.specs.Answers.{Answer, passed, asks, _then_}
+use mathlib.Core.Path.{_≡_, _∙_, ap, fun-ext}
+use Rattle.refusals.specs.Answers.{Answer}
 use Rattle.stages.specs.Stages.{Side, low, high, forward, uncut}
 use Rattle.stages.specs.Rule.{Bound, together, singleError}
 use Rattle.stages.specs.UncutRule.{oldBoundAt, old-bound}
-use Rattle.width_table.specs.Nodes.{Node, P1, U1, P2, U2, G1, G2, Pass, Rows, LowColumns, HighColumns, TableNode, tableOrder}
-use Rattle.width_table.specs.Changes.{hasNode}
+use Rattle.width_table.specs.Nodes.{Node, P1, U1, P2, U2, G1, G2, Pass, TableNode}
 use Rattle.width_table.specs.Numbered.{nodeOf}
 use Rattle.width_table.specs.declared.WidthTable.{WidthTable}
-use Rattle.width_table.specs.Table.{constantBits, integerBits, fractionBits, inputBits, formRight}
-use Rattle.table_meaning.specs.Products.{productOf}
+use Rattle.width_table.specs.Table.{constantBits, fractionBits, inputBits}
 use Rattle.table_meaning.specs.ProductLaws.{none-cut}
-use Rattle.precision.specs.Bounds.{boundAfter, nodeBound, rowBound, passBound, entering, boundOf}
-use Rattle.precision.specs.Verdict.{keptAt, placeNumbers, judgedBy, judged, firstRefusal, verdict}
-use Rattle.precision.specs.BoundCalls.{nodesBefore, boundAnswer}
+use Rattle.precision.specs.Bounds.{boundAfter, nodeBound, byRule, boundOfBy, boundOf}
+use Rattle.precision.specs.Verdict.{verdictWith, verdict}
+use Rattle.precision.specs.BoundCalls.{boundAnswerWith, boundAnswer}
 
--- ---- the analysis before, word by word as in Bounds, Verdict and BoundCalls
+-- ---- the analysis before
 
+-- the bound of each node; no argument is a product's width
 module _ (F : Node → ℕ) (fi : ℕ) (b : Bound) (f : Node → ℕ) where
   abbrev oldAfter : Side → ℕ → Bound
   oldAfter = oldBoundAt forward (together b) (λ i. F (nodeOf (suc i))) (λ s. fi) (λ i. f (nodeOf (suc i)))
@@ -33,39 +31,16 @@ module _ (F : Node → ℕ) (fi : ℕ) (b : Bound) (f : Node → ℕ) where
   oldAt G1 = record { range = oldAfter low 5 .range; error = max (oldAfter low 5 .error) (singleError fi b (f G1)) }
   oldAt G2 = oldAfter high 6
 
-module _ (t : WidthTable) (l : ℕ) (b : Bound) where
-  unfoldable pub oldRow : Node → Bound
-  oldRow = oldAt (constantBits t) (inputBits t l Rows) b (fractionBits t l Rows)
-
-  unfoldable pub oldPass : Pass → Node → Bound
-  oldPass Rows = oldRow
-  oldPass LowColumns = oldAt (constantBits t) (inputBits t l LowColumns) (oldRow G1) (fractionBits t l LowColumns)
-  oldPass HighColumns = oldAt (constantBits t) (inputBits t l HighColumns) (oldRow G2) (fractionBits t l HighColumns)
-
-unfoldable pub oldEntering : WidthTable → ℕ → Bound
-oldEntering t zero = record { range = 0; error = 0 }
-oldEntering t (suc zero) = record { range = 2 ^ 31; error = 0 }
-oldEntering t (suc (suc l)) = oldPass t (suc l) (oldEntering t (suc l)) LowColumns G1
-
+-- and of all nodes, and the verdict, by the same steps as today (Bounds, Verdict)
 unfoldable pub oldBoundOf : WidthTable → TableNode → Bound
-oldBoundOf t p = oldPass t (p .level) (oldEntering t (p .level)) (p .pass) (p .node)
-
-unfoldable pub oldJudged : WidthTable → TableNode → Answer Unit
-oldJudged t p = judgedBy (oldBoundOf t p) (integerBits t (p .level) (p .pass) (p .node)) (fractionBits t (p .level) (p .pass) (p .node)) (keptAt (t .levels) (p .level) (p .pass) (p .node)) (placeNumbers p)
-
-unfoldable pub oldFirst : WidthTable → List TableNode → Answer Unit
-oldFirst t [] = passed
-oldFirst t (p ∷ ps) = oldJudged t p then oldFirst t ps
+oldBoundOf t = boundOfBy (byRule (λ F fp. oldAt F) t)
 
 unfoldable pub oldVerdict : WidthTable → Answer Unit
-oldVerdict t = asks (formRight t) 4 (oldFirst t (tableOrder (t .levels)))
+oldVerdict t = verdictWith t (oldBoundOf t)
 
 -- the call that tells a bound
 unfoldable pub oldBoundable : WidthTable → ℕ → ℕ → ℕ → Answer Unit
-oldBoundable t level pass node =
-    asks (formRight t) 4
-    (asks (hasNode (t .levels) level pass node) 4
-    (oldFirst t (nodesBefore (t .levels) level pass node)))
+oldBoundable t = boundAnswerWith t (oldBoundOf t)
 
 -- ---- a table without tag 5
 
@@ -83,44 +58,24 @@ module _ (F : Node → ℕ) (fi : ℕ) (b : Bound) (f : Node → ℕ) where
   at-same G2 = after-same high 6
 
 module _ (t : WidthTable) (e : t .«has_products» ≡ false) where
-  pass-at : (l : ℕ) (p : Pass) (n : Node) {b b′ : Bound} → b ≡ b′ → nodeBound (constantBits t) (productOf t l p) (inputBits t l p) b (fractionBits t l p) n ≡ oldAt (constantBits t) (inputBits t l p) b′ (fractionBits t l p) n
-  pass-at l p n {b′ = b′} q =
-      (λ u. nodeBound (constantBits t) (none-cut t l p e u) (inputBits t l p) (q u) (fractionBits t l p) n)
-      ∙ at-same (constantBits t) (inputBits t l p) b′ (fractionBits t l p) n
+  pass-at : (l : ℕ) (p : Pass) (b : Bound) (n : Node) → byRule nodeBound t l p b n ≡ oldAt (constantBits t) (inputBits t l p) b (fractionBits t l p) n
+  pass-at l p b n =
+      (λ u. nodeBound (constantBits t) (none-cut t l p e u) (inputBits t l p) b (fractionBits t l p) n)
+      ∙ at-same (constantBits t) (inputBits t l p) b (fractionBits t l p) n
 
-  pass-same : (l : ℕ) (p : Pass) (n : Node) {b b′ : Bound} → b ≡ b′ → passBound t l b p n ≡ oldPass t l b′ p n
-  unfolding passBound rowBound oldPass oldRow
-  pass-same l Rows n q = pass-at l Rows n q
-  pass-same l LowColumns n q = pass-at l LowColumns n (pass-at l Rows G1 q)
-  pass-same l HighColumns n q = pass-at l HighColumns n (pass-at l Rows G2 q)
-
-  entering-same : (l : ℕ) → entering t l ≡ oldEntering t l
-  unfolding entering oldEntering
-  entering-same zero = refl
-  entering-same (suc zero) = refl
-  entering-same (suc (suc l)) = pass-same (suc l) LowColumns G1 (entering-same (suc l))
+  pass-same : byRule nodeBound t ≡ byRule (λ F fp. oldAt F) t
+  pass-same = λ u l p b n. pass-at l p b n u
 
   -- Without tag 5 each node has its old range and error.
   pub old-bounds : (p : TableNode) → boundOf t p ≡ oldBoundOf t p
   unfolding boundOf oldBoundOf
-  old-bounds p = pass-same (p .level) (p .pass) (p .node) (entering-same (p .level))
-
-  judged-same : (p : TableNode) → judged t p ≡ oldJudged t p
-  unfolding judged oldJudged
-  judged-same p =
-      ap (λ (b : Bound). judgedBy b (integerBits t (p .level) (p .pass) (p .node)) (fractionBits t (p .level) (p .pass) (p .node)) (keptAt (t .levels) (p .level) (p .pass) (p .node)) (placeNumbers p)) (old-bounds p)
-
-  first-same : (ps : List TableNode) → firstRefusal t ps ≡ oldFirst t ps
-  unfolding firstRefusal oldFirst
-  first-same [] = refl
-  first-same (p ∷ ps) = ap₂ (λ (a b : Answer Unit). a then b) (judged-same p) (first-same ps)
+  old-bounds p = ap (λ (pass : ℕ → Pass → Bound → Node → Bound). boundOfBy pass p) pass-same
 
   -- And the table has its old verdict.
   pub old-verdict : verdict t ≡ oldVerdict t
   unfolding verdict oldVerdict
-  old-verdict = ap (asks (formRight t) 4) (first-same (tableOrder (t .levels)))
+  old-verdict = ap (verdictWith t) (fun-ext old-bounds)
 
   pub old-boundable : (level pass node : ℕ) → boundAnswer t level pass node ≡ oldBoundable t level pass node
   unfolding boundAnswer oldBoundable
-  old-boundable level pass node =
-      ap (λ (o : Answer Unit). asks (formRight t) 4 (asks (hasNode (t .levels) level pass node) 4 o)) (first-same (nodesBefore (t .levels) level pass node))
+  old-boundable level pass node = ap (λ (bound : TableNode → Bound). boundAnswerWith t bound level pass node) (fun-ext old-bounds)

@@ -44,17 +44,31 @@ judgedBy b IB f kept place =
     (asksGiving (not kept || belowTwoSteps b f) (7, place)
     passed)
 
+-- The verdict on a table whose nodes have the bounds `bound`.
+module _ (t : WidthTable) (bound : TableNode → Bound) where
+  abbrev pub judgedWith : TableNode → Answer Unit
+  judgedWith p = judgedBy (bound p) (integerBits t (p .level) (p .pass) (p .node)) (fractionBits t (p .level) (p .pass) (p .node)) (keptAt (t .levels) (p .level) (p .pass) (p .node)) (placeNumbers p)
+
+  -- the first refusal, in the order of the list
+  abbrev pub firstRefusalWith : List TableNode → Answer Unit
+  firstRefusalWith [] = passed
+  firstRefusalWith (p ∷ ps) = judgedWith p then firstRefusalWith ps
+
+  -- Form comes first (4), then the nodes in book order (6 and 7 as one step).
+  abbrev pub verdictWith : Answer Unit
+  verdictWith = asks (formRight t) 4 (firstRefusalWith (tableOrder (t .levels)))
+
+-- The judge's: these with its own bounds (Bounds). To unfold one is to unfold those above it.
 unfoldable pub judged : WidthTable → TableNode → Answer Unit
-judged t p = judgedBy (boundOf t p) (integerBits t (p .level) (p .pass) (p .node)) (fractionBits t (p .level) (p .pass) (p .node)) (keptAt (t .levels) (p .level) (p .pass) (p .node)) (placeNumbers p)
+judged t = judgedWith t (boundOf t)
 
--- the first refusal, in the order of the list
 unfoldable pub firstRefusal : WidthTable → List TableNode → Answer Unit
-firstRefusal t [] = passed
-firstRefusal t (p ∷ ps) = judged t p then firstRefusal t ps
+unfolding judged
+firstRefusal t = firstRefusalWith t (boundOf t)
 
--- Form comes first (4), then the nodes in book order (6 and 7 as one step).
 unfoldable pub verdict : WidthTable → Answer Unit
-verdict t = asks (formRight t) 4 (firstRefusal t (tableOrder (t .levels)))
+unfolding firstRefusal
+verdict t = verdictWith t (boundOf t)
 
 abbrev pub Accepted : WidthTable → Type 0
 Accepted t = verdict t ≡ passed

@@ -13,11 +13,11 @@ use Rattle.lines.specs.Lines.{lows, highs, Liftable}
 use Rattle.lifting.specs.Patch.{at}
 use Rattle.lifting.specs.Runs.{as-type}
 use Rattle.inverse_lifting.specs.declared.Pipeline.{Pipeline}
-use Rattle.inverse_lifting.specs.declared.Strip.{Strip}
+use Rattle.inverse_lifting.specs.declared.ColumnStrip.{ColumnStrip}
 use Rattle.inverse_lifting.specs.Fixed.{nodeBits, atG1, atG2, limit}
 use Rattle.inverse_lifting.specs.Planes.{Safe}
 use Rattle.inverse_lifting.specs.Stages.{scaledBy, cutBits, atInverse, atZeta, scaled-inverse, scaled-zeta}
-use Rattle.inverse_lifting.specs.Steps.{Line, Held, Stepped, stepped-as, Ready}
+use Rattle.inverse_lifting.specs.Steps.{Line, PipelineHolds, Stepped, stepped-as, Ready}
 
 -- ---- what is held of a strip: four values of each column, and then, of so many columns at most, the low that comes next
 
@@ -44,18 +44,18 @@ pub record Kept (j : ℕ) (t : Pipeline) (x z : ℕ → ℤ) : Type 0 where
 -- ---- one column in one turn
 
 -- a column of a strip
-abbrev pub columnLine : Strip → (ℕ → ℤ) → Line
+abbrev pub columnLine : ColumnStrip → (ℕ → ℤ) → Line
 columnLine b y = record { fl = b .lowbits; fh = b .highbits; n = b .lines; y = y }
 
 -- column y is ready for turn i: t is held, low and high are its next coefficients
-pub record ColumnReady (b : Strip) (i : ℕ) (t : Pipeline) (low high : ℤ) (y : ℕ → ℤ) : Type 0 where
+pub record ColumnReady (b : ColumnStrip) (i : ℕ) (t : Pipeline) (low high : ℤ) (y : ℕ → ℤ) : Type 0 where
   pub safe : Safe (b .lowbits) (b .highbits) (b .lines) y
-  pub held : 1 ≤ i → Held (columnLine b y) (i - 1) t
+  pub held : 1 ≤ i → PipelineHolds (columnLine b y) (i - 1) t
   pub lowIs : low ≡ y (min i (lows (b .lines) - 1))
   pub highIs : high ≡ y (lows (b .lines) + min i (highs (b .lines) - 1))
 
 -- the sizes that a turn of a strip asks for
-pub record Sized (plane state : List ℤ) (out high to gap : ℕ) (b : Strip) (i : ℕ) (inner : Bool) : Type 0 where
+pub record StepRoom (plane state : List ℤ) (out high to gap : ℕ) (b : ColumnStrip) (i : ℕ) (inner : Bool) : Type 0 where
   pub two : Liftable (b .lines)
   pub few : b .lines < 2 ^ 31
   pub narrow : b .columns ≤ b .room
@@ -68,32 +68,32 @@ pub record Sized (plane state : List ℤ) (out high to gap : ℕ) (b : Strip) (i
   pub within : i < lows (b .lines) + 2
   pub middle : inner ≡ true → (2 ≤ i) × (i < highs (b .lines))
 
-pub record ColumnStep (plane : List ℤ) (high : ℕ) (state : List ℤ) (out to gap : ℕ) (b : Strip) (i : ℕ) (inner : Bool) (j : ℕ) : Type 0 where
-  pub sized : Sized plane state out high to gap b i inner
+pub record ColumnStep (plane : List ℤ) (high : ℕ) (state : List ℤ) (out to gap : ℕ) (b : ColumnStrip) (i : ℕ) (inner : Bool) (j : ℕ) : Type 0 where
+  pub sized : StepRoom plane state out high to gap b i inner
   pub among : j < b .columns
   pub y : ℕ → ℤ
   pub ready : ColumnReady b i (pipelineIn (at state) j) (at state (4 * b .room + j)) (at plane (high + j)) y
 
 -- a turn of column j: what is held, x, becomes x′; its two values stand in z′
-abbrev pub SteppedAt : (ℕ → ℤ) → ℕ → (ℕ → ℤ) → (ℕ → ℤ) → (ℕ → ℤ) → ℕ → ℕ → Strip → ℕ → ℕ → Type 0
+abbrev pub SteppedAt : (ℕ → ℤ) → ℕ → (ℕ → ℤ) → (ℕ → ℤ) → (ℕ → ℤ) → ℕ → ℕ → ColumnStrip → ℕ → ℕ → Type 0
 SteppedAt plane high x x′ z′ to gap b i j =
     Stepped i (lows (b .lines)) (highs (b .lines)) (pipelineIn x j)
     (scaledBy atInverse (cutBits (b .lowbits)) (x (4 * b .room + j))) (scaledBy atZeta (cutBits (b .highbits)) (plane (high + j)))
     (pipelineOut x′ (z′ (to + j)) (z′ (to + gap + j)) j)
 
-pub record ColumnStepped (plane : List ℤ) (high : ℕ) (state state′ out out′ : List ℤ) (to gap : ℕ) (b : Strip) (i j : ℕ) : Type 0 where
+pub record ColumnStepped (plane : List ℤ) (high : ℕ) (state state′ out out′ : List ℤ) (to gap : ℕ) (b : ColumnStrip) (i j : ℕ) : Type 0 where
   pub stepped : SteppedAt (at plane) high (at state) (at state′) (at out′) to gap b i j
   pub others : (p : ℕ) → OffColumn j p → at state′ p ≡ at state p
   pub kept : (p : ℕ) → (p ≡ to + j → ⊥) → (p ≡ to + gap + j → ⊥) → at out′ p ≡ at out p
 
 -- ---- all columns of a strip in one turn
 
-pub record StripStep (plane : List ℤ) (high : ℕ) (state : List ℤ) (out to gap : ℕ) (b : Strip) (i : ℕ) (inner : Bool) : Type 0 where
-  pub sized : Sized plane state out high to gap b i inner
+pub record StripStep (plane : List ℤ) (high : ℕ) (state : List ℤ) (out to gap : ℕ) (b : ColumnStrip) (i : ℕ) (inner : Bool) : Type 0 where
+  pub sized : StepRoom plane state out high to gap b i inner
   pub y : ℕ → ℕ → ℤ
   pub ready : (j : ℕ) → j < b .columns → ColumnReady b i (pipelineIn (at state) j) (at state (4 * b .room + j)) (at plane (high + j)) (y j)
 
-pub record StripStepped (plane : List ℤ) (high : ℕ) (state state′ out out′ : List ℤ) (to gap : ℕ) (b : Strip) (i : ℕ) : Type 0 where
+pub record StripStepped (plane : List ℤ) (high : ℕ) (state state′ out out′ : List ℤ) (to gap : ℕ) (b : ColumnStrip) (i : ℕ) : Type 0 where
   pub stepped : (j : ℕ) → j < b .columns → SteppedAt (at plane) high (at state) (at state′) (at out′) to gap b i j
   pub lows : (j : ℕ) → j < b .columns → at state′ (4 * b .room + j) ≡ at state (4 * b .room + j)
   pub kept : (p : ℕ) → ((j : ℕ) → j < b .columns → p ≡ to + j → ⊥) → ((j : ℕ) → j < b .columns → p ≡ to + gap + j → ⊥) → at out′ p ≡ at out p
@@ -126,7 +126,7 @@ module _ (l : List ℤ) (j : ℕ) (t : Pipeline) (a b c d : ℤ) (fits : 4 * j +
   }
 
 -- a column that is ready can take its turn
-module _ {b : Strip} {i : ℕ} {t : Pipeline} {low high : ℤ} {y : ℕ → ℤ} (q : ColumnReady b i t low high y) (two : Liftable (b .lines)) where
+module _ {b : ColumnStrip} {i : ℕ} {t : Pipeline} {low high : ℤ} {y : ℕ → ℤ} (q : ColumnReady b i t low high y) (two : Liftable (b .lines)) where
   pub low-size : natAbs low ≤ limit
   low-size = subst (λ (z : ℤ). natAbs z ≤ limit) (sym (q .lowIs)) (q .safe .enters _ (omega (arith, two)))
 
@@ -146,7 +146,7 @@ module _ {b : Strip} {i : ℕ} {t : Pipeline} {low high : ℤ} {y : ℕ → ℤ}
   }
 
 -- what is left of it
-module _ (plane : List ℤ) (high : ℕ) (state state′ out : List ℤ) (to gap : ℕ) (b : Strip) (i j : ℕ) (r : Pipeline) (e o : ℤ) (among : j < b .columns) (apart : b .columns ≤ gap) (fits : to + gap + b .columns ≤ length out) where
+module _ (plane : List ℤ) (high : ℕ) (state state′ out : List ℤ) (to gap : ℕ) (b : ColumnStrip) (i j : ℕ) (r : Pipeline) (e o : ℤ) (among : j < b .columns) (apart : b .columns ≤ gap) (fits : to + gap + b .columns ≤ length out) where
   pub column-done : Stepped i (lows (b .lines)) (highs (b .lines)) (pipelineIn (at state) j)
       (scaledBy atInverse (cutBits (b .lowbits)) (at state (4 * b .room + j))) (scaledBy atZeta (cutBits (b .highbits)) (at plane (high + j))) r
       → Kept j r (at state) (at state′) → e ≡ r .even → o ≡ r .odd
@@ -166,12 +166,12 @@ module _ (plane : List ℤ) (high : ℕ) (state state′ out : List ℤ) (to gap
 
 -- ---- column by column: the first c columns have taken their turn
 
-pub record StepsDone (plane : List ℤ) (high : ℕ) (state state′ out out′ : List ℤ) (to gap : ℕ) (b : Strip) (i c : ℕ) : Type 0 where
+pub record StepsDone (plane : List ℤ) (high : ℕ) (state state′ out out′ : List ℤ) (to gap : ℕ) (b : ColumnStrip) (i c : ℕ) : Type 0 where
   pub stepped : (j : ℕ) → j < c → SteppedAt (at plane) high (at state) (at state′) (at out′) to gap b i j
   pub ahead : (p : ℕ) → ((j : ℕ) → j < c → OffColumn j p) → at state′ p ≡ at state p
   pub kept : (p : ℕ) → ((j : ℕ) → j < c → p ≡ to + j → ⊥) → ((j : ℕ) → j < c → p ≡ to + gap + j → ⊥) → at out′ p ≡ at out p
 
-pub none-done : (plane : List ℤ) (high : ℕ) (state out : List ℤ) (to gap : ℕ) (b : Strip) (i : ℕ) → StepsDone plane high state state out out to gap b i 0
+pub none-done : (plane : List ℤ) (high : ℕ) (state out : List ℤ) (to gap : ℕ) (b : ColumnStrip) (i : ℕ) → StepsDone plane high state state out out to gap b i 0
 none-done plane high state out to gap b i = record { stepped = λ j h. absurd (omega arith); ahead = λ p off. refl; kept = λ p f g. refl }
 
 -- places of one column are none of another's
@@ -196,7 +196,7 @@ same-column k z x same = record {
   u1 = same 3 (lit< tt);
 }
 
-module _ {plane : List ℤ} {high : ℕ} {state state′ out out′ : List ℤ} {to gap : ℕ} {b : Strip} {i c : ℕ} (done : StepsDone plane high state state′ out out′ to gap b i c) (more : c < b .columns) (narrow : b .columns ≤ b .room) where
+module _ {plane : List ℤ} {high : ℕ} {state state′ out out′ : List ℤ} {to gap : ℕ} {b : ColumnStrip} {i c : ℕ} (done : StepsDone plane high state state′ out out′ to gap b i c) (more : c < b .columns) (narrow : b .columns ≤ b .room) where
   -- column c is as it was
   column-now : SameColumn c (at state′) (at state)
   column-now = same-column c (at state′) (at state) (λ q h. done .ahead (4 * c + q) (λ j g. off-other j c q h (omega arith)))
@@ -238,12 +238,12 @@ module _ {plane : List ℤ} {high : ℕ} {state state′ out out′ : List ℤ} 
           (pipelineOut (at state″) (at out″ (to + c)) (at out″ (to + gap + c)) c)) (d .stepped))
 
 -- all columns have
-pub steps-all : {plane : List ℤ} {high : ℕ} {state state′ out out′ : List ℤ} {to gap : ℕ} {b : Strip} {i : ℕ} → b .columns ≤ b .room → StepsDone plane high state state′ out out′ to gap b i (b .columns)
+pub steps-all : {plane : List ℤ} {high : ℕ} {state state′ out out′ : List ℤ} {to gap : ℕ} {b : ColumnStrip} {i : ℕ} → b .columns ≤ b .room → StepsDone plane high state state′ out out′ to gap b i (b .columns)
     → StripStepped plane high state state′ out out′ to gap b i
 steps-all {b = b} narrow done = record { stepped = done .stepped; lows = λ j h. done .ahead (4 * b .room + j) (λ k g. off-lows (b .room) k j (omega arith)); kept = done .kept }
 
 -- the sizes, of slices as long
-pub sized-as : {plane state : List ℤ} {out high to gap : ℕ} {b : Strip} {i : ℕ} {inner : Bool} → Sized plane state out high to gap b i inner → (l : List ℤ) (o : ℕ) → length l ≡ length state → o ≡ out → Sized plane l o high to gap b i inner
+pub sized-as : {plane state : List ℤ} {out high to gap : ℕ} {b : ColumnStrip} {i : ℕ} {inner : Bool} → StepRoom plane state out high to gap b i inner → (l : List ℤ) (o : ℕ) → length l ≡ length state → o ≡ out → StepRoom plane l o high to gap b i inner
 sized-as s l o el eo = record {
   two = s .two;
   few = s .few;

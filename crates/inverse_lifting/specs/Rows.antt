@@ -19,7 +19,7 @@ use Rattle.inverse_lifting.specs.Fixed.{nodeBits, inverseBits, atG1, atG
 use Rattle.inverse_lifting.specs.Planes.{Safe, rowsInverse}
 use Rattle.inverse_lifting.specs.Single.{back-same, back-long}
 use Rattle.inverse_lifting.specs.Stages.{scaledBy, limit-fits, read, size-read, atInverse, atZeta, scaled-inverse, scaled-zeta}
-use Rattle.inverse_lifting.specs.Steps.{Line, Held, Gives, Stepped, Ready, SomeReady, low-size, high-size, ready-read, stepped-read, lineG1, lineG2, lineU1, lineP1}
+use Rattle.inverse_lifting.specs.Steps.{Line, PipelineHolds, Gives, Stepped, Ready, SomeReady, low-size, high-size, ready-read, stepped-read, lineG1, lineG2, lineU1, lineP1}
 
 -- the w values from a place on; lows and highs have the bits of a node
 abbrev pub rowLine : (ℕ → ℤ) → ℕ → ℕ → Line
@@ -43,11 +43,11 @@ pub record RowSteps (work line : List ℤ) (from w start end : ℕ) (t : Pipelin
   pub order : start ≤ end
   pub within : end ≤ lows w + 2
   pub middle : inner ≡ true → (2 ≤ start) × ((i : ℕ) → i < end → start ≤ i → i < highs w)
-  pub held : 1 ≤ start → Held (rowLine (at work) from w) (start - 1) t
+  pub held : 1 ≤ start → PipelineHolds (rowLine (at work) from w) (start - 1) t
   pub stand : Stand (rowLine (at work) from w) start (at line)
 
 pub record RowStepped (work line : List ℤ) (from w end : ℕ) (t : Pipeline) : Type 0 where
-  pub held : 1 ≤ end → Held (rowLine (at work) from w) (end - 1) t
+  pub held : 1 ≤ end → PipelineHolds (rowLine (at work) from w) (end - 1) t
   pub stand : Stand (rowLine (at work) from w) end (at line)
 
 -- the row stands in the line from place 4 on, undone
@@ -90,7 +90,7 @@ module _ {work : List ℤ} {line from w : ℕ} (q : RowReady work line from w) (
   high-small = size-read (at work (from + lows w + b)) high-in
 
   -- scaled, they make the turn ready
-  pub step-ready : (t : Pipeline) (low high : ℤ) → i < lows w + 2 → (1 ≤ i → Held (rowLine (at work) from w) (i - 1) t)
+  pub step-ready : (t : Pipeline) (low high : ℤ) → i < lows w + 2 → (1 ≤ i → PipelineHolds (rowLine (at work) from w) (i - 1) t)
       → low ≡ scaledBy atInverse inverseBits (back w64 (at work (from + a))) → high ≡ scaledBy atZeta inverseBits (back w64 (at work (from + lows w + b)))
       → Ready (rowLine (at work) from w) i (lows w) (highs w) t low high
   step-ready t low high h held e f = record {
@@ -125,8 +125,8 @@ module _ (z : List ℤ) (p : ℕ) (e o : ℤ) where
   stored-other : (k : ℕ) → (k ≡ p → ⊥) → (k ≡ p + 1 → ⊥) → stored k ≡ at z k
   stored-other k f g = getD-set-other (set z p e) (p + 1) k o (pos 0) g ∙ getD-set-other z p k e (pos 0) f
 
-pub held-at : {l : Line} {i k : ℕ} {t : Pipeline} → Held l i t → i ≡ k → Held l k t
-held-at {l} {t} h e = subst (λ (j : ℕ). Held l j t) e h
+pub held-at : {l : Line} {i k : ℕ} {t : Pipeline} → PipelineHolds l i t → i ≡ k → PipelineHolds l k t
+held-at {l} {t} h e = subst (λ (j : ℕ). PipelineHolds l j t) e h
 
 -- turn i leaves its two values
 pub stand-next : (l : Line) (i : ℕ) (z : List ℤ) (t : Pipeline) (e o : ℤ) → Stand l i (at z) → Gives l i t → 2 * i + 1 < length z → e ≡ t .even → o ≡ t .odd

@@ -196,7 +196,7 @@ module _ (l : Line) where
   lineP1 = atP1 (l .fl) (l .fh) (l .n) (l .y)
 
   -- what is held after turn i
-  pub record Held (i : ℕ) (t : Pipeline) : Type 0 where
+  pub record PipelineHolds (i : ℕ) (t : Pipeline) : Type 0 where
     pub g2 : t .g2 ≡ lineG2 (upToHigh i)
     pub u2 : t .u2 ≡ lineU2 (upToLow i)
     pub p2 : 1 ≤ i → t .p2 ≡ lineP2 (upToHigh (i - 1))
@@ -213,7 +213,7 @@ pub record Ready (l : Line) (i L H : ℕ) (t : Pipeline) (low high : ℤ) : Type
   pub lowsAre : L ≡ lows (l .n)
   pub highsAre : H ≡ highs (l .n)
   pub within : i < L + 2
-  pub held : 1 ≤ i → Held l (i - 1) t
+  pub held : 1 ≤ i → PipelineHolds l (i - 1) t
   pub lowIs : low ≡ lineG1 l (upToLow l i)
   pub highIs : high ≡ lineG2 l (upToHigh l i)
 
@@ -350,7 +350,7 @@ module _ {l : Line} {i L H : ℕ} {t : Pipeline} {low high : ℤ} (q : Ready l i
     u1-done : 1 ≤ i → r .u1 ≡ lineU1 l (upToLow l (i - 1))
     u1-done h = u1-is h (r .p2) (p2-done h) (r .u1) (d .u1 h)
 
-    pub step-held : Held l i r
+    pub step-held : PipelineHolds l i r
     step-held = record { g2 = d .g2 ∙ q .highIs; u2 = u2-done; p2 = p2-done; u1 = u1-done }
 
     pub step-gives : Gives l i r

@@ -10,24 +10,24 @@ use Rattle.lines.specs.LineLaws.{even-place, odd-place, by-parity}
 use Rattle.lifting.specs.Patch.{at}
 use Rattle.lifting.specs.PatchLines.{lineAt, lines-is}
 use Rattle.lifting.specs.Strips.{same-line}
-use Rattle.inverse_lifting.specs.declared.Strip.{Strip}
+use Rattle.inverse_lifting.specs.declared.ColumnStrip.{ColumnStrip}
 use Rattle.inverse_lifting.specs.declared.ColumnsAt.{ColumnsAt}
 use Rattle.inverse_lifting.specs.Fixed.{fixedInverseLong, fixedInverse}
 use Rattle.inverse_lifting.specs.Single.{back-long}
-use Rattle.inverse_lifting.specs.Steps.{Held, Gives, step-held, step-gives, lineU1, lineP1}
+use Rattle.inverse_lifting.specs.Steps.{PipelineHolds, Gives, step-held, step-gives, lineU1, lineP1}
 use Rattle.inverse_lifting.specs.Columns.{pipelineIn, pipelineOut, columnLine, ColumnReady, column-line}
 use Rattle.inverse_lifting.specs.Strips.{source, inverted, Placed, Fed, highPlace, evenPlace, PlaneStepped, StripReady, source-low, source-high, pick}
 
 -- the turns before turn i are taken
-pub record StripDone (plane work work′ state : List ℤ) (a : ColumnsAt) (b : Strip) (i : ℕ) : Type 0 where
-  pub held : (j : ℕ) → j < b .columns → 1 ≤ i → Held (columnLine b (source a (b .lines) (at plane) (at work) j)) (i - 1) (pipelineIn (at state) j)
+pub record StripDone (plane work work′ state : List ℤ) (a : ColumnsAt) (b : ColumnStrip) (i : ℕ) : Type 0 where
+  pub held : (j : ℕ) → j < b .columns → 1 ≤ i → PipelineHolds (columnLine b (source a (b .lines) (at plane) (at work) j)) (i - 1) (pipelineIn (at state) j)
   pub low : (j : ℕ) → j < b .columns → 1 ≤ i → at state (4 * b .room + j) ≡ source a (b .lines) (at plane) (at work) j (min (i - 1) (lows (b .lines) - 1))
   pub even : (k j : ℕ) → k < i - 2 → j < b .columns → at work′ (lineAt (a .from) (a .stride) (2 * k) + j) ≡ lineU1 (columnLine b (source a (b .lines) (at plane) (at work) j)) k
   pub odd : (k j : ℕ) → k < i - 2 → k < highs (b .lines) → j < b .columns → at work′ (lineAt (a .from) (a .stride) (2 * k + 1) + j) ≡ lineP1 (columnLine b (source a (b .lines) (at plane) (at work) j)) k
   pub kept : (p : ℕ) → ((k j : ℕ) → k < i - 2 → j < b .columns → p ≡ lineAt (a .from) (a .stride) (2 * k) + j → ⊥)
       → ((k j : ℕ) → k < i - 2 → k < highs (b .lines) → j < b .columns → p ≡ lineAt (a .from) (a .stride) (2 * k + 1) + j → ⊥) → at work′ p ≡ at work p
 
-pub none-taken : (plane work state : List ℤ) (a : ColumnsAt) (b : Strip) → StripDone plane work work state a b 0
+pub none-taken : (plane work state : List ℤ) (a : ColumnsAt) (b : ColumnStrip) → StripDone plane work work state a b 0
 none-taken plane work state a b = record {
   held = λ j h g. absurd (omega arith);
   low = λ j h g. absurd (omega arith);
@@ -47,7 +47,7 @@ module _ (a : ColumnsAt) (w : ℕ) (narrow : w ≤ a .stride) where
   other-line : (r k j v : ℕ) → j < w → v < w → (r ≡ k → ⊥) → lineAt (a .from) (a .stride) r + j ≡ lineAt (a .from) (a .stride) k + v → ⊥
   other-line r k j v hj hv ne e = ne (same-line (a .from) (a .stride) r k j v (omega arith) (omega arith) e .0)
 
-module _ {plane work work′ state : List ℤ} {a : ColumnsAt} {b : Strip} {i : ℕ} {state₀ line₀ : ℕ} (ready : StripReady plane work state₀ line₀ a b) (done : StripDone plane work work′ state a b i) (within : i < lows (b .lines) + 2) where
+module _ {plane work work′ state : List ℤ} {a : ColumnsAt} {b : ColumnStrip} {i : ℕ} {state₀ line₀ : ℕ} (ready : StripReady plane work state₀ line₀ a b) (done : StripDone plane work work′ state a b i) (within : i < lows (b .lines) + 2) where
   two : Liftable (b .lines)
   two = ready .placed .two
 
@@ -90,7 +90,7 @@ module _ {plane work work′ state : List ℤ} {a : ColumnsAt} {b : Strip} {i : 
         → ColumnReady b i (pipelineIn (at state′) j) (at state′ (4 * b .room + j)) (at plane (highPlace a b i + j)) (source a (b .lines) (at plane) (at work) j)
     column-ready j h = record {
       safe = ready .safe j h;
-      held = λ g. subst (Held _ (i - 1)) (step-same j h) (done .held j h g);
+      held = λ g. subst (PipelineHolds _ (i - 1)) (step-same j h) (done .held j h g);
       lowIs = low-now j h;
       highIs = sym (source-high a (b .lines) (at plane) (at work) j _ (omega arith));
     }
@@ -112,7 +112,7 @@ module _ {plane work work′ state : List ℤ} {a : ColumnsAt} {b : Strip} {i : 
         held = λ j h g.
             let t = step-held (column-line (column-ready j h) two within) (stepped .stepped j h) in
             let e : i ≡ i + 1 - 1 = omega arith in
-            subst (λ (k : ℕ). Held (columnLine b (source a (b .lines) (at plane) (at work) j)) k (pipelineIn (at state″) j)) e (record { g2 = t .g2; u2 = t .u2; p2 = t .p2; u1 = t .u1 });
+            subst (λ (k : ℕ). PipelineHolds (columnLine b (source a (b .lines) (at plane) (at work) j)) k (pipelineIn (at state″) j)) e (record { g2 = t .g2; u2 = t .u2; p2 = t .p2; u1 = t .u1 });
         low = λ j h g. let e : i ≡ i + 1 - 1 = omega arith in stepped .lows j h ∙ low-now j h ∙ ap (λ (k : ℕ). source a (b .lines) (at plane) (at work) j (min k (lows (b .lines) - 1))) e;
         even = λ k j h g. evens k j h g (decLt k (i - 2));
         odd = λ k j h q g. odds k j h q g (decLt k (i - 2));
@@ -135,7 +135,7 @@ module _ {plane work work′ state : List ℤ} {a : ColumnsAt} {b : Strip} {i : 
               subst (λ (m : ℕ). at work″ (lineAt (a .from) (a .stride) (2 * m + 1) + j) ≡ lineP1 (columnLine b (source a (b .lines) (at plane) (at work) j)) m) e (ap (at work″) o ∙ gives j g .odd (omega arith) (omega arith))
 
 -- all turns are taken
-module _ {plane work work′ state : List ℤ} {a : ColumnsAt} {b : Strip} {state₀ line₀ : ℕ} (ready : StripReady plane work state₀ line₀ a b) (done : StripDone plane work work′ state a b (lows (b .lines) + 2)) where
+module _ {plane work work′ state : List ℤ} {a : ColumnsAt} {b : ColumnStrip} {state₀ line₀ : ℕ} (ready : StripReady plane work state₀ line₀ a b) (done : StripDone plane work work′ state a b (lows (b .lines) + 2)) where
   new : ℕ → ℕ → ℤ
   new r j = fixedInverse (b .lowbits) (b .highbits) (b .lines) (source a (b .lines) (at plane) (at work) j) r
 
@@ -152,7 +152,7 @@ module _ {plane work work′ state : List ℤ} {a : ColumnsAt} {b : Strip} {stat
       (λ p off. done .kept p (λ k j h g e. off (2 * k) j (omega arith) g (sym e)) (λ k j h q g e. off (2 * k + 1) j (omega arith) g (sym e)))
 
 -- the same, of slices as long
-pub placed-as : {plane work state line : ℕ} {a : ColumnsAt} {b : Strip} → Placed plane work state line a b → (w l m : ℕ) → w ≡ work → l ≡ state → m ≡ line → Placed plane w l m a b
+pub placed-as : {plane work state line : ℕ} {a : ColumnsAt} {b : ColumnStrip} → Placed plane work state line a b → (w l m : ℕ) → w ≡ work → l ≡ state → m ≡ line → Placed plane w l m a b
 placed-as q w l m ew el em = record {
   two = q .two;
   lies = record { few = q .lies .few; narrow = q .lies .narrow; inPlane = q .lies .inPlane; inWork = λ k h. omega (arith, q .lies .inWork k h) };

@@ -8,10 +8,10 @@ use lib.IntN.{ℤ}
 use lib.ListN.{length}
 use Rattle.lines.specs.Lines.{lows, highs}
 use Rattle.lifting.specs.Patch.{at, patch, patch-in, patch-below, patch-out}
-use Rattle.inverse_lifting.specs.declared.Strip.{Strip}
+use Rattle.inverse_lifting.specs.declared.ColumnStrip.{ColumnStrip}
 use Rattle.inverse_lifting.specs.declared.ColumnsAt.{ColumnsAt}
 use Rattle.inverse_lifting.specs.Steps.{stepped-as}
-use Rattle.inverse_lifting.specs.Columns.{Sized, StripStep, StripStepped}
+use Rattle.inverse_lifting.specs.Columns.{StepRoom, StripStep, StripStepped}
 use Rattle.inverse_lifting.specs.Strips.{Placed, highPlace, evenPlace, PlaneStep, PlaneStepped}
 
 -- ---- the lines of turn i, of n lines
@@ -27,7 +27,7 @@ odd-line n i h = omega arith
 
 -- ---- they lie in the plane and in the work area
 
-module _ {plane work state line : ℕ} {a : ColumnsAt} {b : Strip} (s : Placed plane work state line a b) (i : ℕ) where
+module _ {plane work state line : ℕ} {a : ColumnsAt} {b : ColumnStrip} (s : Placed plane work state line a b) (i : ℕ) where
   pub high-fits : highPlace a b i + b .columns ≤ plane
   high-fits = s .lies .inPlane _ (high-line (b .lines) i (s .two .least))
 
@@ -37,9 +37,9 @@ module _ {plane work state line : ℕ} {a : ColumnsAt} {b : Strip} (s : Placed p
   pub odd-fits : i - 2 < highs (b .lines) → evenPlace a i + a .stride + b .columns ≤ work
   odd-fits h = omega (arith, s .lies .inWork (2 * (i - 2) + 1) (odd-line (b .lines) i h))
 
-module _ {plane state : List ℤ} {work line : ℕ} {a : ColumnsAt} {b : Strip} {i : ℕ} (s : Placed (length plane) work (length state) line a b) (within : i < lows (b .lines) + 2) where
+module _ {plane state : List ℤ} {work line : ℕ} {a : ColumnsAt} {b : ColumnStrip} {i : ℕ} (s : Placed (length plane) work (length state) line a b) (within : i < lows (b .lines) + 2) where
   -- written at once
-  pub sized-inner : 2 ≤ i → i < highs (b .lines) → Sized plane state work (highPlace a b i) (evenPlace a i) (a .stride) b i true
+  pub sized-inner : 2 ≤ i → i < highs (b .lines) → StepRoom plane state work (highPlace a b i) (evenPlace a i) (a .stride) b i true
   sized-inner two h = record {
     two = s .two;
     few = s .lies .few;
@@ -55,7 +55,7 @@ module _ {plane state : List ℤ} {work line : ℕ} {a : ColumnsAt} {b : Strip} 
   }
 
   -- by way of a line
-  pub sized-outer : Sized plane state line (highPlace a b i) 0 (b .room) b i false
+  pub sized-outer : StepRoom plane state line (highPlace a b i) 0 (b .room) b i false
   sized-outer = record {
     two = s .two;
     few = s .lies .few;
@@ -72,7 +72,7 @@ module _ {plane state : List ℤ} {work line : ℕ} {a : ColumnsAt} {b : Strip} 
 
 -- ---- the turn can be taken, its high at a place that is known to be the right one
 
-module _ {plane work state : List ℤ} {line : ℕ} {a : ColumnsAt} {b : Strip} {i : ℕ} (q : PlaneStep plane work state line a b i) (high : ℕ) (e : high ≡ highPlace a b i) where
+module _ {plane work state : List ℤ} {line : ℕ} {a : ColumnsAt} {b : ColumnStrip} {i : ℕ} (q : PlaneStep plane work state line a b i) (high : ℕ) (e : high ≡ highPlace a b i) where
   pub inner-step : 2 ≤ i → i < highs (b .lines) → StripStep plane high state (length work) (evenPlace a i) (a .stride) b i true
   inner-step two h = subst (λ (k : ℕ). StripStep plane k state (length work) (evenPlace a i) (a .stride) b i true) (sym e) (record { sized = sized-inner (q .placed) (q .within) two h; y = q .y; ready = q .ready })
 
@@ -81,7 +81,7 @@ module _ {plane work state : List ℤ} {line : ℕ} {a : ColumnsAt} {b : Strip} 
 
 -- ---- what it leaves, written at once
 
-module _ {plane work work′ state state′ : List ℤ} {high : ℕ} {a : ColumnsAt} {b : Strip} {i : ℕ} (e : high ≡ highPlace a b i) where
+module _ {plane work work′ state state′ : List ℤ} {high : ℕ} {a : ColumnsAt} {b : ColumnStrip} {i : ℕ} (e : high ≡ highPlace a b i) where
   pub inner-stepped : StripStepped plane high state state′ work work′ (evenPlace a i) (a .stride) b i → 2 ≤ i → i - 2 < highs (b .lines) → PlaneStepped plane work work′ state state′ a b i
   inner-stepped t two h =
       let d = subst (λ (k : ℕ). StripStepped plane k state state′ work work′ (evenPlace a i) (a .stride) b i) e t in
@@ -89,7 +89,7 @@ module _ {plane work work′ state state′ : List ℤ} {high : ℕ} {a : Column
 
 -- ---- by way of a line
 
-module _ {plane state state′ line line′ : List ℤ} {high : ℕ} {a : ColumnsAt} {b : Strip} {i : ℕ} (e : high ≡ highPlace a b i) (t : StripStepped plane high state state′ line line′ 0 (b .room) b i) where
+module _ {plane state state′ line line′ : List ℤ} {high : ℕ} {a : ColumnsAt} {b : ColumnStrip} {i : ℕ} (e : high ≡ highPlace a b i) (t : StripStepped plane high state state′ line line′ 0 (b .room) b i) where
   copied : (work work′ : List ℤ) → (2 ≤ i → (j : ℕ) → j < b .columns → at work′ (evenPlace a i + j) ≡ at line′ (0 + j))
       → (2 ≤ i → i - 2 < highs (b .lines) → (j : ℕ) → j < b .columns → at work′ (evenPlace a i + a .stride + j) ≡ at line′ (b .room + j))
       → ((p : ℕ) → (2 ≤ i → (j : ℕ) → j < b .columns → p ≡ evenPlace a i + j → ⊥)

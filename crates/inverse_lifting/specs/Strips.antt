@@ -13,7 +13,7 @@ use Rattle.lifting.specs.Patch.{at, patch, patch-in, patch-below, patch-above}
 use Rattle.lifting.specs.PatchLines.{lineAt, patchLines, lines-out, lines-none, lines-more}
 use Rattle.lifting.specs.Strips.{value-as-was, strips-more}
 use Rattle.stages.specs.Fixed.{cut}
-use Rattle.inverse_lifting.specs.declared.Strip.{Strip}
+use Rattle.inverse_lifting.specs.declared.ColumnStrip.{ColumnStrip}
 use Rattle.inverse_lifting.specs.declared.ColumnsAt.{ColumnsAt}
 use Rattle.inverse_lifting.specs.Fixed.{nodeBits, fixedInverse}
 use Rattle.inverse_lifting.specs.Planes.{Safe}
@@ -45,7 +45,7 @@ pub record Lies (plane work : ℕ) (a : ColumnsAt) (w n : ℕ) : Type 0 where
   pub inWork : (k : ℕ) → k < n → lineAt (a .from) (a .stride) k + w ≤ work
 
 -- a strip of two lines or more lies there, and what is held of it has room
-pub record Placed (plane work state line : ℕ) (a : ColumnsAt) (b : Strip) : Type 0 where
+pub record Placed (plane work state line : ℕ) (a : ColumnsAt) (b : ColumnStrip) : Type 0 where
   pub two : Liftable (b .lines)
   pub lies : Lies plane work a (b .columns) (b .lines)
   pub narrow : b .columns ≤ b .room
@@ -56,7 +56,7 @@ pub record Placed (plane work state line : ℕ) (a : ColumnsAt) (b : Strip) : Ty
 
 -- ---- low i is held
 
-pub record Fed (plane work state state′ : List ℤ) (a : ColumnsAt) (b : Strip) (i : ℕ) : Type 0 where
+pub record Fed (plane work state state′ : List ℤ) (a : ColumnsAt) (b : ColumnStrip) (i : ℕ) : Type 0 where
   pub low : (j : ℕ) → j < b .columns → i < lows (b .lines) → at state′ (4 * b .room + j) ≡ source a (b .lines) (at plane) (at work) j i
   pub past : (j : ℕ) → lows (b .lines) ≤ i → at state′ (4 * b .room + j) ≡ at state (4 * b .room + j)
   pub others : (p : ℕ) → p < 4 * b .room → at state′ p ≡ at state p
@@ -64,19 +64,19 @@ pub record Fed (plane work state state′ : List ℤ) (a : ColumnsAt) (b : Strip
 -- ---- turn i of a strip
 
 -- where its high, or the last one, stands in the plane, and where its first line goes
-abbrev pub highPlace : ColumnsAt → Strip → ℕ → ℕ
+abbrev pub highPlace : ColumnsAt → ColumnStrip → ℕ → ℕ
 highPlace a b i = lineAt (a .from) (a .width) (lows (b .lines) + min i (highs (b .lines) - 1))
 
 abbrev pub evenPlace : ColumnsAt → ℕ → ℕ
 evenPlace a i = lineAt (a .from) (a .stride) (2 * (i - 2))
 
-pub record PlaneStep (plane work state : List ℤ) (line : ℕ) (a : ColumnsAt) (b : Strip) (i : ℕ) : Type 0 where
+pub record PlaneStep (plane work state : List ℤ) (line : ℕ) (a : ColumnsAt) (b : ColumnStrip) (i : ℕ) : Type 0 where
   pub placed : Placed (length plane) (length work) (length state) line a b
   pub within : i < lows (b .lines) + 2
   pub y : ℕ → ℕ → ℤ
   pub ready : (j : ℕ) → j < b .columns → ColumnReady b i (pipelineIn (at state) j) (at state (4 * b .room + j)) (at plane (highPlace a b i + j)) (y j)
 
-pub record PlaneStepped (plane work work′ state state′ : List ℤ) (a : ColumnsAt) (b : Strip) (i : ℕ) : Type 0 where
+pub record PlaneStepped (plane work work′ state state′ : List ℤ) (a : ColumnsAt) (b : ColumnStrip) (i : ℕ) : Type 0 where
   pub stepped : (j : ℕ) → j < b .columns → SteppedAt (at plane) (highPlace a b i) (at state) (at state′) (at work′) (evenPlace a i) (a .stride) b i j
   pub lows : (j : ℕ) → j < b .columns → at state′ (4 * b .room + j) ≡ at state (4 * b .room + j)
   pub kept : (p : ℕ) → (2 ≤ i → (j : ℕ) → j < b .columns → p ≡ evenPlace a i + j → ⊥)
@@ -84,7 +84,7 @@ pub record PlaneStepped (plane work work′ state state′ : List ℤ) (a : Colu
 
 -- ---- a strip
 
-pub record StripReady (plane work : List ℤ) (state line : ℕ) (a : ColumnsAt) (b : Strip) : Type 0 where
+pub record StripReady (plane work : List ℤ) (state line : ℕ) (a : ColumnsAt) (b : ColumnStrip) : Type 0 where
   pub placed : Placed (length plane) (length work) state line a b
   pub safe : (j : ℕ) → j < b .columns → Safe (b .lowbits) (b .highbits) (b .lines) (source a (b .lines) (at plane) (at work) j)
 
@@ -110,7 +110,7 @@ module _ (a : ColumnsAt) (n : ℕ) (plane work : ℕ → ℤ) (j k : ℕ) where
   source-high h = ap (pick (pick (plane (lineAt (a .from) (a .width) k + j)) (work (lineAt (a .from) (a .stride) (2 * k) + j)) (a .stored)) (plane (lineAt (a .from) (a .width) k + j))) (ltb-false k (lows n) h)
 
 -- low i is held: from the plane or from the work area
-module _ (plane work state state′ : List ℤ) (a : ColumnsAt) (b : Strip) (i : ℕ) (among : i < lows (b .lines)) (new : ℕ → ℤ) (is : at state′ ≡ patch (4 * b .room) (b .columns) new (at state)) where
+module _ (plane work state state′ : List ℤ) (a : ColumnsAt) (b : ColumnStrip) (i : ℕ) (among : i < lows (b .lines)) (new : ℕ → ℤ) (is : at state′ ≡ patch (4 * b .room) (b .columns) new (at state)) where
   fed : ((j : ℕ) → j < b .columns → new j ≡ source a (b .lines) (at plane) (at work) j i) → Fed plane work state state′ a b i
   fed same = record {
     low = λ j h g. ap (λ (f : ℕ → ℤ). f (4 * b .room + j)) is ∙ patch-in (4 * b .room) (b .columns) new (at state) j h ∙ same j h;

@@ -330,7 +330,7 @@ pub fn rows(work: &mut [i64], line: &mut [i64], stride: usize, w: usize, h: usiz
 
 // A strip of so many lines and columns; the lows have lowbits bits, the highs highbits. What is held of its columns, `room` at most, stands
 // in `state`: four values of each column, and after those the low of each that comes next.
-struct Strip {
+struct ColumnStrip {
     lines: usize,
     columns: usize,
     room: usize,
@@ -376,7 +376,7 @@ fn column_step(
     out: &mut [i64],
     to: usize,
     gap: usize,
-    b: Strip,
+    b: ColumnStrip,
     i: usize,
     inner: bool,
     j: usize,
@@ -420,7 +420,7 @@ fn steps(
     out: &mut [i64],
     to: usize,
     gap: usize,
-    b: Strip,
+    b: ColumnStrip,
     i: usize,
     inner: bool,
 )
@@ -455,7 +455,7 @@ fn load(plane: &[i32], from: usize, dst: &mut [i64], to: usize, n: usize)
 }
 
 // Low i of every column of a strip is held, if there is one.
-fn feed(plane: &[i32], work: &[i64], state: &mut [i64], a: ColumnsAt, b: Strip, i: usize)
+fn feed(plane: &[i32], work: &[i64], state: &mut [i64], a: ColumnsAt, b: ColumnStrip, i: usize)
     requires { ⌜ Lies (length (now plane)) (length (now work)) a (b .columns) (b .lines) × (b .columns ≤ b .room) × (5 * b .room ≤ length (now state)) ⌝ }
     ensures { λ _. ⌜ Fed (now (plane .entry)) (now (work .entry)) (now (state .entry)) (now (state .exit)) a b i ⌝ }
 {
@@ -483,7 +483,7 @@ fn outer_step(
     line: &mut [i64],
     high: usize,
     a: ColumnsAt,
-    b: Strip,
+    b: ColumnStrip,
     i: usize,
 )
     requires { ⌜ PlaneStep (now plane) (now work) (now state) (length (now line)) a b i × (high ≡ highPlace a b i) ⌝ }
@@ -512,7 +512,7 @@ fn strip_step(
     state: &mut [i64],
     line: &mut [i64],
     a: ColumnsAt,
-    b: Strip,
+    b: ColumnStrip,
     i: usize,
 )
     requires { ⌜ PlaneStep (now plane) (now work) (now state) (length (now line)) a b i ⌝ }
@@ -552,7 +552,7 @@ fn inverse_strip(
     state: &mut [i64],
     line: &mut [i64],
     a: ColumnsAt,
-    b: Strip,
+    b: ColumnStrip,
 )
     requires { ⌜ StripReady (now plane) (now work) (length (now state)) (length (now line)) a b ⌝ }
     ensures { λ _. ⌜ at (now (work .exit)) ≡ inverted a (b .lowbits) (b .highbits) (b .columns) (b .lines) (at (now (plane .entry))) (at (now (work .entry))) ⌝ }
@@ -629,7 +629,7 @@ pub fn columns(
             from: from + done,
             stored: stored,
         };
-        let b = Strip {
+        let b = ColumnStrip {
             lines: h,
             columns: s,
             room: room,

@@ -7,14 +7,14 @@ use lib.Dec.{lit≤, lit<}
 use Rattle.lines.specs.Lines.{lows, highs}
 use Rattle.lifting.specs.Patch.{at}
 use Rattle.inverse_lifting.specs.Stages.{again}
-use Rattle.inverse_lifting.specs.Steps.{Held, Ready, step-held, step-gives}
+use Rattle.inverse_lifting.specs.Steps.{PipelineHolds, Ready, step-held, step-gives}
 use Rattle.inverse_lifting.specs.Rows.{rowLine, Stand, low-small, high-small, step-ready, step-asked, step-taken, held-at, stand-next}
 use Rattle.inverse_lifting.proofs.row_steps.Statement.{statement}
 use Rattle.inverse_lifting.proofs.row_steps.Tie as tie
 
 abbrev Inv-loop : tie.InvT-loop
 Inv-loop work line₀ from w start end inner low high t₀ i₀ line t i =
-    (start ≤ i) × (i ≤ end) × (length line ≡ length line₀) × (1 ≤ i → Held (rowLine (at work) from w) (i - 1) t) × Stand (rowLine (at work) from w) i (at line)
+    (start ≤ i) × (i ≤ end) × (length line ≡ length line₀) × (1 ≤ i → PipelineHolds (rowLine (at work) from w) (i - 1) t) × Stand (rowLine (at work) from w) i (at line)
 
 abbrev μ-loop : tie.MeasureT-loop
 μ-loop work line₀ from w start end inner low high t₀ i₀ line t i = end - i

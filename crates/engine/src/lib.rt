@@ -252,7 +252,7 @@ pub extern "C" fn suz_forward53(
     refusals::code(reversible::forward(depth, levels, pixels, width, height, plane, work))
 }
 
-// 5/3 back, of what suz_forward53 makes: rows undone before columns. 4, 8, 9, 11.
+// 5/3 back, of what suz_forward53 makes: rows inverted before columns. 4, 8, 9, 11.
 #[no_mangle]
 pub extern "C" fn suz_inverse53(
     depth: u8,
@@ -270,7 +270,7 @@ pub extern "C" fn suz_inverse53(
     refusals::code(reversible::back(depth, levels, plane, width, height, pixels, work))
 }
 
-// 5/3 back, of copies made earlier, rows before columns: columns undone before rows. 4, 8, 9, 11.
+// 5/3 back, of copies made earlier, rows before columns: columns inverted before rows. 4, 8, 9, 11.
 #[no_mangle]
 pub extern "C" fn suz_inverse53_rows_first(
     depth: u8,

@@ -40,26 +40,26 @@ module _ (n : ℕ) (x : ℕ → Frac) where
   unfoldable pub passByCases : ℕ → Frac
   passByCases = lowsFirst n (λ i. zeta ⊗ u2ByCases i) (λ i. zetaInverse ⊗ p2ByCases i)
 
--- ---- back, which the paper does not print: the same equations taken back are ours
+-- ---- back, which the paper does not print: the same equations inverted are ours
 
--- equations 3 and 4 taken back: own value less twice a constant times the one neighbour
+-- equations 3 and 4 inverted: own value less twice a constant times the one neighbour
 unfoldable pub inverseLiftEnd : Frac → Frac → Frac → Frac
 inverseLiftEnd c own x = own ⊖ twice c ⊗ x
 
 module _ (n : ℕ) (y : ℕ → Frac) where
-  -- U2 taken back; at the first low and at the last low of an odd length by equation 3
+  -- U2 inverted; at the first low and at the last low of an odd length by equation 3
   unfoldable pub unU2ByCases : ℕ → Frac
   unU2ByCases = lowsByCases (inverseLift delta) (inverseLiftEnd delta) n (unG1 n y) (unG2 n y)
 
-  -- P2 taken back; at the last high of an even length by equation 4
+  -- P2 inverted; at the last high of an even length by equation 4
   unfoldable pub unP2ByCases : ℕ → Frac
   unP2ByCases = highsByCases (inverseLift gamma) (inverseLiftEnd gamma) n unU2ByCases (unG2 n y)
 
-  -- U1 taken back, as U2
+  -- U1 inverted, as U2
   unfoldable pub unU1ByCases : ℕ → Frac
   unU1ByCases = lowsByCases (inverseLift beta) (inverseLiftEnd beta) n unU2ByCases unP2ByCases
 
-  -- P1 taken back, as P2
+  -- P1 inverted, as P2
   unfoldable pub unP1ByCases : ℕ → Frac
   unP1ByCases = highsByCases (inverseLift alpha) (inverseLiftEnd alpha) n unU1ByCases unP2ByCases
 

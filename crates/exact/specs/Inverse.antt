@@ -1,4 +1,4 @@
--- The exact inverse (document 02, job 1): the lifting undone in reverse, in fractions. It is the inverse of document 01's exact transform,
+-- The exact inverse (document 02, job 1): the lifting inverted in reverse, in fractions. It is the inverse of document 01's exact transform,
 -- both ways (InverseLaws), so that nothing of it need be taken on trust.
 use Prim.Native.Nat.{ℕ, _+_}
 use Rattle.lines.specs.Lines.{lows, onHighs, onLows, interleaved}
@@ -36,7 +36,7 @@ module _ (n : ℕ) (y : ℕ → Frac) where
   unfoldable pub exactInverseLong : ℕ → Frac
   exactInverseLong = interleaved unU1 unP1
 
--- A pass undone. A single low value is the sample (document 02, job 6).
+-- A pass inverted. A single low value is the sample (document 02, job 6).
 unfoldable pub exactInversePass : OnLine Frac
 exactInversePass = fromOne (λ v. v) exactInverseLong
 

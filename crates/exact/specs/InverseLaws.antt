@@ -1,4 +1,4 @@
--- The exact inverse undoes the exact transform, and the exact transform it, at every place of a line (`line-left-inverse`, `line-right-inverse`) and of a
+-- The exact inverse inverts the exact transform, and the exact transform it, at every place of a line (`line-left-inverse`, `line-right-inverse`) and of a
 -- plane (`plane-left-inverse`, `plane-right-inverse`; of a picture `picture-left-inverse`).
 use Prim.Native.Nat.{ℕ, _+_, _*_, _<_}
 use mathlib.Core.List.{List}

@@ -6,7 +6,7 @@
 --   Cases      both by cases, ends apart from the middle (source document 003, equations 2 to 4)
 -- Proved of them:
 --   FracLaws   laws of fractions
---   InverseLaws   the exact inverse undoes the exact transform, and the exact transform it
+--   InverseLaws   the exact inverse inverts the exact transform, and the exact transform it
 --   CaseLaws   pass-is, back-is: the exact 9/7 by cases is the exact 9/7
 --   Unchanged  sides that were admitted before job 6
 pub mod Fractions

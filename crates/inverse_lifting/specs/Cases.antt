@@ -9,25 +9,25 @@ use Rattle.exact.specs.Exact.{alpha, beta, gamma, delta}
 use Rattle.stages.specs.Fixed.{nearest, cut}
 use Rattle.inverse_lifting.specs.Fixed.{nodeBits, inverseBits, inverseStep, atG1, atG2}
 
--- A stage undone at an end: twice the rounded constant times the one neighbour is taken from the own value without loss and cut once downwards.
+-- A stage inverted at an end: twice the rounded constant times the one neighbour is taken from the own value without loss and cut once downwards.
 unfoldable pub inverseStepEnd : Frac → ℤ → ℤ → ℤ
 inverseStepEnd c own x = cut (inverseBits + nodeBits) nodeBits (own *ℤ pos (2 ^ inverseBits) -ℤ pos 2 *ℤ nearest c inverseBits *ℤ x)
 
 -- One line of n values y, the lows first: the lows have fl bits, the highs fh.
 module _ (fl fh : ℕ) (n : ℕ) (y : ℕ → ℤ) where
-  -- U2 taken back; at the first low and at the last low of an odd length by equation 3
+  -- U2 inverted; at the first low and at the last low of an odd length by equation 3
   unfoldable pub atU2ByCases : ℕ → ℤ
   atU2ByCases = lowsByCases (inverseStep delta) (inverseStepEnd delta) n (atG1 fl fh n y) (atG2 fl fh n y)
 
-  -- P2 taken back; at the last high of an even length by equation 4
+  -- P2 inverted; at the last high of an even length by equation 4
   unfoldable pub atP2ByCases : ℕ → ℤ
   atP2ByCases = highsByCases (inverseStep gamma) (inverseStepEnd gamma) n atU2ByCases (atG2 fl fh n y)
 
-  -- U1 taken back, as U2
+  -- U1 inverted, as U2
   unfoldable pub atU1ByCases : ℕ → ℤ
   atU1ByCases = lowsByCases (inverseStep beta) (inverseStepEnd beta) n atU2ByCases atP2ByCases
 
-  -- P1 taken back, as P2
+  -- P1 inverted, as P2
   unfoldable pub atP1ByCases : ℕ → ℤ
   atP1ByCases = highsByCases (inverseStep alpha) (inverseStepEnd alpha) n atU1ByCases atP2ByCases
 

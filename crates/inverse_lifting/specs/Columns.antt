@@ -1,4 +1,4 @@
--- A strip of columns undone turn by turn side by side: what the turns ask of memory, and what they leave there.
+-- A strip of columns inverted step by step side by side: what the steps ask of memory, and what they leave there.
 use mathlib.Core.Path.{_≡_, refl, sym, ap, subst, _∙_}
 use mathlib.Core.Bool.{Bool, true}
 use mathlib.Core.List.{List}
@@ -25,7 +25,7 @@ use Rattle.inverse_lifting.specs.Steps.{Line, PipelineHolds, Stepped, st
 abbrev pub pipelineIn : (ℕ → ℤ) → ℕ → Pipeline
 pipelineIn x j = record { g2 = x (4 * j); u2 = x (4 * j + 1); p2 = x (4 * j + 2); u1 = x (4 * j + 3); even = pos 0; odd = pos 0 }
 
--- with the two values that a turn gave
+-- with the two values that a step gave
 abbrev pub pipelineOut : (ℕ → ℤ) → ℤ → ℤ → ℕ → Pipeline
 pipelineOut x even odd j = record { g2 = x (4 * j); u2 = x (4 * j + 1); p2 = x (4 * j + 2); u1 = x (4 * j + 3); even = even; odd = odd }
 
@@ -33,7 +33,7 @@ pipelineOut x even odd j = record { g2 = x (4 * j); u2 = x (4 * j + 1); p2 = x (
 abbrev pub OffColumn : ℕ → ℕ → Type 0
 OffColumn j p = (q : ℕ) → q < 4 → p ≡ 4 * j + q → ⊥
 
--- x with a turn kept at column j is z
+-- x with a step kept at column j is z
 pub record Kept (j : ℕ) (t : Pipeline) (x z : ℕ → ℤ) : Type 0 where
   pub g2 : z (4 * j) ≡ t .g2
   pub u2 : z (4 * j + 1) ≡ t .u2
@@ -41,20 +41,20 @@ pub record Kept (j : ℕ) (t : Pipeline) (x z : ℕ → ℤ) : Type 0 where
   pub u1 : z (4 * j + 3) ≡ t .u1
   pub others : (p : ℕ) → OffColumn j p → z p ≡ x p
 
--- ---- one column in one turn
+-- ---- one column in one step
 
 -- a column of a strip
 abbrev pub columnLine : ColumnStrip → (ℕ → ℤ) → Line
 columnLine b y = record { fl = b .lowbits; fh = b .highbits; n = b .lines; y = y }
 
--- column y is ready for turn i: t is held, low and high are its next coefficients
+-- column y is ready for step i: t is held, low and high are its next coefficients
 pub record ColumnReady (b : ColumnStrip) (i : ℕ) (t : Pipeline) (low high : ℤ) (y : ℕ → ℤ) : Type 0 where
   pub safe : Safe (b .lowbits) (b .highbits) (b .lines) y
   pub held : 1 ≤ i → PipelineHolds (columnLine b y) (i - 1) t
   pub lowIs : low ≡ y (min i (lows (b .lines) - 1))
   pub highIs : high ≡ y (lows (b .lines) + min i (highs (b .lines) - 1))
 
--- the sizes that a turn of a strip asks for
+-- the sizes that a step of a strip asks for
 pub record StepRoom (plane state : List ℤ) (out high to gap : ℕ) (b : ColumnStrip) (i : ℕ) (inner : Bool) : Type 0 where
   pub two : Liftable (b .lines)
   pub few : b .lines < 2 ^ 31
@@ -74,7 +74,7 @@ pub record ColumnStep (plane : List ℤ) (high : ℕ) (state : List ℤ) (out to
   pub y : ℕ → ℤ
   pub ready : ColumnReady b i (pipelineIn (at state) j) (at state (4 * b .room + j)) (at plane (high + j)) y
 
--- a turn of column j: what is held, x, becomes x′; its two values stand in z′
+-- a step of column j: what is held, x, becomes x′; its two values stand in z′
 abbrev pub SteppedAt : (ℕ → ℤ) → ℕ → (ℕ → ℤ) → (ℕ → ℤ) → (ℕ → ℤ) → ℕ → ℕ → ColumnStrip → ℕ → ℕ → Type 0
 SteppedAt plane high x x′ z′ to gap b i j =
     Stepped i (lows (b .lines)) (highs (b .lines)) (pipelineIn x j)
@@ -86,7 +86,7 @@ pub record ColumnStepped (plane : List ℤ) (high : ℕ) (state state′ out out
   pub others : (p : ℕ) → OffColumn j p → at state′ p ≡ at state p
   pub kept : (p : ℕ) → (p ≡ to + j → ⊥) → (p ≡ to + gap + j → ⊥) → at out′ p ≡ at out p
 
--- ---- all columns of a strip in one turn
+-- ---- all columns of a strip in one step
 
 pub record StripStep (plane : List ℤ) (high : ℕ) (state : List ℤ) (out to gap : ℕ) (b : ColumnStrip) (i : ℕ) (inner : Bool) : Type 0 where
   pub sized : StepRoom plane state out high to gap b i inner
@@ -100,7 +100,7 @@ pub record StripStepped (plane : List ℤ) (high : ℕ) (state state′ out out�
 
 -- ---- proved of them
 
--- four stores keep a turn
+-- four stores keep a step
 module _ (l : List ℤ) (j : ℕ) (t : Pipeline) (a b c d : ℤ) (fits : 4 * j + 3 < length l) where
   abbrev l1 : List ℤ
   l1 = set l (4 * j) a
@@ -125,7 +125,7 @@ module _ (l : List ℤ) (j : ℕ) (t : Pipeline) (a b c d : ℤ) (fits : 4 * j +
         ∙ getD-set-other l1 (4 * j + 1) p b (pos 0) (off 1 (lit< tt)) ∙ getD-set-other l (4 * j) p a (pos 0) (λ e. off 0 (lit< tt) (omega arith));
   }
 
--- a column that is ready can take its turn
+-- a column that is ready can take its step
 module _ {b : ColumnStrip} {i : ℕ} {t : Pipeline} {low high : ℤ} {y : ℕ → ℤ} (q : ColumnReady b i t low high y) (two : Liftable (b .lines)) where
   pub low-size : natAbs low ≤ limit
   low-size = subst (λ (z : ℤ). natAbs z ≤ limit) (sym (q .lowIs)) (q .safe .enters _ (omega (arith, two)))
@@ -164,7 +164,7 @@ module _ (plane : List ℤ) (high : ℕ) (state state′ out : List ℤ) (to gap
     kept = λ p f g. getD-set-other (set out (to + j) e) (to + gap + j) p o (pos 0) g ∙ getD-set-other out (to + j) p e (pos 0) f;
   }
 
--- ---- column by column: the first c columns have taken their turn
+-- ---- column by column: the first c columns have taken their step
 
 pub record StepsDone (plane : List ℤ) (high : ℕ) (state state′ out out′ : List ℤ) (to gap : ℕ) (b : ColumnStrip) (i c : ℕ) : Type 0 where
   pub stepped : (j : ℕ) → j < c → SteppedAt (at plane) high (at state) (at state′) (at out′) to gap b i j

@@ -22,12 +22,12 @@ maxValue = 2 ^ 15
 abbrev pub limit : ℕ
 limit = maxValue * 2 ^ nodeBits
 
--- A stage P1, U1, P2, U2 undone. The constant times the sum of the neighbours is taken from the own value without loss and cut once
+-- A stage P1, U1, P2, U2 inverted. The constant times the sum of the neighbours is taken from the own value without loss and cut once
 -- downwards.
 unfoldable pub inverseStep : Frac → ℤ → ℤ → ℤ → ℤ
 inverseStep c own x y = cut (inverseBits + nodeBits) nodeBits (own *ℤ pos (2 ^ inverseBits) -ℤ nearest c inverseBits *ℤ (x +ℤ y))
 
--- One line of n values y, two or more, the lows first: the lows have fl bits, the highs fh. A node is named by the stage that is undone there.
+-- One line of n values y, two or more, the lows first: the lows have fl bits, the highs fh. A node is named by the stage that is inverted there.
 module _ (fl fh : ℕ) (n : ℕ) (y : ℕ → ℤ) where
   -- lows times 1 / zeta
   unfoldable pub atG1 : ℕ → ℤ
@@ -49,7 +49,7 @@ module _ (fl fh : ℕ) (n : ℕ) (y : ℕ → ℤ) where
   unfoldable pub atP1 : ℕ → ℤ
   atP1 = onHighs (inverseStep alpha) n atU1 atP2
 
-  -- each value of two or more to its place: U1 undone gives the even places, P1 undone the odd ones
+  -- each value of two or more to its place: U1 inverted gives the even places, P1 inverted the odd ones
   unfoldable pub fixedInverseLong : ℕ → ℤ
   fixedInverseLong = interleaved atU1 atP1
 
@@ -62,7 +62,7 @@ module _ (fl fh : ℕ) (n : ℕ) (y : ℕ → ℤ) where
     pub u1 : (k : ℕ) → k < lows n → natAbs (atU1 k) ≤ limit
     pub p1 : (k : ℕ) → k < highs n → natAbs (atP1 k) ≤ limit
 
--- A pass undone. A single low value of fl bits enters at the bits of a node, uncut (document 02, job 6).
+-- A pass inverted. A single low value of fl bits enters at the bits of a node, uncut (document 02, job 6).
 unfoldable pub fixedInverse : ℕ → ℕ → OnLine ℤ
 fixedInverse fl fh = fromOne (cut fl nodeBits) (fixedInverseLong fl fh)
 

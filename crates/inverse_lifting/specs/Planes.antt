@@ -1,4 +1,4 @@
--- Rows of a plane in memory with the lifting undone (document 02, job 1), and what keeps the machine's numbers in 64 bits.
+-- Rows of a plane in memory with the lifting inverted (document 02, job 1), and what keeps the machine's numbers in 64 bits.
 use Prim.Native.Nat.{ℕ, _<_, _≤_}
 use lib.IntN.{ℤ, natAbs}
 use Rattle.lifting.specs.Kernels.{rowsBy}

@@ -1,4 +1,4 @@
--- A row undone turn by turn into a line: what the turns ask, and what they leave.
+-- A row inverted step by step into a line: what the steps ask, and what they leave.
 use mathlib.Core.Path.{_≡_, refl, sym, ap, subst, _∙_}
 use mathlib.Core.Bool.{Bool, true, false, false≢true}
 use mathlib.Core.List.{List}
@@ -25,18 +25,18 @@ use Rattle.inverse_lifting.specs.Steps.{Line, PipelineHolds, Gives, Step
 abbrev pub rowLine : (ℕ → ℤ) → ℕ → ℕ → Line
 rowLine x from w = record { fl = nodeBits; fh = nodeBits; n = w; y = λ c. x (from + c) }
 
--- a row can be undone into a line of so many values
+-- a row can be inverted into a line of so many values
 pub record RowReady (work : List ℤ) (line from w : ℕ) : Type 0 where
   pub held : from + w ≤ length work
   pub room : w + 6 ≤ line
   pub short : w < 2 ^ 31
   pub safe : Safe nodeBits nodeBits w (λ c. at work (from + c))
 
--- the turns before turn i have left their values in z
+-- the steps before step i have left their values in z
 abbrev pub Stand : Line → ℕ → (ℕ → ℤ) → Type 0
 Stand l i z = (k : ℕ) → 2 ≤ k → k < i → (z (2 * k) ≡ lineU1 l (k - 2)) × (k - 2 < highs (l .n) → z (2 * k + 1) ≡ lineP1 l (k - 2))
 
--- turns start to end - 1 of a row of two values or more
+-- steps start to end - 1 of a row of two values or more
 pub record RowSteps (work line : List ℤ) (from w start end : ℕ) (t : Pipeline) (inner : Bool) : Type 0 where
   pub ready : RowReady work (length line) from w
   pub two : Liftable w
@@ -50,11 +50,11 @@ pub record RowStepped (work line : List ℤ) (from w end : ℕ) (t : Pipeline) :
   pub held : 1 ≤ end → PipelineHolds (rowLine (at work) from w) (end - 1) t
   pub stand : Stand (rowLine (at work) from w) end (at line)
 
--- the row stands in the line from place 4 on, undone
+-- the row stands in the line from place 4 on, inverted
 abbrev pub RowInverted : List ℤ → List ℤ → ℕ → ℕ → Type 0
 RowInverted work line from w = (k : ℕ) → k < w → at line (4 + k) ≡ fixedInverse nodeBits nodeBits w (λ c. at work (from + c)) k
 
--- ---- a turn of a row
+-- ---- a step of a row
 
 -- low k and high k, scaled
 module _ (x : ℕ → ℤ) (from w k : ℕ) where
@@ -89,7 +89,7 @@ module _ {work : List ℤ} {line from w : ℕ} (q : RowReady work line from w) (
   pub high-small : natAbs (back w64 (at work (from + lows w + b))) ≤ limit
   high-small = size-read (at work (from + lows w + b)) high-in
 
-  -- scaled, they make the turn ready
+  -- scaled, they make the step ready
   pub step-ready : (t : Pipeline) (low high : ℤ) → i < lows w + 2 → (1 ≤ i → PipelineHolds (rowLine (at work) from w) (i - 1) t)
       → low ≡ scaledBy atInverse inverseBits (back w64 (at work (from + a))) → high ≡ scaledBy atZeta inverseBits (back w64 (at work (from + lows w + b)))
       → Ready (rowLine (at work) from w) i (lows w) (highs w) t low high
@@ -103,7 +103,7 @@ module _ {work : List ℤ} {line from w : ℕ} (q : RowReady work line from w) (
     highIs = f ∙ ap (scaledBy atZeta inverseBits) (read (at work (from + lows w + b)) high-in) ∙ high-scaled (at work) from w b ∙ ap (lineG2 (rowLine (at work) from w)) high-at;
   }
 
--- the turn, of numbers that are read back from their bits
+-- the step, of numbers that are read back from their bits
 module _ {l : Line} {i L H : ℕ} {t : Pipeline} {low high : ℤ} (q : Ready l i L H t low high) where
   pub step-asked : SomeReady i L H t (back w64 low) (back w64 high)
   step-asked = ready-read (limit-fits (low-size q)) (limit-fits (high-size q)) (record { line = l; ready = q })
@@ -128,7 +128,7 @@ module _ (z : List ℤ) (p : ℕ) (e o : ℤ) where
 pub held-at : {l : Line} {i k : ℕ} {t : Pipeline} → PipelineHolds l i t → i ≡ k → PipelineHolds l k t
 held-at {l} {t} h e = subst (λ (j : ℕ). PipelineHolds l j t) e h
 
--- turn i leaves its two values
+-- step i leaves its two values
 pub stand-next : (l : Line) (i : ℕ) (z : List ℤ) (t : Pipeline) (e o : ℤ) → Stand l i (at z) → Gives l i t → 2 * i + 1 < length z → e ≡ t .even → o ≡ t .odd
     → Stand l (i + 1) (stored z (2 * i) e o)
 stand-next l i z t e o s g fits even odd k two h = go (ℕ-discrete k i)
@@ -140,7 +140,7 @@ stand-next l i z t e o s g fits even odd k two h = go (ℕ-discrete k i)
       λ p. stored-other z (2 * i) e o (2 * k + 1) (omega arith) (omega arith) ∙ was .1 p,
     )
 
--- ---- the whole row: its first two turns, those away from its ends, and the others
+-- ---- the whole row: its first two steps, those away from its ends, and the others
 
 ready-with : {work : List ℤ} {n m from w : ℕ} → RowReady work n from w → m ≡ n → RowReady work m from w
 ready-with {work} {from} {w} q e = subst (λ (k : ℕ). RowReady work k from w) (sym e) q

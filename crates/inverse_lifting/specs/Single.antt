@@ -1,4 +1,4 @@
--- A pass undone, of a single value and of two or more (document 02, job 6), and a single value as it is worked with 64-bit numbers.
+-- A pass inverted, of a single value and of two or more (document 02, job 6), and a single value as it is worked with 64-bit numbers.
 use mathlib.Core.Path.{_≡_, sym, ap, _∙_}
 use mathlib.Core.List.{List, [], _∷_}
 use Prim.Native.Nat.{ℕ, _*_, _-_, _^_, _<_, _≤_}

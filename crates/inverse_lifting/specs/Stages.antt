@@ -1,4 +1,4 @@
--- A stage undone, as it is worked with 64-bit numbers: the cut product of a constant is added to the own value.
+-- A stage inverted, as it is worked with 64-bit numbers: the cut product of a constant is added to the own value.
 use mathlib.Core.Path.{_≡_, refl, sym, ap, subst, _∙_, fun-ext}
 use mathlib.Core.List.{List, [], _∷_}
 use Prim.Native.Nat.{ℕ, _+_, _*_, _^_, _-_, _<_, _≤_}
@@ -110,7 +110,7 @@ ended-is : (f : Frac) (c : ℤ) → c ≡ nearest f inverseBits → endedBy c �
 unfolding inverseStepEnd
 ended-is f c e = fun-ext λ own. fun-ext λ x. less-is own (pos 2 *ℤ c) x ∙ ap (λ (k : ℤ). less own (pos 2 *ℤ k *ℤ x)) e
 
--- a stage undone at an end is the stage undone with the one neighbour on both sides
+-- a stage inverted at an end is the stage inverted with the one neighbour on both sides
 pub inverse-step-end : (c : Frac) (own x : ℤ) → inverseStepEnd c own x ≡ inverseStep c own x x
 unfolding inverseStep inverseStepEnd
 inverse-step-end c own x = ap (less own) (twice-times (nearest c inverseBits) x)

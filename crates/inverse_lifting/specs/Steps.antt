@@ -1,7 +1,7 @@
--- A line undone turn by turn, from its first places on (document 02, job 1). Turn i takes low i and high i and undoes U2 at low i, P2 at
+-- A line inverted step by step, from its first places on (document 02, job 1). Step i takes low i and high i and inverts U2 at low i, P2 at
 -- high i - 1, U1 at low i - 1 and P1 at high i - 2, which gives places 2 (i - 2) and 2 (i - 2) + 1. The ends are by cases (document 02,
--- job 2). Past the last low and the last high a turn keeps what it has, and what it reads there (the last one again) is not used; so
--- lows n + 2 turns undo a line of n values.
+-- job 2). Past the last low and the last high a step keeps what it has, and what it reads there (the last one again) is not used; so
+-- lows n + 2 steps invert a line of n values.
 use mathlib.Core.Path.{_≡_, refl, sym, ap, subst, _∙_}
 use Prim.Native.Nat.{ℕ, _+_, _-_, _<_, _≤_, min}
 use native.Mathlib.Omega.{arith}
@@ -19,9 +19,9 @@ use Rattle.inverse_lifting.specs.Fixed.{inverseStep, atG1, atG2, atU2, a
 use Rattle.inverse_lifting.specs.Cases.{inverseStepEnd}
 use Rattle.inverse_lifting.specs.Stages.{Inside, read, inside-read, step-read, end-read, inverse-step-end}
 
--- ---- one stage in a turn
+-- ---- one stage in a step
 
--- Low k of a line of L lows and H highs: undone by f between two highs, by e beside one (the first low, and the last low of an odd length).
+-- Low k of a line of L lows and H highs: inverted by f between two highs, by e beside one (the first low, and the last low of an odd length).
 -- Past the last one, what was kept stays.
 pub record LowStepped (f : ℤ → ℤ → ℤ → ℤ) (e : ℤ → ℤ → ℤ) (k L H : ℕ) (kept own before after r : ℤ) : Type 0 where
   pub first : k ≡ 0 → k < L → r ≡ e own after
@@ -35,7 +35,7 @@ pub record LowAsks (k L H : ℕ) (own before after : ℤ) : Type 0 where
   pub inner : 0 < k → k < H → k < L → Inside own before after
   pub last : 0 < k → H ≤ k → k < L → Inside own before before
 
--- High k: undone by f between two lows, by e beside one (the last high of an even length).
+-- High k: inverted by f between two lows, by e beside one (the last high of an even length).
 pub record HighStepped (f : ℤ → ℤ → ℤ → ℤ) (e : ℤ → ℤ → ℤ) (k L H : ℕ) (kept own before after r : ℤ) : Type 0 where
   pub inner : k < H → k + 1 < L → r ≡ f own before after
   pub last : k < H → L ≤ k + 1 → r ≡ e own before
@@ -122,9 +122,9 @@ module _ {f : ℤ → ℤ → ℤ → ℤ} {e : ℤ → ℤ → ℤ} {k L H : �
           let i : min k (lows n - 1) ≡ min (k + 1) (lows n - 1) = omega arith in
           d .last h (omega arith) ∙ same own before ∙ step h (before-is ∙ ap low i)
 
--- ---- a turn
+-- ---- a step
 
--- turn i of a line of L lows and H highs, which takes the scaled values low and high: t was held before it, r is left
+-- step i of a line of L lows and H highs, which takes the scaled values low and high: t was held before it, r is left
 pub record Stepped (i L H : ℕ) (t : Pipeline) (low high : ℤ) (r : Pipeline) : Type 0 where
   pub g2 : r .g2 ≡ high
   pub u2 : LowStepped (inverseStep delta) (inverseStepEnd delta) i L H (t .u2) low (t .g2) high (r .u2)
@@ -134,7 +134,7 @@ pub record Stepped (i L H : ℕ) (t : Pipeline) (low high : ℤ) (r : Pipeline) 
   -- past the last high nothing is said of it
   pub odd : 2 ≤ i → HighStepped (inverseStep alpha) (inverseStepEnd alpha) (i - 2) L H (r .odd) (t .p2) (t .u1) (r .u1) (r .odd)
 
--- s has the numbers of r, as far as they count in turn i of a line of H highs
+-- s has the numbers of r, as far as they count in step i of a line of H highs
 pub record SamePipeline (i H : ℕ) (s r : Pipeline) : Type 0 where
   pub g2 : s .g2 ≡ r .g2
   pub u2 : s .u2 ≡ r .u2
@@ -164,7 +164,7 @@ pub record Line : Type 0 where
   pub n : ℕ
   pub y : ℕ → ℤ
 
--- it can be undone: no value on the way is large
+-- it can be inverted: no value on the way is large
 pub record Invertible (l : Line) : Type 0 where
   pub two : Liftable (l .n)
   pub small : SmallLong (l .fl) (l .fh) (l .n) (l .y)
@@ -195,7 +195,7 @@ module _ (l : Line) where
   abbrev pub lineP1 : ℕ → ℤ
   lineP1 = atP1 (l .fl) (l .fh) (l .n) (l .y)
 
-  -- what is held after turn i
+  -- what is held after step i
   pub record PipelineHolds (i : ℕ) (t : Pipeline) : Type 0 where
     pub g2 : t .g2 ≡ lineG2 (upToHigh i)
     pub u2 : t .u2 ≡ lineU2 (upToLow i)
@@ -207,7 +207,7 @@ module _ (l : Line) where
     pub even : 2 ≤ i → t .even ≡ lineU1 (i - 2)
     pub odd : 2 ≤ i → i - 2 < highs (l .n) → t .odd ≡ lineP1 (i - 2)
 
--- turn i of a line, ready to be taken
+-- step i of a line, ready to be taken
 pub record Ready (l : Line) (i L H : ℕ) (t : Pipeline) (low high : ℤ) : Type 0 where
   pub invertible : Invertible l
   pub lowsAre : L ≡ lows (l .n)
@@ -217,7 +217,7 @@ pub record Ready (l : Line) (i L H : ℕ) (t : Pipeline) (low high : ℤ) : Type
   pub lowIs : low ≡ lineG1 l (upToLow l i)
   pub highIs : high ≡ lineG2 l (upToHigh l i)
 
--- turn i of some line
+-- step i of some line
 pub record SomeReady (i L H : ℕ) (t : Pipeline) (low high : ℤ) : Type 0 where
   pub line : Line
   pub ready : Ready line i L H t low high
@@ -338,7 +338,7 @@ module _ {l : Line} {i L H : ℕ} {t : Pipeline} {low high : ℤ} (q : Ready l i
         (λ g. absurd (omega arith))
         ∙ ap (lineP1 l) (high-in (l .n) (i - 2) (omega (arith, q .highsAre)))
 
-  -- ---- after the turn
+  -- ---- after the step
 
   module _ {r : Pipeline} (d : Stepped i L H t low high r) where
     u2-done : r .u2 ≡ lineU2 l (upToLow l i)

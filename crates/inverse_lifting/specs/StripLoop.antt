@@ -1,4 +1,4 @@
--- A strip undone: turn after turn, each after its low was held.
+-- A strip inverted: step after step, each after its low was held.
 use mathlib.Core.Path.{_≡_, refl, sym, ap, subst, _∙_}
 use mathlib.Core.List.{List}
 use Prim.Native.Nat.{ℕ, _+_, _*_, _-_, _<_, _≤_, min}
@@ -18,7 +18,7 @@ use Rattle.inverse_lifting.specs.Steps.{PipelineHolds, Gives, step-held,
 use Rattle.inverse_lifting.specs.Columns.{pipelineIn, pipelineOut, columnLine, ColumnReady, column-line}
 use Rattle.inverse_lifting.specs.Strips.{source, inverted, Placed, Fed, highPlace, evenPlace, PlaneStepped, StripReady, source-low, source-high, pick}
 
--- the turns before turn i are taken
+-- the steps before step i are taken
 pub record StripDone (plane work work′ state : List ℤ) (a : ColumnsAt) (b : ColumnStrip) (i : ℕ) : Type 0 where
   pub held : (j : ℕ) → j < b .columns → 1 ≤ i → PipelineHolds (columnLine b (source a (b .lines) (at plane) (at work) j)) (i - 1) (pipelineIn (at state) j)
   pub low : (j : ℕ) → j < b .columns → 1 ≤ i → at state (4 * b .room + j) ≡ source a (b .lines) (at plane) (at work) j (min (i - 1) (lows (b .lines) - 1))
@@ -85,7 +85,7 @@ module _ {plane work work′ state : List ℤ} {a : ColumnsAt} {b : ColumnStrip}
           odd = pos 0;
         }
 
-    -- every column can take its turn
+    -- every column can take its step
     pub column-ready : (j : ℕ) → j < b .columns
         → ColumnReady b i (pipelineIn (at state′) j) (at state′ (4 * b .room + j)) (at plane (highPlace a b i + j)) (source a (b .lines) (at plane) (at work) j)
     column-ready j h = record {
@@ -95,7 +95,7 @@ module _ {plane work work′ state : List ℤ} {a : ColumnsAt} {b : ColumnStrip}
       highIs = sym (source-high a (b .lines) (at plane) (at work) j _ (omega arith));
     }
 
-    -- one turn more
+    -- one step more
     module _ {work″ state″ : List ℤ} (stepped : PlaneStepped plane work′ work″ state′ state″ a b i) where
       gives : (j : ℕ) → (h : j < b .columns)
           → Gives (columnLine b (source a (b .lines) (at plane) (at work) j)) i (pipelineOut (at state″) (at work″ (evenPlace a i + j)) (at work″ (evenPlace a i + a .stride + j)) j)
@@ -134,7 +134,7 @@ module _ {plane work work′ state : List ℤ} {a : ColumnsAt} {b : ColumnStrip}
               let o : lineAt (a .from) (a .stride) (2 * (i - 2) + 1) + j ≡ evenPlace a i + a .stride + j = omega arith in
               subst (λ (m : ℕ). at work″ (lineAt (a .from) (a .stride) (2 * m + 1) + j) ≡ lineP1 (columnLine b (source a (b .lines) (at plane) (at work) j)) m) e (ap (at work″) o ∙ gives j g .odd (omega arith) (omega arith))
 
--- all turns are taken
+-- all steps are taken
 module _ {plane work work′ state : List ℤ} {a : ColumnsAt} {b : ColumnStrip} {state₀ line₀ : ℕ} (ready : StripReady plane work state₀ line₀ a b) (done : StripDone plane work work′ state a b (lows (b .lines) + 2)) where
   new : ℕ → ℕ → ℤ
   new r j = fixedInverse (b .lowbits) (b .highbits) (b .lines) (source a (b .lines) (at plane) (at work) j) r

@@ -1,4 +1,4 @@
--- One turn of a strip in a plane: the places that it reads and writes, and what it leaves, written at once or by way of a line.
+-- One step of a strip in a plane: the places that it reads and writes, and what it leaves, written at once or by way of a line.
 use mathlib.Core.Path.{_≡_, refl, sym, ap, subst, _∙_}
 use mathlib.Core.Bool.{true, false, false≢true}
 use mathlib.Core.List.{List}
@@ -14,7 +14,7 @@ use Rattle.inverse_lifting.specs.Steps.{stepped-as}
 use Rattle.inverse_lifting.specs.Columns.{StepRoom, StripStep, StripStepped}
 use Rattle.inverse_lifting.specs.Strips.{Placed, highPlace, evenPlace, PlaneStep, PlaneStepped}
 
--- ---- the lines of turn i, of n lines
+-- ---- the lines of step i, of n lines
 
 high-line : (n i : ℕ) → 2 ≤ n → lows n + min i (highs n - 1) < n
 high-line n i h = omega arith
@@ -70,7 +70,7 @@ module _ {plane state : List ℤ} {work line : ℕ} {a : ColumnsAt} {b : ColumnS
     middle = λ e. absurd (false≢true e);
   }
 
--- ---- the turn can be taken, its high at a place that is known to be the right one
+-- ---- the step can be taken, its high at a place that is known to be the right one
 
 module _ {plane work state : List ℤ} {line : ℕ} {a : ColumnsAt} {b : ColumnStrip} {i : ℕ} (q : PlaneStep plane work state line a b i) (high : ℕ) (e : high ≡ highPlace a b i) where
   pub inner-step : 2 ≤ i → i < highs (b .lines) → StripStep plane high state (length work) (evenPlace a i) (a .stride) b i true

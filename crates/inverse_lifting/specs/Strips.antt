@@ -1,4 +1,4 @@
--- Strips of a plane: where their columns come from, where they go, and what the turns leave of them in memory.
+-- Strips of a plane: where their columns come from, where they go, and what the steps leave of them in memory.
 use mathlib.Core.Path.{_≡_, sym, ap, _∙_, fun-ext}
 use mathlib.Core.Bool.{Bool, true, false}
 use mathlib.Core.List.{List}
@@ -29,7 +29,7 @@ source a n plane work j k =
       | false ↦ plane (lineAt (a .from) (a .width) k + j)
     ]
 
--- w columns undone: they go to n lines of the work area
+-- w columns inverted: they go to n lines of the work area
 abbrev pub inverted : ColumnsAt → ℕ → ℕ → ℕ → ℕ → (ℕ → ℤ) → (ℕ → ℤ) → ℕ → ℤ
 inverted a fl fh w n plane work = patchLines (lineAt (a .from) (a .stride)) w n (λ r j. fixedInverse fl fh n (source a n plane work j) r) work
 
@@ -61,7 +61,7 @@ pub record Fed (plane work state state′ : List ℤ) (a : ColumnsAt) (b : Colum
   pub past : (j : ℕ) → lows (b .lines) ≤ i → at state′ (4 * b .room + j) ≡ at state (4 * b .room + j)
   pub others : (p : ℕ) → p < 4 * b .room → at state′ p ≡ at state p
 
--- ---- turn i of a strip
+-- ---- step i of a strip
 
 -- where its high, or the last one, stands in the plane, and where its first line goes
 abbrev pub highPlace : ColumnsAt → ColumnStrip → ℕ → ℕ
@@ -124,7 +124,7 @@ module _ (plane work state state′ : List ℤ) (a : ColumnsAt) (b : ColumnStrip
   pub fed-left : a .stored ≡ false → ((j : ℕ) → new j ≡ at work (lineAt (a .from) (a .stride) (2 * i) + j)) → Fed plane work state state′ a b i
   fed-left e same = fed (λ j h. same j ∙ sym (source-left a (b .lines) (at plane) (at work) j i among e))
 
--- ---- strip by strip: the first d columns are undone
+-- ---- strip by strip: the first d columns are inverted
 
 -- s columns after them
 abbrev pub after : ColumnsAt → ℕ → ColumnsAt

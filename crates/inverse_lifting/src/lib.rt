@@ -1,4 +1,4 @@
-// The 9/7 lifting undone in 64-bit values (document 02, job 1): a line turn by turn, its four stages together. Rows are undone one by one,
+// The 9/7 lifting inverted in 64-bit values (document 02, job 1): a line step by step, its four stages together. Rows are inverted one by one,
 // columns side by side in strips, so that memory is passed over once. A single value has no stages (document 02, job 6).
 ghost use mathlib.Core.Path.{_≡_};
 ghost use mathlib.Core.Bool.{true};
@@ -41,7 +41,7 @@ const ONE: i64 = 1 << NODE_BITS;
 
 // ---- one value
 
-// A value with a stage undone.
+// A value with a stage inverted.
 fn moved(own: i64, x: i64, y: i64, c: i64) -> i64
     requires { ⌜ Inside own x y × Constant c ⌝ }
     ensures { λ r. ⌜ r ≡ movedBy c own x y ⌝ }
@@ -49,7 +49,7 @@ fn moved(own: i64, x: i64, y: i64, c: i64) -> i64
     own + (((0 - c) * (x + y)) >> CONSTANT_BITS)
 }
 
-// The same at an end of its line, where both neighbours are one: source document 003, equations 3 and 4, undone. The rounded constant is
+// The same at an end of its line, where both neighbours are one: source document 003, equations 3 and 4, inverted. The rounded constant is
 // doubled.
 fn moved_end(own: i64, x: i64, c: i64) -> i64
     requires { ⌜ Inside own x x × Constant c ⌝ }
@@ -66,9 +66,9 @@ fn scaled(x: i64, c: i64, cut: u32) -> i64
     (c * x) >> cut
 }
 
-// ---- a turn of a line
+// ---- a step of a line
 
-// Turn i of a line takes low i and high i, scaled, and undoes U2 at low i, P2 at high i - 1, U1 at low i - 1 and P1 at high i - 2. Past the
+// Step i of a line takes low i and high i, scaled, and inverts U2 at low i, P2 at high i - 1, U1 at low i - 1 and P1 at high i - 2. Past the
 // last low and the last high it takes that one again, and does not use it. Held after it are g2 and u2 of place i, p2 and u1 of place i - 1;
 // `even` and `odd` are what it gives: the line's values at places 2 (i - 2) and 2 (i - 2) + 1.
 struct Pipeline {
@@ -80,7 +80,7 @@ struct Pipeline {
     odd: i64,
 }
 
-// Low k of a line with a stage undone, by cases. Past the last one, what was kept.
+// Low k of a line with a stage inverted, by cases. Past the last one, what was kept.
 fn on_low(
     k: usize,
     lows: usize,
@@ -97,7 +97,7 @@ fn on_low(
     if lows <= k {
         return kept;
     }
-    // the first low: source document 003, equation 3, undone
+    // the first low: source document 003, equation 3, inverted
     if k == 0 {
         return moved_end(own, after, c);
     }
@@ -108,7 +108,7 @@ fn on_low(
     moved(own, before, after, c)
 }
 
-// High k of a line with a stage undone, by cases. Past the last one, what was kept.
+// High k of a line with a stage inverted, by cases. Past the last one, what was kept.
 fn on_high(
     k: usize,
     lows: usize,
@@ -125,14 +125,14 @@ fn on_high(
     if highs <= k {
         return kept;
     }
-    // the last high of an even length: source document 003, equation 4, undone
+    // the last high of an even length: source document 003, equation 4, inverted
     if lows <= k + 1 {
         return moved_end(own, before, c);
     }
     moved(own, before, after, c)
 }
 
-// A turn away from the ends of a line.
+// A step away from the ends of a line.
 fn inner_step(t: Pipeline, low: i64, high: i64, i: usize, lows: usize, highs: usize) -> Pipeline
     requires { ⌜ SomeReady i lows highs t low high × (2 ≤ i) × (i < highs) ⌝ }
     ensures { λ r. ⌜ Stepped i lows highs t low high r ⌝ }
@@ -151,7 +151,7 @@ fn inner_step(t: Pipeline, low: i64, high: i64, i: usize, lows: usize, highs: us
     }
 }
 
-// Any turn: each stage as far as its place is one of the line's.
+// Any step: each stage as far as its place is one of the line's.
 fn end_step(t: Pipeline, low: i64, high: i64, i: usize, lows: usize, highs: usize) -> Pipeline
     requires { ⌜ SomeReady i lows highs t low high ⌝ }
     ensures { λ r. ⌜ Stepped i lows highs t low high r ⌝ }
@@ -190,7 +190,7 @@ fn end_step(t: Pipeline, low: i64, high: i64, i: usize, lows: usize, highs: usiz
     }
 }
 
-// Turn i of a line, which takes a low and a high, scaled. Away from the ends, where `inner` may be set, it is quicker.
+// Step i of a line, which takes a low and a high, scaled. Away from the ends, where `inner` may be set, it is quicker.
 fn stepped(
     t: Pipeline,
     low: i64,
@@ -222,7 +222,7 @@ fn copy_run(src: &[i64], from: usize, dst: &mut [i64], to: usize, n: usize)
     }
 }
 
-// The place that turn i reads: i, or the last one where i is past it (what stands there is then not used). Where i is known not to be past
+// The place that step i reads: i, or the last one where i is past it (what stands there is then not used). Where i is known not to be past
 // it, `inner` may be set.
 fn place(i: usize, last: usize, inner: bool) -> usize
     requires { ⌜ (inner ≡ true → i ≤ last) ⌝ }
@@ -236,10 +236,10 @@ fn place(i: usize, last: usize, inner: bool) -> usize
 
 // ---- a row
 
-// A row's values begin at this place of its line: each turn leaves two values there, and those of the first two turns do not count.
+// A row's values begin at this place of its line: each step leaves two values there, and those of the first two steps do not count.
 pub const ROW_START: usize = 4;
 
-// Turns start to end - 1 of the row of w values from place `from` on; turn i leaves its two values at places 2 i and 2 i + 1 of the line.
+// Steps start to end - 1 of the row of w values from place `from` on; step i leaves its two values at places 2 i and 2 i + 1 of the line.
 // Away from the row's ends `inner` may be set.
 fn row_steps(
     work: &[i64],
@@ -284,7 +284,7 @@ fn larger(a: usize, b: usize) -> usize
     if a < b { b } else { a }
 }
 
-// The row of w values from place `from` on, undone: it stands in the line from place LEAD on, and all else there is free.
+// The row of w values from place `from` on, inverted: it stands in the line from place ROW_START on, and all else there is free.
 // Lows and highs have the bits of a node.
 pub fn row(work: &[i64], line: &mut [i64], from: usize, w: usize)
     requires { ⌜ RowReady (now work) (length (now line)) from w ⌝ }
@@ -309,7 +309,7 @@ pub fn row(work: &[i64], line: &mut [i64], from: usize, w: usize)
     row_steps(work, line, from, w, end, (w + 1) / 2 + 2, then, false);
 }
 
-// The first w values of each of h rows, row r starting at r * stride, undone in place.
+// The first w values of each of h rows, row r starting at r * stride, inverted in place.
 pub fn rows(work: &mut [i64], line: &mut [i64], stride: usize, w: usize, h: usize)
     requires { ⌜ Part (now work) stride 0 w h × (w + 6 ≤ length (now line)) ⌝ }
     requires { ⌜ ((r : ℕ) → r < h → Safe nodeBits nodeBits w (rowOf stride 0 (at (now work)) r)) ⌝ }
@@ -326,7 +326,7 @@ pub fn rows(work: &mut [i64], line: &mut [i64], stride: usize, w: usize, h: usiz
     }
 }
 
-// ---- a strip: neighbouring columns, undone turn by turn side by side
+// ---- a strip: neighbouring columns, inverted step by step side by side
 
 // A strip of so many lines and columns; the lows have lowbits bits, the highs highbits. What is held of its columns, `room` at most, stands
 // in `state`: four values of each column, and after those the low of each that comes next.
@@ -353,7 +353,7 @@ fn held(state: &[i64], j: usize) -> Pipeline
     }
 }
 
-// A turn is held of column j.
+// A step is held of column j.
 fn keep(state: &mut [i64], j: usize, t: Pipeline)
     requires { ⌜ 4 * j + 3 < length (now state) ⌝ }
     ensures { λ _. ⌜ Kept j t (at (now (state .entry))) (at (now (state .exit))) ⌝ }
@@ -368,7 +368,7 @@ fn keep(state: &mut [i64], j: usize, t: Pipeline)
     state[4 * j + 3] = u1;
 }
 
-// Turn i of column j of a strip, whose high stands at a place of the plane: its two values go to places to + j and to + gap + j.
+// Step i of column j of a strip, whose high stands at a place of the plane: its two values go to places to + j and to + gap + j.
 fn column_step(
     plane: &[i32],
     high: usize,
@@ -412,7 +412,7 @@ fn column_step(
     out[to + gap + j] = odd;
 }
 
-// Turn i of every column of a strip.
+// Step i of every column of a strip.
 fn steps(
     plane: &[i32],
     high: usize,
@@ -475,7 +475,7 @@ fn feed(plane: &[i32], work: &[i64], state: &mut [i64], a: ColumnsAt, b: ColumnS
     copy_run(work, from + 2 * i * stride, state, 4 * room, columns);
 }
 
-// Turn i of a strip at the ends of its columns: what it gives goes to the work area by way of `line`, as far as there are such lines.
+// Step i of a strip at the ends of its columns: what it gives goes to the work area by way of `line`, as far as there are such lines.
 fn outer_step(
     plane: &[i32],
     work: &mut [i64],
@@ -505,7 +505,7 @@ fn outer_step(
     }
 }
 
-// Turn i of a strip: it leaves lines 2 (i - 2) and 2 (i - 2) + 1 in the work area, as far as there are such lines.
+// Step i of a strip: it leaves lines 2 (i - 2) and 2 (i - 2) + 1 in the work area, as far as there are such lines.
 fn strip_step(
     plane: &[i32],
     work: &mut [i64],
@@ -545,7 +545,7 @@ fn strip_step(
     );
 }
 
-// A strip, undone.
+// A strip, inverted.
 fn inverse_strip(
     plane: &[i32],
     work: &mut [i64],
@@ -589,7 +589,7 @@ fn single_line(plane: &[i32], work: &mut [i64], a: ColumnsAt, w: usize, lowbits:
     }
 }
 
-// w columns of h lines, undone strip by strip: a fifth as many columns at once as `state` has elements; a single line by itself. The lows
+// w columns of h lines, inverted strip by strip: a fifth as many columns at once as `state` has elements; a single line by itself. The lows
 // have lowbits bits, the highs highbits.
 pub fn columns(
     plane: &[i32],

@@ -24,6 +24,7 @@
 -- Proofs: Pass (by the rule of the crate stages, which is sound), Level lead to Demand3, in this order.
 -- For the code, which works lines by the kernels of the lifting crate:
 --   StepLaws     a stage as a step or a scaling of that crate, whatever the width of its product
+--   StagesLaws   the stages of a pass as the code hands them over
 --   KernelLaws   a pass as a kernel: worked-fixed; of a single sample as a scaling: single-fixed
 --   SafeLaws     kernel-safe: no number on the way leaves its machine type where the values are sized
 --   ConstantTable, LevelBits   the constants at 32 bits, which round to the nearest at fewer; the bits of a level, and its stages by the bits

@@ -1,4 +1,4 @@
--- Steps by unsigned numbers: a value is raised by 2 ^ 31, and a sum of raised values is shifted and lowered again.
+-- Steps by unsigned numbers: a value is biased by 2 ^ 31, and a sum of biased values is shifted and unbiased again.
 use mathlib.Core.Path.{_≡_, refl, sym, ap, _∙_, subst}
 use mathlib.Core.Bool.{Bool, true, false, cond}
 use mathlib.Core.List.{List, [], _∷_}
@@ -19,7 +19,7 @@ use Rattle.lifting.specs.declared.Step.the-variants.{Scaled, Separate, C
 use Rattle.lifting.specs.declared.Factor.the-variants.{Plain, Biased}
 use Rattle.lifting.specs.Steps.{signed, signedSum, scaled, SumSafe, SameStep, SameFactor}
 
--- ---- raised values
+-- ---- biased values
 
 -- z + 2 ^ 31, for a z that an i32 holds
 abbrev pub biased : ℤ → ℕ
@@ -42,7 +42,7 @@ pub biased-small : (z : ℤ) → SFits w32 z → biased z < 4294967296
 biased-small (pos n) h = let l : n < 2147483648 = h .sfits in omega arith
 biased-small (negsuc n) h = let l : n < 2147483648 = h .sfits in omega arith
 
--- ---- a sum of raised values, shifted and lowered
+-- ---- a sum of biased values, shifted and unbiased
 
 pub unbiased : (z : ℤ) (u base m : ℕ) → 0 < m → z +ℤ pos m *ℤ pos base ≡ pos u → shrZ z m ≡ pos (u / m) -ℤ pos base
 unbiased z u base m h e =
@@ -51,7 +51,7 @@ unbiased z u base m h e =
 own-out : (own z : ℤ) (m : ℕ) → 0 < m → shrZ (pos m *ℤ own +ℤ z) m ≡ own +ℤ shrZ z m
 own-out own z m h = ap (λ (w : ℤ). shrZ w m) (+ℤ-comm (pos m *ℤ own) z) ∙ floor-add-mul z own m h ∙ +ℤ-comm (shrZ z m) own
 
--- a raised product and pad more
+-- a biased product and offset more
 padded-sum : (c s h p : ℤ) → c *ℤ s +ℤ (c *ℤ h +ℤ p) ≡ c *ℤ (s +ℤ h) +ℤ p
 padded-sum c s h p = let ρ : List ℤ = c ∷ s ∷ h ∷ p ∷ [] in ring ρ (search (terms, vars ρ) depth 30) (search (terms, vars ρ) depth 30) tt
 
@@ -125,7 +125,7 @@ padded total base m cut few e h =
 
 -- ---- sizes
 
--- c of raised values and pad more
+-- c of biased values and offset more
 pub fused-small : (c s offset p : ℕ) → s < 4294967296 → offset ≤ p → c * 4294967295 + p < 18446744073709551616 → c * s + offset < 18446744073709551616
 fused-small c s offset p h l r = omega (arith, mul-le-mul-left {m = s} {n = 4294967295} c (omega arith))
 

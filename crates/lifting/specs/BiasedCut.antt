@@ -1,5 +1,5 @@
--- Steps whose product is cut by itself, by unsigned numbers: product and own value are raised, the product is shifted to the right and back to
--- the left, and the sum is shifted and lowered again.
+-- Steps whose product is cut by itself, by unsigned numbers: product and own value are biased, the product is shifted to the right and back to
+-- the left, and the sum is shifted and unbiased again.
 use mathlib.Core.Path.{_≡_, refl, sym, ap, subst, _∙_}
 use mathlib.Core.Bool.{Bool}
 use mathlib.Core.List.{List, [], _∷_}
@@ -39,7 +39,7 @@ cut-joins h = record { few = h .few; rises = h .rises; short = h .short; left = 
 pub end-joins : (k : ℕ) (c : ℤ) (first up cut : ℕ) (own x : ℤ) → CutSafe k c first up cut own x x → JoinSafe k up cut own (shrZ (pos 2 *ℤ c *ℤ x) (2 ^ first))
 end-joins k c first up cut own x h = subst (λ (z : ℤ). JoinSafe k up cut own (shrZ z (2 ^ first))) (sym (twice-times c x)) (cut-joins h)
 
--- ---- the raised form
+-- ---- the biased form
 
 cut-sum : (m o u q d h : ℤ) → m *ℤ o +ℤ u *ℤ (q -ℤ d) +ℤ (m *ℤ h +ℤ d *ℤ u) ≡ m *ℤ (o +ℤ h) +ℤ q *ℤ u
 cut-sum m o u q d h = let ρ : List ℤ = m ∷ o ∷ u ∷ q ∷ d ∷ h ∷ [] in ring ρ (search (terms, vars ρ) depth 30) (search (terms, vars ρ) depth 30) tt

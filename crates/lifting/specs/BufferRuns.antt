@@ -1,4 +1,4 @@
--- A step at the highs or the lows of a tile by runs: the middle, and the ends, where a neighbour stands for the one that is missing.
+-- A step at the highs or the lows of a line buffer by runs: the middle, and the ends, where a neighbour stands for the one that is missing.
 -- What each run asks and what it leaves, for any step f and any fact P that it asks.
 use mathlib.Core.Path.{_≡_, sym, ap, _∙_}
 use mathlib.Core.List.{List}
@@ -11,7 +11,7 @@ use Rattle.lifting.specs.Patch.{at, patch, patch-ext, patch-to}
 use Rattle.lifting.specs.Runs.{ran, Runs, SafeBy, as-type, next-safe, next-run, front-safe, front-run}
 use Rattle.lifting.specs.Buffers.{Buffer, sizes, packed, newHighs, newLows, highsDone, lowsDone, AtHighs, AtLows, at-highs, at-lows, highs-middle, highs-last, lows-first, lows-middle, lows-last}
 
--- the places of the runs, in a slice m as long as the tile l
+-- the places of the runs, in a slice m as long as the line buffer l
 module _ {l : List ℤ} {s n : ℕ} (on : Buffer l s n) (m : List ℤ) (long : length m ≡ length l) where
   pub middle-high-runs : Runs m (lows n * s) 0 s ((lows n - 1) * s)
   middle-high-runs = let z = sizes s n (on .two) in omega (arith, on .room)
@@ -28,7 +28,7 @@ module _ {l : List ℤ} {s n : ℕ} (on : Buffer l s n) (m : List ℤ) (long : l
   pub last-low-runs : highs n < lows n → Runs m (highs n * s) (lows n * s + (highs n - 1) * s) (lows n * s + (highs n - 1) * s) s
   last-low-runs h = let z = sizes s n (on .two) in let odd = z .odd h in omega (arith, on .room)
 
--- the tile with k of its highs done, and with k of its lows
+-- the line buffer with k of its highs done, and with k of its lows
 module _ (f : ℤ → ℤ → ℤ → ℤ) {l : List ℤ} {s n : ℕ} (on : Buffer l s n) where
   abbrev pub someHighs : ℕ → ℕ → ℤ
   someHighs k = patch (lows n * s) k (packed s (newHighs f s n (at l) (on .two))) (at l)

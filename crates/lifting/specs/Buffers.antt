@@ -1,4 +1,4 @@
--- A tile: n lines of s values, one after the other, the lines of the lows first and then those of the highs. A row is a tile with s = 1.
+-- A line buffer: n lines of s values, one after the other, the lines of the lows first and then those of the highs. A row is a line buffer with s = 1.
 use mathlib.Core.Path.{_≡_, sym, ap, subst, _∙_}
 use mathlib.Core.List.{List}
 use Prim.Native.Nat.{ℕ, zero, suc, _+_, _*_, _-_, _/_, _%_, _<_, _≤_, _^_}
@@ -100,7 +100,7 @@ sizes s n two = record {
     more : {a : ℕ} (b : ℕ) → a ≡ suc b → a * s ≡ b * s + s
     more b e = times e ∙ omega arith
 
--- ---- a tile's runs: the middle, and the ends, where a neighbour stands for the one that is missing
+-- ---- a line buffer's runs: the middle, and the ends, where a neighbour stands for the one that is missing
 
 at3 {ℓ} : {A : Type 0} {B : Type ℓ} (f : A → A → A → B) (x : ℕ → A) (i j k i′ j′ k′ : ℕ) → (i ≡ i′) × (j ≡ j′) × (k ≡ k′) → f (x i) (x j) (x k) ≡ f (x i′) (x j′) (x k′)
 at3 f x i j k i′ j′ k′ e = λ u. f (x (e .0 u)) (x (e .1 u)) (x (e .2 u))
@@ -153,7 +153,7 @@ module _ {A : Type 0} (P : A → A → A → Type 0) (s n : ℕ) (x : ℕ → A)
   pub at-lows : AtLows P s n x → (p : ℕ) → p < lows n * s → packed s (newLows P s n x two) p
   at-lows safe = by-line (λ p. packed s (newLows P s n x two) p) s (lows n) λ i j h g. as-type (sym (packed-at s (newLows P s n x two) i j g)) (safe i j h g)
 
--- ---- a tile whose first a low lines are those of the columns l, and whose first b high lines, from place top on, those of h
+-- ---- a line buffer whose first a low lines are those of the columns l, and whose first b high lines, from place top on, those of h
 
 pub record Filled {A : Type 0} (s top a b : ℕ) (l h : ℕ → ℕ → A) (y : ℕ → A) : Type 0 where
   pub low : (i j : ℕ) → i < a → j < s → y (i * s + j) ≡ l j i
@@ -197,7 +197,7 @@ module _ {A : Type 0} {s top a b : ℕ} {l h : ℕ → ℕ → A} {y : ℕ → A
           let w : top + (b * s + j) ≡ top + b * s + j = omega arith in
           rw q (ap z w ∙ ap (λ (q : ℕ → A). q (top + b * s + j)) e ∙ patch-in (top + b * s) s row y j g ∙ same j g)
 
--- ---- what a step reads and makes of a tile
+-- ---- what a step reads and makes of a line buffer
 
 module _ {ℓ} {A : Type 0} {B : Type ℓ} (f : A → A → A → B) {s n : ℕ} {l h : ℕ → ℕ → A} {y : ℕ → A} (two : Liftable n) (held : BufferHolds s n l h y) (i j : ℕ) (g : j < s) where
   high-reads : i < highs n → newHighs f s n y two j i ≡ onHighs f n (l j) (h j) i
@@ -227,7 +227,7 @@ module _ {A : Type 0} {s n : ℕ} {l h : ℕ → ℕ → A} {y : ℕ → A} (two
     high = λ i j p g. patch-above 0 _ _ y _ (omega arith) ∙ held .high i j p g;
   }
 
--- ---- a pair of steps: the highs, then the lows; undone, the other way round
+-- ---- a pair of steps: the highs, then the lows; inverted, the other way round
 
 abbrev pub liftedBuffer : Pair → ℕ → ℕ → (ℕ → ℤ) → ℕ → ℤ
 liftedBuffer pair s n x = lowsDone (applied (pair .lows)) s n (highsDone (applied (pair .highs)) s n x)
@@ -260,7 +260,7 @@ module _ (pair : Pair) {s n : ℕ} {l h : ℕ → ℕ → ℤ} {y : ℕ → ℤ}
       → ((i j : ℕ) → i < highs n → j < s → onHighs (Safe (pair .highs)) n (onLows (applied (pair .lows)) n (l j) (h j)) (h j) i) → InverseLiftSafe pair s n y
   inverse-lift-asked p q = record { on-lows = low-asked two held (Safe (pair .lows)) p; on-highs = high-asked two (low-held two held (applied (pair .lows))) (Safe (pair .highs)) q }
 
--- line i of such a tile
+-- line i of such a line buffer
 pub held-at : {A : Type 0} {s n : ℕ} {l h : ℕ → ℕ → A} {y : ℕ → A} → BufferHolds s n l h y → (i j : ℕ) → i < n → j < s → y (0 + i * s + j) ≡ lowsFirst n (l j) (h j) i
 held-at {A} {s} {n} {l} {h} {y} held i j p g = by-half (λ i. y (0 + i * s + j) ≡ lowsFirst n (l j) (h j) i) n
     (λ i p. ap y (omega arith) ∙ held .low i j p g ∙ sym (first-low n (l j) (h j) i p))

@@ -58,7 +58,7 @@ more-fits x h = record { sfits = mag-of-abs (x +ℤ pos 1) (lt-of-le-of-lt (abs-
     halved (pos n) h = let l : n + n < 2147483648 = h .sfits in omega arith
     halved (negsuc n) h = let l : suc (n + n) < 2147483648 = h .sfits in omega arith
 
--- ---- the raised forms as the steps that they stand for
+-- ---- the biased forms as the steps that they stand for
 
 abbrev pub unbiased : Step → Step
 unbiased Predict = Predict

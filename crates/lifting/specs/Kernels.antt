@@ -33,7 +33,7 @@ module _ (first second : Pair) (n : ℕ) (x : ℕ → ℤ) where
   abbrev pub secondLows : ℕ → ℤ
   secondLows = liftedLows second n firstLows firstHighs
 
--- ---- a pair of steps undone: the lows, then the highs, then each to its place
+-- ---- a pair of steps inverted: the lows, then the highs, then each to its place
 
 module _ (pair : Pair) (n : ℕ) (y : ℕ → ℤ) where
   abbrev pub lowsInverted : ℕ → ℤ

@@ -1,15 +1,15 @@
--- Lifting on tiles: what the code of src/ does to the contents of slices, as functions of the place.
+-- Lifting on line buffers: what the code of src/ does to the contents of slices, as functions of the place.
 --   Steps      one lifting step on unlimited integers, and what keeps the machine's step inside its types
 --   Passes, Kernels   a pass over a line, over rows and over columns of a plane
 --   Patch, PatchLines   a slice as a function of the place, with a run of places, or lines, replaced
 --   Runs       a step at each place of a run
---   Tiles      a step at each high or low of the columns of a tile; a tile filled with lines; a row
+--   Buffers    a step at each high or low of the columns of a line buffer; a line buffer filled with lines; a row
 -- Proved of them:
---   SignedRuns, TileRuns   a turn of a run on signed numbers; a step at a tile's highs or lows by runs
---   Raise      steps and scalings by unsigned numbers
---   RaisedCut  the same of steps whose product is cut first
+--   SignedRuns, BufferRuns   a step of a run on signed numbers; a step at a line buffer's highs or lows by runs
+--   Bias       steps and scalings by unsigned numbers
+--   BiasedCut  the same of steps whose product is cut first
 --   Ends       the reduced equations at an end of a line are the step there
---   Strips     a strip's lines, worked on their way out of the tile; a plane worked row by row and strip by strip; rows of pixels
+--   Strips     a strip's lines, worked on their way out of the line buffer; a plane worked row by row and strip by strip; rows of pixels
 pub mod Steps
 pub mod Patch
 pub mod Runs

@@ -70,7 +70,7 @@ ended (Combined down k c offset base cut) own x = scaledEnd k (signed down c) cu
 ended (Cut k c first up cut) own x = cutFirstEnd k c first up cut own x
 ended (BiasedCut down k c offset first up base cut) own x = cutFirstEnd k (signed down c) first up cut own x
 
--- a step that is not in a raised form
+-- a step that is not in a biased form
 abbrev pub plain : Step → Bool
 plain Predict = true
 plain Update = true
@@ -85,7 +85,7 @@ plain (BiasedCut down k c offset first up base cut) = false
 abbrev pub PlainStep : Step → Type 0
 PlainStep s = T (plain s)
 
--- the two raised forms by number
+-- the two biased forms by number
 abbrev pub biasedStep : Bool → Bool → ℕ → ℕ → ℕ → ℕ → ℕ → Step
 biasedStep true down by c offset base cut = Separate down by c base cut
 biasedStep false down by c offset base cut = Combined down by c offset base cut
@@ -97,7 +97,7 @@ pub record SumSafe (x y : ℤ) : Type 0 where
   pub sum : SFits w32 (x +ℤ y)
   pub negated : SFits w32 (pos 0 -ℤ (x +ℤ y))
 
--- the sum, turned where the constant is negative
+-- the sum, negated where the constant is negative
 abbrev pub signedSum : Bool → ℤ → ℤ → ℤ
 signedSum true x y = pos 0 -ℤ (x +ℤ y)
 signedSum false x y = x +ℤ y
@@ -123,7 +123,7 @@ pub record ScaledSafe (k : ℕ) (c : ℤ) (cut : ℕ) (own x y : ℤ) : Type 0 w
   pub scaled-up : (r : ℕ) → k ≡ cut + r → SFits w32 (own *ℤ pos (2 ^ r))
   pub result : SFits w32 (scaled k c cut own x y)
 
--- Unsigned numbers: the sum is raised by 2 ^ 31, c times it is below 2 ^ 63 and, cut, too large by `base`.
+-- Unsigned numbers: the sum is biased by 2 ^ 31, c times it is below 2 ^ 63 and, cut, too large by `base`.
 pub record SeparateSafe (down : Bool) (rise c base cut : ℕ) (own x y : ℤ) : Type 0 where
   pub some : 1 ≤ cut
   pub short : cut ≤ 31
@@ -134,7 +134,7 @@ pub record SeparateSafe (down : Bool) (rise c base cut : ℕ) (own x y : ℤ) : 
   pub scaled-up : SFits w32 (own *ℤ pos (2 ^ rise))
   pub result : SFits w32 (scaled (cut + rise) (signed down c) cut own x y)
 
--- The own value is raised too. `offset` more makes what the sum is too large by a multiple of 2 ^ cut. `scaled-up` as in `ScaledSafe`: an end takes the
+-- The own value is biased too. `offset` more makes what the sum is too large by a multiple of 2 ^ cut. `scaled-up` as in `ScaledSafe`: an end takes the
 -- step in that form.
 pub record CombinedSafe (down : Bool) (k c offset base cut : ℕ) (own x y : ℤ) : Type 0 where
   pub some : 1 ≤ cut
@@ -161,7 +161,7 @@ pub record CutSafe (k : ℕ) (c : ℤ) (first up cut : ℕ) (own x y : ℤ) : Ty
   pub both : SFits w64 (pos (2 ^ k) *ℤ own +ℤ pos (2 ^ up) *ℤ product c first x y)
   pub result : SFits w32 (cutFirst k c first up cut own x y)
 
--- Unsigned numbers: own value and sum are raised. `offset` more makes what the product is too large by `mid` times 2 ^ first, and the whole is too
+-- Unsigned numbers: own value and sum are biased. `offset` more makes what the product is too large by `mid` times 2 ^ first, and the whole is too
 -- large by `base` times 2 ^ cut. An end takes the step in the form of `CutSafe`.
 pub record BiasedCutSafe (down : Bool) (k c offset first up base cut : ℕ) (own x y : ℤ) : Type 0 where
   pub few : k ≤ 30

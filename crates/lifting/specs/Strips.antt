@@ -1,4 +1,4 @@
--- A strip's lines in the plane and in the tile, and a plane that is worked row by row or strip by strip. A row is a strip of one column whose stride is 1.
+-- A strip's lines in the plane and in the line buffer, and a plane that is worked row by row or strip by strip. A row is a strip of one column whose stride is 1.
 use mathlib.Core.Path.{_≡_, refl, sym, ap, _∙_, fun-ext}
 use mathlib.Core.List.{List}
 use Prim.Native.Nat.{ℕ, suc, _+_, _*_, _-_, _/_, _<_, _≤_}
@@ -18,20 +18,20 @@ use Rattle.lifting.specs.Passes.{Liftable, evens, odds}
 use Rattle.lifting.specs.Kernels.{worked, SafeKernel, Part, rowOf, columnOf, rowsBy, columnsBy}
 use Rattle.lifting.specs.Buffers.{Buffer, column, highColumn, sizes, BufferHolds}
 
--- n lines of s values in the plane, line i from place from + i * stride on, and a tile with room for them
+-- n lines of s values in the plane, line i from place from + i * stride on, and a line buffer with room for them
 pub record StripRoom (plane buffer : List ℤ) (stride from s n : ℕ) : Type 0 where
   pub lines : Lying plane from stride n s
   pub some : 1 ≤ s
   pub two : Liftable n
   pub room : n * s ≤ length buffer
 
--- the tile y holds lines, split, that are safe for a kernel
+-- the line buffer y holds lines, split, that are safe for a kernel
 pub record Ready (k : Kernel) (s n : ℕ) (y : ℕ → ℤ) : Type 0 where
   pub line : ℕ → ℕ → ℤ
   pub held : BufferHolds s n (λ j. evens (line j)) (λ j. odds (line j)) y
   pub safe : (j : ℕ) → j < s → SafeKernel k n (line j)
 
--- z is the plane x with a strip in it: the lines that the tile y holds, worked
+-- z is the plane x with a strip in it: the lines that the line buffer y holds, worked
 abbrev pub Finished : Kernel → ℕ → ℕ → ℕ → ℕ → (ℕ → ℤ) → (ℕ → ℤ) → (ℕ → ℤ) → Type 0
 Finished k stride from s n y x z =
     (line : ℕ → ℕ → ℤ) → BufferHolds s n (λ j. evens (line j)) (λ j. odds (line j)) y → z ≡ patchLines (lineAt from stride) s n (λ i j. worked k n (line j) i) x
@@ -55,7 +55,7 @@ strip-of on p t e f = record {
 pub buffer-of : {plane buffer : List ℤ} {stride from s n : ℕ} → StripRoom plane buffer stride from s n → (t : List ℤ) → length t ≡ length buffer → Buffer t s n
 buffer-of on t e = record { two = on .two; few = on .lines .few; room = omega (arith, on .room) }
 
--- the tile's lines, and some of them
+-- the line buffer's lines, and some of them
 pub buffer-lines : {plane buffer : List ℤ} {stride from s n : ℕ} → StripRoom plane buffer stride from s n → (t : List ℤ) → length t ≡ length buffer → Lying t 0 s n s
 buffer-lines {s} {n} on t e = record {
   some = on .lines .some;
@@ -64,7 +64,7 @@ buffer-lines {s} {n} on t e = record {
   fits = λ i p. omega (arith, mul-le-mul-right {m = suc i} {n = n} s (omega arith), on .room);
 }
 
--- lines 2 i and 2 i + 1 in the plane, and where they go in the tile
+-- lines 2 i and 2 i + 1 in the plane, and where they go in the line buffer
 pub record Two (plane buffer : List ℤ) (stride from s n i : ℕ) : Type 0 where
   pub even : lineAt from stride (2 * i) ≡ from + 2 * i * stride
   pub odd : lineAt from stride (2 * i + 1) ≡ from + 2 * i * stride + stride
@@ -131,7 +131,7 @@ both-halves from stride s n new low high x y z e f ls hs =
     ∙ (λ u. patchLines (λ i. lines-after from stride (lows n) (from + lows n * stride) i refl u) s (highs n) (λ i. new (lows n + i)) ((e ∙ lines-ext _ s low new x (lows n) ls) u))
     ∙ lines-then (lineAt from stride) s new x (lows n) (highs n) ∙ ap (λ (k : ℕ). patchLines (lineAt from stride) s k new x) (let e : lows n + highs n ≡ n = omega arith in e)
 
--- ---- the tile's lines, each to its place: line i as it should be
+-- ---- the line buffer's lines, each to its place: line i as it should be
 
 abbrev pub woven : {A : Type 0} → ℕ → ℕ → (ℕ → A) → ℕ → ℕ → A
 woven s n y i j = interleaved (column s y j) (highColumn s n y j) i
@@ -246,7 +246,7 @@ module _ (pass : OnLine ℤ) (stride from d s h : ℕ) (narrow : from + (d + s) 
 pub columns-none : (pass : OnLine ℤ) (stride from h : ℕ) (x : ℕ → ℤ) → x ≡ columnsBy pass stride from 0 h x
 columns-none pass stride from h x = fun-ext λ p. sym (lines-out (lineAt from stride) 0 _ x h p (λ i j a b e. omega arith))
 
--- ---- how wide a strip may be, of h rows, in a tile of t values
+-- ---- how wide a strip may be, of h rows, in a line buffer of t values
 
 pub some-width : (t h : ℕ) → 0 < h → h ≤ t → 1 ≤ t / h
 some-width t h p l = le-div-iff-mul-le {k = h} {x = 1} {y = t} p .1 (omega arith)

@@ -1,4 +1,4 @@
-// Lifting on tiles of a plane. A tile is n lines of s values, one after the other: the lines of the lows first, then those of the highs.
+// Lifting on line buffers of a plane. A line buffer is n lines of s values, one after the other: the lines of the lows first, then those of the highs.
 ghost use mathlib.Core.Path.{_≡_};
 ghost use Prim.Native.Nat.{ℕ, _+_, _*_, _-_, _/_, _<_, _≤_, _^_, min};
 ghost use lib.ListN.{length};
@@ -19,7 +19,7 @@ ghost use Rattle.lifting.specs.Kernels.{worked, Forward, SafeKernel, Sam
 ghost use Rattle.lifting.specs.Strips.{StripRoom, Ready, Finished, pixelLine};
 
 // A lifting step: what it makes of a value and two neighbours is `applied` of specs/Steps. `Separate` and `Combined` are the forms in which a
-// scaled step is run: by products of unsigned numbers, the neighbours' sum turned where the constant is negative. `Cut` cuts the product by
+// scaled step is run: by products of unsigned numbers, the neighbours' sum negated where the constant is negative. `Cut` cuts the product by
 // itself, first; `BiasedCut` is the form in which it is run.
 pub enum Step {
     Predict,
@@ -79,7 +79,7 @@ pub enum Factor {
     },
 }
 
-// A pair of lifting steps: one at the highs, then one at the lows; undone, the other way round.
+// A pair of lifting steps: one at the highs, then one at the lows; inverted, the other way round.
 pub struct Pair {
     pub highs: Step,
     pub lows: Step,
@@ -96,7 +96,7 @@ pub enum Kernel {
         low: Factor,
         high: Factor,
     },
-    // a pair undone
+    // a pair inverted
     Inverse(Pair),
 }
 
@@ -118,7 +118,7 @@ pub fn updated(own: i32, x: i32, y: i32) -> i32
     own + ((x + y + 2) >> 2)
 }
 
-// What undoes `predicted`.
+// What inverts `predicted`.
 fn inverse_predicted(own: i32, x: i32, y: i32) -> i32
     requires { ⌜ Safe Step.InversePredict own x y ⌝ }
     ensures { λ r. ⌜ r ≡ applied Step.InversePredict own x y ⌝ }
@@ -126,7 +126,7 @@ fn inverse_predicted(own: i32, x: i32, y: i32) -> i32
     own + ((x + y) >> 1)
 }
 
-// What undoes `updated`.
+// What inverts `updated`.
 fn inverse_updated(own: i32, x: i32, y: i32) -> i32
     requires { ⌜ Safe Step.InverseUpdate own x y ⌝ }
     ensures { λ r. ⌜ r ≡ applied Step.InverseUpdate own x y ⌝ }
@@ -218,7 +218,7 @@ pub fn bias(z: i32) -> u32
     ((z as i64) + 2147483648) as u32
 }
 
-// A product of 32-bit numbers, and pad more.
+// A product of 32-bit numbers, and offset more.
 fn fused(c: u32, s: u32, offset: u64) -> u64
     requires { ⌜ c * s + offset < 18446744073709551616 ⌝ }
     ensures { λ r. ⌜ r ≡ c * s + offset ⌝ }
@@ -267,7 +267,7 @@ fn signed_sum(down: bool, x: i32, y: i32) -> i32
     if down { 0 - sum } else { sum }
 }
 
-// The product of a constant and a raised sum, and pad more.
+// The product of a constant and a biased sum, and offset more.
 fn product(down: bool, c: u32, offset: u64, x: i32, y: i32) -> u64
     requires { ⌜ SumSafe x y × (c < 2147483648) × (offset ≤ 4611686018427387904) ⌝ }
     ensures { λ r. ⌜ (r ≡ c * biased (signedSum down x y) + offset) × (r ≤ 13835058055282163712) ⌝ }
@@ -355,7 +355,7 @@ fn biased_cut_of(
     narrow(shifted_unbiased(fused(1u32 << k, bias(own), part), cut, base))
 }
 
-// One step of one value, not in a raised form.
+// One step of one value, not in a biased form.
 fn apply(step: Step, own: i32, x: i32, y: i32) -> i32
     requires { ⌜ PlainStep step × Safe step own x y ⌝ }
     ensures { λ r. ⌜ r ≡ applied step own x y ⌝ }
@@ -395,7 +395,7 @@ pub fn updated_end(own: i32, x: i32) -> i32
     own + ((x + 1) >> 1)
 }
 
-// What undoes `predicted_end`.
+// What inverts `predicted_end`.
 fn inverse_predicted_end(own: i32, x: i32) -> i32
     requires { ⌜ Safe Step.InversePredict own x x ⌝ }
     ensures { λ r. ⌜ r ≡ ended Step.InversePredict own x ⌝ }
@@ -403,7 +403,7 @@ fn inverse_predicted_end(own: i32, x: i32) -> i32
     own + x
 }
 
-// What undoes `updated_end`.
+// What inverts `updated_end`.
 fn inverse_updated_end(own: i32, x: i32) -> i32
     requires { ⌜ Safe Step.InverseUpdate own x x ⌝ }
     ensures { λ r. ⌜ r ≡ ended Step.InverseUpdate own x ⌝ }
@@ -492,7 +492,7 @@ fn scaled_by(c: i64, cut: u32, x: i32) -> i32
     narrowed(times(c, wide(x)), cut)
 }
 
-// The same of raised values.
+// The same of biased values.
 fn biased_by(c: u32, offset: u64, base: u64, cut: u32, x: i32) -> i32
     requires { ⌜ FactorSafe (Factor.Biased c offset base cut) x ⌝ }
     ensures { λ r. ⌜ r ≡ scaledBy (Factor.Biased c offset base cut) x ⌝ }
@@ -514,7 +514,7 @@ fn run(buf: &mut [i32], t: usize, a: usize, b: usize, n: usize, step: Step)
     }
 }
 
-// A run of a raised step. Each call with a constant in place of a flag is compiled to a loop of its own.
+// A run of a biased step. Each call with a constant in place of a flag is compiled to a loop of its own.
 fn biased_run(
     buf: &mut [i32],
     t: usize,
@@ -993,7 +993,7 @@ fn plain_scale_run(src: &[i32], from: usize, dst: &mut [i32], to: usize, n: usiz
     }
 }
 
-// The same by raised values.
+// The same by biased values.
 fn biased_scale_run(
     src: &[i32],
     from: usize,
@@ -1044,7 +1044,7 @@ fn plain_scale_here(buf: &mut [i32], from: usize, n: usize, c: i64, cut: u32)
     }
 }
 
-// The same by raised values.
+// The same by biased values.
 fn biased_scale_here(
     buf: &mut [i32],
     from: usize,
@@ -1081,9 +1081,9 @@ pub fn scale_here(buf: &mut [i32], from: usize, n: usize, g: Factor)
     }
 }
 
-// ---- a tile
+// ---- a line buffer
 
-// A step at each high of each column of a tile of n lines of s values.
+// A step at each high of each column of a line buffer of n lines of s values.
 fn on_highs(buffer: &mut [i32], s: usize, n: usize, step: Step)
     requires { ⌜ Buffer (now buffer) s n ⌝ }
     requires { ⌜ AtHighs (Safe step) s n (at (now buffer)) ⌝ }
@@ -1130,7 +1130,7 @@ fn lift(buffer: &mut [i32], s: usize, n: usize, pair: Pair)
     on_lows(buffer, s, n, lows);
 }
 
-// A pair undone: the lows, then the highs.
+// A pair inverted: the lows, then the highs.
 fn inverse_lift(buffer: &mut [i32], s: usize, n: usize, pair: Pair)
     requires { ⌜ Buffer (now buffer) s n ⌝ }
     requires { ⌜ InverseLiftSafe pair s n (at (now buffer)) ⌝ }
@@ -1217,7 +1217,7 @@ fn copy_pair(src: &[i32], a: usize, b: usize, dst: &mut [i32], c: usize, d: usiz
     copy_run(src, b, dst, d, m);
 }
 
-// The strip's lines go to the tile, the even ones first.
+// The strip's lines go to the line buffer, the even ones first.
 fn split_lines(plane: &[i32], buffer: &mut [i32], stride: usize, from: usize, s: usize, n: usize)
     requires { ⌜ StripRoom (now plane) (now buffer) stride from s n ⌝ }
     ensures { λ _. ⌜ BufferHolds s n (λ j. evens (columnOf stride from (at (now (plane .entry))) j)) (λ j. odds (columnOf stride from (at (now (plane .entry))) j)) (at (now (buffer .exit))) ⌝ }
@@ -1235,7 +1235,7 @@ fn split_lines(plane: &[i32], buffer: &mut [i32], stride: usize, from: usize, s:
     }
 }
 
-// The tile's lines go to the strip's, those of the lows to the even ones.
+// The line buffer's lines go to the strip's, those of the lows to the even ones.
 fn merge_lines(buffer: &[i32], plane: &mut [i32], stride: usize, from: usize, s: usize, n: usize)
     requires { ⌜ StripRoom (now plane) (now buffer) stride from s n ⌝ }
     ensures { λ _. ⌜ at (now (plane .exit)) ≡ patchLines (lineAt from stride) s n (λ i j. interleaved (column s (at (now (buffer .entry))) j) (highColumn s n (at (now (buffer .entry))) j) i) (at (now (plane .entry))) ⌝ }
@@ -1278,7 +1278,7 @@ fn merge(buffer: &[i32], plane: &mut [i32], stride: usize, from: usize, s: usize
 
 // ---- a strip: s neighbouring columns of n lines, line i from place from + i * stride on; a row is one column with stride 1
 
-// A tile that holds lines, worked by a pair on their way into the plane.
+// A line buffer that holds lines, worked by a pair on their way into the plane.
 fn finish_one(
     plane: &mut [i32],
     buffer: &mut [i32],
@@ -1355,7 +1355,7 @@ fn finish(
     }
 }
 
-// The strip, worked forward through the tile.
+// The strip, worked forward through the line buffer.
 fn strip_forward(
     plane: &mut [i32],
     buffer: &mut [i32],
@@ -1373,7 +1373,7 @@ fn strip_forward(
     finish(plane, buffer, stride, from, s, n, kernel);
 }
 
-// The strip, a pair undone.
+// The strip, a pair inverted.
 fn strip_inverse(
     plane: &mut [i32],
     buffer: &mut [i32],
@@ -1392,7 +1392,7 @@ fn strip_inverse(
     merge(buffer, plane, stride, from, s, n);
 }
 
-// The strip, worked through the tile.
+// The strip, worked through the line buffer.
 fn strip(
     plane: &mut [i32],
     buffer: &mut [i32],
@@ -1422,7 +1422,7 @@ pub fn centred(pixel: u16, middle: u16) -> i32
     (pixel as i32) - (middle as i32)
 }
 
-// One pixel goes to the tile.
+// One pixel goes to the line buffer.
 fn put_pixel(pixels: &[u16], from: usize, buffer: &mut [i32], to: usize, middle: u16)
     requires { ⌜ (from < length (now pixels)) × (to < length (now buffer)) ⌝ }
     ensures { λ _. ⌜ at (now (buffer .exit)) ≡ patch to 1 (pixelLine (now (pixels .entry)) middle from) (at (now (buffer .entry))) ⌝ }
@@ -1430,7 +1430,7 @@ fn put_pixel(pixels: &[u16], from: usize, buffer: &mut [i32], to: usize, middle:
     buffer[to] = centred(pixels[from], middle);
 }
 
-// n pixels go to the tile, the even ones first.
+// n pixels go to the line buffer, the even ones first.
 fn split_pixels(pixels: &[u16], from: usize, buffer: &mut [i32], n: usize, middle: u16)
     requires { ⌜ (n < 2 ^ 31) × (from + n ≤ length (now pixels)) × (n ≤ length (now buffer)) ⌝ }
     ensures { λ _. ⌜ BufferHolds 1 n (λ j. evens (pixelLine (now (pixels .entry)) middle from)) (λ j. odds (pixelLine (now (pixels .entry)) middle from)) (at (now (buffer .exit))) ⌝ }
@@ -1522,7 +1522,7 @@ pub fn pixel_rows(
     }
 }
 
-// The first w values of each of h rows, row r starting at r * stride, a pair undone in place through the tile.
+// The first w values of each of h rows, row r starting at r * stride, a pair inverted in place through the line buffer.
 fn inverse_rows(
     plane: &mut [i32],
     buffer: &mut [i32],
@@ -1558,7 +1558,7 @@ fn forward_rows(
     }
 }
 
-// The first w values of each of h rows, row r starting at r * stride, worked in place through the tile. Which way is told once.
+// The first w values of each of h rows, row r starting at r * stride, worked in place through the line buffer. Which way is told once.
 pub fn rows(
     plane: &mut [i32],
     buffer: &mut [i32],
@@ -1589,7 +1589,7 @@ pub fn smaller(a: usize, b: usize) -> usize
     if a < b { a } else { b }
 }
 
-// w columns of h rows, from column `from` on, worked in place through the tile, strip by strip.
+// w columns of h rows, from column `from` on, worked in place through the line buffer, strip by strip.
 pub fn columns(
     plane: &mut [i32],
     buffer: &mut [i32],

@@ -19,12 +19,12 @@ pub equal : {A : Type 0} → Equivalence (_≡_ {A = A})
 equal = record { reflexive = λ x. refl; symmetric = λ e. sym e; transitive = λ e f. e ∙ f }
 
 module _ {A : Type 0} (R : A → A → Type 0) where
-  -- a pass that reads no more than its n values, and is taken back by another
+  -- a pass that reads no more than its n values, and is inverted by another
   pub record LeftInverse (pass inverse : OnLine A) : Type 0 where
     pub reads : (n : ℕ) (x y : ℕ → A) → ((k : ℕ) → k < n → R (x k) (y k)) → (k : ℕ) → k < n → R (pass n x k) (pass n y k)
     pub left-inverse : (n : ℕ) (x : ℕ → A) (k : ℕ) → k < n → R (inverse n (pass n x) k) (x k)
 
-  -- two passes that take each other back
+  -- two passes that are inverses of each other
   pub record Inverses (pass inverse : OnLine A) : Type 0 where
     pub there : LeftInverse pass inverse
     pub back : LeftInverse inverse pass
@@ -95,14 +95,14 @@ module _ {A : Type 0} {R : A → A → Type 0} (e : Equivalence R) where
           (λ r c j. is (rows-first-keeps row column .beyond w h q r c j ∙ columns-first-keeps inverseRow inverseColumn .beyond w h p r c j));
     }
 
-    -- A level is undone by the passes that undo its own, in the other order.
+    -- A level is inverted by the passes that invert its own, in the other order.
     pub rows-first-inverses : InversesPart R (levelRowsFirst row column) (levelColumnsFirst inverseRow inverseColumn)
     rows-first-inverses = record { there = rows-first-left-inverse; back = columns-first-left-inverse }
 
   pub columns-first-inverses : {row inverseRow : OnLine A} {column inverseColumn : Bool → OnLine A} → Inverses R row inverseRow → ((b : Bool) → Inverses R (column b) (inverseColumn b)) → InversesPart R (levelColumnsFirst row column) (levelRowsFirst inverseRow inverseColumn)
   columns-first-inverses rowsU columnsU = part-swapped R (rows-first-inverses (swapped R rowsU) (λ b. swapped R (columnsU b)))
 
-  -- levels that are undone one by one
+  -- levels that are inverted one by one
   module _ {level inverse : ℕ → OnPart A} (leftInverse : (l : ℕ) → InversesPart R (level l) (inverse l)) (w h : ℕ) where
     -- they read no more than the plane
     module _ (W H : ℕ) (in-w : w ≤ W) (in-h : h ≤ H) where
@@ -120,7 +120,7 @@ module _ {A : Type 0} {R : A → A → Type 0} (e : Equivalence R) where
           back-reads k _ _
           (leftInverse (suc k) .back .reads (side k w) (side k h) W H (omega (arith, side-le k w)) (omega (arith, side-le k h)) p q s)
 
-    -- Levels 1 to L, taken back, leave the plane as it was.
+    -- Levels 1 to L, inverted, leave the plane as it was.
     pub levels-left-inverse : (L : ℕ) (p : Plane A) (r c : ℕ) → R (inverseLevels inverse L w h (levels level L w h p) r c) (p r c)
     unfolding inverseLevels levels
     levels-left-inverse zero p r c = e .reflexive (p r c)
@@ -130,7 +130,7 @@ module _ {A : Type 0} {R : A → A → Type 0} (e : Equivalence R) where
         (λ a b i j. leftInverse (suc k) .there .left-inverse (side k w) (side k h) (levels level k w h p) a b) r c (omega arith) (omega arith))
         (levels-left-inverse k p r c)
 
-    -- Levels L to 1 taken back, and worked again, leave the plane as it was.
+    -- Levels L to 1 inverted, and worked again, leave the plane as it was.
     pub levels-right-inverse : (L : ℕ) (p : Plane A) (r c : ℕ) → R (levels level L w h (inverseLevels inverse L w h p) r c) (p r c)
     unfolding inverseLevels levels
     levels-right-inverse zero p r c = e .reflexive (p r c)

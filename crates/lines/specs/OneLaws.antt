@@ -31,7 +31,7 @@ module _ {A : Type 0} (single : A → A) (long : OnLine A) (n : ℕ) where
 pub by-one : (P : Type 0) (n : ℕ) → (n < 2 → P) → (Liftable n → P) → P
 by-one P n one more = by-ltb (λ t. P) n 2 one (λ h. more (record { least = h }))
 
--- A pass over two samples or more, and what undoes it; where each lets a single sample through as it is, the same holds from length 1.
+-- A pass over two samples or more, and what inverts it; where each lets a single sample through as it is, the same holds from length 1.
 module _ {A : Type 0} {R : A → A → Type 0} (e : Equivalence R) where
   is : {x y : A} → x ≡ y → R x y
   is {x} q = subst (λ (z : A). R x z) q (e .reflexive x)
@@ -44,7 +44,7 @@ module _ {A : Type 0} {R : A → A → Type 0} (e : Equivalence R) where
     abbrev pub Reads : Type 0
     Reads = (n : ℕ) → Liftable n → (x y : ℕ → A) → ((k : ℕ) → k < n → R (x k) (y k)) → (k : ℕ) → k < n → R (pass n x k) (pass n y k)
 
-    -- it is taken back
+    -- it is inverted
     abbrev pub LeftInverseLong : OnLine A → Type 0
     LeftInverseLong inverse = (n : ℕ) → Liftable n → (x : ℕ → A) (k : ℕ) → k < n → R (inverse n (pass n x) k) (x k)
 

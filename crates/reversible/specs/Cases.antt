@@ -30,22 +30,22 @@ module _ (n : ℕ) (x : ℕ → ℤ) where
   unfoldable pub passByCases : ℕ → ℤ
   passByCases = lowsFirst n lowByCases highByCases
 
--- ---- back, which the paper does not print: the same equations taken back are ours
+-- ---- back, which the paper does not print: the same equations inverted are ours
 
--- equation 5 taken back
+-- equation 5 inverted
 unfoldable pub inversePredictEnd : ℤ → ℤ → ℤ
 inversePredictEnd own x = own +ℤ x
 
--- equations 4 and 6 taken back
+-- equations 4 and 6 inverted
 unfoldable pub inverseUpdateEnd : ℤ → ℤ → ℤ
 inverseUpdateEnd own y = own -ℤ floorDiv (y +ℤ pos 1) 2
 
 module _ (n : ℕ) (y : ℕ → ℤ) where
-  -- equations 2, 4 and 6 taken back
+  -- equations 2, 4 and 6 inverted
   unfoldable pub lowInverseByCases : ℕ → ℤ
   lowInverseByCases = lowsByCases inverseUpdate inverseUpdateEnd n y (λ i. y (lows n + i))
 
-  -- equations 1 and 5 taken back
+  -- equations 1 and 5 inverted
   unfoldable pub highInverseByCases : ℕ → ℤ
   highInverseByCases = highsByCases inversePredict inversePredictEnd n lowInverseByCases (λ i. y (lows n + i))
 

@@ -5,7 +5,7 @@
 --   Claims           what holds of exact copies: return, uniqueness, and when the way back is done or refused 11
 -- Proved of them:
 --   CaseLaws         pass-is, back-is: the 5/3 by cases is the 5/3
---   ReversibleLaws   forward-back, back-forward: each undoes the other, in either order
+--   ReversibleLaws   forward-back, back-forward: each inverts the other, in either order
 --   PictureLaws      has-picture: the way back gives pixels exactly where a picture has the plane in that order
 --   CallLaws         the claims: makes-copy, there-and-back; gives-picture, back-and-there; done-exactly, eleven-exactly
 --   OneToOne         the claim one-picture: two pictures with one transform are equal

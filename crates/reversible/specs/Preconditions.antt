@@ -23,7 +23,7 @@ use Rattle.reversible.specs.Sizes.{forwardKernel, inverseKernel, forward
 use Rattle.reversible.specs.Columns.{sampleColumn, PixelRoom}
 use Rattle.width_table.specs.Table.{maxLevels, maxDepth}
 
--- A part of w columns and h rows, and a tile for its rows. Where a row is worked, the kernel's steps fit.
+-- A part of w columns and h rows, and a line buffer for its rows. Where a row is worked, the kernel's steps fit.
 pub record RowsRoom (k : Kernel) (plane : List ℤ) (buffer W w h : ℕ) : Type 0 where
   pub part : Part plane W 0 w h
   pub row : w ≤ buffer
@@ -35,7 +35,7 @@ pub record ColumnsRoom (k : Kernel) (plane : List ℤ) (buffer W w h : ℕ) : Ty
   pub column : h ≤ buffer
   pub safe : Liftable h → (c : ℕ) → c < w → SafeKernel k h (columnOf W 0 (at plane) c)
 
--- a part with values of size b at most, and a tile for its lines
+-- a part with values of size b at most, and a line buffer for its lines
 pub record LevelRoom (b : ℕ) (plane : List ℤ) (buffer W w h : ℕ) : Type 0 where
   pub part : Part plane W 0 w h
   pub row : w ≤ buffer
@@ -50,13 +50,13 @@ pub record PictureRoom (B : ℕ) (pixels : List ℕ) (plane w h : ℕ) : Type 0 
   pub room : w * h ≤ plane
   pub small : (k : ℕ) → k < w * h → natAbs (pos (getD pixels k 0) -ℤ pos (2 ^ (B - 1))) ≤ 2 ^ 11
 
--- and a tile for its rows
+-- and a line buffer for its rows
 pub record FirstRoom (B : ℕ) (pixels : List ℕ) (plane : List ℤ) (buffer w h : ℕ) : Type 0 where
   pub picture : PictureRoom B pixels (length plane) w h
   pub part : Part plane w 0 w h
   pub row : w ≤ buffer
 
--- admitted sides, and room for w * h values in the plane and for a line in the tile
+-- admitted sides, and room for w * h values in the plane and for a line in the line buffer
 pub record LevelsRoom (L w h plane buffer : ℕ) : Type 0 where
   pub few : L ≤ maxLevels
   pub across : Admitted w

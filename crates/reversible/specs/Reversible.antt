@@ -69,7 +69,7 @@ module _ (n : ℕ) (y : ℕ → ℤ) where
 unfoldable pub inversePass : OnLine ℤ
 inversePass = fromOne (λ v. v) inverseLong
 
--- a level of a copy of that order taken inverse: new copies undo the rows first, copies made earlier the columns (document 02, job 4)
+-- a level of a copy of that order taken inverse: new copies invert the rows first, copies made earlier the columns (document 02, job 4)
 abbrev pub inverseLevel : Order → OnPart ℤ
 inverseLevel columnsFirst = levelRowsFirst inversePass (λ low. inversePass)
 inverseLevel rowsFirst = levelColumnsFirst inversePass (λ low. inversePass)

@@ -1,4 +1,4 @@
--- The 5/3 transform and its way inverse undo each other, whatever the sides, in either order of rows and columns (`forward-back`,
+-- The 5/3 transform and its way inverse invert each other, whatever the sides, in either order of rows and columns (`forward-back`,
 -- `back-forward`), and read nothing outside the picture.
 use Prim.Native.Nat.{ℕ, _+_, _*_, _<_}
 use mathlib.Core.Path.{_≡_, _∙_, fun-ext}

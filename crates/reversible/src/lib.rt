@@ -33,7 +33,7 @@ use lifting::Step;
 use refusals::Outcome;
 use refusals::Refusal;
 
-// Elements of the tile of the way back: sixteen columns of MAX_SIDE.
+// Elements of the line buffer of the way back: sixteen columns of MAX_SIDE.
 const TILE: usize = 16 * pictures::MAX_SIDE;
 
 // No picture gives a value beyond these; between them no sum of a level leaves 32 bits.
@@ -41,7 +41,7 @@ const MAX_VALUE: i32 = 1 << 22;
 
 const MIN_VALUE: i32 = -MAX_VALUE;
 
-// A pass of the 5/3, and what undoes it.
+// A pass of the 5/3, and what inverts it.
 const FORWARD_PASS: Kernel = Kernel::One(Pair {
     highs: Step::Predict,
     lows: Step::Update,
@@ -358,7 +358,7 @@ pub fn forward(
     }
 }
 
-// One level back, of a part of w columns and h rows: what was worked first is undone last.
+// One level back, of a part of w columns and h rows: what was worked first is inverted last.
 fn level_back(
     values: &mut [i32],
     buffer: &mut [i32],
@@ -507,7 +507,7 @@ fn take_back(
 }
 
 // The picture of a plane whose levels were worked in an order: refusals 4, 8, 9 and 11. The first w * h elements of the work area become
-// 0, with 11 too. The tile is made before anything is judged (docs/DECISIONS.md, the compiler's back end).
+// 0, with 11 too. The line buffer is made before anything is judged (docs/DECISIONS.md, the compiler's back end).
 fn back_in(
     depth: u8,
     levels: u8,

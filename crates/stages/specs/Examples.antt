@@ -24,7 +24,7 @@ pub forward-bounds :
 unfolding Rule.sideBound Rule.rangeAt Rule.errorAt Rule.owns Rule.stagesPart Rule.ownErrorOf Rule.inputPart Rule.ownLift Rule.productLoss Rule.ownScale Rule.loss Rule.timesGain bits upDiv gain exactGain sumFrom sumTo inputAnswer nodeAnswer valuesAfter made roundedUp lift _⊕_ _⊗_ whole magnitude
 forward-bounds = refl
 
--- G1, G2, U2, P2, U1, P1 undone, lows of range 2^11 and highs of range 2^8
+-- G1, G2, U2, P2, U1, P1 inverted, lows of range 2^11 and highs of range 2^8
 pub inverse-bounds :
     let b = after inverse (apart (bound (2 ^ 43) 0) (bound (2 ^ 40) 0)) in
     b low 1 ∷ b high 2 ∷ b low 3 ∷ b high 4 ∷ b low 5 ∷ b high 6 ∷ []

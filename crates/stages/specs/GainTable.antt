@@ -22,7 +22,7 @@ forwardGains =
     ∷ (0 ∷ 0 ∷ 0 ∷ 0 ∷ 0 ∷ 0 ∷ 65536 ∷ [])
     ∷ []
 
--- from the lows, the highs and G1, G2, U2, P2, U1, P1 undone to G1, G2, U2, P2, U1, P1 undone
+-- from the lows, the highs and G1, G2, U2, P2, U1, P1 inverted to G1, G2, U2, P2, U1, P1 inverted
 abbrev pub inverseGains : List (List ℕ)
 inverseGains =
     (57008 ∷ 0 ∷ 57008 ∷ 100665 ∷ 57008 ∷ 63260 ∷ [])

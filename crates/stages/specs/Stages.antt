@@ -32,7 +32,7 @@ stage stages m = getD stages m (scaling low oneF)
 abbrev pub forward : List Stage
 forward = lifting high alpha ∷ lifting low beta ∷ lifting high gamma ∷ lifting low delta ∷ scaling low zeta ∷ scaling high zetaInverse ∷ []
 
--- G1, G2, U2, P2, U1, P1 undone
+-- G1, G2, U2, P2, U1, P1 inverted
 abbrev pub inverse : List Stage
 inverse = scaling low zetaInverse ∷ scaling high zeta ∷ lifting low (neg delta) ∷ lifting high (neg gamma) ∷ lifting low (neg beta) ∷ lifting high (neg alpha) ∷ []
 

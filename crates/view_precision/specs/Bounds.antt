@@ -26,11 +26,11 @@ module _ (a b : Bound) where
   abbrev pub boundAfter : Side → ℕ → Bound
   boundAfter = Rule.sideBound inverse (apart a b) (λ i. inverseBits) (λ i. uncut) (λ s. 0) (λ i. nodeBits)
 
-  -- The even output, which U1 undone leaves, on lines from one value (document 02, job 6): the larger of that and the low input.
+  -- The even output, which U1 inverted leaves, on lines from one value (document 02, job 6): the larger of that and the low input.
   unfoldable pub even : Bound
   even = larger (boundAfter low 5) a
 
-  -- The odd output, which P1 undone leaves. Its own error goes by the even output, which it multiplies.
+  -- The odd output, which P1 inverted leaves. Its own error goes by the even output, which it multiplies.
   unfoldable pub odd : Bound
   odd =
       let own = ownLift uncut inverseBits nodeBits nodeBits nodeBits (even .range + even .error) in
@@ -40,7 +40,7 @@ module _ (a b : Bound) where
         error = inputPart inverse (λ x. x .error) (apart a b) high 6 + Rule.stagesPart inverse (apart a b) (λ i. inverseBits) (λ i. uncut) (λ s. 0) (λ i. nodeBits) 6 (own ∷ earlier) high 6;
       }
 
-  -- a node is named by the stage that is undone there
+  -- a node is named by the stage that is inverted there
   unfoldable pub inverseBound : Node → Bound
   inverseBound G1 = boundAfter low 1
   inverseBound G2 = boundAfter high 2

@@ -55,7 +55,7 @@ module _ (a b : Bound) where
   unfolding odd
   odd-range = omega arith
 
-  -- the own error of undoing P1, which goes by the even output
+  -- the own error of inverting P1, which goes by the even output
   abbrev pub ownOdd : ℕ
   ownOdd = ownLift uncut inverseBits nodeBits nodeBits nodeBits (even a b .range + even a b .error)
 

@@ -29,7 +29,7 @@ impl Bound {
 
     const MOST: u64 = Bound::ONE << 15;
 
-    // The stages of a pass undone, from 0: G1 and G2, which scale, then U2, P2, U1, P1.
+    // The stages of a pass inverted, from 0: G1 and G2, which scale, then U2, P2, U1, P1.
     const STAGES: u8 = WidthTable::NODES;
 
     const SCALING_STAGES: u8 = 2;

@@ -38,7 +38,7 @@ use Rattle.viewing.specs.WidthLaws.{Lookable}
 use Rattle.viewing.specs.LevelSteps.{columned, levelInverse, SafeLevel, Standing, column-at, level-at, level-safe, level-beyond, columned-beyond, line-reads}
 use Rattle.viewing.specs.RowSteps.{RowsReady, shownRows, clearedRows, all-shown, all-cleared}
 
--- a level can be taken back: w columns and h rows, from a plane whose rows are W long to rows of the work area that are S apart
+-- a level can be inverted: w columns and h rows, from a plane whose rows are W long to rows of the work area that are S apart
 pub record LevelReady (t : WidthTable) (l : ℕ) (plane work : List ℤ) (state line W S w h : ℕ) : Type 0 where
   pub is-level : IsLevel t l
   pub part : Part work S 0 w h
@@ -71,7 +71,7 @@ pub record ViewReady (t : WidthTable) (plane : List ℤ) (work state line w h : 
   pub some : 5 ≤ state
   pub spare : 2 * state ≤ 5 * line
 
--- In the work area x, which was x₀, levels k to 1 are left to take back. What level k takes is `taken`: what the levels above it left
+-- In the work area x, which was x₀, levels k to 1 are left to invert. What level k takes is `taken`: what the levels above it left
 -- stands in the work area, in rows 2^k w apart, and all else in the plane.
 pub record LevelsLeft (t : WidthTable) (w h k : ℕ) (plane x₀ x : ℕ → ℤ) : Type 0 where
   pub taken : Plane ℤ
@@ -153,7 +153,7 @@ module _ {t : WidthTable} {plane : List ℤ} {work₀ state₀ line₀ w h : ℕ
     past = λ q far. refl;
   }
 
-  -- level k + 1, of those that are left, can be taken back
+  -- level k + 1, of those that are left, can be inverted
   module _ (k : ℕ) (within : k < t .levels) (x₀ x : ℕ → ℤ) (left : LevelsLeft t w h (suc k) (at plane) x₀ x) where
     standing : Standing t (suc k) w (w * 2 ^ k) (side k w) (side k h) (at plane) x (left .taken)
     unfolding side

@@ -1,4 +1,4 @@
--- What a level taken back makes of good values: its columns, then its rows.
+-- What a level inverted makes of good values: its columns, then its rows.
 use Prim.Native.Nat.{ℕ, _+_, _<_, _≤_}
 use mathlib.Core.Path.{subst}
 use mathlib.Core.Bool.{Bool, true, false}

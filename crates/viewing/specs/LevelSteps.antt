@@ -1,4 +1,4 @@
--- A level taken back in memory: the columns of row-low, those of row-high, then the rows. Where the part that it works stands in memory
+-- A level inverted in memory: the columns of row-low, those of row-high, then the rows. Where the part that it works stands in memory
 -- (`Standing`) and no value on the way is large, every pass is safe (`level-safe`), and what the level leaves stands in its rows
 -- (`level-at`).
 use Prim.Native.Nat.{ℕ, _+_, _*_, _-_, _<_, _≤_}
@@ -31,7 +31,7 @@ use Rattle.viewing.specs.View.{enteringBits, viewLine, viewLevel}
 use Rattle.viewing.specs.Claims.{LevelSmall}
 use Rattle.viewing.specs.Words.{Bounded, columns-bounded}
 
--- ---- a line taken back reads its own values only: two or more
+-- ---- a line inverted reads its own values only: two or more
 
 module _ (fl fh n : ℕ) (works : Liftable n) (x y : ℕ → ℤ) (same : Equal n x y) where
   same-G1 : Equal (lows n) (atG1 fl fh n x) (atG1 fl fh n y)
@@ -94,7 +94,7 @@ line-reads t l p = back-reads (enteringBits t l p G1) (enteringBits t l p G2)
 
 -- ---- one level
 
--- W is a row of the stored plane, S the way from row to row in the work area; w columns and h rows are taken back.
+-- W is a row of the stored plane, S the way from row to row in the work area; w columns and h rows are inverted.
 module _ (t : WidthTable) (l W S w : ℕ) where
   -- where the columns of row-low and of row-high come from and go to
   abbrev pub lowSite : ColumnsAt
@@ -133,7 +133,7 @@ pub record Standing (t : WidthTable) (l W S w h : ℕ) (plane x : ℕ → ℤ) (
   pub left : (l ≡ t .levels → ⊥) → (r c : ℕ) → r < lows h → c < lows w → x (lineAt 0 S (2 * r) + c) ≡ p r c
 
 module _ (t : WidthTable) (l W S w h : ℕ) (apart : w ≤ S) (plane x : ℕ → ℤ) (p : Plane ℤ) (stands : Standing t l W S w h plane x p) where
-  -- the columns of the part taken back
+  -- the columns of the part inverted
   abbrev columnsOf : Plane ℤ
   columnsOf = columns (λ c. viewLine t l (columnPass (ltb c (lows w)))) h p
 

@@ -22,7 +22,7 @@
 --   WidthLaws  refusal 12, subband by subband
 --   PixelSteps a pixel below the depth, above it or inside
 --   LevelSteps a level in memory: level-at, level-safe
---   RowSteps   the rows of the first level, each taken back, shown and cleared
+--   RowSteps   the rows of the first level, each inverted, shown and cleared
 --   CallSteps  what the steps of the call ask of each other, and what they leave
 pub mod View
 pub mod Calls

@@ -1,4 +1,4 @@
--- What a pass taken back makes of good values, by the rule of the crate stages: a value is good where the exact one lies within a range and
+-- What a pass inverted makes of good values, by the rule of the crate stages: a value is good where the exact one lies within a range and
 -- the fixed-point one within an error of it.
 use Prim.Native.Nat.{ℕ, zero, suc, _+_, _*_, _-_, _^_, _<_, _≤_}
 use mathlib.Core.Path.{_≡_, refl, sym, _∙_, ap, subst, subst₂}
@@ -34,7 +34,7 @@ use Rattle.view_precision.specs.Bounds.{larger, boundAfter, even, odd, inverseB
 use Rattle.view_precision.specs.Odd.{odd-range, odd-error}
 use Rattle.irreversible.specs.Fixed.{countAt}
 
--- ---- a stage undone is a stage with the constant negated
+-- ---- a stage inverted is a stage with the constant negated
 
 inverse-lift-neg : (c o x y : Frac) → inverseLift c o x y ≈ lift (neg c) o x y
 unfolding inverseLift lift

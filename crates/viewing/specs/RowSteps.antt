@@ -1,4 +1,4 @@
--- The rows of the first level: each is taken back, shown and cleared, one after the other.
+-- The rows of the first level: each is inverted, shown and cleared, one after the other.
 use Prim.Native.Nat.{ℕ, _+_, _*_, _<_, _≤_}
 use mathlib.Core.List.{List}
 use mathlib.Core.Path.{_≡_, refl, sym, _∙_, ap, fun-ext, subst}
@@ -30,7 +30,7 @@ pub record RowReady (B : ℕ) (work : List ℤ) (pixels line from w : ℕ) : Typ
 abbrev pub rowShown : ℕ → ℕ → (ℕ → ℤ) → ℕ → ℕ
 rowShown B w y c = pixel B (fixedInverse nodeBits nodeBits w y c)
 
--- a row taken back is small
+-- a row inverted is small
 pub taken-small : {B : ℕ} {work : List ℤ} {pixels line from w : ℕ} → RowReady B work pixels line from w → (l : List ℤ) → RowInverted work l from w → (j : ℕ) → j < w → natAbs (at l (4 + j)) ≤ limit
 taken-small ready l is j h = subst (λ (z : ℤ). natAbs z ≤ limit) (sym (is j h)) (back-size (ready .row .safe .small) j h)
 

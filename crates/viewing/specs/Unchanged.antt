@@ -1,4 +1,4 @@
--- Of sides that were admitted before document 02's job 6, greater than 2^(L-1), the plane before rounding is that of the stages undone alone.
+-- Of sides that were admitted before document 02's job 6, greater than 2^(L-1), the plane before rounding is that of the stages inverted alone.
 -- (13 may turn its table away where it did not before.)
 use Prim.Native.Nat.{ℕ, _-_, _^_, _<_}
 use mathlib.Core.Path.{_≡_}
@@ -11,7 +11,7 @@ use Rattle.stages.specs.Fixed.{cut}
 use Rattle.inverse_lifting.specs.Fixed.{nodeBits, fixedInverseLong, fixedInverse}
 use Rattle.viewing.specs.View.{enteringBits, viewLine, viewFrom, viewPlane}
 
--- a pass of level l over two values or more taken back
+-- a pass of level l over two values or more inverted
 abbrev pub viewLong : WidthTable → ℕ → Pass → OnLine ℤ
 viewLong t l p = fixedInverseLong (enteringBits t l p G1) (enteringBits t l p G2)
 

@@ -20,15 +20,15 @@ use Rattle.irreversible.specs.Claims.{bitsPlane}
 abbrev pub enteringBits : WidthTable → ℕ → Pass → Node → ℕ
 enteringBits t l p n = elim (keptAt (t .levels) l p n) [ true ↦ fractionBits t l p n | false ↦ nodeBits ]
 
--- a pass of level l taken back
+-- a pass of level l inverted
 unfoldable pub viewLine : WidthTable → ℕ → Pass → OnLine ℤ
 viewLine t l p = fixedInverse (enteringBits t l p G1) (enteringBits t l p G2)
 
--- a level taken back: columns before rows
+-- a level inverted: columns before rows
 abbrev pub viewLevel : WidthTable → ℕ → OnPart ℤ
 viewLevel t l = levelColumnsFirst (viewLine t l Rows) (λ low. viewLine t l (columnPass low))
 
--- levels k to 1 of a plane taken back
+-- levels k to 1 of a plane inverted
 unfoldable pub viewFrom : WidthTable → ℕ → OnPart ℤ
 viewFrom t = inverseLevels (viewLevel t)
 

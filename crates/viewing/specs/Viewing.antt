@@ -53,7 +53,7 @@ module _ (t : WidthTable) (ok : Viewable t) where
   unfolding viewable
   view-right = both (nodesRight t (t .levels) (startBound t 0)) (ltb (pixelBound t) (2 ^ (32 - (t .depth + 1)))) (asks-done (viewable t) _ _ (judged .1) .0)
 
--- ---- levels taken back
+-- ---- levels inverted
 
 below-side : (k n x : ℕ) → x < side k n → x < n
 unfolding side
@@ -70,7 +70,7 @@ pub record GoodPlane (t : WidthTable) (steps w h : ℕ) (p : Plane ℤ) (q : Pla
   pub good : (r c : ℕ) → r < h → c < w → GoodFor t steps (keptNode (t .levels) w h r c) (p r c) (q r c)
 
 module _ (t : WidthTable) (steps w h : ℕ) where
-  -- Before levels k to 1 are taken back: the low-low of level k is good for a bound, all else for its kept node.
+  -- Before levels k to 1 are inverted: the low-low of level k is good for a bound, all else for its kept node.
   record Before (k : ℕ) (b : Bound) (p : Plane ℤ) (q : Plane Frac) : Type 0 where
     inside : (r c : ℕ) → InPart k w h r c → Good b (enteringBits t k LowColumns G1) (p r c) (q r c)
     outside : (r c : ℕ) → r < h → c < w → ¬ InPart k w h r c → GoodFor t steps (keptNode (t .levels) w h r c) (p r c) (q r c)

@@ -28,7 +28,7 @@ use width_table::WidthTable;
 // Elements of what is held of a strip of columns: five for each of 1024 columns.
 const STATE: usize = 5 * 1024;
 
-// Elements of the line that a row is undone into.
+// Elements of the line that a row is inverted into.
 const LINE: usize = pictures::MAX_SIDE + 6;
 
 // The fractional bits of a value.
@@ -223,7 +223,7 @@ fn spread(w: usize, k: u8) -> usize
     stride
 }
 
-// The columns of a level taken back: w columns and h rows, from a plane whose rows are `width` long to rows of the work area that are
+// The columns of a level inverted: w columns and h rows, from a plane whose rows are `width` long to rows of the work area that are
 // `stride` apart. What the next coarser level left stands there in every second row.
 fn columns_back(
     table: WidthTable,
@@ -276,7 +276,7 @@ fn columns_back(
     );
 }
 
-// One level taken back: its columns, then its rows.
+// One level inverted: its columns, then its rows.
 fn level_back(
     table: WidthTable,
     level: u8,
@@ -296,7 +296,7 @@ fn level_back(
     inverse_lifting::rows(work, line, stride, w, h);
 }
 
-// All levels but the first taken back, the last one first.
+// All levels but the first inverted, the last one first.
 fn levels_back(
     table: WidthTable,
     plane: &[i32],
@@ -329,7 +329,7 @@ fn levels_back(
     }
 }
 
-// A row of the first level taken back and shown, and its place in the work area cleared.
+// A row of the first level inverted and shown, and its place in the work area cleared.
 fn finish_row(
     work: &mut [i64],
     line: &mut [i64],

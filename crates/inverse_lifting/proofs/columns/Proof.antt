@@ -1,4 +1,4 @@
--- `inverse_lifting::columns` meets its contract. A single line goes by itself. The loop's invariant: the first `done` columns are undone.
+-- `inverse_lifting::columns` meets its contract. A single line goes by itself. The loop's invariant: the first `done` columns are inverted.
 use mathlib.Core.Path.{_≡_, refl, sym, ap, subst, _∙_}
 use mathlib.Core.Bool.{Bool}
 use Prim.Native.Nat.{ℕ, _+_, _*_, _-_, _≤_}

@@ -1,4 +1,4 @@
--- `inverse_lifting::end_step` meets its contract: each stage in turn, as far as its place is one of the line's.
+-- `inverse_lifting::end_step` meets its contract: each stage in step, as far as its place is one of the line's.
 use mathlib.Core.Path.{_≡_, refl}
 use Prim.Native.Nat.{_-_, _≤_}
 use native.Mathlib.Omega.{arith}

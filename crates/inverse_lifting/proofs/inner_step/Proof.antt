@@ -1,4 +1,4 @@
--- `inverse_lifting::inner_step` meets its contract: each stage in turn.
+-- `inverse_lifting::inner_step` meets its contract: each stage in step.
 use mathlib.Core.Path.{_≡_, refl}
 use Prim.Native.Nat.{_-_}
 use native.Mathlib.Omega.{arith}

@@ -1,4 +1,4 @@
--- `inverse_lifting::inverse_strip` meets its contract. The loop's invariant: the turns before turn i are taken.
+-- `inverse_lifting::inverse_strip` meets its contract. The loop's invariant: the steps before step i are taken.
 use mathlib.Core.Path.{_≡_, refl, subst}
 use Prim.Native.Nat.{ℕ, _+_, _-_, _≤_}
 use native.Mathlib.Omega.{arith}

@@ -1,4 +1,4 @@
--- `inverse_lifting::outer_step` meets its contract: its turns leave two runs in `line`, and no, one or both of them are copied.
+-- `inverse_lifting::outer_step` meets its contract: its steps leave two runs in `line`, and no, one or both of them are copied.
 use native.Mathlib.Omega.{arith}
 use Rattle.inverse_lifting.specs.StripSteps.{even-fits, odd-fits, outer-step, outer-none, outer-one, outer-two}
 use Rattle.inverse_lifting.proofs.outer_step.Statement.{statement}

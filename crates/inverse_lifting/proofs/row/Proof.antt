@@ -1,4 +1,4 @@
--- `inverse_lifting::row` meets its contract: a single value, or the first two turns, those away from the row's ends, and the others.
+-- `inverse_lifting::row` meets its contract: a single value, or the first two steps, those away from the row's ends, and the others.
 use native.Mathlib.Omega.{arith}
 use Rattle.lines.specs.Lines.{Liftable}
 use Rattle.inverse_lifting.specs.Rows.{steps-first, steps-inner, steps-last, row-inverted, row-single}

@@ -1,4 +1,4 @@
--- `inverse_lifting::row_steps` meets its contract. The loop's invariant: turn i - 1 is held, and the turns before turn i have left their values.
+-- `inverse_lifting::row_steps` meets its contract. The loop's invariant: step i - 1 is held, and the steps before step i have left their values.
 use mathlib.Core.Path.{_≡_, refl}
 use Prim.Native.Nat.{_-_, _≤_}
 use native.Mathlib.Omega.{arith}
@@ -37,7 +37,7 @@ scaled-requires-2 c κs =
     let p1 = p2 .before in
     (high-small (p1 .before .before .before .pre .ready) (p1 .before .before .before .pre .two) (p1 .before .before .loop .i) (p1 .place .result) (p2 .place2 .result) (p1 .place .ensures) (p2 .place2 .ensures), lit≤ tt, lit< tt)
 
--- turn i is ready
+-- step i is ready
 ready : (c : tie.After-scaled2 Inv-loop μ-loop) → let l = c .before .before .before .before .before .before .before in let a = l .before .args in
     Ready (rowLine (at (a .work .now)) (a .from) (a .w)) (l .loop .i) (lows (a .w)) (highs (a .w)) (l .loop .t) (c .before .before .scaled .result) (c .scaled2 .result)
 ready c =

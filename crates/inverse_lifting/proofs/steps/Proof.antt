@@ -1,4 +1,4 @@
--- `inverse_lifting::steps` meets its contract. The loop's invariant: the first j columns have taken their turn.
+-- `inverse_lifting::steps` meets its contract. The loop's invariant: the first j columns have taken their step.
 use mathlib.Core.Path.{_≡_, refl, subst}
 use Prim.Native.Nat.{ℕ, _-_, _≤_}
 use native.Mathlib.Omega.{arith}

@@ -1,4 +1,4 @@
--- `inverse_lifting::strip_step` meets its contract: the first and the last turns go by way of `line`, the others write at once.
+-- `inverse_lifting::strip_step` meets its contract: the first and the last steps go by way of `line`, the others write at once.
 use mathlib.Core.Path.{_≡_, ap}
 use Prim.Native.Nat.{ℕ, _+_}
 use native.Mathlib.Omega.{arith}

@@ -32,7 +32,7 @@ slice-relend-prefix-transform c = let a = c .before .before .before .before .bef
 transform-requires : tie.Need-transform-requires
 transform-requires c κs = let a = c .before .before .before .before .before .before .args in ready (a .table) (a .w) (a .h) (a .pixels .now) (a .plane .now) (a .work .now) (done (c .before .before))
 
--- the tile keeps its length
+-- the line buffer keeps its length
 buffer : (c : tie.After-transform) → let a = c .before .before .before .before .before .before .before .args in length (c .transform .last .1 .1 .1 .0) ≡ a .w * a .h
 buffer c = omega (arith, long (c .before .before .before))
 

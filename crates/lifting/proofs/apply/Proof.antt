@@ -12,7 +12,7 @@ use Rattle.lifting.proofs.Read.{safe-back, applied-back, scaled-back, c
 use Rattle.lifting.proofs.apply.Statement.{statement}
 use Rattle.lifting.proofs.apply.Tie as tie
 
--- no plain step is in a raised form
+-- no plain step is in a biased form
 not-biased : (s : Step) → PlainStep s → OneOf (5 ∷ 6 ∷ 8 ∷ []) (tagOf the-type s) → ⊥
 not-biased Predict p h = miss (5 ∷ 6 ∷ 8 ∷ []) _ tt h
 not-biased Update p h = miss (5 ∷ 6 ∷ 8 ∷ []) _ tt h

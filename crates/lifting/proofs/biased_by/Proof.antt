@@ -1,4 +1,4 @@
--- `lifting::biased_by` meets its contract: the raised product, shifted and lowered, is the shifted product.
+-- `lifting::biased_by` meets its contract: the biased product, shifted and unbiased, is the shifted product.
 use mathlib.Core.Path.{_≡_, sym, ap, _∙_}
 use Prim.Native.Nat.{ℕ, _+_, _*_, _/_, _^_}
 use native.Mathlib.Omega.{arith}

@@ -1,4 +1,4 @@
--- `lifting::biased_cut_of` meets its contract: the sum of the raised own value and the raised product, cut, is the step's sum, shifted and lowered.
+-- `lifting::biased_cut_of` meets its contract: the sum of the biased own value and the biased product, cut, is the step's sum, shifted and unbiased.
 use mathlib.Core.Path.{_≡_, sym, ap, _∙_}
 use Prim.Native.Nat.{ℕ, _+_, _*_, _/_, _%_, _^_, _<_, _≤_}
 use native.Mathlib.Omega.{arith}
@@ -21,7 +21,7 @@ factor a =
     let l : 2 ^ a .args .k ≤ 1073741824 = pow-mono {i = a .args .k} {j = 30} (a .pre .few) in
     (omega (arith, shl-exact {a = 1} 1 (a .args .k) 32 (omega arith) (omega (arith, a .pre .few))), l)
 
--- the raised product
+-- the biased product
 whole : (p : tie.After-product) → let a = p .before .args in p .product .result ≡ a .c * biased (signedSum (a .down) (a .x) (a .y)) + a .offset
 whole p =
     let a = p .before in

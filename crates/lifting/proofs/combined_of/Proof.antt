@@ -1,4 +1,4 @@
--- `lifting::combined_of` meets its contract: the sum of raised products, shifted and lowered, is the shifted sum.
+-- `lifting::combined_of` meets its contract: the sum of biased products, shifted and unbiased, is the shifted sum.
 use mathlib.Core.Path.{_≡_, sym, ap, _∙_}
 use Prim.Native.Nat.{ℕ, _+_, _*_, _/_, _%_, _^_, _≤_}
 use native.Mathlib.Omega.{arith}

@@ -23,7 +23,7 @@ module _ (a : tie.Start) (line : ℕ → ℕ → ℤ) where
   abbrev highLine : ℕ → ℕ → ℤ
   highLine j = secondHighs (a .args .first) (a .args .second) (a .args .n) (line j)
 
-  -- the tile holds them
+  -- the line buffer holds them
   abbrev Holds : Type 0
   Holds = BufferHolds (a .args .s) (a .args .n) (λ j. evens (line j)) (λ j. odds (line j)) (at (a .args .buffer .now))
 
@@ -42,7 +42,7 @@ lift-requires-2 c κs =
 abbrev start : tie.After-lift2 → tie.Start
 start c = c .before .before .before .before .before
 
--- the tile is as long as it was
+-- the line buffer is as long as it was
 as-long : (c : tie.After-lift2) → length (c .lift2 .last .0) ≡ length (start c .args .buffer .now)
 as-long c = omega (arith, c .before .before .buffer .given)
 

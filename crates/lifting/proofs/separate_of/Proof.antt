@@ -1,4 +1,4 @@
--- `lifting::separate_of` meets its contract: the raised product, shifted and lowered, is the shifted product.
+-- `lifting::separate_of` meets its contract: the biased product, shifted and unbiased, is the shifted product.
 use mathlib.Core.Path.{_≡_, sym, ap, ap₂, _∙_}
 use Prim.Native.Nat.{ℕ, _+_, _*_, _/_, _^_}
 use native.Mathlib.Omega.{arith}

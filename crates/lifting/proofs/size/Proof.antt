@@ -15,7 +15,7 @@ use Rattle.lifting.specs.SignedRuns.{back}
 use Rattle.lifting.proofs.size.Statement.{statement}
 use Rattle.lifting.proofs.size.Tie as tie
 
--- a number below 0, turned
+-- a number below 0, negated
 negated : (c : tie.Then3) → let z = c .before .before .before .args .z in (pos 0 -ℤ back w64 z ≡ pos (natAbs z)) × (natAbs z < 2147483648)
 negated c =
     let a = c .before .before .before in

@@ -1,4 +1,4 @@
--- `reversible::found` meets its contract: the plane is copied, taken back, and what came out is looked at.
+-- `reversible::found` meets its contract: the plane is copied, inverted, and what came out is looked at.
 use mathlib.Core.Path.{sym, subst}
 use borrow.Author.Needs.{needs}
 use lib.Dec.{T}

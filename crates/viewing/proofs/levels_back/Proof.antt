@@ -1,4 +1,4 @@
--- `viewing::levels_back` meets its contract. The loop's invariant: so many levels are left to take back.
+-- `viewing::levels_back` meets its contract. The loop's invariant: so many levels are left to invert.
 use mathlib.Core.Path.{_≡_, refl, sym, _∙_, subst}
 use Prim.Native.Nat.{ℕ, suc, _-_, _<_, _≤_}
 use native.Mathlib.Numerals.{add-one}

@@ -1,7 +1,7 @@
 -- Document 02, job 3, at the C interface: of bytes that document 01, with its four fields, did not refuse 5, the answer of every call that
 -- takes a table's bytes changes exactly as reading's does, and what the call is lent holds the same afterwards. The rules after the form
 -- stand as they are (without tag 5 they say what they said before job 7: WithoutProducts). (suz_table_form answers by `form` and
--- suz_table_value by `nameable`: `present-changes`, `wrong-name` and `name-changes` of width_table.)
+-- suz_table_value by `nameAnswer`: `present-changes`, `wrong-name` and `name-changes` of width_table.)
 use Prim.Native.Nat.{ℕ}
 use mathlib.Core.Bool.{Bool, false}
 use mathlib.Core.List.{List}
@@ -15,7 +15,7 @@ use Rattle.refusals.specs.AnswerLaws.{then-assoc}
 use Rattle.width_table.specs.declared.WidthTable.{WidthTable}
 use Rattle.width_table.specs.Fields.{tableSize, valueStart, valueLength}
 use Rattle.width_table.specs.Bytes.{levelsIn, hasFifth, form, tableIn, tableBytes}
-use Rattle.width_table.specs.EarlierForms.{earlierForm, earlierNameable, NotFive, PresentChanges}
+use Rattle.width_table.specs.EarlierForms.{earlierForm, earlierNameAnswer, NotFive, PresentChanges}
 use Rattle.width_table.specs.EarlierOrder.{earlier-four, call-changes, same-after, same-lent, same-named}
 use Rattle.precision.specs.Verdict.{verdict}
 use Rattle.precision.specs.BoundCalls.{boundAnswer}
@@ -46,11 +46,11 @@ module _ (bytes : List ℕ) where
   same-distance k distance = same-lent bytes (viewVerdict (tableIn bytes)) k (viewDistance (tableIn bytes)) distance
 
   -- suz_table_value
-  pub same-start : NotFive bytes → (tag start : ℕ) → startAfter bytes tag start ≡ answered (earlierNameable bytes tag) (valueStart (levelsIn bytes) tag) start
+  pub same-start : NotFive bytes → (tag start : ℕ) → startAfter bytes tag start ≡ answered (earlierNameAnswer bytes tag) (valueStart (levelsIn bytes) tag) start
   unfolding startAfter
   same-start k tag start = same-named bytes tag k (valueStart (levelsIn bytes) tag) start
 
-  pub same-length : NotFive bytes → (tag len : ℕ) → lengthAfter bytes tag len ≡ answered (earlierNameable bytes tag) (valueLength (levelsIn bytes) tag) len
+  pub same-length : NotFive bytes → (tag len : ℕ) → lengthAfter bytes tag len ≡ answered (earlierNameAnswer bytes tag) (valueLength (levelsIn bytes) tag) len
   unfolding lengthAfter
   same-length k tag len = same-named bytes tag k (valueLength (levelsIn bytes) tag) len
 

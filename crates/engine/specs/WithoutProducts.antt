@@ -1,9 +1,9 @@
 -- Document 02, job 7, at the C interface: with a table's bytes in which no byte 5 follows the fourth field, a call answers as before, and
 -- what it is lent lengthAnswer the same afterwards; no product's width can be changed. Each equation has on its right what stood before: the form
--- of four fields (`formWithout`), the analysis and the lifting in which no product is cut (`oldVerdict`, `oldBoundable`, `oldBoundOf`,
+-- of four fields (`formWithout`), the analysis and the lifting in which no product is cut (`oldVerdict`, `oldBoundAnswer`, `oldBoundOf`,
 -- `uncutPlane`), the bytes of four fields. Rules of a change, of strips and of viewing, which cuts no product (Products of viewing), stand as
 -- they are; what the form in memory asks of products besides lengthAnswer of every table that is read (`read-formed` of width_table).
--- (suz_table_form answers by `form` and suz_table_value by `nameable`: `reads-as-before`, and `names-as-before` for every tag but 5, of
+-- (suz_table_form answers by `form` and suz_table_value by `nameAnswer`: `reads-as-before`, and `names-as-before` for every tag but 5, of
 -- width_table.)
 use Prim.Native.Nat.{ℕ, _*_}
 use mathlib.Core.Bool.{Bool, true, false}
@@ -23,11 +23,11 @@ use Rattle.width_table.specs.Fields.{fields, tableSize, valueStart, valueLength
 use Rattle.width_table.specs.Bytes.{levelsIn, hasFifth, form, tableIn, tableBytes}
 use Rattle.width_table.specs.Changes.{widthAnswer, withWidth, constantAnswer, withConstant, withProduct}
 use Rattle.width_table.specs.FormLaws.{no-products}
-use Rattle.width_table.specs.EarlierForms.{formWithout, nameableWithout}
+use Rattle.width_table.specs.EarlierForms.{formWithout, nameAnswerWithout}
 use Rattle.width_table.specs.WithoutProducts.{then-answered, reads-as-before, named-as-before, writes-as-before}
 use Rattle.pictures.specs.Pictures.{sideAnswer, lengthAnswer, pixelAnswer, planeOf, zeroed}
 use Rattle.stages.specs.Rule.{Bound}
-use Rattle.precision.specs.Uncut.{oldBoundOf, oldVerdict, oldBoundable, old-bounds, old-verdict, old-boundable}
+use Rattle.precision.specs.Uncut.{oldBoundOf, oldVerdict, oldBoundAnswer, old-bounds, old-verdict, old-bound-told}
 use Rattle.irreversible.specs.Calls.{fixedAnswer, fixedPlaneAfter, fixedWork}
 use Rattle.irreversible.specs.Uncut.{uncutPlane, old-coefficients}
 use Rattle.view_precision.specs.Bounds.{viewDistance, viewable, viewVerdict}
@@ -59,11 +59,11 @@ module _ (bytes : List ℕ) (none : hasFifth bytes ≡ false) where
 
   -- suz_table_value
   module _ (tag : ℕ) where
-    pub old-start : (start : ℕ) → startAfter bytes tag start ≡ answered (nameableWithout bytes tag) (valueStart (levelsIn bytes) tag) start
+    pub old-start : (start : ℕ) → startAfter bytes tag start ≡ answered (nameAnswerWithout bytes tag) (valueStart (levelsIn bytes) tag) start
     unfolding startAfter
     old-start start = named-as-before bytes tag (reads-as-before bytes none) (valueStart (levelsIn bytes) tag) start
 
-    pub old-length : (len : ℕ) → lengthAfter bytes tag len ≡ answered (nameableWithout bytes tag) (valueLength (levelsIn bytes) tag) len
+    pub old-length : (len : ℕ) → lengthAfter bytes tag len ≡ answered (nameAnswerWithout bytes tag) (valueLength (levelsIn bytes) tag) len
     unfolding lengthAfter
     old-length len = named-as-before bytes tag (reads-as-before bytes none) (valueLength (levelsIn bytes) tag) len
 
@@ -75,15 +75,15 @@ module _ (bytes : List ℕ) (none : hasFifth bytes ≡ false) where
     pub old-bound : boundIn bytes level pass node ≡ told
     old-bound = old-bounds t without (nodeAt level (passOf pass) (nodeOf node))
 
-    pub old-bound-answer : tableBoundAnswer bytes level pass node ≡ formWithout bytes then oldBoundable t level pass node
+    pub old-bound-answer : tableBoundAnswer bytes level pass node ≡ formWithout bytes then oldBoundAnswer t level pass node
     unfolding tableBoundAnswer
-    old-bound-answer = ap₂ (λ (a b : Answer Unit). a then b) (reads-as-before bytes none) (old-boundable t without level pass node)
+    old-bound-answer = ap₂ (λ (a b : Answer Unit). a then b) (reads-as-before bytes none) (old-bound-told t without level pass node)
 
-    pub old-range : (range : ℕ) → rangeAfter bytes level pass node range ≡ answered (formWithout bytes then oldBoundable t level pass node) (told .range) range
+    pub old-range : (range : ℕ) → rangeAfter bytes level pass node range ≡ answered (formWithout bytes then oldBoundAnswer t level pass node) (told .range) range
     unfolding rangeAfter
     old-range range = ap₂ (λ (o : Answer Unit) (b : Bound). answered o (b .range) range) old-bound-answer old-bound
 
-    pub old-error : (error : ℕ) → errorAfter bytes level pass node error ≡ answered (formWithout bytes then oldBoundable t level pass node) (told .error) error
+    pub old-error : (error : ℕ) → errorAfter bytes level pass node error ≡ answered (formWithout bytes then oldBoundAnswer t level pass node) (told .error) error
     unfolding errorAfter
     old-error error = ap₂ (λ (o : Answer Unit) (b : Bound). answered o (b .error) error) old-bound-answer old-bound
 

@@ -1,5 +1,5 @@
 -- The analysis as it was before document 02's job 7, by the rule in which no product is cut. A table without tag 5 has its old ranges and
--- errors (`old-bounds`), which are told as before (`old-boundable`), and its old verdict (`old-verdict`).
+-- errors (`old-bounds`), which are told as before (`old-bound-told`), and its old verdict (`old-verdict`).
 use Prim.Native.Nat.{ℕ, suc, max}
 use mathlib.Core.Bool.{false}
 use mathlib.Core.Path.{_≡_, _∙_, ap, fun-ext}
@@ -39,8 +39,8 @@ unfoldable pub oldVerdict : WidthTable → Answer Unit
 oldVerdict t = verdictWith t (oldBoundOf t)
 
 -- the call that tells a bound
-unfoldable pub oldBoundable : WidthTable → ℕ → ℕ → ℕ → Answer Unit
-oldBoundable t = boundAnswerWith t (oldBoundOf t)
+unfoldable pub oldBoundAnswer : WidthTable → ℕ → ℕ → ℕ → Answer Unit
+oldBoundAnswer t = boundAnswerWith t (oldBoundOf t)
 
 -- ---- a table without tag 5
 
@@ -76,6 +76,6 @@ module _ (t : WidthTable) (e : t .«has_products» ≡ false) where
   unfolding verdict oldVerdict
   old-verdict = ap (verdictWith t) (fun-ext old-bounds)
 
-  pub old-boundable : (level pass node : ℕ) → boundAnswer t level pass node ≡ oldBoundable t level pass node
-  unfolding boundAnswer oldBoundable
-  old-boundable level pass node = ap (λ (bound : TableNode → Bound). boundAnswerWith t bound level pass node) (fun-ext old-bounds)
+  pub old-bound-told : (level pass node : ℕ) → boundAnswer t level pass node ≡ oldBoundAnswer t level pass node
+  unfolding boundAnswer oldBoundAnswer
+  old-bound-told level pass node = ap (λ (bound : TableNode → Bound). boundAnswerWith t bound level pass node) (fun-ext old-bounds)

@@ -19,8 +19,8 @@ unfoldable pub formWithout : List ℕ → Answer Unit
 formWithout bytes = formBy (fields false (levelsIn bytes)) bytes
 
 -- naming a tag: the name, 1 to 4 (2), then the whole form
-unfoldable pub nameableWithout : List ℕ → ℕ → Answer Unit
-nameableWithout bytes tag = asks (between depthTag nodesTag tag) 2 (formWithout bytes)
+unfoldable pub nameAnswerWithout : List ℕ → ℕ → Answer Unit
+nameAnswerWithout bytes tag = asks (between depthTag nodesTag tag) 2 (formWithout bytes)
 
 -- ---- before job 3: document 01
 
@@ -51,8 +51,8 @@ unfoldable pub earlierTableRead : List ℕ → WidthTable
 earlierTableRead bytes = answered (earlierForm bytes) (tableIn bytes) emptyTable
 
 -- naming a tag: the name, 1 to 4 (2), then the whole form
-unfoldable pub earlierNameable : List ℕ → ℕ → Answer Unit
-earlierNameable bytes tag = asks (between depthTag nodesTag tag) 2 (earlierForm bytes)
+unfoldable pub earlierNameAnswer : List ℕ → ℕ → Answer Unit
+earlierNameAnswer bytes tag = asks (between depthTag nodesTag tag) 2 (earlierForm bytes)
 
 -- ---- the two cases of document 02, job 3
 

@@ -15,7 +15,7 @@ use Rattle.refusals.specs.AnswerLaws.{asks-right, asks-wrong, then-right, then-
 use Rattle.width_table.specs.Fields.{depthTag, nodesTag, productsTag, tagRight, headBytes, Field, fields, valueStart, valueLength}
 use Rattle.width_table.specs.Bytes.{announced, headed, field, formBy, levelsIn, hasFifth, form, valueIn, tableIn, emptyTable, tableRead}
 use Rattle.width_table.specs.Names.{nameAnswer, naming, partAt}
-use Rattle.width_table.specs.EarlierForms.{formWithout, nameableWithout, earlierHeaded, earlierField, earlierFormBy, earlierForm, earlierTableRead, earlierNameable, wrongTagCut, wrongLengthCut, comesTo, happens, inEither, Changes, NotFive, PresentChanges}
+use Rattle.width_table.specs.EarlierForms.{formWithout, nameAnswerWithout, earlierHeaded, earlierField, earlierFormBy, earlierForm, earlierTableRead, earlierNameAnswer, wrongTagCut, wrongLengthCut, comesTo, happens, inEither, Changes, NotFive, PresentChanges}
 use Rattle.width_table.specs.WithoutProducts.{then-answered, none-after, only-five, four-names, named-as-before}
 
 -- ---- one field
@@ -231,8 +231,8 @@ module _ (bytes : List ℕ) where
 
   -- ---- naming a tag: a wrong name is 2 as before; after one of document 01's names, 1 to 4, the answer changes alike
   module _ (tag : ℕ) where
-    pub wrong-name : tagRight tag ≡ false → (nameAnswer bytes tag ≡ refused (2, [])) × (earlierNameable bytes tag ≡ refused (2, []))
-    unfolding nameAnswer earlierNameable
+    pub wrong-name : tagRight tag ≡ false → (nameAnswer bytes tag ≡ refused (2, [])) × (earlierNameAnswer bytes tag ≡ refused (2, []))
+    unfolding nameAnswer earlierNameAnswer
     wrong-name e = (asks-wrong (tagRight tag) _ _ e, asks-wrong (between depthTag nodesTag tag) _ (earlierForm bytes) outside)
       where
         outside : between depthTag nodesTag tag ≡ false
@@ -241,8 +241,8 @@ module _ (bytes : List ℕ) where
             (λ h. ap (λ (b : Bool). leb depthTag tag && b) (sym (le-leb tag productsTag (omega arith))) ∙ e)
             (λ h. right-false (leb depthTag tag) false refl)
 
-    pub name-changes : T (between depthTag nodesTag tag) → PresentChanges bytes (earlierNameable bytes tag) (nameAnswer bytes tag)
-    unfolding earlierNameable
+    pub name-changes : T (between depthTag nodesTag tag) → PresentChanges bytes (earlierNameAnswer bytes tag) (nameAnswer bytes tag)
+    unfolding earlierNameAnswer
     name-changes h =
         let present : nameAnswer bytes tag ≡ form bytes = four-names bytes tag h in
         let earlier = asks-right (between depthTag nodesTag tag) (2, []) (earlierForm bytes) h in
@@ -253,15 +253,15 @@ module _ (bytes : List ℕ) where
         }
 
     -- what stands where the tag is named, and where not, is the same, of any tag, and so the value
-    pub same-named : NotFive bytes → {B : Type 0} (x y : B) → answered (nameAnswer bytes tag) x y ≡ answered (earlierNameable bytes tag) x y
-    unfolding nameableWithout earlierNameable
+    pub same-named : NotFive bytes → {B : Type 0} (x y : B) → answered (nameAnswer bytes tag) x y ≡ answered (earlierNameAnswer bytes tag) x y
+    unfolding nameAnswerWithout earlierNameAnswer
     same-named h {B} x y = named-as-before bytes tag (present-order h) x y ∙ go (between depthTag nodesTag tag)
       where
         go : (t : Bool) → answered (asks t 2 (formWithout bytes)) x y ≡ answered (asks t 2 (earlierForm bytes)) x y
         go true = same-in-order x y
         go false = refl
 
-    pub same-value : NotFive bytes → partAt bytes (naming bytes tag) ≡ answered (earlierNameable bytes tag) (valueIn bytes tag) []
+    pub same-value : NotFive bytes → partAt bytes (naming bytes tag) ≡ answered (earlierNameAnswer bytes tag) (valueIn bytes tag) []
     unfolding naming
     same-value h = part-of (nameAnswer bytes tag) ∙ same-named h (valueIn bytes tag) []
       where

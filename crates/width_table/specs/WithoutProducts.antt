@@ -16,7 +16,7 @@ use Rattle.width_table.specs.Table.{maxLevels, formRight}
 use Rattle.width_table.specs.Fields.{depthTag, levelsTag, nodesTag, productsTag, tagRight, headBytes, Field, productBytes, fixedFields, lastFields, fields, startOf, tableSize, bytesOf}
 use Rattle.width_table.specs.Bytes.{headed, field, formBy, levelsIn, hasFifth, form, productsIn, tableIn, tableBytes}
 use Rattle.width_table.specs.Names.{nameAnswer}
-use Rattle.width_table.specs.EarlierForms.{formWithout, nameableWithout}
+use Rattle.width_table.specs.EarlierForms.{formWithout, nameAnswerWithout}
 use Rattle.width_table.specs.FormLists.{FullLists}
 use Rattle.width_table.specs.BytesLaws.{FieldAt, field-done, field-right, right-from, right-long, right-form, bytes-length}
 use Rattle.width_table.specs.ReadLaws.{more-follows}
@@ -100,8 +100,8 @@ module _ (bytes : List ℕ) where
         ∙ then-passed (form bytes)
 
     -- every tag but 5, which was 2 before the form was judged
-    pub names-as-before : hasFifth bytes ≡ false → (tag ≡ productsTag → ⊥) → nameAnswer bytes tag ≡ nameableWithout bytes tag
-    unfolding nameAnswer nameableWithout
+    pub names-as-before : hasFifth bytes ≡ false → (tag ≡ productsTag → ⊥) → nameAnswer bytes tag ≡ nameAnswerWithout bytes tag
+    unfolding nameAnswer nameAnswerWithout
     names-as-before none other =
         by-leb (λ (b : Bool). asks (leb depthTag tag && leb tag productsTag) 2 (form bytes then asks (b || hasFifth bytes) 2 passed) ≡ asks (leb depthTag tag && b) 2 (formWithout bytes)) tag nodesTag
         (λ h. ap (λ (b : Bool). asks (leb depthTag tag && b) 2 (form bytes then passed)) (le-leb tag productsTag (omega arith)) ∙ ap (asks (leb depthTag tag && true) 2) (then-passed (form bytes) ∙ reads-as-before none))
@@ -116,8 +116,8 @@ module _ (bytes : List ℕ) where
 
     -- What stands where a tag is named, and where not, is the same for every tag where the form is answered as before: tag 5 is named in
     -- none of these bytes.
-    pub named-as-before : form bytes ≡ formWithout bytes → {B : Type 0} (x y : B) → answered (nameAnswer bytes tag) x y ≡ answered (nameableWithout bytes tag) x y
-    unfolding nameAnswer nameableWithout
+    pub named-as-before : form bytes ≡ formWithout bytes → {B : Type 0} (x y : B) → answered (nameAnswer bytes tag) x y ≡ answered (nameAnswerWithout bytes tag) x y
+    unfolding nameAnswer nameAnswerWithout
     named-as-before same {B} x y =
         by-leb (λ (b : Bool). answered (asks (leb depthTag tag && leb tag productsTag) 2 (form bytes then asks (b || hasFifth bytes) 2 passed)) x y ≡ answered (asks (leb depthTag tag && b) 2 (formWithout bytes)) x y) tag nodesTag
         (λ h. (λ u. answered (asks (leb depthTag tag && le-leb tag productsTag (omega arith) u) 2 ((then-passed (form bytes) ∙ same) u)) x y))

@@ -9,7 +9,7 @@ use native.Mathlib.Omega.{arith}
 use lib.Dec.{lit≤}
 use Rattle.exact.specs.Fractions.{upDiv}
 use Rattle.numbers.specs.Tests.{every, is-between}
-use Rattle.refusals.specs.Answers.{Answer, refused, asks, _then_}
+use Rattle.refusals.specs.Answers.{refused, asks}
 use Rattle.stages.specs.Stages.{Side, low, high, Kind, lifts, scales, stage, forward, uncut, replaced, bits}
 use Rattle.stages.specs.Gains.{node}
 use Rattle.stages.specs.Rule as Rule
@@ -19,12 +19,12 @@ use Rattle.stages.specs.ProductLaws.{own-uncut}
 use Rattle.width_table.specs.Nodes.{Node, P1, U1, P2, U2, G1, G2, everyNode, Pass, Rows, LowColumns, HighColumns, TableNode, tableOrder, productOrder}
 use Rattle.width_table.specs.Numbered.{nodeOf}
 use Rattle.width_table.specs.declared.WidthTable.{WidthTable}
-use Rattle.width_table.specs.Table.{maxDepth, maxLevels, depthRight, levelsRight, constantRight, constantBits, integerBits, fractionBits, inputBits, nodeRight, productHeld, formRight}
+use Rattle.width_table.specs.Table.{maxDepth, maxLevels, depthRight, levelsRight, constantRight, constantBits, fractionBits, inputBits, nodeRight, productHeld, formRight}
 use Rattle.width_table.specs.WorkedTables.{usualOf, roughOf, usual, rough}
 use Rattle.table_meaning.specs.Products.{productOf}
 use Rattle.table_meaning.specs.ProductLaws.{none-cut}
-use Rattle.precision.specs.Bounds.{boundAfter, nodeBound, rowBound, passBound, entering, boundOf}
-use Rattle.precision.specs.Verdict.{keptAt, placeNumbers, judgedBy, judged, firstRefusal, verdict, Accepted}
+use Rattle.precision.specs.Bounds.{boundAfter, nodeBound, byRule, boundOfBy, boundOf}
+use Rattle.precision.specs.Verdict.{firstRefusalWith, verdict, Accepted}
 use Rattle.precision.specs.Before.{longBound, same-bound}
 use Rattle.precision.specs.Examples as Depth8
 
@@ -134,39 +134,22 @@ module _ (t : WidthTable) (B : ℕ) (none : t .«has_products» ≡ false) (firs
   products-same l p = none-cut t' l p none ∙ sym (none-cut t l p none)
 
   -- every pass but the first rows takes in what a node leaves
-  fed-same : (l : ℕ) (p : Pass) {b c : Bound} → b ≡ c → (n : Node) → inputBits t' l p ≡ inputBits t l p → nodeBound (constantBits t) (productOf t' l p) (inputBits t' l p) b (fractionBits t l p) n ≡ nodeBound (constantBits t) (productOf t l p) (inputBits t l p) c (fractionBits t l p) n
-  fed-same l p q n i = λ u. nodeBound (constantBits t) (products-same l p u) (i u) (q u) (fractionBits t l p) n
+  fed-same : (l : ℕ) (p : Pass) (b : Bound) (n : Node) → inputBits t' l p ≡ inputBits t l p → byRule nodeBound t' l p b n ≡ byRule nodeBound t l p b n
+  fed-same l p b n i = λ u. nodeBound (constantBits t) (products-same l p u) (i u) b (fractionBits t l p) n
 
-  row-same : (l : ℕ) {b c : Bound} → b ≡ c → (n : Node) → rowBound t' l b n ≡ rowBound t l c n
-  unfolding rowBound
-  row-same zero q n = fed-same 0 Rows q n refl
-  row-same (suc zero) {b} {c} q n =
-      (λ u. nodeBound (constantBits t) (none-cut t' 1 Rows none u) B (q u) (fractionBits t 1 Rows) n)
-      ∙ at-same (constantBits t) c (fractionBits t 1 Rows) B (t .depth) first second n
-      ∙ (λ u. nodeBound (constantBits t) (sym (none-cut t 1 Rows none) u) (t .depth) c (fractionBits t 1 Rows) n)
-  row-same (suc (suc l)) q n = fed-same (suc (suc l)) Rows q n refl
+  pass-same : (l : ℕ) (p : Pass) (b : Bound) (n : Node) → byRule nodeBound t' l p b n ≡ byRule nodeBound t l p b n
+  pass-same zero Rows b n = fed-same 0 Rows b n refl
+  pass-same (suc zero) Rows b n =
+      (λ u. nodeBound (constantBits t) (none-cut t' 1 Rows none u) B b (fractionBits t 1 Rows) n)
+      ∙ at-same (constantBits t) b (fractionBits t 1 Rows) B (t .depth) first second n
+      ∙ (λ u. nodeBound (constantBits t) (sym (none-cut t 1 Rows none) u) (t .depth) b (fractionBits t 1 Rows) n)
+  pass-same (suc (suc l)) Rows b n = fed-same (suc (suc l)) Rows b n refl
+  pass-same l LowColumns b n = fed-same l LowColumns b n refl
+  pass-same l HighColumns b n = fed-same l HighColumns b n refl
 
-  pass-same : (l : ℕ) (p : Pass) {b c : Bound} → b ≡ c → (n : Node) → passBound t' l b p n ≡ passBound t l c p n
-  unfolding passBound
-  pass-same l Rows q n = row-same l q n
-  pass-same l LowColumns q n = fed-same l LowColumns (row-same l q G1) n refl
-  pass-same l HighColumns q n = fed-same l HighColumns (row-same l q G2) n refl
-
-  entering-same : (l : ℕ) → entering t' l ≡ entering t l
-  unfolding entering
-  entering-same zero = refl
-  entering-same (suc zero) = refl
-  entering-same (suc (suc l)) = pass-same (suc l) LowColumns (entering-same (suc l)) G1
-
-  judged-same : (p : TableNode) → judged t' p ≡ judged t p
-  unfolding judged boundOf
-  judged-same p =
-      ap (λ (b : Bound). judgedBy b (integerBits t (p .level) (p .pass) (p .node)) (fractionBits t (p .level) (p .pass) (p .node)) (keptAt (t .levels) (p .level) (p .pass) (p .node)) (placeNumbers p)) (pass-same (p .level) (p .pass) (entering-same (p .level)) (p .node))
-
-  refusal-same : (ps : List TableNode) → firstRefusal t' ps ≡ firstRefusal t ps
-  unfolding firstRefusal
-  refusal-same [] = refl
-  refusal-same (p ∷ ps) = ap₂ (λ (a b : Answer Unit). a then b) (judged-same p) (refusal-same ps)
+  bounds-same : boundOf t' ≡ boundOf t
+  unfolding boundOf
+  bounds-same = λ u. boundOfBy (λ l p b n. pass-same l p b n u)
 
   form-same : depthRight B ≡ depthRight (t .depth) → formRight t' ≡ formRight t
   unfolding formRight
@@ -176,7 +159,7 @@ module _ (t : WidthTable) (B : ℕ) (none : t .«has_products» ≡ false) (firs
   pub depth-no-matter : 1 ≤ B → B ≤ maxDepth → 1 ≤ t .depth → t .depth ≤ maxDepth → verdict t' ≡ verdict t
   unfolding verdict
   depth-no-matter i j k l =
-      ap₂ (λ (right : Bool) (a : Answer Unit). asks right 4 a) (form-same (is-between 1 maxDepth B i j ∙ sym (is-between 1 maxDepth (t .depth) k l))) (refusal-same (tableOrder (t .levels)))
+      ap₂ (λ (right : Bool) (bound : TableNode → Bound). asks right 4 (firstRefusalWith t bound (tableOrder (t .levels)))) (form-same (is-between 1 maxDepth B i j ∙ sym (is-between 1 maxDepth (t .depth) k l))) bounds-same
 
 -- ---- the two tables
 

@@ -46,7 +46,7 @@
  *    9      a lent slice is too short
  *   10      a pixel is 2^B or more
  *   11      the 5/3 plane is the transform of no picture of that depth and size
- *           (in the order of rows and columns that the call undoes)
+ *           (in the order of rows and columns of the call)
  *   12      a coefficient is outside its node's width
  *   13      viewing is not accurate to half a grey, or a value may pass 2^15
  *   14      a table not of one level, a line or an end out of turn, or a line
@@ -154,9 +154,9 @@
  * table promises the same with tag 5 as without. Where no fp of a table cuts
  * anything, it gives the coefficients of the table without tag 5.
  *
- * VIEWING undoes the 9/7 transform with 20 fractional bits at every node and
- * constants of 24 bits, whatever bits the table has for them; of the table it
- * takes depth, levels, and the widths of the nodes that gave the coefficients.
+ * VIEWING works the inverse 9/7 transform with 20 fractional bits at every node
+ * and constants of 24 bits, whatever bits the table has for them; of the table
+ * it takes depth, levels, and the widths of the nodes that gave the coefficients.
  * Product widths count in its verdict (6 and 7) alone.
  * A viewed value means a pixel's (p - 2^(B-1)) / 2^B: it is taken in greys of
  * 2^-B, 2^(B-1) is added, and the pixel shown is the nearest, halves up, within
@@ -494,8 +494,8 @@ uint32_t suz_forward53(uint8_t depth, uint8_t levels,
 
 /*
  * 5/3 back: the picture of an exact copy that was worked columns first, as
- * suz_forward53 works it. Each level, the last one first, undoes the rows, then
- * the columns. For copies made earlier, rows first, take
+ * suz_forward53 works it. The inverse of each level, the last one first, works
+ * the rows, then the columns. For copies made earlier, rows first, take
  * suz_inverse53_rows_first; this call refuses them 11, or answers 0 and gives,
  * as a rule, another picture (see EXACT COPIES).
  * Reads plane, writes pixels and work (see LENT MEMORY).
@@ -509,10 +509,10 @@ uint32_t suz_inverse53(uint8_t depth, uint8_t levels,
 
 /*
  * 5/3 back for copies made earlier: the picture of an exact copy that was
- * worked rows first, as earlier libraries worked it. Each level, the last one
- * first, undoes the columns, then the rows. For copies that suz_forward53 makes
- * now take suz_inverse53; this call refuses them 11, or answers 0 and gives, as
- * a rule, another picture (see EXACT COPIES).
+ * worked rows first, as earlier libraries worked it. The inverse of each
+ * level, the last one first, works the columns, then the rows. For copies that
+ * suz_forward53 makes now take suz_inverse53; this call refuses them 11, or
+ * answers 0 and gives, as a rule, another picture (see EXACT COPIES).
  * Reads plane, writes pixels and work (see LENT MEMORY).
  * Refused as suz_inverse53: 4 (depth or levels), 8, 9, 11.
  */

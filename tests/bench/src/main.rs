@@ -80,7 +80,7 @@ type View = fn(&[u8], &[i32], (usize, usize), &mut [u16], &mut [i64]) -> bool;
 
 /// The plain programs for viewing, by the passes that they make.
 const VIEWS: [(&str, View); 3] = [
-    ("turn by turn", plain::view97_by_turns),
+    ("pipeline", plain::view97_pipeline),
     ("stage by stage", plain::view97_in_place),
     ("stage by stage from the plane", plain::view97),
 ];

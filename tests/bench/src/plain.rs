@@ -3,16 +3,16 @@
 //! large that no pass has a single sample, but answers as the engine does for
 //! the pixels and planes in them, and zeroes the work area as the engine does.
 //!
-//! Rows and columns are worked alike. A *tile* is a number of lines of `n`
-//! values each, the lines of the lows first, then those of the highs: a row is
-//! a tile with one value a line, a strip of columns one with up to `STRIP`.
+//! Rows and columns are worked alike. A *line buffer* is a number of lines of
+//! `n` values each, the lines of the lows first, then those of the highs: a row
+//! is one with one value a line, a strip of columns one with up to `STRIP`.
 //! Every stage is then a flat loop over slices, which the compiler vectorises.
 //! Going forward, the 5/3 takes the columns of the pixels line by line instead.
 
 /// The most columns that are worked side by side.
 const STRIP: usize = 64;
 
-/// A loop over a tile that changes each value by two neighbours.
+/// A loop over a line buffer that changes each value by two neighbours.
 trait Sweep<T> {
     fn run(self, op: impl Fn(T, T, T) -> T);
 }
@@ -63,7 +63,7 @@ impl<T: Copy> Sweep<T> for LowsByHighs<'_, T> {
     }
 }
 
-/// What a pass does with the lows and highs of a tile.
+/// What a pass does with the lows and highs of a line buffer.
 trait Pass {
     fn run(&self, lows: &mut [i32], highs: &mut [i32], n: usize);
 }
@@ -177,18 +177,18 @@ fn columns(
     width: usize,
     (from, to): (usize, usize),
     h: usize,
-    tile: &mut [i32],
+    buffer: &mut [i32],
     pass: &impl Pass,
 ) {
     for x in (from..to).step_by(STRIP) {
         let n = STRIP.min(to - x);
-        let tile = &mut tile[..h * n];
+        let buffer = &mut buffer[..h * n];
         for (y, row) in plane.chunks_exact(width).take(h).enumerate() {
-            tile[parted(y, h) * n..][..n].copy_from_slice(&row[x..x + n]);
+            buffer[parted(y, h) * n..][..n].copy_from_slice(&row[x..x + n]);
         }
-        let (lows, highs) = tile.split_at_mut(h.div_ceil(2) * n);
+        let (lows, highs) = buffer.split_at_mut(h.div_ceil(2) * n);
         pass.run(lows, highs, n);
-        for (row, line) in plane.chunks_exact_mut(width).zip(tile.chunks_exact(n)) {
+        for (row, line) in plane.chunks_exact_mut(width).zip(buffer.chunks_exact(n)) {
             row[x..x + n].copy_from_slice(line);
         }
     }
@@ -269,7 +269,7 @@ fn together(values: &[i32], middle: i32) -> u32 {
 /// do no sum of a level leaves 32 bits.
 const SMALL: u32 = 22;
 
-/// What a pass back looks at: of the two that undo a level, the first one at
+/// What a pass back looks at: of the two of a level's inverse, the first one at
 /// what enters it, the second one at what it leaves.
 #[derive(Clone, Copy)]
 enum Look {
@@ -305,25 +305,25 @@ fn columns_back(
     plane: &mut [i32],
     width: usize,
     (w, h): (usize, usize),
-    tile: &mut [i32],
+    buffer: &mut [i32],
     look: Look,
 ) -> Option<u32> {
     let mut bits = 0;
     for x in (0..w).step_by(STRIP) {
         let n = STRIP.min(w - x);
-        let tile = &mut tile[..h * n];
+        let buffer = &mut buffer[..h * n];
         let mut small = true;
-        for (row, line) in plane.chunks_exact(width).zip(tile.chunks_exact_mut(n)) {
+        for (row, line) in plane.chunks_exact(width).zip(buffer.chunks_exact_mut(n)) {
             line.copy_from_slice(&row[x..x + n]);
             small &= look.entering(line);
         }
         if !small {
             return None;
         }
-        let (lows, highs) = tile.split_at_mut(h.div_ceil(2) * n);
+        let (lows, highs) = buffer.split_at_mut(h.div_ceil(2) * n);
         ReversibleBack.run(lows, highs, n);
         for (y, row) in plane.chunks_exact_mut(width).take(h).enumerate() {
-            let line = &tile[parted(y, h) * n..][..n];
+            let line = &buffer[parted(y, h) * n..][..n];
             bits |= look.leaving(line);
             row[x..x + n].copy_from_slice(line);
         }
@@ -362,17 +362,17 @@ fn level_back(
     plane: &mut [i32],
     width: usize,
     part: (usize, usize),
-    tile: &mut [i32],
+    buffer: &mut [i32],
     middle: i32,
 ) -> Option<u32> {
     match order {
         Order::ColumnsFirst => {
-            rows_back(plane, width, part, tile, Look::Entering)?;
-            columns_back(plane, width, part, tile, Look::Leaving(middle))
+            rows_back(plane, width, part, buffer, Look::Entering)?;
+            columns_back(plane, width, part, buffer, Look::Leaving(middle))
         }
         Order::RowsFirst => {
-            columns_back(plane, width, part, tile, Look::Entering)?;
-            rows_back(plane, width, part, tile, Look::Leaving(middle))
+            columns_back(plane, width, part, buffer, Look::Entering)?;
+            rows_back(plane, width, part, buffer, Look::Leaving(middle))
         }
     }
 }
@@ -390,10 +390,10 @@ pub fn inverse53(
     let width = size.0;
     let middle = 1 << (depth - 1);
     work.copy_from_slice(plane);
-    let mut tile = vec![0; size.1.max(width) * STRIP];
+    let mut buffer = vec![0; size.1.max(width) * STRIP];
     let mut parts = parts(size, levels).into_iter().rev();
     let left = parts.try_fold(0, |_, part| {
-        level_back(order, work, width, part, &mut tile, middle)
+        level_back(order, work, width, part, &mut buffer, middle)
     });
     if left.is_none_or(|bits| bits >> depth != 0) {
         work.fill(0);
@@ -452,10 +452,10 @@ impl Stage {
         let product = constant_bits + multiplied.fraction;
         let left = product.min(fp);
         let full = left.max(own).max(f);
-        let raise = full - left;
+        let rise = full - left;
         let (constant, product_shift) = match left == product {
-            true => (nearest << raise, 0),
-            false => (nearest, raise),
+            true => (nearest << rise, 0),
+            false => (nearest, rise),
         };
         Stage {
             constant,
@@ -469,7 +469,7 @@ impl Stage {
 
     /// Runs the stage with the product that is fastest for its numbers: the
     /// plainest x86-64 multiplies unsigned 32-bit numbers alone, so values are
-    /// raised by 2^31 before it, and the product is too large by a multiple
+    /// biased by 2^31 before it, and the product is too large by a multiple
     /// of 2^31. Neighbours are added before it where their sum fits.
     fn run(self, sweep: impl Sweep<i32>) {
         let c = self.constant.unsigned_abs() as u32;
@@ -477,15 +477,15 @@ impl Stage {
         match (self.short, self.constant < 0) {
             _ if self.cut > 31 || self.own_shift > 31 => self.run_any(sweep),
             _ if self.product_cut > 0 => self.run_cut(sweep, c, one),
-            (true, false) => self.run_raised(sweep, one, |a, b| times(c, raised(a + b))),
-            (true, true) => self.run_raised(sweep, one, |a, b| times(c, raised(-(a + b)))),
+            (true, false) => self.run_biased(sweep, one, |a, b| times(c, biased(a + b))),
+            (true, true) => self.run_biased(sweep, one, |a, b| times(c, biased(-(a + b)))),
             (false, false) => {
-                let product = |a, b| times(c, raised(a)) + times(c, raised(b));
-                self.run_raised(sweep, 2 * one, product);
+                let product = |a, b| times(c, biased(a)) + times(c, biased(b));
+                self.run_biased(sweep, 2 * one, product);
             }
             (false, true) => {
-                let product = |a, b| 4 * one - times(c, raised(a)) - times(c, raised(b));
-                self.run_raised(sweep, 2 * one, product);
+                let product = |a, b| 4 * one - times(c, biased(a)) - times(c, biased(b));
+                self.run_biased(sweep, 2 * one, product);
             }
         }
     }
@@ -493,15 +493,15 @@ impl Stage {
     /// The same with a product that is cut before the sum.
     fn run_cut(self, sweep: impl Sweep<i32>, c: u32, one: u64) {
         match (self.short, self.constant < 0) {
-            (true, false) => self.run_cut_raised(sweep, one, |a, b| times(c, raised(a + b))),
-            (true, true) => self.run_cut_raised(sweep, one, |a, b| times(c, raised(-(a + b)))),
+            (true, false) => self.run_cut_biased(sweep, one, |a, b| times(c, biased(a + b))),
+            (true, true) => self.run_cut_biased(sweep, one, |a, b| times(c, biased(-(a + b)))),
             (false, false) => {
-                let product = |a, b| times(c, raised(a)) + times(c, raised(b));
-                self.run_cut_raised(sweep, 2 * one, product);
+                let product = |a, b| times(c, biased(a)) + times(c, biased(b));
+                self.run_cut_biased(sweep, 2 * one, product);
             }
             (false, true) => {
-                let product = |a, b| 4 * one - times(c, raised(a)) - times(c, raised(b));
-                self.run_cut_raised(sweep, 2 * one, product);
+                let product = |a, b| 4 * one - times(c, biased(a)) - times(c, biased(b));
+                self.run_cut_biased(sweep, 2 * one, product);
             }
         }
     }
@@ -509,11 +509,11 @@ impl Stage {
     /// `product` is too large by `more`, which is made a multiple of all that
     /// the two cuts take away.
     #[inline(always)]
-    fn run_cut_raised(self, sweep: impl Sweep<i32>, more: u64, product: impl Fn(i32, i32) -> u64) {
+    fn run_cut_biased(self, sweep: impl Sweep<i32>, more: u64, product: impl Fn(i32, i32) -> u64) {
         let (cut, shift) = (self.product_cut, self.product_shift);
         let level = more.next_multiple_of(1 << (cut + self.cut.saturating_sub(shift)));
         let pad = level - more;
-        self.run_raised(sweep, level >> cut << shift, |a, b| {
+        self.run_biased(sweep, level >> cut << shift, |a, b| {
             (product(a, b) + pad) >> cut << shift
         });
     }
@@ -521,7 +521,7 @@ impl Stage {
     /// `product` is too large by `more`. An own value with no bit below the
     /// cut is added after it.
     #[inline(always)]
-    fn run_raised(self, sweep: impl Sweep<i32>, more: u64, product: impl Fn(i32, i32) -> u64) {
+    fn run_biased(self, sweep: impl Sweep<i32>, more: u64, product: impl Fn(i32, i32) -> u64) {
         let (own_shift, cut) = (self.own_shift, self.cut);
         let base = (more >> cut) as i32;
         let moved = |a, b| ((product(a, b) >> cut) as i32).wrapping_sub(base);
@@ -532,7 +532,7 @@ impl Stage {
         } else {
             let base = ((more + (1 << (31 + own_shift))) >> cut) as i32;
             sweep.run(|own, a, b| {
-                let total = product(a, b) + (u64::from(raised(own)) << own_shift);
+                let total = product(a, b) + (u64::from(biased(own)) << own_shift);
                 ((total >> cut) as i32).wrapping_sub(base)
             });
         }
@@ -550,7 +550,7 @@ impl Stage {
 
 /// A value and 2^31 more.
 #[inline(always)]
-fn raised(value: i32) -> u32 {
+fn biased(value: i32) -> u32 {
     value as u32 ^ (1 << 31)
 }
 
@@ -586,7 +586,7 @@ impl Scale {
 
     #[inline(always)]
     fn of(self, value: i32) -> i32 {
-        let total = times(self.c, raised(value)) + self.pad;
+        let total = times(self.c, biased(value)) + self.pad;
         ((total >> self.cut) as i32).wrapping_sub(self.base)
     }
 }
@@ -708,10 +708,10 @@ const ONE_OVER_ZETA: i64 = nearest24(CONSTANTS[5]);
 /// The most columns that are viewed side by side.
 const VIEW_STRIP: usize = 16;
 
-/// Undoes the stages of a tile whose values have 20 fractional bits and are
-/// scaled.
+/// The inverse stages of a line buffer whose values have 20 fractional bits and
+/// are scaled.
 #[inline(always)]
-fn unlift(lows: &mut [i64], highs: &mut [i64], n: usize) {
+fn inverse_lift(lows: &mut [i64], highs: &mut [i64], n: usize) {
     LowsByHighs { lows, highs, n }.run(|own, a, b| own + ((-DELTA * (a + b)) >> 24));
     HighsByLows { lows, highs, n }.run(|own, a, b| own + ((-GAMMA * (a + b)) >> 24));
     LowsByHighs { lows, highs, n }.run(|own, a, b| own + ((-BETA * (a + b)) >> 24));
@@ -742,14 +742,14 @@ fn view_columns(
     width: usize,
     (from, to): (usize, usize),
     h: usize,
-    tile: &mut [i64],
+    buffer: &mut [i64],
     stored: Stored,
 ) {
     let middle = h.div_ceil(2);
     for x in (from..to).step_by(VIEW_STRIP) {
         let n = VIEW_STRIP.min(to - x);
-        let tile = &mut tile[..h * n];
-        let (lows, highs) = tile.split_at_mut(middle * n);
+        let buffer = &mut buffer[..h * n];
+        let (lows, highs) = buffer.split_at_mut(middle * n);
         let rows = plane.chunks_exact(width);
         match stored.lows {
             Some(f) => {
@@ -766,9 +766,9 @@ fn view_columns(
         for (row, line) in rows.skip(middle).zip(highs.chunks_exact_mut(n)) {
             scaled(&row[x..x + n], line, ZETA, stored.highs);
         }
-        unlift(lows, highs, n);
+        inverse_lift(lows, highs, n);
         for (y, row) in work.chunks_exact_mut(width).take(h).enumerate() {
-            row[x..x + n].copy_from_slice(&tile[parted(y, h) * n..][..n]);
+            row[x..x + n].copy_from_slice(&buffer[parted(y, h) * n..][..n]);
         }
     }
 }
@@ -780,7 +780,7 @@ fn view_row(row: &[i64], line: &mut [i64]) {
     let (lows, highs) = line.split_at_mut(middle);
     scaled(&row[..middle], lows, ONE_OVER_ZETA, 20);
     scaled(&row[middle..], highs, ZETA, 20);
-    unlift(lows, highs, 1);
+    inverse_lift(lows, highs, 1);
 }
 
 /// Whether every value of a rectangle is held by a node of so many bits.
@@ -841,7 +841,7 @@ pub fn view97(
     if !all_held(table, plane, width, &parts) {
         return false;
     }
-    let mut tile = vec![0; (size.1 * VIEW_STRIP).max(width)];
+    let mut buffer = vec![0; (size.1 * VIEW_STRIP).max(width)];
     for (level, &(w, h)) in parts.iter().enumerate().rev() {
         let bits = |pass, at| node(table, level, pass, at)[1];
         let left = Stored {
@@ -853,9 +853,9 @@ pub fn view97(
             highs: bits(2, 5),
         };
         let middle = w.div_ceil(2);
-        view_columns(plane, work, width, (0, middle), h, &mut tile, left);
-        view_columns(plane, work, width, (middle, w), h, &mut tile, right);
-        let line = &mut tile[..w];
+        view_columns(plane, work, width, (0, middle), h, &mut buffer, left);
+        view_columns(plane, work, width, (middle, w), h, &mut buffer, right);
+        let line = &mut buffer[..w];
         if level > 0 {
             for row in work.chunks_exact_mut(width).take(h) {
                 view_row(&row[..w], line);
@@ -882,14 +882,14 @@ fn columns_in_place(
     width: usize,
     (from, to): (usize, usize),
     h: usize,
-    tile: &mut [i64],
+    buffer: &mut [i64],
     (low_bits, high_bits): (u8, u8),
 ) {
     let middle = h.div_ceil(2);
     for x in (from..to).step_by(VIEW_STRIP) {
         let n = VIEW_STRIP.min(to - x);
-        let tile = &mut tile[..h * n];
-        let (lows, highs) = tile.split_at_mut(middle * n);
+        let buffer = &mut buffer[..h * n];
+        let (lows, highs) = buffer.split_at_mut(middle * n);
         let rows = work.chunks_exact(width);
         for (row, line) in rows.clone().zip(lows.chunks_exact_mut(n)) {
             scaled(&row[x..x + n], line, ONE_OVER_ZETA, low_bits);
@@ -897,15 +897,15 @@ fn columns_in_place(
         for (row, line) in rows.skip(middle).zip(highs.chunks_exact_mut(n)) {
             scaled(&row[x..x + n], line, ZETA, high_bits);
         }
-        unlift(lows, highs, n);
+        inverse_lift(lows, highs, n);
         for (y, row) in work.chunks_exact_mut(width).take(h).enumerate() {
-            row[x..x + n].copy_from_slice(&tile[parted(y, h) * n..][..n]);
+            row[x..x + n].copy_from_slice(&buffer[parted(y, h) * n..][..n]);
         }
     }
 }
 
 /// The same by the passes of the engine: the coefficients go to the work area,
-/// every level is undone there, and each of the last rows is shown from it.
+/// every level's inverse is worked there, and each of the last rows is shown from it.
 pub fn view97_in_place(
     table: &[u8],
     plane: &[i32],
@@ -922,16 +922,16 @@ pub fn view97_in_place(
     for (to, &from) in work.iter_mut().zip(plane) {
         *to = from.into();
     }
-    let mut tile = vec![0; (size.1 * VIEW_STRIP).max(width)];
+    let mut buffer = vec![0; (size.1 * VIEW_STRIP).max(width)];
     for (level, &(w, h)) in parts.iter().enumerate().rev() {
         let bits = |pass, at| node(table, level, pass, at)[1];
         let last = level + 1 == parts.len();
         let left = (if last { bits(1, 4) } else { 20 }, bits(1, 5));
         let right = (bits(2, 4), bits(2, 5));
         let middle = w.div_ceil(2);
-        columns_in_place(work, width, (0, middle), h, &mut tile, left);
-        columns_in_place(work, width, (middle, w), h, &mut tile, right);
-        let line = &mut tile[..w];
+        columns_in_place(work, width, (0, middle), h, &mut buffer, left);
+        columns_in_place(work, width, (middle, w), h, &mut buffer, right);
+        let line = &mut buffer[..w];
         for (y, row) in work.chunks_exact_mut(width).take(h).enumerate() {
             view_row(&row[..w], line);
             join(line, &mut row[..w], |value| value);
@@ -946,20 +946,20 @@ pub fn view97_in_place(
     true
 }
 
-/// The most columns that are undone side by side, turn by turn.
-const TURN_STRIP: usize = 512;
+/// The most columns that go through the pipeline side by side.
+const PIPELINE_STRIP: usize = 512;
 
-/// A stage undone at one value.
+/// The inverse of a stage at one value.
 #[inline(always)]
-fn undone(own: i64, a: i64, b: i64, constant: i64) -> i64 {
+fn inverse_step(own: i64, a: i64, b: i64, constant: i64) -> i64 {
     own + ((-constant * (a + b)) >> 24)
 }
 
-/// What is held of a line that is undone turn by turn. Turn `i` takes low `i`
+/// What is held of a line in the pipeline. Step `i` takes low `i`
 /// and high `i`, or the last ones, and gives places `2 (i - 2)` and
 /// `2 (i - 2) + 1`.
 #[derive(Clone, Copy, Default)]
-struct Turn {
+struct Pipeline {
     g2: i64,
     u2: i64,
     p2: i64,
@@ -968,15 +968,15 @@ struct Turn {
     odd: i64,
 }
 
-impl Turn {
-    /// A turn away from the ends.
+impl Pipeline {
+    /// A step away from the ends.
     #[inline(always)]
-    fn inner(self, low: i64, high: i64) -> Turn {
-        let u2 = undone(low, self.g2, high, DELTA);
-        let p2 = undone(self.g2, self.u2, u2, GAMMA);
-        let u1 = undone(self.u2, self.p2, p2, BETA);
-        let odd = undone(self.p2, self.u1, u1, ALPHA);
-        Turn {
+    fn inner(self, low: i64, high: i64) -> Pipeline {
+        let u2 = inverse_step(low, self.g2, high, DELTA);
+        let p2 = inverse_step(self.g2, self.u2, u2, GAMMA);
+        let u1 = inverse_step(self.u2, self.p2, p2, BETA);
+        let odd = inverse_step(self.p2, self.u1, u1, ALPHA);
+        Pipeline {
             g2: high,
             u2,
             p2,
@@ -986,21 +986,21 @@ impl Turn {
         }
     }
 
-    /// Turn `i` of a line of so many lows and highs.
-    fn any(self, low: i64, high: i64, i: usize, lows: usize, highs: usize) -> Turn {
+    /// Step `i` of a line of so many lows and highs.
+    fn any(self, low: i64, high: i64, i: usize, lows: usize, highs: usize) -> Pipeline {
         let on_low = |k: usize, kept, own, before, after, constant| match k {
             _ if k >= lows => kept,
-            0 => undone(own, after, after, constant),
-            _ => undone(own, before, after, constant),
+            0 => inverse_step(own, after, after, constant),
+            _ => inverse_step(own, before, after, constant),
         };
         let on_high = |k: usize, kept, own, before, after, constant| match k < highs {
-            true => undone(own, before, after, constant),
+            true => inverse_step(own, before, after, constant),
             false => kept,
         };
-        let mut next = Turn {
+        let mut next = Pipeline {
             g2: high,
             even: self.u1,
-            ..Turn::default()
+            ..Pipeline::default()
         };
         next.u2 = on_low(i, self.u2, low, self.g2, high, DELTA);
         if i > 0 {
@@ -1024,13 +1024,13 @@ fn scaled_one(value: i64, constant: i64, f: u8) -> i64 {
 /// work area `stride` apart. The lows stand in the plane, or on the even rows
 /// of the work area.
 #[allow(clippy::too_many_arguments)]
-fn turn_columns(
+fn pipeline_columns(
     plane: &[i32],
     work: &mut [i64],
     (width, stride): (usize, usize),
     x: usize,
     h: usize,
-    held: &mut [Turn],
+    held: &mut [Pipeline],
     fed: &mut [i64],
     stored: Stored,
 ) {
@@ -1082,8 +1082,8 @@ fn turn_columns(
     }
 }
 
-/// Undoes a row into `line`, turn by turn.
-fn turn_row(row: &[i64], line: &mut [i64]) {
+/// The inverse of a row into `line`, step by step.
+fn pipeline_row(row: &[i64], line: &mut [i64]) {
     let (low, high) = row.split_at(row.len().div_ceil(2));
     let scaled = |low: i64, high: i64| {
         (
@@ -1091,8 +1091,8 @@ fn turn_row(row: &[i64], line: &mut [i64]) {
             scaled_one(high, ZETA, 20),
         )
     };
-    let mut held = Turn::default();
-    let end = |held: &mut Turn, i: usize, line: &mut [i64]| {
+    let mut held = Pipeline::default();
+    let end = |held: &mut Pipeline, i: usize, line: &mut [i64]| {
         let (a, b) = scaled(low[i.min(low.len() - 1)], high[i.min(high.len() - 1)]);
         *held = held.any(a, b, i, low.len(), high.len());
         for (k, value) in [(2 * i, held.even), (2 * i + 1, held.odd)] {
@@ -1117,8 +1117,8 @@ fn turn_row(row: &[i64], line: &mut [i64]) {
 }
 
 /// The same by the passes of the engine now: the four stages of a line are
-/// undone together, turn by turn, the coefficients straight from the plane.
-pub fn view97_by_turns(
+/// as a pipeline, the coefficients straight from the plane.
+pub fn view97_pipeline(
     table: &[u8],
     plane: &[i32],
     size: (usize, usize),
@@ -1132,8 +1132,8 @@ pub fn view97_by_turns(
     if !all_held(table, plane, width, &parts) {
         return false;
     }
-    let mut held = [Turn::default(); TURN_STRIP];
-    let mut fed = [0; TURN_STRIP];
+    let mut held = [Pipeline::default(); PIPELINE_STRIP];
+    let mut fed = [0; PIPELINE_STRIP];
     let mut line = vec![0; width];
     for (level, &(w, h)) in parts.iter().enumerate().rev() {
         let stride = width << level;
@@ -1148,16 +1148,16 @@ pub fn view97_by_turns(
         };
         let middle = w.div_ceil(2);
         for (from, to, stored) in [(0, middle, left), (middle, w, right)] {
-            for x in (from..to).step_by(TURN_STRIP) {
-                let n = TURN_STRIP.min(to - x);
+            for x in (from..to).step_by(PIPELINE_STRIP) {
+                let n = PIPELINE_STRIP.min(to - x);
                 let (held, fed) = (&mut held[..n], &mut fed[..n]);
-                turn_columns(plane, work, (width, stride), x, h, held, fed, stored);
+                pipeline_columns(plane, work, (width, stride), x, h, held, fed, stored);
             }
         }
         let line = &mut line[..w];
         for y in 0..h {
             let row = &mut work[y * stride..][..w];
-            turn_row(row, line);
+            pipeline_row(row, line);
             if level > 0 {
                 row.copy_from_slice(line);
                 continue;

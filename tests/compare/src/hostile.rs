@@ -48,7 +48,7 @@ impl Filter {
         }
     }
 
-    /// One pass undone; lows stand first, samples come back in their order.
+    /// The inverse of one pass; lows stand first, samples come back in their order.
     fn undone(&self, line: &[f64]) -> Vec<f64> {
         let n = line.len();
         if n == 1 {

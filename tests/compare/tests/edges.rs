@@ -85,7 +85,7 @@ fn columns(plane: &mut [i128], width: usize, pass: impl Fn(bool, &[i128]) -> Vec
 }
 
 /// An order of the 5/3: 004's equations along rows and columns of a plane of
-/// some width, forward and taken back, and the library's way back.
+/// some width, forward and inverse, and the library's way back.
 struct Order53 {
     forward: fn(&mut [i128], usize),
     back: fn(&mut [i128], usize),
@@ -168,8 +168,8 @@ fn hold97(table: &WidthTable, size: Size, picture: &[u16]) -> Vec<i32> {
     plane
 }
 
-/// What the library shows of a plane is what 003's equations taken back along
-/// columns, then rows, give. Gives the pixels.
+/// What the library shows of a plane is what the inverse of 003's equations
+/// gives along columns, then rows. Gives the pixels.
 fn hold_view97(table: &WidthTable, size: Size, plane: &[i32]) -> Vec<u16> {
     let (width, height) = size;
     let [_, of_row_low, of_row_high] = &table.widths[0];
@@ -270,9 +270,9 @@ fn the_5_3_of_every_small_size_is_that_of_004_forward_and_back() {
 }
 
 /// Planes near those of pictures: the library gives back the picture that the
-/// equations taken back give, and 11 where that one is not of the depth.
+/// inverse equations give, and 11 where that one is not of the depth.
 #[test]
-fn a_5_3_plane_goes_back_where_the_equations_of_004_taken_back_stay_in_the_depth() {
+fn a_5_3_plane_goes_back_where_the_inverse_equations_of_004_stay_in_the_depth() {
     let mut chance = Chance::new(122);
     for order in [COLUMNS_FIRST, ROWS_FIRST] {
         let (mut good, mut bad) = (0, 0);
@@ -319,7 +319,7 @@ fn the_9_7_of_every_small_size_is_that_of_003() {
 }
 
 #[test]
-fn what_is_viewed_of_every_small_size_is_003_taken_back() {
+fn what_is_viewed_of_every_small_size_is_the_inverse_of_003() {
     let mut chance = Chance::new(124);
     for depth in DEPTHS {
         for table in viewable_tables(&mut chance, depth) {

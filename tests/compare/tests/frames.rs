@@ -319,7 +319,7 @@ fn every_call_stays_within_its_stack() {
 }
 
 /// `suz_inverse53` without the fault, its middle left out, from the library in
-/// which `reversible::back` makes the tile before anything is judged.
+/// which `reversible::back` makes the line buffer before anything is judged.
 const AT_THE_ENTRY: &str = "
 0000000000000000 <suz_inverse53>:
    0:	push   rbp
@@ -362,8 +362,8 @@ const AT_THE_ENTRY: &str = "
 ";
 
 /// `suz_inverse53` with the fault, its middle left out, from a proved library
-/// in which `reversible::found` made the tile: r11 holds the levels before the
-/// loop, and is read as the levels behind it. Admitted sides were answered 8.
+/// in which `reversible::found` made the line buffer: r11 holds the levels before
+/// the loop, and is read as the levels behind it. Admitted sides were answered 8.
 const BEHIND_AN_EXIT: &str = "
 0000000000000000 <suz_inverse53>:
    0:	mov    r11d,esi

@@ -2,7 +2,7 @@
 //! back, and copies made earlier, rows first, back.
 //!
 //! No call makes an earlier copy any more. The reference has kept its
-//! definition, and those that are taken back here come from there.
+//! definition, and those that go back here come from there.
 
 use compare::both::{self, Done, Lent};
 use compare::chance::Chance;

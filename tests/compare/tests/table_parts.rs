@@ -88,7 +88,7 @@ fn the_order_of_refusals() {
     assert_eq!(write(&table, &[]), 4);
 }
 
-/// Changes one after the other, and each undone.
+/// Changes one after the other, and each changed back.
 #[test]
 fn constants_changed_and_changed_back() {
     let mut chance = Chance::new(92);

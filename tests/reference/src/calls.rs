@@ -358,7 +358,7 @@ mod tests {
     /// A way back: depth, levels, plane, sides, pixels, work area.
     type WayBack = fn(u8, u8, &[i32], usize, usize, &mut [u16], &mut [i32]) -> Result<(), Refusal>;
 
-    /// Both, with the copy that each takes back to 5 7 over 4 4.
+    /// Both, with the copy that goes back by each to 5 7 over 4 4.
     const WAYS_BACK: [(WayBack, [i32; 4]); 2] = [
         (inverse53, [2, 1, -2, -2]),
         (inverse53_rows_first, [1, 1, -2, -2]),

@@ -1,4 +1,4 @@
-//! The exact 9/7 transform undone: nothing is cut (document 02, job 1). All
+//! The inverse of the exact 9/7 transform: nothing is cut (document 02, job 1). All
 //! values are whole numbers over one common denominator, as in [`exact97`].
 //!
 //! [`exact97`]: crate::exact97
@@ -32,7 +32,7 @@ fn unstage(own: &mut [Big], others: &[Big], by: Ratio, beside: impl Fn(usize) ->
     stage(own, others, Ratio { numerator, ..by }, beside);
 }
 
-/// One pass undone. The numerators given, low values first, have some common
+/// The inverse of one pass. The numerators given, low values first, have some common
 /// denominator D; those that come back have D times [`pass_factor`]. A single
 /// low value is the sample (document 02, job 6).
 fn unpass(line: &[Big]) -> Vec<Big> {

@@ -1,4 +1,4 @@
-//! The 9/7 transform undone in fixed point, over whole numbers without limit,
+//! The inverse 9/7 transform in fixed point, over whole numbers without limit,
 //! and the pixels shown (document 02, job 1).
 
 use crate::constants::{Ratio, ALPHA, BETA, DELTA, GAMMA, ONE_OVER_ZETA, ZETA};
@@ -34,7 +34,7 @@ fn minus(exact: Ratio) -> Fixed {
 }
 
 /// One pass: what each node holds, in the order low over zeta, high times
-/// zeta, U2, P2, U1, P1 undone. The last two are the even and the odd samples.
+/// zeta, inverses of U2, P2, U1, P1. The last two are the even and the odd samples.
 /// A single low value is the only even sample, uncut, and no other node holds
 /// anything (document 02, job 6).
 pub fn pass(low: Half, high: Half) -> [Vec<i128>; 6] {
@@ -62,7 +62,7 @@ pub fn pass(low: Half, high: Half) -> [Vec<i128>; 6] {
     [g1, g2, u2, p2, u1, p1]
 }
 
-/// A plane undone.
+/// The inverse of a plane.
 #[derive(Clone, Debug, PartialEq, Eq)]
 pub struct Undone {
     /// The values before they are rounded to pixels, row by row, with

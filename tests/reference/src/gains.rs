@@ -15,7 +15,7 @@ pub struct Gains {
 }
 
 /// Gains of the inverse pass (document 02, job 1) in whole numbers of 2^-16.
-/// Its nodes in order: low over zeta, high times zeta, U2, P2, U1, P1 undone.
+/// Its nodes in order: low over zeta, high times zeta, inverses of U2, P2, U1, P1.
 #[derive(Clone, Debug, PartialEq, Eq)]
 pub struct InverseGains {
     /// From the low input to each node.
@@ -79,7 +79,7 @@ fn forward() -> [Stage; 6] {
     ]
 }
 
-/// Low over zeta, high times zeta, then U2, P2, U1, P1 undone.
+/// Low over zeta, high times zeta, then the inverses of U2, P2, U1, P1.
 fn inverse() -> [Stage; 6] {
     let minus = |constant: Ratio| constant.fraction().times(&Fraction::whole(-1));
     [

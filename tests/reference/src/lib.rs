@@ -11,7 +11,7 @@
 //! * [`constants`], [`gains`], [`precision`]: the precision analysis and its
 //!   verdict (document 01: the judge)
 //! * [`fixed97`], [`exact97`]: the 9/7 transform in fixed point and in fractions
-//! * [`fixed_inverse97`], [`exact_inverse97`], [`viewing`]: the same undone, and
+//! * [`fixed_inverse97`], [`exact_inverse97`], [`viewing`]: their inverse, and
 //!   the bound between the two
 //! * [`reversible53`]: the 5/3 transform forward and back, columns first as new
 //!   copies have it and rows first as copies made earlier

@@ -3,7 +3,7 @@
 //!
 //! A floor follows every sum, so a plane worked columns first is in general
 //! another than one worked rows first. Each order has its own way back, which
-//! undoes what was worked last first.
+//! takes the inverse of what was worked last first.
 
 use crate::places::{low_count, side_at};
 
@@ -109,7 +109,7 @@ pub fn forward_levels(order: Order, levels: u8, plane: &mut [i128], width: usize
     }
 }
 
-/// Every level undone, the last level first, over whole numbers of any size.
+/// The inverse of every level, the last level first, over whole numbers of any size.
 fn back_levels(order: Order, levels: u8, plane: &mut [i128], width: usize, height: usize) {
     for level in (1..=levels).rev() {
         let (w, h) = (side_at(width, level), side_at(height, level));
@@ -311,7 +311,7 @@ mod tests {
         }
     }
 
-    /// A copy of one order that is taken back in the other: no picture, or
+    /// A copy of one order that goes back in the other: no picture, or
     /// another one, or, as with a flat picture, the same.
     #[test]
     fn a_copy_of_the_other_order_does_not_come_back_but_by_luck() {

@@ -11,9 +11,9 @@ use crate::table::{Width, WidthTable};
 const MOST: u128 = ONE << 15;
 
 /// Bounds of the six nodes of one inverse pass, in the order low over zeta,
-/// high times zeta, U2, P2, U1, P1 undone. The even output's (U1 undone) are at
+/// high times zeta, inverses of U2, P2, U1, P1. The even output's (of U1) are at
 /// least those of the low input, which a pass of a single sample lets through;
-/// undoing P1 multiplies the even output, and so takes the larger ones
+/// the inverse of P1 multiplies the even output, and so takes the larger ones
 /// (document 02, job 6).
 pub fn pass_bounds(low: Bound, high: Bound) -> [Bound; 6] {
     pass_bounds_by(low, high, |even| larger(even, low))
@@ -73,7 +73,7 @@ fn pass_bounds_by(low: Bound, high: Bound, even_output: impl Fn(Bound) -> Bound)
     bounds
 }
 
-/// The larger of the even output (U1 undone) and the odd one (P1 undone).
+/// The larger of the even output (inverse of U1) and the odd one (of P1).
 fn larger_output(nodes: [Bound; 6]) -> Bound {
     let [.., even, odd] = nodes;
     larger(even, odd)

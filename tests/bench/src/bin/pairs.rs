@@ -9,7 +9,7 @@
 //! Exact copies alone may differ: builds without `suz_inverse53_rows_first` work
 //! the 5/3 rows first, later ones columns first. The copy that a build makes
 //! must be the plain program's of its order, and each build takes its own back.
-//! A last row of the 5/3 takes back a copy worked rows first by both.
+//! A last row of the 5/3 restores a copy worked rows first by both.
 //!
 //! Tables with product widths are worked where both builds know them.
 

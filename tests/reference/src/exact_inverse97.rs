@@ -1,5 +1,5 @@
-//! The inverse of the exact 9/7 transform: nothing is cut (document 02, job 1). All
-//! values are whole numbers over one common denominator, as in [`exact97`].
+//! The inverse of the exact 9/7 transform: nothing is cut (document 02, job 1).
+//! All values are whole numbers over one common denominator, as in [`exact97`].
 //!
 //! [`exact97`]: crate::exact97
 

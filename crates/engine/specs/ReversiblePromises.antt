@@ -72,7 +72,7 @@ module _ (B L w h : ℕ) (plane : List ℤ) (pixels : List ℕ) (work : List ℤ
   pub back-same-plane : forwardPlane columnsFirst B L w h given out area ≡ over (take (w * h) plane) out
   back-same-plane = copied-again .1
 
--- ---- either way inverse
+-- ---- either way back
 
 module _ (order : Order) (B L w h : ℕ) (plane : List ℤ) (pixels : List ℕ) (work : List ℤ) where
   -- Where it answers 0, it gave a picture of that depth and size, and the plane is that picture's transform in the order of the call: by

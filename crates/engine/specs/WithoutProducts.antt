@@ -1,8 +1,8 @@
 -- Document 02, job 7, at the C interface: with a table's bytes in which no byte 5 follows the fourth field, a call answers as before, and
--- what it is lent lengthAnswer the same afterwards; no product's width can be changed. Each equation has on its right what stood before: the form
+-- what it is lent holds the same afterwards; no product's width can be changed. Each equation has on its right what stood before: the form
 -- of four fields (`formWithout`), the analysis and the lifting in which no product is cut (`oldVerdict`, `oldBoundAnswer`, `oldBoundOf`,
 -- `uncutPlane`), the bytes of four fields. Rules of a change, of strips and of viewing, which cuts no product (Products of viewing), stand as
--- they are; what the form in memory asks of products besides lengthAnswer of every table that is read (`read-formed` of width_table).
+-- they are; what the form in memory asks of products besides holds of every table that is read (`read-formed` of width_table).
 -- (suz_table_form answers by `form` and suz_table_value by `nameAnswer`: `reads-as-before`, and `names-as-before` for every tag but 5, of
 -- width_table.)
 use Prim.Native.Nat.{ℕ, _*_}

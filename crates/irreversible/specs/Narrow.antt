@@ -318,8 +318,8 @@ pub eleven-bits : (t : WidthTable) → AcceptPromise t → (l : ℕ) → 1 ≤ l
     → boundOf t (nodeAt l p n) .range + boundOf t (nodeAt l p n) .error + 2 ^ (32 - fractionBits t l p n) ≤ 2 ^ 10 * 2 ^ 32
 unfolding boundOf
 eleven-bits t ok l a b p n =
-    let hasProducts : l ≤ maxLevels = omega (arith, form-levels t (ok .form) .1) in
-    omega (arith, step-most (fractionBits t l p n), range-most t l hasProducts p n, largest-small, pass-error t l (entering t l) p n, last-most t ok l a b p (isLow n))
+    let few : l ≤ maxLevels = omega (arith, form-levels t (ok .form) .1) in
+    omega (arith, step-most (fractionBits t l p n), range-most t l few p n, largest-small, pass-error t l (entering t l) p n, last-most t ok l a b p (isLow n))
 
 -- what enters a level
 pub enters-eleven : (t : WidthTable) → AcceptPromise t → (l : ℕ) → 1 ≤ l → l ≤ t .levels

@@ -1,4 +1,4 @@
--- Where the values of a pass are sized (BelowPower10), every number on the way fits its machine type (`kernel-safe`).
+-- Where the values of a pass are below 2^10 in magnitude (`BelowPower10`), every number on the way fits its machine type (`kernel-safe`).
 use Prim.Native.Nat.{ℕ, _+_, _*_, _-_, _^_, _<_, _≤_, max}
 use mathlib.Core.Bool.{Bool, true, false}
 use mathlib.Core.Path.{_≡_, sym, _∙_, ap, subst}

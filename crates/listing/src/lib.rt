@@ -141,7 +141,7 @@ fn two(high: u8, low: u8) -> u16
     (high as u16) * 256 + (low as u16)
 }
 
-// The pixels of an input that lengthAnswer n of them and no more.
+// The pixels of an input that holds n of them and no more.
 fn read_pixels(bytes: &[u8], pixels: &mut [u16], n: usize)
     requires { ⌜ (length (now bytes) ≡ headBytes + 2 * n) × (n ≤ length (now pixels)) ⌝ }
     ensures { λ _. ⌜ now (pixels .exit) ≡ over (copyPixels (now (bytes .entry))) (now (pixels .entry)) ⌝ }

@@ -1,4 +1,4 @@
--- What a test of two signed locals says of the numbers that were written to them, where they fit. Assumes nothing.
+-- What a test of two signed locals says of the numbers that were written to them, where they fit.
 use mathlib.Core.Bool.{Bool, true, false, not}
 use mathlib.Core.Path.{_≡_, sym, subst, subst₂}
 use lib.Dec.{T}

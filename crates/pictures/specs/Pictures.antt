@@ -26,7 +26,7 @@ Admitted n = (1 ≤ n) × (n ≤ maxSide)
 unfoldable pub sideAnswer : ℕ → ℕ → Answer Unit
 sideAnswer w h = asks (sideRight w && sideRight h) 8 passed
 
--- 9: a lent slice of k elements lengthAnswer n.
+-- 9: a lent slice of k elements holds n.
 unfoldable pub lengthAnswer : ℕ → ℕ → Answer Unit
 lengthAnswer n k = asks (leb n k) 9 passed
 

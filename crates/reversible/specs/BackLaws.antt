@@ -1,4 +1,4 @@
--- The way inverse in memory: what the code's looks tell, and when the answer is 11.
+-- The way back in memory: what the code's looks tell, and when the answer is 11.
 use Prim.Native.Nat.{ℕ, _+_, _*_, _<_, _≤_, _^_}
 use mathlib.Core.Bool.{Bool, true, false}
 use mathlib.Core.Path.{_≡_, sym, subst}
@@ -15,7 +15,7 @@ use Rattle.reversible.specs.LevelLaws.{BoundedPart, planeAt}
 use Rattle.reversible.specs.LoopLaws.{BackLeft, back-part}
 use Rattle.reversible.specs.Preconditions.{LevelsRoom}
 
--- ---- the answer of all levels inverse
+-- ---- the answer of all levels back
 
 pub record BackDone (order : Order) (L w h : ℕ) (x y : ℕ → ℤ) (r : Bool) : Type 0 where
   pub done : T r → Agree w h (planeAt w y) (inverse order L w h (planeAt w x))

@@ -1,5 +1,5 @@
 -- The claims of the 5/3 calls, proved, in either order of rows and columns: what a done call made or gave (`makes-copy`, `gives-picture`),
--- there and inverse (`there-and-back`), inverse and there (`back-and-there`), and when the way inverse is done, and when it is refused 11
+-- there and back (`there-and-back`), back and there (`back-and-there`), and when the way back is done, and when it is refused 11
 -- (`done-exactly`, `eleven-exactly`).
 use Prim.Native.Nat.{ℕ, _+_, _*_, _-_, _^_, _<_, _≤_}
 use mathlib.Core.Bool.{Bool, true, false, _&&_}
@@ -26,7 +26,7 @@ use Rattle.reversible.specs.Claims.{PixelsOf, copyOf, Copied, MakesCopy,
 use Rattle.reversible.specs.PictureLaws.{goes-back, found-picture, found-plane, pixel-is, has-picture}
 use Rattle.reversible.specs.Calls.{limitAnswer, forwardAnswer, forwardPlane, pixelsBack, isPixel, hasPicture, backAllowed, backAnswer, backPixels}
 
--- ---- there and inverse
+-- ---- there and back
 
 allowed : (B L w h a b c : ℕ) → T (depthRight B && levelsRight L) → Room w h a b c → limitAnswer B L then roomAnswer w h a b c ≡ passed
 allowed B L w h a b c d r = then-right (limitAnswer B L) _ (asks-right (depthRight B && levelsRight L) _ _ d) ∙ sized-right w h a b c r
@@ -121,7 +121,7 @@ pub there-and-back : ThereAndBack
 there-and-back order B L w h pixels plane work e shown area rs ra =
     (goes-back-done order B L w h pixels plane work e shown area rs ra, goes-back-same order B L w h pixels plane work e shown area rs ra)
 
--- ---- inverse and there
+-- ---- back and there
 
 record BackDone (order : Order) (B L w h : ℕ) (plane : List ℤ) (pixels : List ℕ) (work : List ℤ) : Type 0 where
   limits : T (depthRight B && levelsRight L)

@@ -1,4 +1,4 @@
--- The 5/3 calls (document 01: why a strip or book comes inverse): the answer, and each lent slice afterwards. Transform and refusal 11 go by
+-- The 5/3 calls (document 01: why a strip or book comes back): the answer, and each lent slice afterwards. Transform and refusal 11 go by
 -- the order of rows and columns of the call (document 02, job 4).
 use Prim.Native.Nat.{ℕ, _*_, _-_, _^_}
 use mathlib.Core.Bool.{Bool, _&&_}
@@ -37,9 +37,9 @@ module _ (order : Order) (B L w h : ℕ) (pixels : List ℕ) (plane work : List 
   unfoldable pub forwardPlane : List ℤ
   forwardPlane = answered (forwardAnswer B L w h pixels plane work) (over (rowByRow w h (forward order L w h (sample pixels B w))) plane) plane
 
--- ---- inverse: 4, 8, 9, 11
+-- ---- back: 4, 8, 9, 11
 
--- what the way inverse gives where each pixel would lie
+-- what the way back gives where each pixel would lie
 unfoldable pub pixelsBack : Order → ℕ → ℕ → ℕ → ℕ → List ℤ → List ℤ
 pixelsBack order B L w h plane = rowByRow w h (λ r c. inverse order L w h (planeOf w plane) r c +ℤ pos (2 ^ (B - 1)))
 
@@ -47,7 +47,7 @@ pixelsBack order B L w h plane = rowByRow w h (λ r c. inverse order L w h (plan
 abbrev pub isPixel : ℕ → ℤ → Bool
 isPixel B z = leZ (pos 0) z && ltZ z (pos (2 ^ B))
 
--- The way inverse of that order gives a pixel, 0 to 2^B - 1, at every place (has-picture of PictureLaws: exactly then a picture has the plane).
+-- The way back of that order gives a pixel, 0 to 2^B - 1, at every place (has-picture of PictureLaws: exactly then a picture has the plane).
 unfoldable pub hasPicture : Order → ℕ → ℕ → ℕ → ℕ → List ℤ → Bool
 hasPicture order B L w h plane = every (isPixel B) (pixelsBack order B L w h plane)
 

@@ -1,4 +1,4 @@
--- The way inverse ends: whether what came out are pixels (refusal 11), and what is written.
+-- The way back ends: whether what came out are pixels (refusal 11), and what is written.
 use Prim.Native.Nat.{ℕ, _+_, _*_, _-_, _/_, _%_, _<_, _≤_, _^_}
 use mathlib.Core.Bool.{Bool, true, false, not}
 use mathlib.Core.List.{List, map, _++_}
@@ -63,7 +63,7 @@ module _ (B : ℕ) (some : 1 ≤ B) (few : B ≤ maxDepth) where
 pub by-place : (P : ℕ → Type 0) (w h : ℕ) → 1 ≤ w → ((r c : ℕ) → r < h → c < w → P (r * w + c)) → (k : ℕ) → k < w * h → P k
 by-place P w h some f k i = subst P (div-add-mod' k w) (f (k / w) (k % w) (div-lt-iff-lt-mul some .1 (subst (λ (n : ℕ). k < n) (mul-comm w h) i)) (mod-lt k some))
 
--- ---- the plane is taken inverse in values y: whether it has a picture, and what its pixels are
+-- ---- the plane is inverted in values y: whether it has a picture, and what its pixels are
 
 pub record Found (order : Order) (B L w h : ℕ) (plane : List ℤ) (y : ℕ → ℤ) (r : Bool) : Type 0 where
   pub answer : r ≡ hasPicture order B L w h plane

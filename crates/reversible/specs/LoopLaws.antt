@@ -27,7 +27,7 @@ pub record ForwardDone (w h k : ℕ) (x y : ℕ → ℤ) : Type 0 where
   pub stands : Stands w h y (forward columnsFirst k w h (planeAt w x))
   pub beyond : (q : ℕ) → w * h ≤ q → y q ≡ x q
 
--- inverse: of L levels of what stood in memory as x, k are left to take inverse
+-- back: of L levels of what stood in memory as x, k are left to invert
 pub record BackLeft (order : Order) (L w h k : ℕ) (x y : ℕ → ℤ) : Type 0 where
   pub left : Agree w h (inverse order k w h (planeAt w y)) (inverse order L w h (planeAt w x))
 
@@ -52,10 +52,10 @@ module _ (w h : ℕ) where
   forward-first x z e = forward-more 0 x x z (forward-none x) e
 
   pub forward-part : (k : ℕ) → k ≤ maxLevels → (x y : ℕ → ℤ) → ForwardDone w h k x y → BoundedPart (2 ^ 11) w h (planeAt w x) → BoundedPart (2 ^ 21) (side k w) (side k h) (planeAt w y)
-  forward-part k hasProducts x y f small r c a b =
+  forward-part k few x y f small r c a b =
       let i : r < h = omega (arith, side-le k h) in
       let j : c < w = omega (arith, side-le k w) in
-      subst (λ (t : ℤ). natAbs t ≤ 2 ^ 21) (sym (f .stands r c i j)) (omega (arith, four-pow k hasProducts, forward-sized columnsFirst w h k (planeAt w x) small r c i j))
+      subst (λ (t : ℤ). natAbs t ≤ 2 ^ 21) (sym (f .stands r c i j)) (omega (arith, four-pow k few, forward-sized columnsFirst w h k (planeAt w x) small r c i j))
 
   pub back-none : (order : Order) (L : ℕ) (x : ℕ → ℤ) → BackLeft order L w h L x x
   back-none order L x = record { left = λ r c i j. refl }
@@ -73,7 +73,7 @@ module _ (w h : ℕ) where
 
   -- where the samples that come out are those of a picture, nothing on the way is large
   pub back-part : (order : Order) (L k : ℕ) → k ≤ maxLevels → (x y : ℕ → ℤ) → BackLeft order L w h k x y → BoundedPart (2 ^ 11) w h (inverse order L w h (planeAt w x)) → BoundedPart (2 ^ 21) w h (planeAt w y)
-  back-part order L k hasProducts x y f small r c a b =
+  back-part order L k few x y f small r c a b =
       let found : BoundedPart (2 ^ 11) w h (inverse order k w h (planeAt w y)) = λ r c a b. subst (λ (t : ℤ). natAbs t ≤ 2 ^ 11) (sym (f .left r c a b)) (small r c a b) in
       subst (λ (p : Plane ℤ). natAbs (p r c) ≤ 2 ^ 21) (back-forward order k w h (planeAt w y))
-      (omega (arith, four-pow k hasProducts, forward-sized order w h k (inverse order k w h (planeAt w y)) found r c a b))
+      (omega (arith, four-pow k few, forward-sized order w h k (inverse order k w h (planeAt w y)) found r c a b))

@@ -19,7 +19,7 @@ module _ (order : Order) (B L w h : ℕ) (some : 1 ≤ w) (p q : List ℕ) (same
   long : length (copyOf order B L w h q) ≡ w * h
   long = rows-length w h some (forward order L w h (sample q B w))
 
-  -- the plane goes inverse to the samples of either
+  -- the plane goes back to the samples of either
   from : (s : List ℕ) → copyOf order B L w h s ≡ copyOf order B L w h q → Agree w h (inverse order L w h (planeOf w (copyOf order B L w h q))) (sample s B w)
   from s e = goes-back order B L w h some (copyOf order B L w h q) (omega (arith, long)) (sample s B w)
       (e ∙ sym (take-all (w * h) (copyOf order B L w h q) (omega (arith, long))))

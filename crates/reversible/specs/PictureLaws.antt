@@ -1,4 +1,4 @@
--- Refusal 11: the way inverse leaves the pixels' range exactly where no picture of that depth and size has the plane in that order.
+-- Refusal 11: the way back leaves the pixels' range exactly where no picture of that depth and size has the plane in that order.
 use Prim.Native.Nat.{ℕ, _+_, _*_, _-_, _^_, _<_, _≤_}
 use mathlib.Core.Bool.{Bool}
 use mathlib.Core.List.{List, [], _∷_, map}
@@ -40,7 +40,7 @@ pub pixel-is : (B n : ℕ) → n < 2 ^ B → T (isPixel B (pos n))
 pixel-is B n h = and-intro (leZ (pos 0) (pos n)) (ltZ (pos n) (pos (2 ^ B))) (le→leb 0 n (omega arith)) (lt→ltb n (2 ^ B) h)
 
 module _ (order : Order) (B L w h : ℕ) (some-w : 1 ≤ w) (plane : List ℤ) (room : w * h ≤ length plane) where
-  -- a list that is the plane of samples s goes inverse to them
+  -- a list that is the plane of samples s goes back to them
   pub goes-back : (s : Plane ℤ) → rowByRow w h (forward order L w h s) ≡ take (w * h) plane → Agree w h (inverse order L w h (planeOf w plane)) s
   goes-back s e r c i j =
       back-agrees order L w h (planeOf w plane) (forward order L w h s) same r c i j ∙ ap (λ (p : Plane ℤ). p r c) (forward-back order L w h s)
@@ -89,6 +89,6 @@ module _ (order : Order) (B L w h : ℕ) (some-w : 1 ≤ w) (plane : List ℤ) (
         (λ r c i j. forward-agrees order L w h (sample found B w) (inverse order L w h (planeOf w plane)) sampled r c i j ∙ ap (λ (p : Plane ℤ). p r c) (back-forward order L w h (planeOf w plane)))
         ∙ rows-take w h some-w plane (pos 0) room
 
-  -- the way inverse gives a pixel at every place exactly where a picture has the plane in that order
+  -- the way back gives a pixel at every place exactly where a picture has the plane in that order
   pub has-picture : T (hasPicture order B L w h plane) ↔ Copied order B L w h plane
   has-picture = (λ t. (found, found-picture t, found-plane t), λ s. picture-found (s .0) (s .1) (s .2))

@@ -1,4 +1,4 @@
--- The reversible 5/3 transform and its way inverse (document 01: the lifting; pictures and planes), in either order of rows and columns
+-- The reversible 5/3 transform and its way back (document 01: the lifting; pictures and planes), in either order of rows and columns
 -- (document 02, job 4). Values are whole numbers without limit.
 use Prim.Native.Nat.{ℕ, _+_, _*_}
 use lib.IntN.{ℤ, pos, _+ℤ_, _-ℤ_}
@@ -46,7 +46,7 @@ forwardLevel rowsFirst = levelRowsFirst reversiblePass (λ low. reversiblePass)
 unfoldable pub forward : Order → ℕ → OnPart ℤ
 forward order = levels (λ l. forwardLevel order)
 
--- ---- inverse: the same steps taken inverse, in reverse
+-- ---- the inverse: the same steps inverted, in reverse order
 
 unfoldable pub inversePredict : ℤ → ℤ → ℤ → ℤ
 inversePredict own x y = own +ℤ floorDiv (x +ℤ y) 2
@@ -65,11 +65,11 @@ module _ (n : ℕ) (y : ℕ → ℤ) where
   unfoldable pub inverseLong : ℕ → ℤ
   inverseLong = interleaved lowInverse highInverse
 
--- A pass taken inverse. A single low value is the sample.
+-- A pass inverted. A single low value is the sample.
 unfoldable pub inversePass : OnLine ℤ
 inversePass = fromOne (λ v. v) inverseLong
 
--- a level of a copy of that order taken inverse: new copies invert the rows first, copies made earlier the columns (document 02, job 4)
+-- a level of a copy of that order inverted: new copies invert the rows first, copies made earlier the columns (document 02, job 4)
 abbrev pub inverseLevel : Order → OnPart ℤ
 inverseLevel columnsFirst = levelRowsFirst inversePass (λ low. inversePass)
 inverseLevel rowsFirst = levelColumnsFirst inversePass (λ low. inversePass)

@@ -1,4 +1,4 @@
--- The 5/3 transform and its way inverse invert each other, whatever the sides, in either order of rows and columns (`forward-back`,
+-- The 5/3 transform and its way back invert each other, whatever the sides, in either order of rows and columns (`forward-back`,
 -- `back-forward`), and read nothing outside the picture.
 use Prim.Native.Nat.{ℕ, _+_, _*_, _<_}
 use mathlib.Core.Path.{_≡_, _∙_, fun-ext}
@@ -104,7 +104,7 @@ module _ (n : ℕ) (works : Liftable n) where
         let l = on-lows-equal n (lows-equal n same) h inverseUpdate (some-highs n works) in
         interleaved-equal n l (on-highs-equal n l h inversePredict)
 
--- from one value on, each pass takes the other inverse and reads its n values and no others
+-- from one value on, each pass is the inverse of the other and reads its n values and no others
 pub passes-left-inverse : Inverses _≡_ reversiblePass inversePass
 unfolding reversiblePass inversePass
 passes-left-inverse = one-inverses equal reversibleLong inverseLong long-same back-same long-left-inverse long-right-inverse

@@ -1,4 +1,4 @@
--- The two orders are two: document 01's listing, as it was and as document 02, job 4, has it, and each copy given to the other's way inverse.
+-- The two orders are two: document 01's listing, as it was and as document 02, job 4, has it, and each copy given to the other's way back.
 use Prim.Native.Nat.{ℕ}
 use mathlib.Core.List.{List, [], _∷_}
 use mathlib.Core.Path.{_≡_, refl}
@@ -33,7 +33,7 @@ white = 0 ∷ 0 ∷ 0 ∷ 0 ∷ []
 pub record TwoOrders : Type 0 where
   pub copied : forwardPlane columnsFirst 3 1 2 2 picture blank blank ≡ newCopy
   pub copied-earlier : forwardPlane rowsFirst 3 1 2 2 picture blank blank ≡ earlierCopy
-  -- each goes inverse by its own call
+  -- each goes back by its own call
   pub restored : backPixels columnsFirst 3 1 2 2 newCopy white blank ≡ picture
   pub restored-earlier : backPixels rowsFirst 3 1 2 2 earlierCopy white blank ≡ picture
   -- the new copy is refused 11 by the earlier copies' call

@@ -1,4 +1,4 @@
--- Of sides that were admitted before document 02's job 6, greater than 2^(L-1), the 5/3 transform and its way inverse are those of the paper's
+-- Of sides that were admitted before document 02's job 6, greater than 2^(L-1), the 5/3 transform and its way back are those of the paper's
 -- equations alone, in either order of rows and columns.
 use Prim.Native.Nat.{ℕ, _-_, _^_, _<_}
 use mathlib.Core.Path.{_≡_}

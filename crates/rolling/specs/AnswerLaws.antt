@@ -34,7 +34,7 @@ not-eqb a b f = go (eqb a b) (eqb→eq a b)
     go true h = absurd (f (h tt))
     go false h = refl
 
--- a test that is asked only where another lengthAnswer
+-- a test that is asked only where another holds
 pub of-unless : (a b : Bool) → T (not a || b) → T a → T b
 of-unless true b h i = h
 of-unless false b h i = absurd i

@@ -1,4 +1,4 @@
--- What a call says that is accepted, and what lengthAnswer after any calls of a scan, by induction over them (`facts`).
+-- What a call says that is accepted, and what holds after any calls of a scan, by induction over them (`facts`).
 use Prim.Native.Nat.{ℕ, zero, suc, _+_, _*_, _-_, _^_, _<_, _≤_}
 use mathlib.Core.Bool.{Bool, true, false, not, _&&_, _||_}
 use mathlib.Core.List.{List, [], _++_, append-assoc, append-nil}
@@ -120,7 +120,7 @@ ready-few n = omega arith
 true-false : {A : Type 0} {b : Bool} → b ≡ false → b ≡ true → A
 true-false p q = absurd (subst T (sym q ∙ p) tt)
 
--- a test that is asked only where another lengthAnswer
+-- a test that is asked only where another holds
 unless : (a b : Bool) → (T a → T b) → T (not a || b)
 unless true b f = f tt
 unless false b f = tt
@@ -209,7 +209,7 @@ module _ (s : Scan) (held out : List ℤ) where
       ∙ then-right (lengthAnswer (heldLines * s .width) (length held)) _ (holds-right _ _ (right .held-room))
       ∙ holds-right _ _ (right .out-room)
 
--- ---- what lengthAnswer after any calls
+-- ---- what holds after any calls
 
 -- Before the end, of a strip `all` of h lines of w pixels whose first n were accepted: what is held, and what was given.
 pub record Run (t : WidthTable) (k : Taken) (held : List ℤ) (w n : ℕ) (all : List ℕ) (h : ℕ) (given : List ℤ) : Type 0 where
@@ -257,7 +257,7 @@ size-more strip pixels n w size long = length-append strip (take w pixels) ∙ m
     more-size : (a b n w : ℕ) → a ≡ n * w → b ≡ w → a + b ≡ suc n * w
     more-size a b n w p q = omega arith
 
--- What lengthAnswer of the held memory as left lengthAnswer of whatever memory it is handed on in.
+-- What holds of the held memory as left holds of whatever memory it is handed on in.
 pub lent-facts : (s : Scan) (held lent : List ℤ) (n : ℕ) (strip : List ℕ) (given : List ℤ) → Facts s held n strip given → HandedOn s held lent → Facts s lent n strip given
 lent-facts s held lent n strip given f same = record {
   begun = f .begun;

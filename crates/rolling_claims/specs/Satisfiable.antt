@@ -45,19 +45,19 @@ over-kept n new old few room =
     split k i = omega arith
 
 -- the five lines in their places
-abbrev hasProducts : Held → List Line
-hasProducts h = h .low ∷ h .high ∷ h .p1 ∷ h .u1 ∷ h .p2 ∷ []
+abbrev heldList : Held → List Line
+heldList h = h .low ∷ h .high ∷ h .p1 ∷ h .u1 ∷ h .p2 ∷ []
 
 unfoldable pub heldWith : ℕ → Held → List ℤ → List ℤ
-heldWith w h held = over (rowByRow w 5 (stacked (hasProducts h))) held
+heldWith w h held = over (rowByRow w 5 (stacked (heldList h))) held
 
 module _ (w : ℕ) (h : Held) (held : List ℤ) (some : 1 ≤ w) where
-  at-line : (r c : ℕ) → r < 5 → c < w → planeOf w (heldWith w h held) r c ≡ stacked (hasProducts h) r c
+  at-line : (r c : ℕ) → r < 5 → c < w → planeOf w (heldWith w h held) r c ≡ stacked (heldList h) r c
   unfolding heldWith
   at-line r c i j =
-      let p = rowByRow w 5 (stacked (hasProducts h)) in
-      List·getD-append p (drop (length p) held) (pos 0) (r * w + c) (subst (λ (n : ℕ). r * w + c < n) (sym (rows-length w 5 some (stacked (hasProducts h)))) (place-in w 5 some r c i j))
-      ∙ rows-at w 5 some (stacked (hasProducts h)) (pos 0) r c i j
+      let p = rowByRow w 5 (stacked (heldList h)) in
+      List·getD-append p (drop (length p) held) (pos 0) (r * w + c) (subst (λ (n : ℕ). r * w + c < n) (sym (rows-length w 5 some (stacked (heldList h)))) (place-in w 5 some r c i j))
+      ∙ rows-at w 5 some (stacked (heldList h)) (pos 0) r c i j
 
   same-held : SameHeld w (heldIn w (heldWith w h held)) h
   unfolding heldIn
@@ -71,7 +71,7 @@ module _ (w : ℕ) (h : Held) (held : List ℤ) (some : 1 ≤ w) where
 
   held-kept : heldLines * w ≤ length held → KeptFrom (heldLines * w) held (heldWith w h held)
   unfolding heldWith
-  held-kept room = over-kept (heldLines * w) (rowByRow w 5 (stacked (hasProducts h))) held (omega (arith, rows-length w 5 some (stacked (hasProducts h)))) room
+  held-kept room = over-kept (heldLines * w) (rowByRow w 5 (stacked (heldList h))) held (omega (arith, rows-length w 5 some (stacked (heldList h)))) room
 
 out-kept : (w : ℕ) (lines : List Line) (out : List ℤ) → 1 ≤ w → length lines ≤ outLines → outLines * w ≤ length out → KeptFrom (length lines * w) out (outAfter w lines out)
 out-kept w lines out some few room =

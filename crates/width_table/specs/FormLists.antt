@@ -34,7 +34,7 @@ formLists t =
 
 -- ---- tests of a run of places
 
--- the test everyFrom of the n places from i on
+-- the test holds of the n places from i on
 unfoldable pub everyFrom : (ℕ → Bool) → ℕ → ℕ → Bool
 everyFrom test i zero = true
 everyFrom test i (suc n) = test i && everyFrom test (i + 1) n

@@ -33,8 +33,8 @@ rules-form t s r =
     let e = every (eqb 0) (drop (nodeBytes (t .levels)) (t .nodes)) in
     let f = every productRight (take (usedProducts t) (t .products)) in
     let g = every (eqb 0) (drop (usedProducts t) (t .products)) in
-    let hasProducts = and-intro (a && b && c && d) e (and-intro (a && b && c) d (and-intro (a && b) c (and-intro a b (r .depth) (r .levels)) (r .constants)) (r .widths)) (r .unused) in
-    form-lists t s ∙ is-true (formLists t) (and-intro (a && b && c && d && e && f) g (and-intro (a && b && c && d && e) f hasProducts (r .products)) (r .unused-products))
+    let five = and-intro (a && b && c && d) e (and-intro (a && b && c) d (and-intro (a && b) c (and-intro a b (r .depth) (r .levels)) (r .constants)) (r .widths)) (r .unused) in
+    form-lists t s ∙ is-true (formLists t) (and-intro (a && b && c && d && e && f) g (and-intro (a && b && c && d && e) f five (r .products)) (r .unused-products))
 
 -- ---- read, then written
 

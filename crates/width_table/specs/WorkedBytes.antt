@@ -58,8 +58,8 @@ good = tableBytes usual
 abbrev cut : WidthTable
 cut = cutting usual 30
 
-abbrev hasProducts : List ℕ
-hasProducts = tableBytes cut
+abbrev tagged : List ℕ
+tagged = tableBytes cut
 
 -- 20 + 36 L bytes without tag 5, 23 + 48 L with it
 pub sizes : (L : ℕ) → (tableSize false L ≡ 20 + 36 * L) × (tableSize true L ≡ 23 + 48 * L)
@@ -88,14 +88,14 @@ readings = refl
 -- a number above 44 and bytes after it (4), and tag 5 in the place of tag 4 (2).
 pub fifths :
     map (λ b. code (form b)) (
-    hasProducts ∷ set hasProducts 59 0 ∷ set hasProducts 70 44 ∷ (good ++ 6 ∷ 0 ∷ []) ∷ (good ++ 5 ∷ []) ∷ (good ++ 5 ∷ 0 ∷ []) ∷ (good ++ 5 ∷ 0 ∷ 12 ∷ []) ∷ set hasProducts 58 13 ∷ take 60 (set hasProducts 58 13) ∷ take 70 hasProducts
-    ∷ set hasProducts 59 45 ∷ set hasProducts 70 45 ∷ (hasProducts ++ 0 ∷ []) ∷ (hasProducts ++ 5 ∷ []) ∷ (set hasProducts 70 45 ++ 0 ∷ []) ∷ (take 17 good ++ drop 56 hasProducts) ∷ [])
+    tagged ∷ set tagged 59 0 ∷ set tagged 70 44 ∷ (good ++ 6 ∷ 0 ∷ []) ∷ (good ++ 5 ∷ []) ∷ (good ++ 5 ∷ 0 ∷ []) ∷ (good ++ 5 ∷ 0 ∷ 12 ∷ []) ∷ set tagged 58 13 ∷ take 60 (set tagged 58 13) ∷ take 70 tagged
+    ∷ set tagged 59 45 ∷ set tagged 70 45 ∷ (tagged ++ 0 ∷ []) ∷ (tagged ++ 5 ∷ []) ∷ (set tagged 70 45 ++ 0 ∷ []) ∷ (take 17 good ++ drop 56 tagged) ∷ [])
     ≡ 0 ∷ 0 ∷ 0 ∷ 5 ∷ 1 ∷ 1 ∷ 1 ∷ 3 ∷ 3 ∷ 1 ∷ 4 ∷ 4 ∷ 5 ∷ 5 ∷ 4 ∷ 2 ∷ []
 unfolding form formBy field headed every widthsRight tableBytes
 fifths = refl
 
 -- before job 7, what follows the fourth field was 5
-pub fifths-before : map (λ b. code (formWithout b)) (good ∷ hasProducts ∷ (good ++ 5 ∷ []) ∷ take 70 hasProducts ∷ set good 20 0 ∷ []) ≡ 0 ∷ 5 ∷ 5 ∷ 5 ∷ 4 ∷ []
+pub fifths-before : map (λ b. code (formWithout b)) (good ∷ tagged ∷ (good ++ 5 ∷ []) ∷ take 70 tagged ∷ set good 20 0 ∷ []) ≡ 0 ∷ 5 ∷ 5 ∷ 5 ∷ 4 ∷ []
 unfolding formWithout formBy field headed every widthsRight tableBytes
 fifths-before = refl
 
@@ -129,7 +129,7 @@ changed-heads = (refl, refl)
 -- What follows the fourth field was 5 in either order, and neither case happens there: tag 5, whole, and with a wrong length and a value
 -- cut short.
 pub fifth-heads :
-    let tables : List (List ℕ) = hasProducts ∷ take 60 (set hasProducts 58 13) ∷ [] in
+    let tables : List (List ℕ) = tagged ∷ take 60 (set tagged 58 13) ∷ [] in
     (map (λ b. code (earlierForm b)) tables ≡ 5 ∷ 5 ∷ [])
     × (map (λ b. code (formWithout b)) tables ≡ 5 ∷ 5 ∷ [])
     × (map (happens wrongTagCut) tables ≡ false ∷ false ∷ [])
@@ -142,7 +142,7 @@ pub ends : map (λ b. code (form b)) ((set good 20 0 ++ (0 ∷ [])) ∷ (take 55
 unfolding form formBy field headed every widthsRight tableBytes
 ends = refl
 
-pub read-back : (tableRead good ≡ usual) × (tableRead (take 55 good) ≡ emptyTable) × (tableRead hasProducts ≡ cut) × (tableRead (take 70 hasProducts) ≡ emptyTable)
+pub read-back : (tableRead good ≡ usual) × (tableRead (take 55 good) ≡ emptyTable) × (tableRead tagged ≡ cut) × (tableRead (take 70 tagged) ≡ emptyTable)
 unfolding tableRead tableIn form formBy field headed every widthsRight tableBytes
 read-back = (refl, refl, refl, refl)
 
@@ -173,7 +173,7 @@ product-forms = refl
 
 pub names :
     (map (naming good) (1 ∷ 2 ∷ 3 ∷ 4 ∷ []) ≡ done (3, 1) ∷ done (7, 1) ∷ done (11, 6) ∷ done (20, 36) ∷ [])
-    × (map (naming hasProducts) (4 ∷ 5 ∷ []) ≡ done (20, 36) ∷ done (59, 12) ∷ [])
+    × (map (naming tagged) (4 ∷ 5 ∷ []) ≡ done (20, 36) ∷ done (59, 12) ∷ [])
 unfolding naming nameAnswer form formBy field headed every widthsRight tableBytes
 names = (refl, refl)
 
@@ -182,13 +182,13 @@ pub no-names :
     (map (λ tag. code (naming good tag)) (0 ∷ 5 ∷ 6 ∷ []) ≡ 2 ∷ 2 ∷ 2 ∷ [])
     × (map (λ tag. code (naming [] tag)) (0 ∷ 4 ∷ 5 ∷ 6 ∷ []) ≡ 2 ∷ 1 ∷ 1 ∷ 2 ∷ [])
     × (map (λ tag. code (naming (good ++ 0 ∷ []) tag)) (1 ∷ 5 ∷ 6 ∷ []) ≡ 5 ∷ 5 ∷ 2 ∷ [])
-    × (map (λ tag. code (naming hasProducts tag)) (0 ∷ 6 ∷ []) ≡ 2 ∷ 2 ∷ [])
+    × (map (λ tag. code (naming tagged tag)) (0 ∷ 6 ∷ []) ≡ 2 ∷ 2 ∷ [])
 unfolding naming nameAnswer form formBy field headed every widthsRight tableBytes
 no-names = (refl, refl, refl, refl)
 
 pub values :
     let value : List ℕ → ℕ → List ℕ = λ b tag. partAt b (naming b tag) in
-    value good 1 ∷ value good 3 ∷ value [] 3 ∷ value hasProducts 5 ∷ value good 5 ∷ [] ≡ (8 ∷ []) ∷ (24 ∷ 24 ∷ 24 ∷ 24 ∷ 24 ∷ 24 ∷ []) ∷ [] ∷ replicate 12 30 ∷ [] ∷ []
+    value good 1 ∷ value good 3 ∷ value [] 3 ∷ value tagged 5 ∷ value good 5 ∷ [] ≡ (8 ∷ []) ∷ (24 ∷ 24 ∷ 24 ∷ 24 ∷ 24 ∷ 24 ∷ []) ∷ [] ∷ replicate 12 30 ∷ [] ∷ []
 unfolding naming nameAnswer form formBy field headed every widthsRight tableBytes
 values = refl
 
@@ -221,7 +221,7 @@ not-mended = (refl, refl, refl)
 pub product-changes :
     let change : WidthTable → ℕ → ℕ → ℕ → ℕ → ℕ = λ t l p k fp. code (productAnswer t l p k fp) in
     (change cut 1 1 1 0 ∷ change cut 1 3 4 44 ∷ change usual 1 1 1 0 ∷ change cut 2 1 1 0 ∷ change cut 1 4 1 7 ∷ change cut 1 1 5 7 ∷ change cut 1 1 0 7 ∷ change cut 1 1 1 45 ∷ [] ≡ 0 ∷ 0 ∷ 4 ∷ 4 ∷ 4 ∷ 4 ∷ 4 ∷ 4 ∷ [])
-    × (tableBytes (tableAfterProduct cut 1 2 3 7) ≡ set hasProducts 65 7)
+    × (tableBytes (tableAfterProduct cut 1 2 3 7) ≡ set tagged 65 7)
     × (tableAfterProduct usual 1 2 3 7 ≡ usual)
 unfolding tableAfterProduct productAnswer formRight every tableBytes
 product-changes = (refl, refl, refl)
@@ -249,8 +249,8 @@ writes = (refl, refl, refl)
 -- the same with tag 5; a table without it that has a product is refused 4
 pub product-writes :
     (writing cut (replicate 72 7) ∷ writing cut (replicate 70 7) ∷ writing (withNumber usual 0 1) (replicate 72 7) ∷ [] ≡ done 71 ∷ refused (9, []) ∷ refused (4, []) ∷ [])
-    × (bytesAfter cut (replicate 72 7) ≡ hasProducts ++ 7 ∷ [])
-    × (hasProducts ≡ good ++ 5 ∷ 0 ∷ 12 ∷ replicate 12 30)
+    × (bytesAfter cut (replicate 72 7) ≡ tagged ++ 7 ∷ [])
+    × (tagged ≡ good ++ 5 ∷ 0 ∷ 12 ∷ replicate 12 30)
 unfolding writing bytesAfter writeAnswer formRight every tableBytes
 product-writes = (refl, refl, refl)
 

@@ -68,8 +68,8 @@ module _ (t : WidthTable) (s : FullLists t) where
   abbrev four : List ℕ
   four = bytesOf (fields false L) t
 
-  abbrev hasProducts : List ℕ
-  hasProducts = bytesOf (fields true L) t
+  abbrev fiveFields : List ℕ
+  fiveFields = bytesOf (fields true L) t
 
   abbrev used : List ℕ
   used = take (nodeBytes L) (t .nodes)
@@ -101,7 +101,7 @@ module _ (t : WidthTable) (s : FullLists t) where
       d′ ∙ ap (λ (l : List ℕ). over (w1 ++ w2 ++ fieldBytes (f constantsTag) (t .constants ++ fieldBytes (f nodesTag) l)) e) (sym (append-nil used))
 
   -- and the fifth after them
-  pub five-put : L ≤ maxLevels → (e a b : List ℕ) → a ≡ over four e → b ≡ placed L productsTag products a → b ≡ over hasProducts e
+  pub five-put : L ≤ maxLevels → (e a b : List ℕ) → a ≡ over four e → b ≡ placed L productsTag products a → b ≡ over fiveFields e
   five-put few e a b h i =
       let w4 : List ℕ = fieldBytes (nodesField L) (used ++ []) in
       let w5 : List ℕ = fieldBytes (productsField L) products in

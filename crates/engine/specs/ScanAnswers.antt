@@ -2,16 +2,14 @@
 -- afterwards.
 use Prim.Native.Nat.{ℕ}
 use mathlib.Core.List.{List}
-use mathlib.Core.Path.{_≡_}
 use lib.Dec.{leb}
 use lib.ListN.{length}
 use lib.IntN.{ℤ}
 use Rattle.numbers.specs.Lists.{over}
-use Rattle.refusals.specs.Answers.{Reason, Answer, done, refused, passed, asks, _then_, answered, code}
+use Rattle.refusals.specs.Answers.{Answer, done, refused, passed, asks, _then_, answered}
 use Rattle.width_table.specs.Bytes.{form, tableIn}
-use Rattle.rolling.specs.declared.Scan.{Scan}
-use Rattle.rolling.specs.Calls.{beginAnswer, scanOf, LineCall, EndCall}
-use Rattle.scan_bytes.specs.ScanBytes.{scanLength, stateBytes, scanIn}
+use Rattle.rolling.specs.Calls.{beginAnswer, scanOf, lineAnswer, givenByLine, scanAfter, LineLeft, endAnswer, givenByEnd, scanEnded, EndLeft}
+use Rattle.scan_bytes.specs.ScanBytes.{scanLength, stateBytes, scanHeld, scanIn}
 
 -- ---- begin
 
@@ -27,32 +25,49 @@ scanBeginAnswer bytes state = begins bytes then asks (leb scanLength (length sta
 unfoldable pub scanBeginState : List ℕ → List ℕ → List ℕ
 scanBeginState bytes state = answered (scanBeginAnswer bytes state) (over (stateBytes (scanOf (tableIn bytes))) state) state
 
--- ---- a line, and the end
+-- ---- a line
 
--- the number of lines given, written where the call is done
+-- A call is one on the scan that the state holds (`scanHeld`), where it holds one: 9 for a state too short for a scan, 14 for bytes that are
+-- not those of a scan.
+module _ (state pixels : List ℕ) (w : ℕ) (held out : List ℤ) where
+  -- 9 and 14 for the state, then 14, 8, 9, 10
+  unfoldable pub scanLineAnswer : Answer Unit
+  scanLineAnswer = scanIn state then lineAnswer (scanHeld state) pixels w held out
+
+  -- the bytes of the scan after the line over the front of the state where it is accepted; a refusal leaves the state as it was
+  unfoldable pub scanLineState : List ℕ
+  scanLineState = answered scanLineAnswer (over (stateBytes (scanAfter (scanHeld state) pixels w held out)) state) state
+
+  -- the number of lines given where it is accepted; a refusal leaves the number as it was
+  unfoldable pub scanLineGiven : ℕ → ℕ
+  scanLineGiven given = answered scanLineAnswer (length (givenByLine (scanHeld state) pixels w held out)) given
+
+  -- held lines and output afterwards
+  abbrev pub ScanLineLeft : List ℤ → List ℤ → Type 0
+  ScanLineLeft held′ out′ = LineLeft (scanHeld state) pixels w held out scanLineAnswer held′ out′
+
+-- ---- the end
+
+module _ (state : List ℕ) (held out : List ℤ) where
+  -- 9 and 14 for the state, then 14, 9
+  unfoldable pub scanEndAnswer : Answer Unit
+  scanEndAnswer = scanIn state then endAnswer (scanHeld state) held out
+
+  -- the bytes of the scan that has ended over the front of the state where the end is accepted; a refusal leaves the state as it was
+  unfoldable pub scanEndState : List ℕ
+  scanEndState = answered scanEndAnswer (over (stateBytes (scanEnded (scanHeld state) held out)) state) state
+
+  -- the number of lines given where it is accepted; a refusal leaves the number as it was
+  unfoldable pub scanEndGiven : ℕ → ℕ
+  scanEndGiven given = answered scanEndAnswer (length (givenByEnd (scanHeld state) held out)) given
+
+  -- held lines and output afterwards
+  abbrev pub ScanEndLeft : List ℤ → List ℤ → Type 0
+  ScanEndLeft held′ out′ = EndLeft (scanHeld state) held out scanEndAnswer held′ out′
+
+-- ---- for the code
+
+-- the number of lines given, written where a call is done
 abbrev pub givenAfter : Answer ℕ → ℕ → ℕ
 givenAfter (done m) old = m
 givenAfter (refused r) old = old
-
--- What a call leaves that is promised `Call` of the scan in the state: its answer as a number, the scan's bytes afterwards over the front
--- of the state where it is done, and the number of lines given.
-pub record OnScan (Call : Answer ℕ → Scan → List ℤ → List ℤ → Type 0) (state : List ℕ) (given r : ℕ) (state′ : List ℕ) (held′ out′ : List ℤ) (given′ : ℕ) : Type 0 where
-  pub answer : Answer ℕ
-  pub after : Scan
-  pub call : Call answer after held′ out′
-  pub answer-is : r ≡ code answer
-  pub state-is : state′ ≡ answered answer (over (stateBytes after) state) state
-  pub given-is : given′ ≡ givenAfter answer given
-
--- The same of any state; one that holds no scan is refused with 9 or 14, and all stays.
-pub record OnBytes (Call : Scan → Answer ℕ → Scan → List ℤ → List ℤ → Type 0) (state : List ℕ) (held out : List ℤ) (given r : ℕ) (state′ : List ℕ) (held′ out′ : List ℤ) (given′ : ℕ) : Type 0 where
-  pub no-scan : (why : Reason) → scanIn state ≡ refused why → (r ≡ code {A = Unit} (refused why)) × (state′ ≡ state) × (held′ ≡ held) × (out′ ≡ out) × (given′ ≡ given)
-  pub on-scan : (s : Scan) → scanIn state ≡ done s → OnScan (Call s) state given r state′ held′ out′ given′
-
--- suz_scan_line: 9 for the state, 14, 8, 9, 10
-abbrev pub LineOnBytes : (state pixels : List ℕ) (w : ℕ) (held out : List ℤ) (given r : ℕ) (state′ : List ℕ) (held′ out′ : List ℤ) (given′ : ℕ) → Type 0
-LineOnBytes state pixels w held out = OnBytes (λ s. LineCall s pixels w held out) state held out
-
--- suz_scan_end: 9 for the state, 14, 9
-abbrev pub EndOnBytes : (state : List ℕ) (held out : List ℤ) (given r : ℕ) (state′ : List ℕ) (held′ out′ : List ℤ) (given′ : ℕ) → Type 0
-EndOnBytes state held out = OnBytes (λ s. EndCall s held out) state held out

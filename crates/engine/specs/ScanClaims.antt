@@ -11,8 +11,8 @@ use lib.ListN.{length, getD, take, drop, replicate, length-replicate, take-appen
 use lib.IntN.{ℤ, pos}
 use Rattle.numbers.specs.Lists.{over}
 use Rattle.numbers.specs.Tests.{is-true}
-use Rattle.refusals.specs.Answers.{Reason, Answer, done, refused, passed, asks, _then_, code, answered}
-use Rattle.refusals.specs.AnswerLaws.{then-done, then-right, then-refused, then-assoc, gives-done, answered-done, answered-refused}
+use Rattle.refusals.specs.Answers.{Answer, done, refused, passed, asks, _then_, code, answered}
+use Rattle.refusals.specs.AnswerLaws.{then-done, then-right, then-refused, then-assoc, gives-done, answered-done}
 use Rattle.width_table.specs.declared.WidthTable.{WidthTable}
 use Rattle.width_table.specs.Table.{formRight}
 use Rattle.width_table.specs.Fields.{Field, headBytes, fields}
@@ -21,6 +21,7 @@ use Rattle.width_table.specs.FormLists.{FullLists}
 use Rattle.width_table.specs.ReadLaws.{table-read}
 use Rattle.width_table.specs.RoundTrip.{read-sized, written-reads}
 use Rattle.width_table.specs.WorkedTables.{usual}
+use Rattle.lifting.specs.Runs.{as-type}
 use Rattle.pictures.specs.Pictures.{Admitted, sample}
 use Rattle.pictures.specs.PictureLaws.{over-take}
 use Rattle.precision.specs.Verdict.{verdict}
@@ -28,7 +29,7 @@ use Rattle.precision.specs.Promise.{promise}
 use Rattle.precision.specs.Examples.{usual-accepted}
 use Rattle.irreversible.specs.Claims.{LevelInWidth}
 use Rattle.rolling.specs.declared.Scan.{Scan}
-use Rattle.rolling.specs.Calls.{beginAnswer, scanOf, heldLines, outLines, lineAnswer, givenByLine, LineCall, endAnswer, givenByEnd, scanEnded, EndCall}
+use Rattle.rolling.specs.Calls.{beginAnswer, scanOf, heldLines, outLines, lineAnswer, givenByLine, scanAfter, LineLeft, LineCall, endAnswer, givenByEnd, scanEnded, EndLeft, EndCall}
 use Rattle.rolling.specs.AnswerLaws.{other-levels, one-level}
 use Rattle.rolling_claims.specs.Claims.{HandedOn, Calls, begun, line, line-refused, end, end-refused, LeftByCalls, ready, firstLines, LinesNear}
 use Rattle.rolling_claims.specs.History.{facts, table-kept}
@@ -38,11 +39,11 @@ use Rattle.rolling_claims.specs.Theorems.{before-end, after-end, refused-keeps,
 use Rattle.scan_bytes.specs.ScanBytes.{scanLength, stateBytes, tableEnd, scanHeld, scanIn}
 use Rattle.scan_bytes.specs.ByteLaws.{Keepable, kept-is, state-long, read-written, read-is, read-refused, read-formed, written-read, zeros-hold-none}
 use Rattle.engine.specs.Answers.{checkAnswer}
-use Rattle.engine.specs.ScanAnswers.{begins, scanBeginAnswer, scanBeginState, givenAfter, OnScan, OnBytes, LineOnBytes, EndOnBytes}
+use Rattle.engine.specs.ScanAnswers.{begins, scanBeginAnswer, scanBeginState, scanLineAnswer, scanLineState, scanLineGiven, ScanLineLeft, scanEndAnswer, scanEndState, scanEndGiven, ScanEndLeft}
 use Rattle.engine.specs.ScanHistory.{StateHandedOn, HeldHandedOn, ByteCalls, c-begun, c-line, c-line-refused, c-end, c-end-refused, LeftState, FinishedByteScan}
 use Rattle.engine.specs.ScanLaws.{begun-kept}
 use Rattle.engine.specs.Promises.{accepted-checks}
-use Rattle.engine.specs.Zero.{checked-zero, scan-begin-zero, line-from-one, end-from-one, gives-zero}
+use Rattle.engine.specs.Zero.{checked-zero, scan-begin-zero, scan-line-zero, scan-end-zero}
 
 -- ---- begin
 
@@ -126,67 +127,97 @@ module _ {bytes state : List ℕ} {held : List ℤ} {n : ℕ} {strip : List ℕ}
   kept-lent : (lent : List ℤ) → HeldHandedOn state held lent → HandedOn (k .scan) held lent
   kept-lent lent = subst (λ (s : Scan). HandedOn s held lent) kept-held
 
--- a call that is refused says why
-is-refused : (o : Answer ℕ) {r : ℕ} → r ≡ code o → ¬ (r ≡ 0) → (P : Type 0) → ((why : Reason) → o ≡ refused why → P) → P
-is-refused (done m) e h P f = absurd (h e)
-is-refused (refused why) e h P f = f why refl
+-- a call that is not answered 0 leaves what is left by a refusal
+refused-leaves : {A : Type 0} (o : Answer Unit) → ¬ (code o ≡ 0) → (x y : A) → answered o x y ≡ y
+refused-leaves (done tt) not x y = absurd (not refl)
+refused-leaves (refused why) not x y = refl
 
--- a call that answers 0 is done
-line-done : (s : Scan) (pixels : List ℕ) (w : ℕ) (held out : List ℤ) {o : Answer ℕ} {s′ : Scan} {held′ out′ : List ℤ} → LineCall s pixels w held out o s′ held′ out′ → 0 ≡ code o → o ≡ done (length (givenByLine s pixels w held out))
-line-done s pixels w held out call e = gives-zero (lineAnswer s pixels w held out) (length (givenByLine s pixels w held out)) (line-from-one s pixels w held out) (call .answer-is) (sym e)
+-- the calls on a state that holds a scan are those on the scan
+module _ (state : List ℕ) (s : Scan) (e : scanIn state ≡ done s) where
+  module _ (pixels : List ℕ) (w : ℕ) (held out : List ℤ) where
+    line-answered : scanLineAnswer state pixels w held out ≡ lineAnswer s pixels w held out
+    unfolding scanLineAnswer
+    line-answered = then-right (scanIn state) _ e ∙ ap (λ (s : Scan). lineAnswer s pixels w held out) (read-is state s e)
 
-end-done : (s : Scan) (held out : List ℤ) {o : Answer ℕ} {s′ : Scan} {held′ out′ : List ℤ} → EndCall s held out o s′ held′ out′ → 0 ≡ code o → o ≡ done (length (givenByEnd s held out))
-end-done s held out call e = gives-zero (endAnswer s held out) (length (givenByEnd s held out)) (end-from-one s held out) (call .answer-is) (sym e)
+    line-put : scanLineAnswer state pixels w held out ≡ passed → scanLineState state pixels w held out ≡ over (stateBytes (scanAfter s pixels w held out)) state
+    unfolding scanLineState
+    line-put passes = answered-done _ state passes ∙ ap (λ (s : Scan). over (stateBytes (scanAfter s pixels w held out)) state) (read-is state s e)
+
+    line-counted : scanLineAnswer state pixels w held out ≡ passed → (given : ℕ) → scanLineGiven state pixels w held out given ≡ length (givenByLine s pixels w held out)
+    unfolding scanLineGiven
+    line-counted passes given = answered-done _ given passes ∙ ap (λ (s : Scan). length (givenByLine s pixels w held out)) (read-is state s e)
+
+    line-lines : (held′ out′ : List ℤ) → ScanLineLeft state pixels w held out held′ out′ ≡ LineLeft s pixels w held out (lineAnswer s pixels w held out) held′ out′
+    line-lines held′ out′ = λ i. LineLeft (read-is state s e i) pixels w held out (line-answered i) held′ out′
+
+    line-call : {held′ out′ : List ℤ} → scanLineAnswer state pixels w held out ≡ passed → ScanLineLeft state pixels w held out held′ out′
+        → LineCall s pixels w held out (done (length (givenByLine s pixels w held out))) (scanAfter s pixels w held out) held′ out′
+    line-call {held′} {out′} passes left =
+        let own = sym line-answered ∙ passes in
+        record { answer-is = sym (then-right (lineAnswer s pixels w held out) _ own); scan-is = sym (answered-done {o = lineAnswer s pixels w held out} _ s own); left = as-type (line-lines held′ out′) left }
+
+  module _ (held out : List ℤ) where
+    end-answered : scanEndAnswer state held out ≡ endAnswer s held out
+    unfolding scanEndAnswer
+    end-answered = then-right (scanIn state) _ e ∙ ap (λ (s : Scan). endAnswer s held out) (read-is state s e)
+
+    end-put : scanEndAnswer state held out ≡ passed → scanEndState state held out ≡ over (stateBytes (scanEnded s held out)) state
+    unfolding scanEndState
+    end-put passes = answered-done _ state passes ∙ ap (λ (s : Scan). over (stateBytes (scanEnded s held out)) state) (read-is state s e)
+
+    end-counted : scanEndAnswer state held out ≡ passed → (given : ℕ) → scanEndGiven state held out given ≡ length (givenByEnd s held out)
+    unfolding scanEndGiven
+    end-counted passes given = answered-done _ given passes ∙ ap (λ (s : Scan). length (givenByEnd s held out)) (read-is state s e)
+
+    end-lines : (held′ out′ : List ℤ) → ScanEndLeft state held out held′ out′ ≡ EndLeft s held out (endAnswer s held out) held′ out′
+    end-lines held′ out′ = λ i. EndLeft (read-is state s e i) held out (end-answered i) held′ out′
+
+    end-call : {held′ out′ : List ℤ} → scanEndAnswer state held out ≡ passed → ScanEndLeft state held out held′ out′
+        → EndCall s held out (done (length (givenByEnd s held out))) (scanEnded s held out) held′ out′
+    end-call {held′} {out′} passes left =
+        let own = sym end-answered ∙ passes in
+        record { answer-is = sym (then-right (endAnswer s held out) _ own); scan-is = sym (answered-done {o = endAnswer s held out} _ s own); left = as-type (end-lines held′ out′) left }
 
 module _ (bytes : List ℕ) where
   pub kept-calls : {state : List ℕ} {held : List ℤ} {n : ℕ} {strip : List ℕ} {all : List ℤ} → ByteCalls bytes state held n strip all → Kept bytes state held n strip all
+  unfolding scanLineState scanEndState
   kept-calls (c-begun state held accepts) =
       let (formed, passes) = begun-right bytes state accepts in
       let s = scanOf (tableIn bytes) in
       record { formed = formed; scan = s; own = ap (take scanLength) (begun-state bytes state accepts) ∙ over-own s (can-hold bytes formed (begun held passes)) state; calls = begun held passes }
-  kept-calls (c-line {state} {now} {state′} {held} {lent} {held′} {n} {strip} {all} {pixels} {w} {out} {out′} {given} {given′} before same again call) =
+  kept-calls (c-line {held′ = held′} {n} {strip} {all} {out′} now pixels w lent out given before same again accepts left) =
       let k = kept-calls before in
       let s = k .scan in
-      let on = call .on-scan s (kept-reads k now same) in
-      let m = length (givenByLine s pixels w lent out) in
-      let e = line-done s pixels w lent out (on .call) (on .answer-is) in
-      let there : LineCall s pixels w lent out (done m) (on .after) held′ out′ = subst (λ (o : Answer ℕ). LineCall s pixels w lent out o (on .after) held′ out′) e (on .call) in
-      let calls = line (k .calls) (kept-lent k lent again) there in
+      let e = kept-reads k now same in
+      let passes = scan-line-zero now pixels w lent out accepts in
+      let after = scanAfter s pixels w lent out in
+      let calls = line (k .calls) (kept-lent k lent again) (line-call now s e pixels w lent out passes left) in
       record {
         formed = k .formed;
-        scan = on .after;
-        own = ap (take scanLength) (on .state-is ∙ answered-done _ now e) ∙ over-own (on .after) (can-hold bytes (k .formed) calls) now;
-        calls = subst (λ (g : ℕ). Calls (tableIn bytes) (on .after) held′ (suc n) (strip ++ take w pixels) (all ++ take (g * w) out′)) (sym (on .given-is ∙ ap (λ (o : Answer ℕ). givenAfter o given) e)) calls;
+        scan = after;
+        own = ap (take scanLength) (line-put now s e pixels w lent out passes) ∙ over-own after (can-hold bytes (k .formed) calls) now;
+        calls = subst (λ (g : ℕ). Calls (tableIn bytes) after held′ (suc n) (strip ++ take w pixels) (all ++ take (g * w) out′)) (sym (line-counted now s e pixels w lent out passes given)) calls;
       }
-  kept-calls (c-line-refused {state} {now} {state′} {held} {n} {strip} {all} {pixels} {w} {other} {other′} {out} {out′} before same call not) =
+  kept-calls (c-line-refused now pixels w other out before same not) =
       let k = kept-calls before in
-      let on = call .on-scan (k .scan) (kept-reads k now same) in
-      is-refused (on .answer) (on .answer-is) not _ (λ why e.
-      let there = subst (λ (o : Answer ℕ). LineCall (k .scan) pixels w other out o (on .after) other′ out′) e (on .call) in
-      let stays = refused-keeps (k .scan) other out why (on .after) other′ out′ .0 pixels w there .0 in
-      record { formed = k .formed; scan = on .after; own = ap (take scanLength) (on .state-is ∙ answered-refused _ now e) ∙ same ∙ k .own ∙ ap stateBytes (sym stays); calls = line-refused (k .calls) there })
-  kept-calls (c-end {state} {now} {state′} {held} {lent} {held′} {n} {strip} {all} {out} {out′} {given} {given′} before same again call) =
+      record { formed = k .formed; scan = k .scan; own = ap (take scanLength) (refused-leaves (scanLineAnswer now pixels w other out) not _ now) ∙ same ∙ k .own; calls = k .calls }
+  kept-calls (c-end {state} {held′ = held′} {n} {strip} {all} {out′} now lent out given before same again accepts left) =
       let k = kept-calls before in
       let s = k .scan in
-      let on = call .on-scan s (kept-reads k now same) in
-      let m = length (givenByEnd s lent out) in
-      let e = end-done s lent out (on .call) (on .answer-is) in
-      let there : EndCall s lent out (done m) (on .after) held′ out′ = subst (λ (o : Answer ℕ). EndCall s lent out o (on .after) held′ out′) e (on .call) in
-      let calls = end (k .calls) (kept-lent k lent again) there in
+      let e = kept-reads k now same in
+      let passes = scan-end-zero now lent out accepts in
+      let after = scanEnded s lent out in
+      let calls = end (k .calls) (kept-lent k lent again) (end-call now s e lent out passes left) in
       record {
         formed = k .formed;
-        scan = on .after;
-        own = ap (take scanLength) (on .state-is ∙ answered-done _ now e) ∙ over-own (on .after) (can-hold bytes (k .formed) calls) now;
-        calls = subst (λ (g : ℕ). Calls (tableIn bytes) (on .after) held′ n strip (all ++ take (g * scanHeld state .width) out′)) (sym (on .given-is ∙ ap (λ (o : Answer ℕ). givenAfter o given) e))
-            (subst (λ (a : Scan). Calls (tableIn bytes) (on .after) held′ n strip (all ++ take (m * a .width) out′)) (sym (kept-held k)) calls);
+        scan = after;
+        own = ap (take scanLength) (end-put now s e lent out passes) ∙ over-own after (can-hold bytes (k .formed) calls) now;
+        calls = subst (λ (g : ℕ). Calls (tableIn bytes) after held′ n strip (all ++ take (g * scanHeld state .width) out′)) (sym (end-counted now s e lent out passes given))
+            (subst (λ (a : Scan). Calls (tableIn bytes) after held′ n strip (all ++ take (length (givenByEnd s lent out) * a .width) out′)) (sym (kept-held k)) calls);
       }
-  kept-calls (c-end-refused {state} {now} {state′} {held} {n} {strip} {all} {other} {other′} {out} {out′} before same call not) =
+  kept-calls (c-end-refused now other out before same not) =
       let k = kept-calls before in
-      let on = call .on-scan (k .scan) (kept-reads k now same) in
-      is-refused (on .answer) (on .answer-is) not _ (λ why e.
-      let there = subst (λ (o : Answer ℕ). EndCall (k .scan) other out o (on .after) other′ out′) e (on .call) in
-      let stays = refused-keeps (k .scan) other out why (on .after) other′ out′ .1 there .0 in
-      record { formed = k .formed; scan = on .after; own = ap (take scanLength) (on .state-is ∙ answered-refused _ now e) ∙ same ∙ k .own ∙ ap stateBytes (sym stays); calls = end-refused (k .calls) there })
+      record { formed = k .formed; scan = k .scan; own = ap (take scanLength) (refused-leaves (scanEndAnswer now other out) not _ now) ∙ same ∙ k .own; calls = k .calls }
 
 -- ---- claims
 
@@ -212,20 +243,17 @@ module _ (bytes state : List ℕ) (held : List ℤ) (n : ℕ) (strip : List ℕ)
   c-after-end = of-scan (λ s. s .ended ≡ true → (1 ≤ n) × (all ≡ firstLines t strip (s .width) n n)) (after-end t (kept .scan) held n strip all (kept .calls))
 
   -- So it is once an end is accepted: what came out before and what the end gives are the whole transform.
-  pub c-whole : {now state′ : List ℕ} {lent held′ out out′ : List ℤ} {given given′ : ℕ} → StateHandedOn state now → HeldHandedOn state held lent → EndOnBytes now lent out given 0 state′ held′ out′ given′
-      → (1 ≤ n) × (all ++ take (given′ * scanHeld state .width) out′ ≡ firstLines t strip (scanHeld state .width) n n)
+  pub c-whole : (now : List ℕ) (lent out : List ℤ) (given : ℕ) {held′ out′ : List ℤ} → StateHandedOn state now → HeldHandedOn state held lent → code (scanEndAnswer now lent out) ≡ 0 → ScanEndLeft now lent out held′ out′
+      → (1 ≤ n) × (all ++ take (scanEndGiven now lent out given * scanHeld state .width) out′ ≡ firstLines t strip (scanHeld state .width) n n)
   unfolding scanEnded
-  c-whole {now} {state′} {lent} {held′} {out} {out′} {given} {given′} same again call =
+  c-whole now lent out given {held′} {out′} same again accepts left =
       let s = kept .scan in
-      let on = call .on-scan s (kept-reads kept now same) in
-      let m = length (givenByEnd s lent out) in
-      let e = end-done s lent out (on .call) (on .answer-is) in
-      let there : EndCall s lent out (done m) (on .after) held′ out′ = subst (λ (o : Answer ℕ). EndCall s lent out o (on .after) held′ out′) e (on .call) in
-      let ended : on .after ≡ scanEnded s lent out = there .scan-is ∙ answered-done (scanEnded s lent out) s (gives-done (endAnswer s lent out) m (sym (there .answer-is)) .0) in
-      let whole : ℕ → Scan → Scan → Type 0 = λ g a b. (1 ≤ n) × (all ++ take (g * a .width) out′ ≡ firstLines t strip (b .width) n n) in
-      subst (λ (g : ℕ). whole g (scanHeld state) (scanHeld state)) (sym (on .given-is ∙ ap (λ (o : Answer ℕ). givenAfter o given) e))
-      (of-scan (λ a. whole m a a)
-      (subst (λ (b : Scan). whole m s b) ended (after-end t (on .after) held′ n strip _ (end (kept .calls) (kept-lent kept lent again) there) (ap (λ (s : Scan). s .ended) ended))))
+      let e = kept-reads kept now same in
+      let passes = scan-end-zero now lent out accepts in
+      let whole : ℕ → Scan → Type 0 = λ g a. (1 ≤ n) × (all ++ take (g * a .width) out′ ≡ firstLines t strip (a .width) n n) in
+      subst (λ (g : ℕ). whole g (scanHeld state)) (sym (end-counted now s e lent out passes given))
+      (of-scan (whole (length (givenByEnd s lent out)))
+      (after-end t (scanEnded s lent out) held′ n strip _ (end (kept .calls) (kept-lent kept lent again) (end-call now s e lent out passes left)) refl))
 
   -- Demand 3 of all that came out: before the end, whatever lines of the table's depth follow,
   pub c-near-before-end : scanHeld state .ended ≡ false → (more : List ℕ) → ((k : ℕ) → getD more k 0 < 2 ^ t .depth) → (h : ℕ) → n ≤ h → LinesNear t (strip ++ more) (scanHeld state .width) h (ready n) all
@@ -250,16 +278,6 @@ over-state s k state long = ap (λ (l : List ℕ). stateBytes s ++ l) (drop-of-l
 holds-it : (s : Scan) → Keepable s → scanIn (stateBytes s) ≡ done s
 holds-it s k = subst (λ (l : List ℕ). scanIn l ≡ done s) (append-nil (stateBytes s)) (read-written s k [])
 
--- what holds of a call on a scan holds of the call on its bytes
-on-its-bytes : (Call : Scan → Answer ℕ → Scan → List ℤ → List ℤ → Type 0) (s s′ : Scan) (held out held′ out′ : List ℤ) (m : ℕ) → Keepable s → Keepable s′ → Call s (done m) s′ held′ out′
-    → OnBytes Call (stateBytes s) held out 0 0 (stateBytes s′) held′ out′ m
-on-its-bytes Call s s′ held out held′ out′ m k k′ call = record {
-  no-scan = λ why e. absurd (subst T (ap (λ (o : Answer Scan). answered o true false) (sym (holds-it s k) ∙ e)) tt);
-  on-scan = λ r e.
-      subst (λ (a : Scan). OnScan (Call a) (stateBytes s) 0 0 (stateBytes s′) held′ out′ m) (gives-done passed s (sym (holds-it s k) ∙ e) .1)
-      (record { answer = done m; after = s′; call = call; answer-is = refl; state-is = sym (over-state s′ k′ (stateBytes s) (state-long s k)); given-is = refl });
-}
-
 module _ (bytes : List ℕ) (formed : form bytes ≡ passed) where
   lent-again : (s : Scan) → Keepable s → (held lent : List ℤ) → HandedOn s held lent → HeldHandedOn (stateBytes s) held lent
   lent-again s k held lent = subst (λ (a : Scan). HandedOn a held lent) (sym (read-is (stateBytes s) s (holds-it s k)))
@@ -274,13 +292,32 @@ module _ (bytes : List ℕ) (formed : form bytes ≡ passed) where
       subst (λ (l : List ℕ). ByteCalls bytes l held 0 [] []) (begun-state bytes first accepts ∙ over-state s (can-hold bytes formed (begun held e)) first refl) (c-begun first held accepts)
   calls-on-bytes (line {s} {s′} {held} {lent} {held′} {n} {strip} {given} {pixels} {w} {m} {out} {out′} before same call) =
       let k = can-hold bytes formed before in
-      c-line (calls-on-bytes before) refl (lent-again s k held lent same) (on-its-bytes (λ s. LineCall s pixels w lent out) s s′ lent out held′ out′ m k (can-hold bytes formed (line before same call)) call)
+      let e = holds-it s k in
+      let (own, counted) = gives-done (lineAnswer s pixels w lent out) (length (givenByLine s pixels w lent out)) (sym (call .answer-is)) in
+      let passes = line-answered (stateBytes s) s e pixels w lent out ∙ own in
+      let after : scanAfter s pixels w lent out ≡ s′ = sym (call .scan-is ∙ answered-done _ s own) in
+      let state : scanLineState (stateBytes s) pixels w lent out ≡ stateBytes s′ =
+      line-put (stateBytes s) s e pixels w lent out passes
+      ∙ ap (λ (a : Scan). over (stateBytes a) (stateBytes s)) after
+      ∙ over-state s′ (can-hold bytes formed (line before same call)) (stateBytes s) (state-long s k) in
+      let count : scanLineGiven (stateBytes s) pixels w lent out 0 ≡ m = line-counted (stateBytes s) s e pixels w lent out passes 0 ∙ counted in
+      as-type (λ i. ByteCalls bytes (state i) held′ (suc n) (strip ++ take w pixels) (given ++ take (count i * w) out′))
+      (c-line (stateBytes s) pixels w lent out 0 (calls-on-bytes before) refl (lent-again s k held lent same) (ap (λ (o : Answer Unit). code o) passes) (as-type (sym (line-lines (stateBytes s) s e pixels w lent out held′ out′)) (call .left)))
   calls-on-bytes (line-refused {s} {s′} {held} {n} {strip} {given} {pixels} {w} {other} {other′} {out} {out′} {r} before call) =
       subst (λ (s : Scan). ByteCalls bytes (stateBytes s) held n strip given) (sym (refused-keeps s other out r s′ other′ out′ .0 pixels w call .0)) (calls-on-bytes before)
   calls-on-bytes (end {s} {s′} {held} {lent} {held′} {n} {strip} {given} {m} {out} {out′} before same call) =
       let k = can-hold bytes formed before in
-      subst (λ (a : Scan). ByteCalls bytes (stateBytes s′) held′ n strip (given ++ take (m * a .width) out′)) (read-is (stateBytes s) s (holds-it s k))
-      (c-end (calls-on-bytes before) refl (lent-again s k held lent same) (on-its-bytes (λ s. EndCall s lent out) s s′ lent out held′ out′ m k (can-hold bytes formed (end before same call)) call))
+      let e = holds-it s k in
+      let (own, counted) = gives-done (endAnswer s lent out) (length (givenByEnd s lent out)) (sym (call .answer-is)) in
+      let passes = end-answered (stateBytes s) s e lent out ∙ own in
+      let after : scanEnded s lent out ≡ s′ = sym (call .scan-is ∙ answered-done _ s own) in
+      let state : scanEndState (stateBytes s) lent out ≡ stateBytes s′ =
+      end-put (stateBytes s) s e lent out passes
+      ∙ ap (λ (a : Scan). over (stateBytes a) (stateBytes s)) after
+      ∙ over-state s′ (can-hold bytes formed (end before same call)) (stateBytes s) (state-long s k) in
+      let count : scanEndGiven (stateBytes s) lent out 0 ≡ m = end-counted (stateBytes s) s e lent out passes 0 ∙ counted in
+      as-type (λ i. ByteCalls bytes (state i) held′ n strip (given ++ take (count i * read-is (stateBytes s) s e i .width) out′))
+      (c-end (stateBytes s) lent out 0 (calls-on-bytes before) refl (lent-again s k held lent same) (ap (λ (o : Answer Unit). code o) passes) (as-type (sym (end-lines (stateBytes s) s e lent out held′ out′)) (call .left)))
   calls-on-bytes (end-refused {s} {s′} {held} {n} {strip} {given} {other} {other′} {out} {out′} {r} before call) =
       subst (λ (s : Scan). ByteCalls bytes (stateBytes s) held n strip given) (sym (refused-keeps s other out r s′ other′ out′ .1 call .0)) (calls-on-bytes before)
 
@@ -332,24 +369,20 @@ module _ (state : List ℕ) (below : (k : ℕ) → k < length state → getD sta
       let calls = subst (λ (t : WidthTable). Calls t s (l .held) (l .lines) (l .strip) (l .given)) same (l .calls) in
       foreign (subst LeftState (written-read state below s e) (record { table = table; held = l .held; lines = l .lines; strip = l .strip; all = l .given; calls = calls-on-bytes table formed calls }))
 
-  answered-14 : (Call : Scan → Answer ℕ → Scan → List ℤ → List ℤ → Type 0) (held out : List ℤ) {given r : ℕ} {state′ : List ℕ} {held′ out′ : List ℤ} {given′ : ℕ}
-      → ((s : Scan) (o : Answer ℕ) (s′ : Scan) → ¬ (LeftByCalls s) → Call s o s′ held′ out′ → o ≡ refused (14, []))
-      → OnBytes Call state held out given r state′ held′ out′ given′ → r ≡ 14
-  answered-14 Call held out {r = r} refuses call = go (scanIn state) refl
+  answered-14 : (call : Scan → Answer Unit) → ((s : Scan) → ¬ (LeftByCalls s) → call s ≡ refused (14, [])) → code (scanIn state then call (scanHeld state)) ≡ 14
+  answered-14 call refuses = go (scanIn state) refl
     where
-      go : (o : Answer Scan) → scanIn state ≡ o → r ≡ 14
-      go (done s) e =
-          let on = call .on-scan s e in
-          on .answer-is ∙ ap (λ (o : Answer ℕ). code o) (refuses s (on .answer) (on .after) (not-left s e) (on .call))
-      go (refused why) e = call .no-scan (14, []) (read-refused state long why e) .0
+      go : (o : Answer Scan) → scanIn state ≡ o → code (scanIn state then call (scanHeld state)) ≡ 14
+      go (done s) e = ap (λ (o : Answer Unit). code o) (then-right (scanIn state) _ e ∙ ap call (read-is state s e) ∙ refuses s (not-left s e))
+      go (refused why) e = ap (λ (o : Answer Unit). code o) (then-refused (scanIn state) (call (scanHeld state)) _ (read-refused state long why e))
 
-  pub c-foreign-line : {pixels : List ℕ} {w : ℕ} {held out : List ℤ} {given r : ℕ} {state′ : List ℕ} {held′ out′ : List ℤ} {given′ : ℕ} → LineOnBytes state pixels w held out given r state′ held′ out′ given′ → r ≡ 14
-  c-foreign-line {pixels} {w} {held} {out} =
-      answered-14 (λ s. LineCall s pixels w held out) held out
-      (λ s o s′ none call. call .answer-is ∙ then-refused (lineAnswer s pixels w held out) _ _ (foreign-refused s none .0 pixels w held out))
+  pub c-foreign-line : (pixels : List ℕ) (w : ℕ) (held out : List ℤ) → code (scanLineAnswer state pixels w held out) ≡ 14
+  unfolding scanLineAnswer
+  c-foreign-line pixels w held out = answered-14 (λ s. lineAnswer s pixels w held out) (λ s none. foreign-refused s none .0 pixels w held out)
 
-  pub c-foreign-end : {held out : List ℤ} {given r : ℕ} {state′ : List ℕ} {held′ out′ : List ℤ} {given′ : ℕ} → EndOnBytes state held out given r state′ held′ out′ given′ → r ≡ 14
-  c-foreign-end {held} {out} = answered-14 (λ s. EndCall s held out) held out (λ s o s′ none call. call .answer-is ∙ then-refused (endAnswer s held out) _ _ (foreign-refused s none .1 held out))
+  pub c-foreign-end : (held out : List ℤ) → code (scanEndAnswer state held out) ≡ 14
+  unfolding scanEndAnswer
+  c-foreign-end held out = answered-14 (λ s. endAnswer s held out) (λ s none. foreign-refused s none .1 held out)
 
 -- There are such states: zeros, for one.
 pub zeros-foreign : ¬ (LeftState (replicate scanLength 0))

@@ -9,7 +9,7 @@ use lib.IntN.{ℤ}
 use Rattle.refusals.specs.Answers.{code}
 use Rattle.rolling_claims.specs.Claims.{HandedOn}
 use Rattle.scan_bytes.specs.ScanBytes.{scanLength, scanHeld}
-use Rattle.engine.specs.ScanAnswers.{scanBeginAnswer, scanBeginState, LineOnBytes, EndOnBytes}
+use Rattle.engine.specs.ScanAnswers.{scanBeginAnswer, scanBeginState, scanLineAnswer, scanLineState, scanLineGiven, ScanLineLeft, scanEndAnswer, scanEndState, scanEndGiven, ScanEndLeft}
 
 -- A state handed on as left: its own bytes are the same. What else the slice has, and which memory it is, is the caller's.
 abbrev pub StateHandedOn : List ℕ → List ℕ → Type 0
@@ -23,22 +23,22 @@ HeldHandedOn state left lent = HandedOn (scanHeld state) left lent
 -- their pixels row by row, and all that was given out. A refused call may be lent any held memory. The state has the width of the lines.
 pub data ByteCalls (bytes : List ℕ) : List ℕ → List ℤ → ℕ → List ℕ → List ℤ → Type 0 where
   c-begun : (state : List ℕ) (held : List ℤ) → code (scanBeginAnswer bytes state) ≡ 0 → ByteCalls bytes (scanBeginState bytes state) held 0 [] []
-  c-line : {state now state′ : List ℕ} {held lent held′ : List ℤ} {n : ℕ} {strip : List ℕ} {all : List ℤ} {pixels : List ℕ} {w : ℕ} {out out′ : List ℤ} {given given′ : ℕ}
+  c-line : {state : List ℕ} {held held′ : List ℤ} {n : ℕ} {strip : List ℕ} {all out′ : List ℤ} (now pixels : List ℕ) (w : ℕ) (lent out : List ℤ) (given : ℕ)
       → ByteCalls bytes state held n strip all → StateHandedOn state now → HeldHandedOn state held lent
-      → LineOnBytes now pixels w lent out given 0 state′ held′ out′ given′
-      → ByteCalls bytes state′ held′ (suc n) (strip ++ take w pixels) (all ++ take (given′ * w) out′)
-  c-line-refused : {state now state′ : List ℕ} {held : List ℤ} {n : ℕ} {strip : List ℕ} {all : List ℤ} {pixels : List ℕ} {w : ℕ} {other other′ out out′ : List ℤ} {given given′ r : ℕ}
+      → code (scanLineAnswer now pixels w lent out) ≡ 0 → ScanLineLeft now pixels w lent out held′ out′
+      → ByteCalls bytes (scanLineState now pixels w lent out) held′ (suc n) (strip ++ take w pixels) (all ++ take (scanLineGiven now pixels w lent out given * w) out′)
+  c-line-refused : {state : List ℕ} {held : List ℤ} {n : ℕ} {strip : List ℕ} {all : List ℤ} (now pixels : List ℕ) (w : ℕ) (other out : List ℤ)
       → ByteCalls bytes state held n strip all → StateHandedOn state now
-      → LineOnBytes now pixels w other out given r state′ other′ out′ given′ → ¬ (r ≡ 0)
-      → ByteCalls bytes state′ held n strip all
-  c-end : {state now state′ : List ℕ} {held lent held′ : List ℤ} {n : ℕ} {strip : List ℕ} {all : List ℤ} {out out′ : List ℤ} {given given′ : ℕ}
+      → ¬ (code (scanLineAnswer now pixels w other out) ≡ 0)
+      → ByteCalls bytes (scanLineState now pixels w other out) held n strip all
+  c-end : {state : List ℕ} {held held′ : List ℤ} {n : ℕ} {strip : List ℕ} {all out′ : List ℤ} (now : List ℕ) (lent out : List ℤ) (given : ℕ)
       → ByteCalls bytes state held n strip all → StateHandedOn state now → HeldHandedOn state held lent
-      → EndOnBytes now lent out given 0 state′ held′ out′ given′
-      → ByteCalls bytes state′ held′ n strip (all ++ take (given′ * scanHeld state .width) out′)
-  c-end-refused : {state now state′ : List ℕ} {held : List ℤ} {n : ℕ} {strip : List ℕ} {all : List ℤ} {other other′ out out′ : List ℤ} {given given′ r : ℕ}
+      → code (scanEndAnswer now lent out) ≡ 0 → ScanEndLeft now lent out held′ out′
+      → ByteCalls bytes (scanEndState now lent out) held′ n strip (all ++ take (scanEndGiven now lent out given * scanHeld state .width) out′)
+  c-end-refused : {state : List ℕ} {held : List ℤ} {n : ℕ} {strip : List ℕ} {all : List ℤ} (now : List ℕ) (other out : List ℤ)
       → ByteCalls bytes state held n strip all → StateHandedOn state now
-      → EndOnBytes now other out given r state′ other′ out′ given′ → ¬ (r ≡ 0)
-      → ByteCalls bytes state′ held n strip all
+      → ¬ (code (scanEndAnswer now other out) ≡ 0)
+      → ByteCalls bytes (scanEndState now other out) held n strip all
 
 -- a state that calls left
 pub record LeftState (state : List ℕ) : Type 0 where

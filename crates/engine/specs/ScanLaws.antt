@@ -14,14 +14,14 @@ use Rattle.refusals.specs.AnswerLaws.{asks-right, asks-wrong, gives-done, then-
 use Rattle.width_table.specs.Bytes.{form, tableIn}
 use Rattle.precision.specs.Promise.{promise}
 use Rattle.rolling.specs.declared.Scan.{Scan}
-use Rattle.rolling.specs.Calls.{beginAnswer, scanOf, outLines, lineAnswer, givenByLine, scanAfter, LineCall, endAnswer, givenByEnd, scanEnded, EndCall}
-use Rattle.rolling.specs.AnswerLaws.{begun-one, begun-accepted, on-side}
+use Rattle.rolling.specs.Calls.{beginAnswer, scanOf, outLines, lineAnswer, givenByLine, scanAfter, LineLeft, LineCall, endAnswer, givenByEnd, scanEnded, EndLeft, EndCall}
+use Rattle.rolling.specs.AnswerLaws.{begun-one, begun-accepted, on-side, line-stays, end-stays}
 use Rattle.rolling_claims.specs.History.{line-right, end-right}
 use Rattle.rolling_claims.specs.Satisfiable.{line-few, end-few}
-use Rattle.scan_bytes.specs.ScanBytes.{scanLength, stateBytes, keepable, scanIn, stateAfter, numbersAfter}
-use Rattle.scan_bytes.specs.ByteLaws.{can-keep, no-room, kept, renewed-written}
+use Rattle.scan_bytes.specs.ScanBytes.{scanLength, stateBytes, keepable, scanHeld, scanIn, stateAfter, numbersAfter}
+use Rattle.scan_bytes.specs.ByteLaws.{can-keep, no-room, kept, read-is, renewed-written}
 use borrow.Author.Tests.{lt-leb}
-use Rattle.engine.specs.ScanAnswers.{begins, scanBeginAnswer, scanBeginState, givenAfter, OnScan, OnBytes}
+use Rattle.engine.specs.ScanAnswers.{begins, scanBeginAnswer, scanBeginState, scanLineAnswer, scanLineState, scanLineGiven, ScanLineLeft, scanEndAnswer, scanEndState, scanEndGiven, ScanEndLeft, givenAfter}
 
 -- ---- scans that bytes can hold
 
@@ -34,34 +34,25 @@ pub record Renews (s after : Scan) : Type 0 where
   pub table : after .table ≡ s .table
   pub narrow : after .width < 65536
 
-module _ (s : Scan) (pixels : List ℕ) (w : ℕ) (held out : List ℤ) {o : Answer ℕ} {s′ : Scan} {held′ out′ : List ℤ} (call : LineCall s pixels w held out o s′ held′ out′) (m : ℕ) (e : o ≡ done m) where
-  line-passes : (lineAnswer s pixels w held out ≡ passed) × (length (givenByLine s pixels w held out) ≡ m)
-  line-passes = gives-done (lineAnswer s pixels w held out) (length (givenByLine s pixels w held out)) (sym (call .answer-is) ∙ e)
-
-  pub line-gives-few : m ≤ outLines
+module _ (s : Scan) (pixels : List ℕ) (w : ℕ) (held out : List ℤ) where
+  pub line-gives-few : {o : Answer ℕ} {s′ : Scan} {held′ out′ : List ℤ} → LineCall s pixels w held out o s′ held′ out′ → (m : ℕ) → o ≡ done m → m ≤ outLines
   unfolding givenByLine
-  line-gives-few = subst (λ (k : ℕ). k ≤ outLines) (line-passes .1) (line-few (s .table) w (s .taken) _ _)
+  line-gives-few call m e =
+      subst (λ (k : ℕ). k ≤ outLines) (gives-done (lineAnswer s pixels w held out) (length (givenByLine s pixels w held out)) (sym (call .answer-is) ∙ e) .1) (line-few (s .table) w (s .taken) _ _)
 
-  pub line-renews : Renews s s′
+  line-renews : lineAnswer s pixels w held out ≡ passed → Renews s (scanAfter s pixels w held out)
   unfolding scanAfter
-  line-renews =
-      subst (Renews s) (sym (call .scan-is ∙ answered-done (scanAfter s pixels w held out) s (line-passes .0)))
-      (record { table = refl; narrow = omega (arith, line-right s pixels w held out (line-passes .0) .side .1) })
+  line-renews e = record { table = refl; narrow = omega (arith, line-right s pixels w held out e .side .1) }
 
-module _ (s : Scan) (held out : List ℤ) {o : Answer ℕ} {s′ : Scan} {held′ out′ : List ℤ} (call : EndCall s held out o s′ held′ out′) (m : ℕ) (e : o ≡ done m) where
-  end-passes : (endAnswer s held out ≡ passed) × (length (givenByEnd s held out) ≡ m)
-  end-passes = gives-done (endAnswer s held out) (length (givenByEnd s held out)) (sym (call .answer-is) ∙ e)
-
-  pub end-gives-few : m ≤ outLines
+module _ (s : Scan) (held out : List ℤ) where
+  pub end-gives-few : {o : Answer ℕ} {s′ : Scan} {held′ out′ : List ℤ} → EndCall s held out o s′ held′ out′ → (m : ℕ) → o ≡ done m → m ≤ outLines
   unfolding givenByEnd
-  end-gives-few = subst (λ (k : ℕ). k ≤ outLines) (end-passes .1) (end-few (s .table) (s .width) (s .taken) _)
+  end-gives-few call m e =
+      subst (λ (k : ℕ). k ≤ outLines) (gives-done (endAnswer s held out) (length (givenByEnd s held out)) (sym (call .answer-is) ∙ e) .1) (end-few (s .table) (s .width) (s .taken) _)
 
-  pub end-renews : Renews s s′
+  end-renews : endAnswer s held out ≡ passed → Renews s (scanEnded s held out)
   unfolding scanEnded
-  end-renews =
-      let right = end-right s held out (end-passes .0) in
-      subst (Renews s) (sym (call .scan-is ∙ answered-done (scanEnded s held out) s (end-passes .0)))
-      (record { table = refl; narrow = omega (arith, on-side s (right .goes) (right .some) .1) })
+  end-renews e = let right = end-right s held out e in record { table = refl; narrow = omega (arith, on-side s (right .goes) (right .some) .1) }
 
 -- ---- begin
 
@@ -114,27 +105,84 @@ module _ (bytes state : List ℕ) where
 
 -- ---- a line, and the end
 
-module _ (Call : Scan → Answer ℕ → Scan → List ℤ → List ℤ → Type 0) (state : List ℕ) (held out : List ℤ) (given r : ℕ) where
-  never : (why : Reason) (s : Scan) → scanIn state ≡ refused why → scanIn state ≡ done s → ⊥
-  never why s e q = let z : _≡_ {A = ℕ} 0 1 = cc in omega arith
+module _ (state : List ℕ) where
+  -- the answer, the state and the number of lines given, of a call whose answer is o
+  abbrev Went : Answer Unit → Scan → ℕ → ℕ → ℕ → List ℕ → ℕ → Type 0
+  Went o after m given r state′ given′ = (r ≡ code o) × (state′ ≡ answered o (over (stateBytes after) state) state) × (given′ ≡ answered o m given)
 
   -- a state that holds no scan
-  pub on-none : (why : Reason) → scanIn state ≡ refused why → r ≡ code {A = Unit} (refused why) → OnBytes Call state held out given r state held out given
-  on-none why e answer = record {
-    no-scan = λ other q. let z : why ≡ other = cc in (subst (λ (why : Reason). r ≡ code {A = Unit} (refused why)) z answer, refl, refl, refl, refl);
-    on-scan = λ s q. absurd (never why s e q);
-  }
+  none : (o : Answer Unit) (after : Scan) (m given : ℕ) {r : ℕ} (why : Reason) → scanIn state ≡ refused why → r ≡ code {A = Unit} (refused why) → Went (scanIn state then o) after m given r state given
+  none o after m given {r} why e r-is = subst (λ (o : Answer Unit). Went o after m given r state given) (sym (then-refused (scanIn state) o why e)) (r-is, refl, refl)
 
   -- a state that holds one
-  pub on-some : (s : Scan) → scanIn state ≡ done s → (answer : Answer ℕ) (after : Scan) {state′ : List ℕ} {held′ out′ : List ℤ} {given′ : ℕ} → Call s answer after held′ out′
-      → ((m : ℕ) → answer ≡ done m → Renews s after)
-      → r ≡ code answer → state′ ≡ answered answer (numbersAfter (after .width) (after .taken) (after .ended) state) state → given′ ≡ givenAfter answer given
-      → OnBytes Call state held out given r state′ held′ out′ given′
-  on-some s e answer after {state′} {held′} {out′} {given′} call renews r-is state-is given-is = record {
-    no-scan = λ why q. absurd (never why s q e);
-    on-scan = λ other q. let z : s ≡ other = cc in subst (λ (s : Scan). OnScan (Call s) state given r state′ held′ out′ given′) z (record { answer = answer; after = after; call = call; answer-is = r-is; state-is = state-is ∙ put answer renews; given-is = given-is });
-  }
+  some : (s : Scan) → scanIn state ≡ done s → (o : Answer Unit) (after : Scan) (m given : ℕ) → (o ≡ passed → Renews s after)
+      → {answer : Answer ℕ} {s′ : Scan} {r : ℕ} {state′ : List ℕ} {given′ : ℕ} → answer ≡ o then done m → s′ ≡ answered o after s
+      → r ≡ code answer → state′ ≡ answered answer (numbersAfter (s′ .width) (s′ .taken) (s′ .ended) state) state → given′ ≡ givenAfter answer given
+      → Went (scanIn state then o) after m given r state′ given′
+  some s e o after m given renews {answer} {s′} {r} {state′} {given′} answer-is scan-is r-is state-is given-is =
+      subst (λ (o : Answer Unit). Went o after m given r state′ given′) (sym (then-right (scanIn state) o e))
+      (go o renews (r-is ∙ ap (λ (a : Answer ℕ). code a) answer-is) (state-is ∙ (λ i. answered (answer-is i) (numbers (scan-is i)) state)) (given-is ∙ ap (λ (a : Answer ℕ). givenAfter a given) answer-is))
     where
-      put : (o : Answer ℕ) → ((m : ℕ) → o ≡ done m → Renews s after) → answered o (numbersAfter (after .width) (after .taken) (after .ended) state) state ≡ answered o (over (stateBytes after) state) state
-      put (done m) renews = let k = renews m refl in renewed-written state s e after (k .table) (k .narrow)
-      put (refused why) renews = refl
+      numbers : Scan → List ℕ
+      numbers s = numbersAfter (s .width) (s .taken) (s .ended) state
+
+      go : (o : Answer Unit) → (o ≡ passed → Renews s after) → r ≡ code (o then done m) → state′ ≡ answered (o then done m) (numbers (answered o after s)) state → given′ ≡ givenAfter (o then done m) given
+          → Went o after m given r state′ given′
+      go (done tt) renews r-is state-is given-is = let k = renews refl in (r-is, state-is ∙ renewed-written state s e after (k .table) (k .narrow), given-is)
+      go (refused why) renews r-is state-is given-is = (r-is, state-is, given-is)
+
+  -- the scan that is read is the one that the state holds
+  is-held : {s : Scan} → scanIn state ≡ done s → scanIn state ≡ done (scanHeld state)
+  is-held {s} e = e ∙ ap (λ (s : Scan). done s) (sym (read-is state s e))
+
+module _ (state pixels : List ℕ) (w : ℕ) (held out : List ℤ) (given : ℕ) where
+  -- what suz_scan_line leaves
+  abbrev LineLeaves : ℕ → List ℕ → List ℤ → List ℤ → ℕ → Type 0
+  LineLeaves r state′ held′ out′ given′ =
+      (r ≡ code (scanLineAnswer state pixels w held out))
+      × ((state′ ≡ scanLineState state pixels w held out) × ((given′ ≡ scanLineGiven state pixels w held out given) × ScanLineLeft state pixels w held out held′ out′))
+
+  pub line-none : {r : ℕ} (why : Reason) → scanIn state ≡ refused why → r ≡ code {A = Unit} (refused why) → LineLeaves r state held out given
+  unfolding scanLineAnswer scanLineState scanLineGiven
+  line-none why e r-is =
+      let s = scanHeld state in
+      let own = lineAnswer s pixels w held out in
+      let (a, b, c) = none state own (scanAfter s pixels w held out) (length (givenByLine s pixels w held out)) given why e r-is in
+      (a, (b, (c, subst (λ (o : Answer Unit). LineLeft s pixels w held out o held out) (sym (then-refused (scanIn state) own why e)) (line-stays s pixels w held out why))))
+
+  pub line-some : {s : Scan} → scanIn state ≡ done s → {answer : Answer ℕ} {after : Scan} {r : ℕ} {state′ : List ℕ} {held′ out′ : List ℤ} {given′ : ℕ} → LineCall s pixels w held out answer after held′ out′
+      → r ≡ code answer → state′ ≡ answered answer (numbersAfter (after .width) (after .taken) (after .ended) state) state → given′ ≡ givenAfter answer given
+      → LineLeaves r state′ held′ out′ given′
+  unfolding scanLineAnswer scanLineState scanLineGiven
+  line-some e {answer} {after} {held′ = held′} {out′ = out′} call r-is state-is given-is =
+      let s = scanHeld state in
+      let own = lineAnswer s pixels w held out in
+      let there = subst (λ (s : Scan). LineCall s pixels w held out answer after held′ out′) (sym (read-is state _ e)) call in
+      let (a, b, c) = some state s (is-held state e) own (scanAfter s pixels w held out) (length (givenByLine s pixels w held out)) given (line-renews s pixels w held out) (there .answer-is) (there .scan-is) r-is state-is given-is in
+      (a, (b, (c, subst (λ (o : Answer Unit). LineLeft s pixels w held out o held′ out′) (sym (then-right (scanIn state) own e)) (there .left))))
+
+module _ (state : List ℕ) (held out : List ℤ) (given : ℕ) where
+  -- what suz_scan_end leaves
+  abbrev EndLeaves : ℕ → List ℕ → List ℤ → List ℤ → ℕ → Type 0
+  EndLeaves r state′ held′ out′ given′ =
+      (r ≡ code (scanEndAnswer state held out))
+      × ((state′ ≡ scanEndState state held out) × ((given′ ≡ scanEndGiven state held out given) × ScanEndLeft state held out held′ out′))
+
+  pub end-none : {r : ℕ} (why : Reason) → scanIn state ≡ refused why → r ≡ code {A = Unit} (refused why) → EndLeaves r state held out given
+  unfolding scanEndAnswer scanEndState scanEndGiven
+  end-none why e r-is =
+      let s = scanHeld state in
+      let own = endAnswer s held out in
+      let (a, b, c) = none state own (scanEnded s held out) (length (givenByEnd s held out)) given why e r-is in
+      (a, (b, (c, subst (λ (o : Answer Unit). EndLeft s held out o held out) (sym (then-refused (scanIn state) own why e)) (end-stays s held out why))))
+
+  pub end-some : {s : Scan} → scanIn state ≡ done s → {answer : Answer ℕ} {after : Scan} {r : ℕ} {state′ : List ℕ} {held′ out′ : List ℤ} {given′ : ℕ} → EndCall s held out answer after held′ out′
+      → r ≡ code answer → state′ ≡ answered answer (numbersAfter (after .width) (after .taken) (after .ended) state) state → given′ ≡ givenAfter answer given
+      → EndLeaves r state′ held′ out′ given′
+  unfolding scanEndAnswer scanEndState scanEndGiven
+  end-some e {answer} {after} {held′ = held′} {out′ = out′} call r-is state-is given-is =
+      let s = scanHeld state in
+      let own = endAnswer s held out in
+      let there = subst (λ (s : Scan). EndCall s held out answer after held′ out′) (sym (read-is state _ e)) call in
+      let (a, b, c) = some state s (is-held state e) own (scanEnded s held out) (length (givenByEnd s held out)) given (end-renews s held out) (there .answer-is) (there .scan-is) r-is state-is given-is in
+      (a, (b, (c, subst (λ (o : Answer Unit). EndLeft s held out o held′ out′) (sym (then-right (scanIn state) own e)) (there .left))))

@@ -3,7 +3,7 @@
 use Prim.Native.Nat.{ℕ, _+_, _*_, _-_, _^_, _<_, _≤_}
 use mathlib.Core.Bool.{Bool, true, false, _&&_, _||_, not}
 use mathlib.Core.List.{List, [], _∷_}
-use mathlib.Core.Path.{_≡_, refl, sym, _∙_, ap}
+use mathlib.Core.Path.{_≡_, refl}
 use native.Mathlib.Omega.{arith}
 use lib.Dec.{leb, ltb, eqb}
 use lib.ListN.{length, getD, take, drop}
@@ -30,9 +30,9 @@ use Rattle.viewing.specs.Calls.{inWidth, coefficientsRight, viewAnswer}
 use Rattle.rolling.specs.declared.Scan.{Scan}
 use Rattle.rolling.specs.Schedule.{anyTaken}
 use Rattle.rolling.specs.Calls.{beginAnswer, goesOn, heldLines, outLines, lineAnswer, endAnswer}
-use Rattle.scan_bytes.specs.ScanBytes.{scanLength}
+use Rattle.scan_bytes.specs.ScanBytes.{scanLength, scanHeld, scanRight, scanIn}
 use Rattle.engine.specs.Answers.{checkAnswer, answer97, viewCheckAnswer, viewAnswer97}
-use Rattle.engine.specs.ScanAnswers.{begins, scanBeginAnswer}
+use Rattle.engine.specs.ScanAnswers.{begins, scanBeginAnswer, scanLineAnswer, scanEndAnswer}
 
 -- one rule and nothing after it
 last-from-one : (t : Bool) (n : ℕ) → 1 ≤ n → FromOne (asks {A = Unit} t n passed)
@@ -192,7 +192,7 @@ scan-begin-zero bytes state =
     (then-from-one (form bytes) _ (form-from-one bytes) (asks-from-one (eqb (tableIn bytes .levels) 1) (14, []) _ (omega arith) (verdict-from-one (tableIn bytes))))
     (last-from-one (leb scanLength (length state)) 9 (omega arith)))
 
-pub line-from-one : (s : Scan) (pixels : List ℕ) (w : ℕ) (held out : List ℤ) → FromOne (lineAnswer s pixels w held out)
+line-from-one : (s : Scan) (pixels : List ℕ) (w : ℕ) (held out : List ℤ) → FromOne (lineAnswer s pixels w held out)
 unfolding lineAnswer pixelAnswer
 line-from-one s pixels w held out =
     asks-from-one (goesOn s && (not (anyTaken (s .taken)) || eqb w (s .width))) (14, []) _ (omega arith)
@@ -202,15 +202,23 @@ line-from-one s pixels w held out =
     (then-from-one (lengthAnswer (outLines * w) (length out)) _ (holds-from-one _ _)
     (last-from-one (every (λ p. ltb p (2 ^ s .table .depth)) (take (w * 1) pixels)) 10 (omega arith))))))
 
-pub end-from-one : (s : Scan) (held out : List ℤ) → FromOne (endAnswer s held out)
+end-from-one : (s : Scan) (held out : List ℤ) → FromOne (endAnswer s held out)
 unfolding endAnswer
 end-from-one s held out =
     asks-from-one (goesOn s && anyTaken (s .taken)) (14, []) _ (omega arith)
     (then-from-one (lengthAnswer (heldLines * s .width) (length held)) _ (holds-from-one _ _) (holds-from-one _ _))
 
--- an answer of 0 that gives something
-pub gives-zero : {B : Type 0} (a : Answer Unit) (x : B) {o : Answer B} → FromOne a → o ≡ a then done x → code o ≡ 0 → o ≡ done x
-gives-zero (done tt) x h e q = e
-gives-zero {B} (refused r) x {o} h e q =
-    let z : code {A = B} (refused r) ≡ 0 = sym (ap (λ (o : Answer B). code o) e) ∙ q in
-    absurd (omega (arith, h .least r refl))
+scan-from-one : (state : List ℕ) → FromOne (scanIn state)
+unfolding scanIn
+scan-from-one state =
+    asks-from-one (leb scanLength (length state)) (9, []) _ (omega arith)
+    (asks-from-one (scanRight state) (14, []) _ (omega arith) (done-from-one (scanHeld state)))
+
+pub scan-line-zero : (state pixels : List ℕ) (w : ℕ) (held out : List ℤ) → code (scanLineAnswer state pixels w held out) ≡ 0 → scanLineAnswer state pixels w held out ≡ passed
+unfolding scanLineAnswer
+scan-line-zero state pixels w held out =
+    code-zero (scanLineAnswer state pixels w held out) (then-from-one (scanIn state) _ (scan-from-one state) (line-from-one (scanHeld state) pixels w held out))
+
+pub scan-end-zero : (state : List ℕ) (held out : List ℤ) → code (scanEndAnswer state held out) ≡ 0 → scanEndAnswer state held out ≡ passed
+unfolding scanEndAnswer
+scan-end-zero state held out = code-zero (scanEndAnswer state held out) (then-from-one (scanIn state) _ (scan-from-one state) (end-from-one (scanHeld state) held out))

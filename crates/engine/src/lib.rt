@@ -13,7 +13,7 @@ ghost use Rattle.engine.specs.Answers.{checkAnswer, tableBoundAnswer, ra
 ghost use Rattle.rolling.specs.Calls.{outLines};
 ghost use Rattle.rolling.specs.Told.{toldGiven};
 ghost use Rattle.scan_bytes.specs.ScanBytes.{scanLength, stateAfter, numbersAfter};
-ghost use Rattle.engine.specs.ScanAnswers.{scanBeginAnswer, scanBeginState, givenAfter, LineOnBytes, EndOnBytes};
+ghost use Rattle.engine.specs.ScanAnswers.{scanBeginAnswer, scanBeginState, scanLineAnswer, scanLineState, scanLineGiven, ScanLineLeft, scanEndAnswer, scanEndState, scanEndGiven, ScanEndLeft, givenAfter};
 use refusals::Outcome;
 use refusals::Refusal;
 use refusals::refusal_code;
@@ -445,7 +445,10 @@ pub extern "C" fn suz_scan_line(
     out: &mut [i32],
     given: &mut u32,
 ) -> u32
-    ensures { λ r. ⌜ LineOnBytes (now (state .entry)) (now (pixels .entry)) width (now (held .entry)) (now (out .entry)) (now (given .entry)) r (now (state .exit)) (now (held .exit)) (now (out .exit)) (now (given .exit)) ⌝ }
+    ensures answer { λ r. ⌜ r ≡ code (scanLineAnswer (now (state .entry)) (now (pixels .entry)) width (now (held .entry)) (now (out .entry))) ⌝ }
+    ensures state { λ _. ⌜ now (state .exit) ≡ scanLineState (now (state .entry)) (now (pixels .entry)) width (now (held .entry)) (now (out .entry)) ⌝ }
+    ensures given { λ _. ⌜ now (given .exit) ≡ scanLineGiven (now (state .entry)) (now (pixels .entry)) width (now (held .entry)) (now (out .entry)) (now (given .entry)) ⌝ }
+    ensures lines { λ _. ⌜ ScanLineLeft (now (state .entry)) (now (pixels .entry)) width (now (held .entry)) (now (out .entry)) (now (held .exit)) (now (out .exit)) ⌝ }
 {
     let read = scan_bytes::read(state);
     let outcome = read.outcome;
@@ -466,7 +469,10 @@ pub extern "C" fn suz_scan_end(
     out: &mut [i32],
     given: &mut u32,
 ) -> u32
-    ensures { λ r. ⌜ EndOnBytes (now (state .entry)) (now (held .entry)) (now (out .entry)) (now (given .entry)) r (now (state .exit)) (now (held .exit)) (now (out .exit)) (now (given .exit)) ⌝ }
+    ensures answer { λ r. ⌜ r ≡ code (scanEndAnswer (now (state .entry)) (now (held .entry)) (now (out .entry))) ⌝ }
+    ensures state { λ _. ⌜ now (state .exit) ≡ scanEndState (now (state .entry)) (now (held .entry)) (now (out .entry)) ⌝ }
+    ensures given { λ _. ⌜ now (given .exit) ≡ scanEndGiven (now (state .entry)) (now (held .entry)) (now (out .entry)) (now (given .entry)) ⌝ }
+    ensures lines { λ _. ⌜ ScanEndLeft (now (state .entry)) (now (held .entry)) (now (out .entry)) (now (held .exit)) (now (out .exit)) ⌝ }
 {
     let read = scan_bytes::read(state);
     let outcome = read.outcome;

@@ -20,7 +20,7 @@ use Rattle.rolling.specs.declared.Taken.{Taken}
 use Rattle.rolling.specs.declared.Taken.the-variants.{Zero}
 use Rattle.rolling.specs.declared.Scan.{Scan}
 use Rattle.rolling.specs.Schedule.{next, anyTaken, lineGives, endGives}
-use Rattle.rolling.specs.Calls.{beginAnswer, scanOf, lineWidthRight, goesOn, heldLines, outLines, heldIn, lineAnswer, workedRow, givenByLine, scanAfter, LineCall, endAnswer, givenByEnd, scanEnded, EndCall}
+use Rattle.rolling.specs.Calls.{beginAnswer, scanOf, lineWidthRight, goesOn, heldLines, outLines, heldIn, lineAnswer, workedRow, givenByLine, scanAfter, LineLeft, LineCall, endAnswer, givenByEnd, scanEnded, EndLeft, EndCall}
 use Rattle.rolling.specs.Memory.{Lent}
 use Rattle.rolling.specs.Rows.{LineRight, rowOf}
 use Rattle.rolling.specs.Worked.{lineAnswerOf, endAnswerOf, LineWorked, EndWorked}
@@ -279,19 +279,22 @@ module _ (s : Scan) (pixels : List ℕ) (w : ℕ) (held out : List ℤ) where
     line-worked {n} {k} count more work = record {
       answer-is = (λ i. done (count i)) ∙ sym (then-right (lineAnswer s pixels w held out) _ e);
       scan-is = (λ i. record { table = s .table; width = w; taken = more i; ended = s .ended }) ∙ sym (answered-done {o = lineAnswer s pixels w held out} _ _ e);
-      refused-kept = λ r x. absurd (not-refused (sym x ∙ e));
-      past-kept = λ x. (work .0 .past, work .1 .past);
-      works = λ x sound. (work .0 .works sound, work .1 .works sound);
+      left = record {
+        refused-kept = λ r x. absurd (not-refused (sym x ∙ e));
+        past-kept = λ x. (work .0 .past, work .1 .past);
+        works = λ x sound. (work .0 .works sound, work .1 .works sound);
+      };
     }
 
   -- a line that is refused leaves all as it was
+  pub line-stays : (r : Reason) → LineLeft s pixels w held out (refused r) held out
+  line-stays r = record { refused-kept = λ r x. (refl, refl); past-kept = λ x. absurd (not-refused x); works = λ x sound. absurd (not-refused x) }
+
   pub line-kept : {r : Reason} → lineAnswer s pixels w held out ≡ refused r → LineCall s pixels w held out (refused r) s held out
   line-kept {r} e = record {
     answer-is = sym (then-refused (lineAnswer s pixels w held out) _ r e);
     scan-is = sym (answered-refused {o = lineAnswer s pixels w held out} _ _ e);
-    refused-kept = λ r x. (refl, refl);
-    past-kept = λ x. absurd (not-refused (sym e ∙ x));
-    works = λ x sound. absurd (not-refused (sym e ∙ x));
+    left = subst (λ (o : Answer Unit). LineLeft s pixels w held out o held out) (sym e) (line-stays r);
   }
 
 -- ---- what an accepted end is
@@ -323,16 +326,20 @@ module _ (s : Scan) (held out : List ℤ) where
     end-worked {n} count work = record {
       answer-is = (λ i. done (count i)) ∙ sym (then-right (endAnswer s held out) _ e);
       scan-is = sym (answered-done {o = endAnswer s held out} _ _ e);
-      refused-kept = λ r x. absurd (not-refused (sym x ∙ e));
-      past-kept = λ x. (work .held-past, work .out-past);
-      works = λ x sound. work .works sound;
+      left = record {
+        refused-kept = λ r x. absurd (not-refused (sym x ∙ e));
+        past-kept = λ x. (work .held-past, work .out-past);
+        works = λ x sound. work .works sound;
+      };
     }
+
+  -- an end that is refused leaves all as it was
+  pub end-stays : (r : Reason) → EndLeft s held out (refused r) held out
+  end-stays r = record { refused-kept = λ r x. (refl, refl); past-kept = λ x. absurd (not-refused x); works = λ x sound. absurd (not-refused x) }
 
   pub end-kept : {r : Reason} → endAnswer s held out ≡ refused r → EndCall s held out (refused r) s held out
   end-kept {r} e = record {
     answer-is = sym (then-refused (endAnswer s held out) _ r e);
     scan-is = sym (answered-refused {o = endAnswer s held out} _ _ e);
-    refused-kept = λ r x. (refl, refl);
-    past-kept = λ x. absurd (not-refused (sym e ∙ x));
-    works = λ x sound. absurd (not-refused (sym e ∙ x));
+    left = subst (λ (o : Answer Unit). EndLeft s held out o held out) (sym e) (end-stays r);
   }

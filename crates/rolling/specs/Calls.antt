@@ -109,15 +109,20 @@ module _ (s : Scan) (pixels : List ℕ) (w : ℕ) (held out : List ℤ) where
   unfoldable pub scanAfter : Scan
   scanAfter = record { table = s .table; width = w; taken = next (s .taken); ended = s .ended }
 
-  -- What a line leaves. The answer counts the lines given. The lines given and held are promised where what the line reads is sound: a low
-  -- line reads what is held.
+  -- Held lines and output after a line that is answered so. A refusal leaves both as they were. Else all stays past the seven held lines
+  -- and past the lines given; the lines given and held are promised where what the line reads is sound: a low line reads what is held.
+  -- Free are the other two of the seven, and where that is not sound, what is held and given.
+  pub record LineLeft (answer : Answer Unit) (held′ out′ : List ℤ) : Type 0 where
+    pub refused-kept : (r : Reason) → answer ≡ refused r → (held′ ≡ held) × (out′ ≡ out)
+    pub past-kept : answer ≡ passed → KeptFrom (heldLines * w) held held′ × KeptFrom (length givenByLine * w) out out′
+    pub works : answer ≡ passed → (T (evenTaken (s .taken)) → Sound (s .table) w (heldIn w held))
+        → SameHeld w (heldIn w held′) (heldAfter (s .table) w (s .taken) (heldIn w held) workedRow) × (out′ ≡ outAfter w givenByLine out)
+
+  -- What a line leaves. The answer counts the lines given.
   pub record LineCall (answer : Answer ℕ) (s′ : Scan) (held′ out′ : List ℤ) : Type 0 where
     pub answer-is : answer ≡ lineAnswer then done (length givenByLine)
     pub scan-is : s′ ≡ answered lineAnswer scanAfter s
-    pub refused-kept : (r : Reason) → lineAnswer ≡ refused r → (held′ ≡ held) × (out′ ≡ out)
-    pub past-kept : lineAnswer ≡ passed → KeptFrom (heldLines * w) held held′ × KeptFrom (length givenByLine * w) out out′
-    pub works : lineAnswer ≡ passed → (T (evenTaken (s .taken)) → Sound (s .table) w (heldIn w held))
-        → SameHeld w (heldIn w held′) (heldAfter (s .table) w (s .taken) (heldIn w held) workedRow) × (out′ ≡ outAfter w givenByLine out)
+    pub left : LineLeft lineAnswer held′ out′
 
 -- ---- the end
 
@@ -136,10 +141,16 @@ module _ (s : Scan) (held out : List ℤ) where
   unfoldable pub scanEnded : Scan
   scanEnded = record { table = s .table; width = s .width; taken = s .taken; ended = true }
 
-  -- What an end leaves. The seven held lines are free then.
+  -- Held lines and output after an end that is answered so. A refusal leaves both as they were. Else all stays past the seven held lines
+  -- and past the lines given; the lines given are promised where what is held is sound. Free are the seven held lines, and where what was
+  -- held is not sound, the lines given.
+  pub record EndLeft (answer : Answer Unit) (held′ out′ : List ℤ) : Type 0 where
+    pub refused-kept : (r : Reason) → answer ≡ refused r → (held′ ≡ held) × (out′ ≡ out)
+    pub past-kept : answer ≡ passed → KeptFrom (heldLines * s .width) held held′ × KeptFrom (length givenByEnd * s .width) out out′
+    pub works : answer ≡ passed → Sound (s .table) (s .width) (heldIn (s .width) held) → out′ ≡ outAfter (s .width) givenByEnd out
+
+  -- What an end leaves. The answer counts the lines given.
   pub record EndCall (answer : Answer ℕ) (s′ : Scan) (held′ out′ : List ℤ) : Type 0 where
     pub answer-is : answer ≡ endAnswer then done (length givenByEnd)
     pub scan-is : s′ ≡ answered endAnswer scanEnded s
-    pub refused-kept : (r : Reason) → endAnswer ≡ refused r → (held′ ≡ held) × (out′ ≡ out)
-    pub past-kept : endAnswer ≡ passed → KeptFrom (heldLines * s .width) held held′ × KeptFrom (length givenByEnd * s .width) out out′
-    pub works : endAnswer ≡ passed → Sound (s .table) (s .width) (heldIn (s .width) held) → out′ ≡ outAfter (s .width) givenByEnd out
+    pub left : EndLeft endAnswer held′ out′

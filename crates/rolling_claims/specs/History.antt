@@ -426,7 +426,7 @@ module _ (s : Scan) (held : List ℤ) (n : ℕ) (strip : List ℕ) (given : List
       let lines = givenByLine s pixels w held out in
       let (passes, counted) = gives-done (lineAnswer s pixels w held out) (length lines) (sym (call .answer-is)) in
       let right = line-right s pixels w held out passes in
-      let works = call .works passes (λ even. let some = even-some (f .count) even in subst (λ (v : ℕ). Sound (s .table) v (heldIn v held)) (sym (right .width (count-some (f .count) some))) (sound-now s held n strip given f (on-running s (right .goes)) some)) in
+      let works = call .left .works passes (λ even. let some = even-some (f .count) even in subst (λ (v : ℕ). Sound (s .table) v (heldIn v held)) (sym (right .width (count-some (f .count) some))) (sound-now s held n strip given f (on-running s (right .goes)) some)) in
       subst (λ (l : List ℤ). Facts s′ held′ (suc n) (strip ++ take w pixels) (given ++ l)) (sym (front w m lines out out′ (right .side .0) (sym counted) (works .1)))
       (subst (λ (s : Scan). Facts s held′ (suc n) (strip ++ take w pixels) (given ++ rowByRow w (length lines) (stacked lines))) (sym (call .scan-is ∙ answered-done (scanAfter s pixels w held out) s passes))
       (line-facts s held n strip given f pixels w out held′ passes (works .0)))
@@ -438,7 +438,7 @@ module _ (s : Scan) (held : List ℤ) (n : ℕ) (strip : List ℕ) (given : List
       let (passes, counted) = gives-done (endAnswer s held out) (length lines) (sym (call .answer-is)) in
       let some = line-in s held n strip given f out held′ passes in
       let sound = sound-now s held n strip given f (on-running s (end-right s held out passes .goes)) some in
-      subst (λ (l : List ℤ). Facts s′ held′ n strip (given ++ l)) (sym (front (s .width) m lines out out′ (f .side some .0) (sym counted) (call .works passes sound)))
+      subst (λ (l : List ℤ). Facts s′ held′ n strip (given ++ l)) (sym (front (s .width) m lines out out′ (f .side some .0) (sym counted) (call .left .works passes sound)))
       (subst (λ (s′ : Scan). Facts s′ held′ n strip (given ++ rowByRow (s .width) (length lines) (stacked lines))) (sym (call .scan-is ∙ answered-done (scanEnded s held out) s passes))
       (end-facts s held n strip given f out held′ passes))
 

@@ -117,15 +117,17 @@ module _ (s : Scan) (pixels : List ℕ) (w : ℕ) (held out : List ℤ) where
       record {
         answer-is = refl;
         scan-is = refl;
-        refused-kept = λ r e. (ap lineHeld e, ap lineOut e);
-        past-kept = λ e.
-            let right = line-right s pixels w held out e in
-            let some = right .side .0 in
-            subst (λ (o : Answer Unit). KeptFrom (heldLines * w) held (lineHeld o) × KeptFrom (length lines * w) out (lineOut o)) (sym e)
-            (held-kept w want held some (right .held-room), out-kept w lines out some (line-few (s .table) w (s .taken) (heldIn w held) (workedRow s pixels w held out)) (right .out-room));
-        works = λ e sound.
-            let some = line-right s pixels w held out e .side .0 in
-            subst (λ (o : Answer Unit). SameHeld w (heldIn w (lineHeld o)) want × (lineOut o ≡ outAfter w lines out)) (sym e) (same-held w want held some, refl);
+        left = record {
+          refused-kept = λ r e. (ap lineHeld e, ap lineOut e);
+          past-kept = λ e.
+              let right = line-right s pixels w held out e in
+              let some = right .side .0 in
+              subst (λ (o : Answer Unit). KeptFrom (heldLines * w) held (lineHeld o) × KeptFrom (length lines * w) out (lineOut o)) (sym e)
+              (held-kept w want held some (right .held-room), out-kept w lines out some (line-few (s .table) w (s .taken) (heldIn w held) (workedRow s pixels w held out)) (right .out-room));
+          works = λ e sound.
+              let some = line-right s pixels w held out e .side .0 in
+              subst (λ (o : Answer Unit). SameHeld w (heldIn w (lineHeld o)) want × (lineOut o ≡ outAfter w lines out)) (sym e) (same-held w want held some, refl);
+        };
       }
 
 -- ---- an end
@@ -142,12 +144,14 @@ module _ (s : Scan) (held out : List ℤ) where
       record {
         answer-is = refl;
         scan-is = refl;
-        refused-kept = λ r e. (refl, ap endOut e);
-        past-kept = λ e.
-            let right = end-right s held out e in
-            let some = on-side s (right .goes) (right .some) .0 in
-            (record { length-kept = refl; past-kept = refl }, subst (λ (o : Answer Unit). KeptFrom (length lines * w) out (endOut o)) (sym e) (out-kept w lines out some (end-few (s .table) w (s .taken) (heldIn w held)) (right .out-room)));
-        works = λ e sound. subst (λ (o : Answer Unit). endOut o ≡ outAfter w lines out) (sym e) refl;
+        left = record {
+          refused-kept = λ r e. (refl, ap endOut e);
+          past-kept = λ e.
+              let right = end-right s held out e in
+              let some = on-side s (right .goes) (right .some) .0 in
+              (record { length-kept = refl; past-kept = refl }, subst (λ (o : Answer Unit). KeptFrom (length lines * w) out (endOut o)) (sym e) (out-kept w lines out some (end-few (s .table) w (s .taken) (heldIn w held)) (right .out-room)));
+          works = λ e sound. subst (λ (o : Answer Unit). endOut o ≡ outAfter w lines out) (sym e) refl;
+        };
       }
 
 -- ---- calls go on
@@ -202,7 +206,7 @@ module _ (t : WidthTable) (w : ℕ) (side : Admitted w) (out : List ℤ) (room :
         taken = ap next (g .taken);
         running = g .running;
         width = λ i. refl;
-        room = omega (arith, g .room, call .past-kept e .0 .length-kept);
+        room = omega (arith, g .room, call .left .past-kept e .0 .length-kept);
       }
 
   end-on : {n : ℕ} {k : Taken} {strip : List ℕ} → Going t w n k strip → 1 ≤ n → FinishedScan t n strip

@@ -161,10 +161,10 @@ pub refused-keeps : RefusedKeeps
 refused-keeps s held out r s′ held′ out′ = (
   (λ pixels w call.
       let e = gives-refused (lineAnswer s pixels w held out) (length (givenByLine s pixels w held out)) r (sym (call .answer-is)) in
-      (call .scan-is ∙ answered-refused (scanAfter s pixels w held out) s e, call .refused-kept r e .0, call .refused-kept r e .1)),
+      (call .scan-is ∙ answered-refused (scanAfter s pixels w held out) s e, call .left .refused-kept r e .0, call .left .refused-kept r e .1)),
   (λ call.
       let e = gives-refused (endAnswer s held out) (length (givenByEnd s held out)) r (sym (call .answer-is)) in
-      (call .scan-is ∙ answered-refused (scanEnded s held out) s e, call .refused-kept r e .0, call .refused-kept r e .1)),
+      (call .scan-is ∙ answered-refused (scanEnded s held out) s e, call .left .refused-kept r e .0, call .left .refused-kept r e .1)),
 )
 
 pub sound-left : SoundLeft

@@ -2,8 +2,7 @@ use mathlib.Core.Path.{sym, _∙_, ap}
 use Rattle.refusals.specs.declared.Outcome.{Outcome}
 use Rattle.refusals.specs.Answers.{done, _then_}
 use Rattle.refusals.specs.Told.{told}
-use Rattle.rolling.specs.Calls.{LineCall}
-use Rattle.engine.specs.ScanLaws.{line-gives-few, line-renews, on-none, on-some}
+use Rattle.engine.specs.ScanLaws.{line-gives-few, line-none, line-some}
 use borrow.Author.Needs.{needs}
 use Rattle.engine.proofs.suz_scan_line.Statement.{statement}
 use Rattle.engine.proofs.suz_scan_line.Tie as tie
@@ -19,7 +18,7 @@ returns c =
     let t = c .before .before in
     let v = t .before .before in
     let a = v .before .before .before .before .args in
-    on-none (λ s. LineCall s (a .pixels .now) (a .width) (a .held .now) (a .out .now)) (a .state .now) (a .held .now) (a .out .now) (a .given .now) _ _
+    line-none (a .state .now) (a .pixels .now) (a .width) (a .held .now) (a .out .now) (a .given .now) _
     (sym (v .read .ensures .0) ∙ ap (λ (o : Outcome). told o then done (v .read .result .scan)) (t .outcome .given .1)) (c .refusal-code .ensures)
 
 returns-2 : tie.Need-returns-2
@@ -29,9 +28,9 @@ returns-2 c =
     let t = l .before .before .before .before in
     let v = t .before .before in
     let a = v .before .before .before .before .args in
-    on-some (λ s. LineCall s (a .pixels .now) (a .width) (a .held .now) (a .out .now)) (a .state .now) (a .held .now) (a .out .now) (a .given .now) _ (v .read .result .scan)
+    line-some (a .state .now) (a .pixels .now) (a .width) (a .held .now) (a .out .now) (a .given .now)
     (sym (v .read .ensures .0) ∙ ap (λ (o : Outcome). told o then done (v .read .result .scan)) (t .enum-told .given .1))
-    _ _ (l .line .ensures) (line-renews (v .read .result .scan) (a .pixels .now) (a .width) (a .held .now) (a .out .now) (l .line .ensures)) (w .scan-went .ensures .0) (w .scan-went .ensures .1 .0) (w .scan-went .ensures .1 .1)
+    (l .line .ensures) (w .scan-went .ensures .0) (w .scan-went .ensures .1 .0) (w .scan-went .ensures .1 .1)
 
 pub suz-scan-line-spec : {M : Type 1} → statement M
 suz-scan-line-spec =

@@ -24,7 +24,7 @@ use Rattle.pictures.specs.PictureLaws.{Room, roomAnswer, sized-then, sized-righ
 use Rattle.precision.specs.Verdict.{verdict, Accepted}
 use Rattle.irreversible.specs.Transforms.{fixedAfter, fixedPlane}
 use Rattle.irreversible.specs.Claims.{Picture, bitsPlane, Near, LevelInWidth}
-use Rattle.irreversible.specs.Calls.{fixedAnswer, fixedPlaneAfter}
+use Rattle.irreversible.specs.Calls.{fixedAnswerOf, fixedAnswer, fixedPlaneAfter}
 use Rattle.irreversible.specs.CallLaws.{room, call-near, call-widths}
 use Rattle.irreversible.specs.Demand3.{two-steps, widths}
 use Rattle.view_precision.specs.Bounds.{viewVerdict, pixelBound, viewDistance}
@@ -73,7 +73,7 @@ module _ (bytes : List ℕ) (zero : code (checkAnswer bytes) ≡ 0) (pixels : Li
 
   -- and suz_forward97 answers 0 for it, where its slices are long enough
   pub check-works : (plane work : List ℤ) → w * h ≤ length pixels → w * h ≤ length plane → w * h ≤ length work → code (answer97 bytes w h pixels plane work) ≡ 0
-  unfolding answer97 fixedAnswer checkAnswer
+  unfolding answer97 fixedAnswerOf checkAnswer
   check-works plane work a b c =
       let t = tableIn bytes in
       let formed = then-done (form bytes) (verdict t) (checked-zero bytes zero) .0 in

@@ -28,11 +28,11 @@ use Rattle.width_table.specs.WithoutProducts.{then-answered, reads-as-before, n
 use Rattle.pictures.specs.Pictures.{sideAnswer, lengthAnswer, pixelAnswer, planeOf, zeroed}
 use Rattle.stages.specs.Rule.{Bound}
 use Rattle.precision.specs.Uncut.{oldBoundOf, oldVerdict, oldBoundAnswer, old-bounds, old-verdict, old-bound-told}
-use Rattle.irreversible.specs.Calls.{fixedAnswer, fixedPlaneAfter, fixedWork}
+use Rattle.irreversible.specs.Calls.{fixedAnswerOf, fixedAnswer, fixedPlaneAfter, fixedWork}
 use Rattle.irreversible.specs.Uncut.{uncutPlane, old-coefficients}
 use Rattle.view_precision.specs.Bounds.{viewDistance, viewable, viewVerdict}
 use Rattle.viewing.specs.View.{viewPicture}
-use Rattle.viewing.specs.Calls.{coefficientsRight, viewAnswer, viewPixels, viewWork}
+use Rattle.viewing.specs.Calls.{coefficientsRight, viewAnswerOf, viewAnswer, viewPixels, viewWork}
 use Rattle.rolling.specs.declared.Taken.the-variants.{Zero}
 use Rattle.rolling.specs.declared.Scan.{Scan}
 use Rattle.rolling.specs.Calls.{beginAnswer, scanOf}
@@ -127,7 +127,7 @@ module _ (bytes : List ℕ) (none : hasFifth bytes ≡ false) where
     strip = sideAnswer w h then lengthAnswer (w * h) (length pixels) then lengthAnswer (w * h) (length plane) then lengthAnswer (w * h) (length work) then pixelAnswer (t .depth) w h pixels
 
     pub old-answer : answer97 bytes w h pixels plane work ≡ formWithout bytes then oldVerdict t then strip
-    unfolding answer97 fixedAnswer
+    unfolding answer97 fixedAnswerOf
     old-answer = ap₂ (λ (a b : Answer Unit). a then b then strip) (reads-as-before bytes none) (old-verdict t without)
 
     -- what stands where the call is done, and where not
@@ -168,7 +168,7 @@ module _ (bytes : List ℕ) (none : hasFifth bytes ≡ false) where
     shown = sideAnswer w h then lengthAnswer (w * h) (length pixels) then lengthAnswer (w * h) (length plane) then lengthAnswer (w * h) (length work) then coefficientsRight t w h plane
 
     pub old-view : viewAnswer97 bytes w h plane pixels work ≡ formWithout bytes then oldViewVerdict then shown
-    unfolding viewAnswer97 viewAnswer
+    unfolding viewAnswer97 viewAnswerOf
     old-view = ap₂ (λ (a b : Answer Unit). a then b then shown) (reads-as-before bytes none) old-view-verdict
 
     old-view-after : {B : Type 0} (x y : B) → answered (form bytes) (answered (viewAnswer t w h plane pixels work) x y) y ≡ answered (formWithout bytes then oldViewVerdict then shown) x y

@@ -22,14 +22,14 @@ use Rattle.precision.specs.Bounds.{boundOf}
 use Rattle.precision.specs.Verdict.{fits, belowTwoSteps, keptAt, placeNumbers, judgedBy, judged, firstRefusal, verdict}
 use Rattle.reversible.specs.Reversible.{Order}
 use Rattle.reversible.specs.Calls.{limitAnswer, forwardAnswer, hasPicture, backAllowed, backAnswer}
-use Rattle.irreversible.specs.Calls.{fixedAnswer}
+use Rattle.irreversible.specs.Calls.{fixedAnswerOf, fixedAnswer}
 use Rattle.lines.specs.Planes.{rowByRow}
 use Rattle.pictures.specs.Pictures.{planeOf}
 use Rattle.view_precision.specs.Bounds.{viewable, viewVerdict}
-use Rattle.viewing.specs.Calls.{inWidth, coefficientsRight, viewAnswer}
+use Rattle.viewing.specs.Calls.{inWidth, coefficientsRight, viewAnswerOf, viewAnswer}
 use Rattle.rolling.specs.declared.Scan.{Scan}
 use Rattle.rolling.specs.Schedule.{anyTaken}
-use Rattle.rolling.specs.Calls.{beginAnswer, goesOn, heldLines, outLines, lineAnswer, endAnswer}
+use Rattle.rolling.specs.Calls.{beginAnswer, goesOn, heldLines, outLines, lineAnswerOf, lineAnswer, endAnswerOf, endAnswer}
 use Rattle.scan_bytes.specs.ScanBytes.{scanLength, scanHeld, scanRight, scanIn}
 use Rattle.engine.specs.Answers.{checkAnswer, answer97, viewCheckAnswer, viewAnswer97}
 use Rattle.engine.specs.ScanAnswers.{begins, scanBeginAnswer, scanLineAnswer, scanEndAnswer}
@@ -83,7 +83,7 @@ unfolding lengthAnswer
 holds-from-one n k = last-from-one (leb n k) 9 (omega arith)
 
 fixed-from-one : (t : WidthTable) (w h : ℕ) (pixels : List ℕ) (plane work : List ℤ) → FromOne (fixedAnswer t w h pixels plane work)
-unfolding fixedAnswer pixelAnswer
+unfolding fixedAnswerOf pixelAnswer
 fixed-from-one t w h pixels plane work =
     then-from-one (verdict t) _ (verdict-from-one t)
     (then-from-one (sideAnswer w h) _ (sided-from-one w h)
@@ -109,7 +109,7 @@ unfolding viewCheckAnswer
 view-checked-zero bytes = code-zero (viewCheckAnswer bytes) (then-from-one (form bytes) (viewVerdict (tableIn bytes)) (form-from-one bytes) (view-verdict-from-one (tableIn bytes)))
 
 view-from-one : (t : WidthTable) (w h : ℕ) (plane : List ℤ) (pixels : List ℕ) (work : List ℤ) → FromOne (viewAnswer t w h plane pixels work)
-unfolding viewAnswer coefficientsRight
+unfolding viewAnswerOf coefficientsRight
 view-from-one t w h plane pixels work =
     then-from-one (viewVerdict t) _ (view-verdict-from-one t)
     (then-from-one (sideAnswer w h) _ (sided-from-one w h)
@@ -193,7 +193,7 @@ scan-begin-zero bytes state =
     (last-from-one (leb scanLength (length state)) 9 (omega arith)))
 
 line-from-one : (s : Scan) (pixels : List ℕ) (w : ℕ) (held out : List ℤ) → FromOne (lineAnswer s pixels w held out)
-unfolding lineAnswer pixelAnswer
+unfolding lineAnswerOf pixelAnswer
 line-from-one s pixels w held out =
     asks-from-one (goesOn s && (not (anyTaken (s .taken)) || eqb w (s .width))) (14, []) _ (omega arith)
     (asks-from-one (sideRight w) (8, []) _ (omega arith)
@@ -203,7 +203,7 @@ line-from-one s pixels w held out =
     (last-from-one (every (λ p. ltb p (2 ^ s .table .depth)) (take (w * 1) pixels)) 10 (omega arith))))))
 
 end-from-one : (s : Scan) (held out : List ℤ) → FromOne (endAnswer s held out)
-unfolding endAnswer
+unfolding endAnswerOf
 end-from-one s held out =
     asks-from-one (goesOn s && anyTaken (s .taken)) (14, []) _ (omega arith)
     (then-from-one (lengthAnswer (heldLines * s .width) (length held)) _ (holds-from-one _ _) (holds-from-one _ _))

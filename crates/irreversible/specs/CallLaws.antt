@@ -19,17 +19,17 @@ use Rattle.precision.specs.Verdict.{verdict, Accepted}
 use Rattle.irreversible.specs.Transforms.{fixedAfter, fixedPlane}
 use Rattle.irreversible.specs.Claims.{Picture, bitsPlane, Near, LevelInWidth}
 use Rattle.irreversible.specs.Demand3.{two-steps, widths}
-use Rattle.irreversible.specs.Calls.{fixedAnswer, fixedPlaneAfter}
+use Rattle.irreversible.specs.Calls.{fixedAnswerOf, fixedAnswer, fixedPlaneAfter}
 
 module _ (t : WidthTable) (w h : ℕ) (pixels : List ℕ) (plane work : List ℤ) (e : fixedAnswer t w h pixels plane work ≡ passed) where
   -- the table is accepted
   pub accepted : Accepted t
-  unfolding fixedAnswer
+  unfolding fixedAnswerOf
   accepted = then-done (verdict t) _ e .0
 
   -- the slices have room, and the pixels are right
   judged : (roomAnswer w h (length pixels) (length plane) (length work) ≡ passed) × (pixelAnswer (t .depth) w h pixels ≡ passed)
-  unfolding fixedAnswer
+  unfolding fixedAnswerOf
   judged = then-done (roomAnswer w h (length pixels) (length plane) (length work)) _ (sym (sized-then w h (length pixels) (length plane) (length work) _) ∙ then-done (verdict t) _ e .1)
 
   pub room : Room w h (length pixels) (length plane) (length work)

@@ -11,7 +11,7 @@ use Rattle.numbers.specs.Lists.{over}
 use Rattle.lines.specs.Lines.{lows, highs}
 use Rattle.lines.specs.Planes.{side, rowByRow}
 use Rattle.lines.specs.PlaneLaws.{side-le}
-use Rattle.refusals.specs.Answers.{Reason, Answer, refused, passed, _then_}
+use Rattle.refusals.specs.Answers.{Reason, refused, passed, _then_}
 use Rattle.refusals.specs.AnswerLaws.{answered-done, answered-refused}
 use Rattle.width_table.specs.declared.WidthTable.{WidthTable}
 use Rattle.width_table.specs.Limits.{form-levels}
@@ -19,10 +19,10 @@ use Rattle.width_table.specs.Nodes.{Pass, Rows, LowColumns, HighColumns}
 use Rattle.lifting.specs.Patch.{at}
 use Rattle.lifting.specs.Runs.{as-type}
 use Rattle.lifting.specs.Kernels.{Part, rowOf, columnOf, columnsBy}
-use Rattle.pictures.specs.Pictures.{sideAnswer, lengthAnswer, pixelAnswer, zeroed}
+use Rattle.pictures.specs.Pictures.{zeroed}
 use Rattle.lifting.specs.Strips.{pixelLine}
 use Rattle.pictures.specs.MemoryLaws.{loaded}
-use Rattle.precision.specs.Verdict.{verdict, Accepted}
+use Rattle.precision.specs.Verdict.{Accepted}
 use Rattle.precision.specs.Promise.{promise}
 use Rattle.irreversible.specs.Transforms.{fixedLine, fixedPlane}
 use Rattle.irreversible.specs.Claims.{Picture}
@@ -151,16 +151,7 @@ first-ready {t} {pixels} {plane} {buffer} {w} {h} ready =
       safe = level-safe-next t pixels plane buffer plane buffer w h ready refl refl 0 one (at plane) x none;
     }
 
--- the answer, by the lengths of plane and work area
-unfoldable pub answerOf : WidthTable → ℕ → ℕ → List ℕ → ℕ → ℕ → Answer Unit
-answerOf t w h pixels b c = verdict t then sideAnswer w h then lengthAnswer (w * h) (length pixels) then lengthAnswer (w * h) b then lengthAnswer (w * h) c then pixelAnswer (t .depth) w h pixels
-
 module _ (t : WidthTable) (w h : ℕ) (pixels : List ℕ) (plane work : List ℤ) where
-  -- the call's answer is that
-  pub answer-is : fixedAnswer t w h pixels plane work ≡ answerOf t w h pixels (length plane) (length work)
-  unfolding fixedAnswer answerOf
-  answer-is = refl
-
   -- a call that is refused leaves all as it was
   module _ {r : Reason} (e : fixedAnswer t w h pixels plane work ≡ refused r) where
     pub plane-kept : plane ≡ fixedPlaneAfter t w h pixels plane work

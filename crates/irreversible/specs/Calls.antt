@@ -11,16 +11,19 @@ use Rattle.pictures.specs.Pictures.{sideAnswer, lengthAnswer, pixelAnswer, zero
 use Rattle.precision.specs.Verdict.{verdict}
 use Rattle.irreversible.specs.Transforms.{fixedPlane}
 
+-- by the lengths of plane and work area: 4, 6 and 7 as one step, 8, 9, 10
+unfoldable pub fixedAnswerOf : WidthTable → ℕ → ℕ → List ℕ → ℕ → ℕ → Answer Unit
+fixedAnswerOf t w h pixels plane work =
+    verdict t
+    then sideAnswer w h
+    then lengthAnswer (w * h) (length pixels)
+    then lengthAnswer (w * h) plane
+    then lengthAnswer (w * h) work
+    then pixelAnswer (t .depth) w h pixels
+
 module _ (t : WidthTable) (w h : ℕ) (pixels : List ℕ) (plane work : List ℤ) where
-  -- 4, 6 and 7 as one step, 8, 9, 10
-  unfoldable pub fixedAnswer : Answer Unit
-  fixedAnswer =
-      verdict t
-      then sideAnswer w h
-      then lengthAnswer (w * h) (length pixels)
-      then lengthAnswer (w * h) (length plane)
-      then lengthAnswer (w * h) (length work)
-      then pixelAnswer (t .depth) w h pixels
+  abbrev pub fixedAnswer : Answer Unit
+  fixedAnswer = fixedAnswerOf t w h pixels (length plane) (length work)
 
   unfoldable pub fixedPlaneAfter : List ℤ
   fixedPlaneAfter = answered fixedAnswer (over (rowByRow w h (fixedPlane t pixels w h)) plane) plane

@@ -15,7 +15,7 @@ ghost use Rattle.stages.specs.Stages.{cutTo};
 ghost use Rattle.stages.specs.Fixed.{nearest};
 ghost use Rattle.irreversible.specs.Constants.{constantOf};
 ghost use Rattle.irreversible.specs.Transforms.{fixedLine, fixedPlane};
-ghost use Rattle.irreversible.specs.Calls.{fixedAnswer, fixedPlaneAfter, fixedWork};
+ghost use Rattle.irreversible.specs.Calls.{fixedAnswerOf, fixedAnswer, fixedPlaneAfter, fixedWork};
 ghost use Rattle.width_table.specs.Numbered.{nodeOf, passOf, IsNode, IsPass};
 ghost use Rattle.irreversible.specs.StepLaws.{stepTop, onceOf, cutOf, cutTogether, stepOf, factorOf, singleOf};
 ghost use Rattle.irreversible.specs.KernelLaws.{stageOf, scalingOf, kernelOf, singleFor};
@@ -23,7 +23,7 @@ ghost use Rattle.irreversible.specs.StagesLaws.{AsStages};
 ghost use Rattle.irreversible.specs.SafeLaws.{ConstantBits};
 ghost use Rattle.irreversible.specs.LevelLaws.{rowed, columned, levelWorked};
 ghost use Rattle.irreversible.specs.LevelBits.{IsLevel, cutBits};
-ghost use Rattle.irreversible.specs.CallSteps.{RowsReady, ColumnsReady, BothReady, LevelReady, Ready, answerOf};
+ghost use Rattle.irreversible.specs.CallSteps.{RowsReady, ColumnsReady, BothReady, LevelReady, Ready};
 ghost use Rattle.lifting.specs.Kernels.{SameKernel, columnsBy};
 ghost use Rattle.pictures.specs.MemoryLaws.{loaded};
 use lifting::Factor;
@@ -459,7 +459,7 @@ fn answer(
     second: usize,
     third: usize,
 ) -> Outcome
-    ensures { λ r. ⌜ told r ≡ answerOf table w h (now (pixels .entry)) second third ⌝ }
+    ensures { λ r. ⌜ told r ≡ fixedAnswerOf table w h (now (pixels .entry)) second third ⌝ }
 {
     match precision::judge(table) {
         Outcome::Refused(why) => Outcome::Refused(why),

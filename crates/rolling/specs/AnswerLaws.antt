@@ -20,10 +20,10 @@ use Rattle.rolling.specs.declared.Taken.{Taken}
 use Rattle.rolling.specs.declared.Taken.the-variants.{Zero}
 use Rattle.rolling.specs.declared.Scan.{Scan}
 use Rattle.rolling.specs.Schedule.{next, anyTaken, lineGives, endGives}
-use Rattle.rolling.specs.Calls.{beginAnswer, scanOf, lineWidthRight, goesOn, heldLines, outLines, heldIn, lineAnswer, workedRow, givenByLine, scanAfter, LineLeft, LineCall, endAnswer, givenByEnd, scanEnded, EndLeft, EndCall}
+use Rattle.rolling.specs.Calls.{beginAnswer, scanOf, lineWidthRight, goesOn, heldLines, outLines, heldIn, lineAnswerOf, lineAnswer, workedRow, givenByLine, scanAfter, LineLeft, LineCall, endAnswerOf, endAnswer, givenByEnd, scanEnded, EndLeft, EndCall}
 use Rattle.rolling.specs.Memory.{Lent}
 use Rattle.rolling.specs.Rows.{LineRight, rowOf}
-use Rattle.rolling.specs.Worked.{lineAnswerOf, endAnswerOf, LineWorked, EndWorked}
+use Rattle.rolling.specs.Worked.{LineWorked, EndWorked}
 
 -- ---- tests
 
@@ -243,13 +243,9 @@ module _ (s : Scan) (held out : ℕ) where
 -- ---- what an accepted line is
 
 module _ (s : Scan) (pixels : List ℕ) (w : ℕ) (held out : List ℤ) where
-  pub line-is : lineAnswer s pixels w held out ≡ lineAnswerOf s pixels w (length held) (length out)
-  unfolding lineAnswer lineAnswerOf
-  line-is = refl
-
   module _ (e : lineAnswer s pixels w held out ≡ passed) where
     pub line-right : LineRight (s .table) pixels w × Lent held w × (outLines * w ≤ length out)
-    unfolding lineAnswer
+    unfolding lineAnswerOf
     line-right =
         let turn = not (anyTaken (s .taken)) || eqb w (s .width) in
         let a = asks-done (goesOn s && turn) _ _ e in
@@ -300,13 +296,9 @@ module _ (s : Scan) (pixels : List ℕ) (w : ℕ) (held out : List ℤ) where
 -- ---- what an accepted end is
 
 module _ (s : Scan) (held out : List ℤ) where
-  pub end-is : endAnswer s held out ≡ endAnswerOf s (length held) (length out)
-  unfolding endAnswer endAnswerOf
-  end-is = refl
-
   module _ (e : endAnswer s held out ≡ passed) where
     pub end-right : IsLevel (s .table) 1 × Admitted (s .width) × Lent held (s .width) × (outLines * s .width ≤ length out)
-    unfolding endAnswer
+    unfolding endAnswerOf
     end-right =
         let a = asks-done (goesOn s && anyTaken (s .taken)) _ _ e in
         let p = then-done (lengthAnswer (heldLines * s .width) (length held)) _ (a .1) in

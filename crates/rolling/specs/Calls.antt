@@ -88,14 +88,18 @@ outAfter w lines out = over (rowByRow w (length lines) (stacked lines)) out
 
 -- ---- a line
 
+-- The answer reads of held lines and output only their lengths: 14 after the end, or for another width than the first accepted line's; 8;
+-- 9; 10.
+unfoldable pub lineAnswerOf : Scan → List ℕ → ℕ → ℕ → ℕ → Answer Unit
+lineAnswerOf s pixels w held out =
+    asks (goesOn s && (not (anyTaken (s .taken)) || eqb w (s .width))) 14
+    (asks (sideRight w) 8
+    (lengthAnswer w (length pixels) then lengthAnswer (heldLines * w) held then lengthAnswer (outLines * w) out then
+    pixelAnswer (s .table .depth) w 1 pixels))
+
 module _ (s : Scan) (pixels : List ℕ) (w : ℕ) (held out : List ℤ) where
-  -- 14 after the end, or for another width than the first accepted line's; 8; 9; 10
-  unfoldable pub lineAnswer : Answer Unit
-  lineAnswer =
-      asks (goesOn s && (not (anyTaken (s .taken)) || eqb w (s .width))) 14
-      (asks (sideRight w) 8
-      (lengthAnswer w (length pixels) then lengthAnswer (heldLines * w) (length held) then lengthAnswer (outLines * w) (length out) then
-      pixelAnswer (s .table .depth) w 1 pixels))
+  abbrev pub lineAnswer : Answer Unit
+  lineAnswer = lineAnswerOf s pixels w (length held) (length out)
 
   -- the line worked along its row
   unfoldable pub workedRow : Line
@@ -126,12 +130,15 @@ module _ (s : Scan) (pixels : List ℕ) (w : ℕ) (held out : List ℤ) where
 
 -- ---- the end
 
+-- by the lengths of held lines and output: 14 after the end, or before the first line; 9
+unfoldable pub endAnswerOf : Scan → ℕ → ℕ → Answer Unit
+endAnswerOf s held out =
+    asks (goesOn s && anyTaken (s .taken)) 14
+    (lengthAnswer (heldLines * s .width) held then lengthAnswer (outLines * s .width) out)
+
 module _ (s : Scan) (held out : List ℤ) where
-  -- 14 after the end, or before the first line; 9
-  unfoldable pub endAnswer : Answer Unit
-  endAnswer =
-      asks (goesOn s && anyTaken (s .taken)) 14
-      (lengthAnswer (heldLines * s .width) (length held) then lengthAnswer (outLines * s .width) (length out))
+  abbrev pub endAnswer : Answer Unit
+  endAnswer = endAnswerOf s (length held) (length out)
 
   -- the lines that it gives
   unfoldable pub givenByEnd : List Line

@@ -1,38 +1,18 @@
 -- For the code: what is left of held lines and output by a line that is accepted, and by an end.
 use Prim.Native.Nat.{ℕ, _*_}
-use mathlib.Core.Bool.{not, _&&_, _||_}
 use mathlib.Core.List.{List}
 use mathlib.Core.Path.{_≡_}
-use lib.Dec.{T, eqb}
+use lib.Dec.{T}
 use lib.ListN.{length}
 use lib.IntN.{ℤ}
-use Rattle.refusals.specs.Answers.{Answer, asks, _then_}
 use Rattle.width_table.specs.declared.WidthTable.{WidthTable}
 use Rattle.lifting.specs.Patch.{at}
-use Rattle.pictures.specs.Pictures.{sideRight, lengthAnswer, pixelAnswer}
 use Rattle.rolling.specs.declared.Taken.{Taken}
 use Rattle.rolling.specs.declared.Taken.the-variants.{Four, EvenMany}
-use Rattle.rolling.specs.declared.Scan.{Scan}
-use Rattle.rolling.specs.Schedule.{Line, anyTaken, evenTaken, heldAfter, lineGives, endGives}
-use Rattle.rolling.specs.Calls.{heldLines, outLines, heldIn, Sound, SameHeld, KeptFrom, outAfter, goesOn}
+use Rattle.rolling.specs.Schedule.{Line, evenTaken, heldAfter, lineGives, endGives}
+use Rattle.rolling.specs.Calls.{heldLines, heldIn, Sound, SameHeld, KeptFrom, outAfter}
 use Rattle.rolling.specs.Memory.{lineIn, setLine}
 use Rattle.rolling.specs.Program.{HeldFits, Enters}
-
--- ---- the answers, by lengths
-
-unfoldable pub lineAnswerOf : Scan → List ℕ → ℕ → ℕ → ℕ → Answer Unit
-lineAnswerOf s pixels w held out =
-    asks (goesOn s && (not (anyTaken (s .taken)) || eqb w (s .width))) 14
-    (asks (sideRight w) 8
-    (lengthAnswer w (length pixels) then lengthAnswer (heldLines * w) held then lengthAnswer (outLines * w) out then
-    pixelAnswer (s .table .depth) w 1 pixels))
-
-unfoldable pub endAnswerOf : Scan → ℕ → ℕ → Answer Unit
-endAnswerOf s held out =
-    asks (goesOn s && anyTaken (s .taken)) 14
-    (lengthAnswer (heldLines * s .width) held then lengthAnswer (outLines * s .width) out)
-
--- ---- the work
 
 -- a low line after four lines or more: lines taken, and the line in which the P2 before stands (after four lines it is the new one)
 pub data Later : Taken → ℕ → Type 0 where

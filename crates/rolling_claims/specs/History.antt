@@ -25,7 +25,7 @@ use Rattle.rolling.specs.declared.Taken.{Taken}
 use Rattle.rolling.specs.declared.Taken.the-variants.{Zero, One, Two, Three, Four, OddMany, EvenMany}
 use Rattle.rolling.specs.declared.Scan.{Scan}
 use Rattle.rolling.specs.Schedule.{Line, Held, next, anyTaken, evenTaken, stacked, heldAfter, lineGives, endGives}
-use Rattle.rolling.specs.Calls.{SameHeld, Sound, beginAnswer, scanOf, goesOn, heldLines, outLines, heldIn, outAfter, lineAnswer, workedRow, givenByLine, scanAfter, LineCall, endAnswer, givenByEnd, scanEnded, EndCall}
+use Rattle.rolling.specs.Calls.{SameHeld, Sound, beginAnswer, scanOf, goesOn, heldLines, outLines, heldIn, outAfter, lineAnswerOf, lineAnswer, workedRow, givenByLine, scanAfter, LineCall, endAnswerOf, endAnswer, givenByEnd, scanEnded, EndCall}
 use Rattle.rolling.specs.AnswerLaws.{of-unless, as-test, begun-one, begun-accepted, width-is, goes, on-running}
 use Rattle.rolling.specs.FiveBits.{row-five, column-five}
 use Rattle.rolling_claims.specs.Claims.{HandedOn, Calls, begun, line, line-refused, end, end-refused, ready, inTurn, firstLines}
@@ -153,7 +153,7 @@ module _ (s : Scan) (pixels : List ℕ) (w : ℕ) (held out : List ℤ) where
   in-turn = not (anyTaken (s .taken)) || eqb w (s .width)
 
   pub line-right : lineAnswer s pixels w held out ≡ passed → LineRight s pixels w held out
-  unfolding lineAnswer
+  unfolding lineAnswerOf
   line-right e =
       let a = asks-done (goesOn s && in-turn) _ _ e in
       let b = asks-done (sideRight w) _ _ (a .1) in
@@ -173,7 +173,7 @@ module _ (s : Scan) (pixels : List ℕ) (w : ℕ) (held out : List ℤ) where
       }
 
   pub right-line : LineRight s pixels w held out → lineAnswer s pixels w held out ≡ passed
-  unfolding lineAnswer
+  unfolding lineAnswerOf
   right-line right =
       asks-right (goesOn s && in-turn) _ _ (and-intro (goesOn s) in-turn (right .goes) (unless (anyTaken (s .taken)) (eqb w (s .width)) (λ i. subst (λ (k : ℕ). T (eqb w k)) (right .width i) (eqb-refl w))))
       ∙ asks-right (sideRight w) _ _ (side-right w (right .side))
@@ -190,7 +190,7 @@ pub record EndRight (s : Scan) (held out : List ℤ) : Type 0 where
 
 module _ (s : Scan) (held out : List ℤ) where
   pub end-right : endAnswer s held out ≡ passed → EndRight s held out
-  unfolding endAnswer
+  unfolding endAnswerOf
   end-right e =
       let a = asks-done (goesOn s && anyTaken (s .taken)) _ _ e in
       let p = then-done (lengthAnswer (heldLines * s .width) (length held)) _ (a .1) in
@@ -203,7 +203,7 @@ module _ (s : Scan) (held out : List ℤ) where
       }
 
   pub right-end : EndRight s held out → endAnswer s held out ≡ passed
-  unfolding endAnswer
+  unfolding endAnswerOf
   right-end right =
       asks-right (goesOn s && anyTaken (s .taken)) _ _ (and-intro (goesOn s) (anyTaken (s .taken)) (right .goes) (right .some))
       ∙ then-right (lengthAnswer (heldLines * s .width) (length held)) _ (holds-right _ _ (right .held-room))

@@ -26,7 +26,7 @@ use Rattle.rolling.specs.declared.Taken.the-variants.{Zero, One, Two, Three, Fo
 use Rattle.rolling.specs.declared.Scan.{Scan}
 use Rattle.rolling.specs.Schedule.{Line, Held, next, anyTaken, stacked, heldAfter, lineGives, endGives}
 use Rattle.rolling.specs.Calls.{beginAnswer, scanOf, goesOn, heldLines, outLines, heldIn, outAfter, SameHeld, KeptFrom, lineAnswer, workedRow, givenByLine, scanAfter, LineCall, endAnswer, givenByEnd, scanEnded, EndCall}
-use Rattle.rolling.specs.AnswerLaws.{on-begun, on-running, on-side, on-unset, line-ended, end-ended, line-is, end-is}
+use Rattle.rolling.specs.AnswerLaws.{on-begun, on-running, on-side, on-unset, line-ended, end-ended}
 use Rattle.rolling_claims.specs.Claims.{Calls, begun, line, end, LeftByCalls, ForeignRefused}
 use Rattle.rolling_claims.specs.History.{facts, table-kept, count-some, some-count, none-count, goes-on, line-right, right-line, end-right, right-end}
 
@@ -366,8 +366,8 @@ module _ (s : Scan) (on : T (goesOn s)) where
 
 pub foreign-refused : ForeignRefused
 foreign-refused s foreign = (
-  (λ pixels w held out. line-is s pixels w held out ∙ line-ended s pixels w (length held) (length out) stops),
-  (λ held out. end-is s held out ∙ end-ended s (length held) (length out) stops),
+  (λ pixels w held out. line-ended s pixels w (length held) (length out) stops),
+  (λ held out. end-ended s (length held) (length out) stops),
 )
   where
     go : (b : Bool) → (T b → ⊥) → b ≡ false

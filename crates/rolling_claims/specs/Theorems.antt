@@ -22,7 +22,7 @@ use Rattle.irreversible.specs.Claims.{LevelInWidth}
 use Rattle.irreversible.specs.Demand3.{widths-strip}
 use Rattle.rolling.specs.declared.Scan.{Scan}
 use Rattle.rolling.specs.Schedule.{anyTaken}
-use Rattle.rolling.specs.Calls.{Sound, goesOn, heldLines, outLines, heldIn, lineAnswer, workedRow, givenByLine, scanAfter, endAnswer, givenByEnd, scanEnded}
+use Rattle.rolling.specs.Calls.{Sound, goesOn, heldLines, outLines, heldIn, lineAnswerOf, lineAnswer, workedRow, givenByLine, scanAfter, endAnswerOf, endAnswer, givenByEnd, scanEnded}
 use Rattle.rolling_claims.specs.Claims.{readyP1, readyU1, readyP2, readyU2, lineReady, ready, ReadyLines, inTurn, firstLines, BeforeEnd, AfterEnd, Counts, OneWidth, BeginFourteen, Fourteen, RefusedKeeps, SoundLeft, InWidths, LinesNear, NearBeforeEnd, NearAfterEnd}
 use Rattle.rolling.specs.AnswerLaws.{other-levels, one-level, begun-one, begun-accepted, on-running}
 use Rattle.rolling_claims.specs.LineOrder.{no-rows}
@@ -132,7 +132,7 @@ goes-is s held n strip given f = go (goesOn s) (s .ended) (goes-on s held n stri
     go false false p q = absurd (p refl)
 
 pub fourteen : Fourteen
-unfolding lineAnswer endAnswer
+unfolding lineAnswerOf endAnswerOf
 fourteen t s held n strip given calls = (on-line, on-end)
   where
     f : Facts s held n strip given

@@ -21,7 +21,7 @@ use Rattle.pictures.specs.PictureLaws.{Room, roomAnswer, sized-then, sized-done
 use Rattle.view_precision.specs.Bounds.{viewVerdict, pixelBound}
 use Rattle.irreversible.specs.Claims.{InNodeWidth}
 use Rattle.viewing.specs.View.{viewPlane, viewPicture, exactView}
-use Rattle.viewing.specs.Calls.{fitsWidth, inWidth, coefficientsRight, viewAnswer, viewPixels}
+use Rattle.viewing.specs.Calls.{fitsWidth, inWidth, coefficientsRight, viewAnswerOf, viewAnswer, viewPixels}
 use Rattle.viewing.specs.Claims.{Viewable, Stored, Close, EachSmall, exactGreys, clamped, LessThanOne}
 use Rattle.viewing.specs.Viewing.{within-bound, sizes}
 use Rattle.viewing.specs.Shown.{one-grey}
@@ -63,11 +63,11 @@ module _ (t : WidthTable) (w h : ℕ) (plane : List ℤ) (pixels : List ℕ) (wo
 
   module _ (e : viewAnswer t w h plane pixels work ≡ passed) where
     pub call-viewable : Viewable t
-    unfolding viewAnswer
+    unfolding viewAnswerOf
     call-viewable = then-done (viewVerdict t) _ e .0
 
     judged : (roomAnswer w h (length pixels) (length plane) (length work) ≡ passed) × (coefficientsRight t w h plane ≡ passed)
-    unfolding viewAnswer
+    unfolding viewAnswerOf
     judged = then-done (roomAnswer w h (length pixels) (length plane) (length work)) _ (sym (sized-then w h (length pixels) (length plane) (length work) _) ∙ then-done (viewVerdict t) _ e .1)
 
     pub call-room : room
@@ -102,7 +102,7 @@ module _ (t : WidthTable) (w h : ℕ) (plane : List ℤ) (pixels : List ℕ) (wo
 
   -- nothing else is turned away
   pub call-done : Viewable t → room → Stored t w h (planeOf w plane) → viewAnswer t w h plane pixels work ≡ passed
-  unfolding viewAnswer
+  unfolding viewAnswerOf
   call-done v r s =
       then-right (viewVerdict t) _ v
       ∙ sized-then w h (length pixels) (length plane) (length work) (coefficientsRight t w h plane)

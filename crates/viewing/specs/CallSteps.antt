@@ -10,7 +10,7 @@ use borrow.Author.Tests.{eq-eqb, ne-eqb}
 use lib.IntN.{ℤ}
 use lib.ListN.{length, getD}
 use Rattle.numbers.specs.Lists.{over}
-use Rattle.refusals.specs.Answers.{Reason, Answer, refused, passed, _then_}
+use Rattle.refusals.specs.Answers.{Reason, refused, passed}
 use Rattle.refusals.specs.AnswerLaws.{answered-done, answered-refused}
 use Rattle.lines.specs.Planes.{Plane, columns, inverseLevels, side, rowByRow}
 use Rattle.lines.specs.PlaneLaws.{side-le, columns-first-in, columns-first-keeps}
@@ -22,14 +22,14 @@ use Rattle.lifting.specs.Patch.{at}
 use Rattle.lifting.specs.Runs.{as-type}
 use Rattle.lifting.specs.PatchLines.{lineAt}
 use Rattle.lifting.specs.Kernels.{Part, rowOf}
-use Rattle.pictures.specs.Pictures.{maxSide, sideAnswer, lengthAnswer, planeOf, zeroed}
+use Rattle.pictures.specs.Pictures.{maxSide, planeOf, zeroed}
 use Rattle.pictures.specs.PictureLaws.{roomAnswer, sized-done}
 use Rattle.irreversible.specs.LevelBits.{IsLevel}
 use Rattle.inverse_lifting.specs.Fixed.{nodeBits, fixedInverse}
 use Rattle.inverse_lifting.specs.Planes.{Safe}
 use Rattle.view_precision.specs.Bounds.{viewVerdict}
 use Rattle.viewing.specs.View.{enteringBits, viewLine, viewLevel, viewFrom, viewPlane, viewPicture}
-use Rattle.viewing.specs.Calls.{coefficientsRight, viewAnswer, viewPixels, viewWork}
+use Rattle.viewing.specs.Calls.{viewAnswer, viewPixels, viewWork}
 use Rattle.viewing.specs.Claims.{Viewable, Stored, EachSmall}
 use Rattle.viewing.specs.Viewing.{view-accepted, view-promise, sizes}
 use Rattle.viewing.specs.CallLaws.{call-viewable, call-room, call-stored}
@@ -249,16 +249,6 @@ module _ {t : WidthTable} {plane : List ℤ} {work₀ state₀ line₀ w h : ℕ
 
 -- ---- the answer
 
--- by the lengths of pixels and work area
-unfoldable pub answerOf : WidthTable → ℕ → ℕ → List ℤ → ℕ → ℕ → Answer Unit
-answerOf t w h plane a c =
-    viewVerdict t
-    then sideAnswer w h
-    then lengthAnswer (w * h) a
-    then lengthAnswer (w * h) (length plane)
-    then lengthAnswer (w * h) c
-    then coefficientsRight t w h plane
-
 -- 12 is judged where the steps before it passed
 pub lookable : (t : WidthTable) (w h : ℕ) (plane : List ℤ) (a c : ℕ) → viewVerdict t ≡ passed → roomAnswer w h a (length plane) c ≡ passed → Lookable t w h (length plane)
 lookable t w h plane a c v e =
@@ -266,11 +256,6 @@ lookable t w h plane a c v e =
     record { accepted = view-accepted t v; width = room .wide; height = room .tall; room = room .second }
 
 module _ (t : WidthTable) (w h : ℕ) (plane : List ℤ) (pixels : List ℕ) (work : List ℤ) where
-  -- the call's answer is that
-  pub answer-is : viewAnswer t w h plane pixels work ≡ answerOf t w h plane (length pixels) (length work)
-  unfolding viewAnswer answerOf
-  answer-is = refl
-
   -- a call that is refused leaves all as it was
   module _ {r : Reason} (e : viewAnswer t w h plane pixels work ≡ refused r) where
     pub pixels-kept : pixels ≡ viewPixels t w h plane pixels work

@@ -30,16 +30,19 @@ inWidth t w h p r c =
 unfoldable pub coefficientsRight : WidthTable → ℕ → ℕ → List ℤ → Answer Unit
 coefficientsRight t w h plane = asks (every (λ q. q) (rowByRow w h (inWidth t w h (planeOf w plane)))) 12 passed
 
+-- by the lengths of pixels and work area: 4, 6 and 7 as one step, 13, 8, 9, 12
+unfoldable pub viewAnswerOf : WidthTable → ℕ → ℕ → List ℤ → ℕ → ℕ → Answer Unit
+viewAnswerOf t w h plane pixels work =
+    viewVerdict t
+    then sideAnswer w h
+    then lengthAnswer (w * h) pixels
+    then lengthAnswer (w * h) (length plane)
+    then lengthAnswer (w * h) work
+    then coefficientsRight t w h plane
+
 module _ (t : WidthTable) (w h : ℕ) (plane : List ℤ) (pixels : List ℕ) (work : List ℤ) where
-  -- 4, 6 and 7 as one step, 13, 8, 9, 12
-  unfoldable pub viewAnswer : Answer Unit
-  viewAnswer =
-      viewVerdict t
-      then sideAnswer w h
-      then lengthAnswer (w * h) (length pixels)
-      then lengthAnswer (w * h) (length plane)
-      then lengthAnswer (w * h) (length work)
-      then coefficientsRight t w h plane
+  abbrev pub viewAnswer : Answer Unit
+  viewAnswer = viewAnswerOf t w h plane (length pixels) (length work)
 
   unfoldable pub viewPixels : List ℕ
   viewPixels = answered viewAnswer (over (rowByRow w h (viewPicture t w h (planeOf w plane))) pixels) pixels

@@ -23,7 +23,7 @@ use Rattle.inverse_lifting.specs.Fixed.{nodeBits, fixedInverse}
 use Rattle.irreversible.specs.Claims.{keptNode}
 use Rattle.irreversible.specs.Subbands.{kept-everywhere}
 use Rattle.viewing.specs.View.{enteringBits, viewLine, viewLevel, viewFrom, viewPlane, pixel, viewPicture}
-use Rattle.viewing.specs.Calls.{fitsWidth, inWidth, coefficientsRight, viewAnswer, viewPixels, viewWork}
+use Rattle.viewing.specs.Calls.{fitsWidth, inWidth, coefficientsRight, viewAnswerOf, viewAnswer, viewPixels, viewWork}
 
 module _ {t u : WidthTable} (s : SeenAlike t u) where
   -- ---- the picture
@@ -94,7 +94,7 @@ module _ {t u : WidthTable} (s : SeenAlike t u) where
 
   module _ (e : verdict t ≡ verdict u) (w h : ℕ) (plane : List ℤ) (pixels : List ℕ) (work : List ℤ) where
     pub seen-answer : viewAnswer t w h plane pixels work ≡ viewAnswer u w h plane pixels work
-    unfolding viewAnswer
+    unfolding viewAnswerOf
     seen-answer =
         ap₂ (λ (a b : Answer Unit). a then sideAnswer w h then lengthAnswer (w * h) (length pixels) then lengthAnswer (w * h) (length plane) then lengthAnswer (w * h) (length work) then b)
         (seen-verdict s e) (seen-coefficients w h plane)

@@ -16,11 +16,11 @@ ghost use Rattle.pictures.specs.Pictures.{maxSide, planeOf, zeroed};
 ghost use Rattle.pictures.specs.RangeChecks.{Tells};
 ghost use Rattle.inverse_lifting.specs.Fixed.{nodeBits, limit};
 ghost use Rattle.viewing.specs.View.{enteringBits, viewPicture, grey, pixel};
-ghost use Rattle.viewing.specs.Calls.{coefficientsRight, viewAnswer, viewPixels, viewWork};
+ghost use Rattle.viewing.specs.Calls.{coefficientsRight, viewAnswerOf, viewAnswer, viewPixels, viewWork};
 ghost use Rattle.viewing.specs.WidthLaws.{PartFits, LookReady, DetailsFit, Lookable};
 ghost use Rattle.viewing.specs.LevelSteps.{columned, levelInverse};
 ghost use Rattle.viewing.specs.RowSteps.{RowReady, rowShown, RowsReady, shownRows, clearedRows};
-ghost use Rattle.viewing.specs.CallSteps.{LevelReady, ViewReady, LevelsLeft, answerOf};
+ghost use Rattle.viewing.specs.CallSteps.{LevelReady, ViewReady, LevelsLeft};
 use refusals::Outcome;
 use refusals::Refusal;
 use width_table::WidthTable;
@@ -394,7 +394,7 @@ fn answer(
     first: usize,
     third: usize,
 ) -> Outcome
-    ensures { λ r. ⌜ told r ≡ answerOf table w h (now (plane .entry)) first third ⌝ }
+    ensures { λ r. ⌜ told r ≡ viewAnswerOf table w h (now (plane .entry)) first third ⌝ }
 {
     match view_precision::judge(table) {
         Outcome::Refused(why) => Outcome::Refused(why),

@@ -6,7 +6,7 @@ use Rattle.pictures.specs.PictureLaws.{roomAnswer, sized-then, sized-done}
 use Rattle.precision.specs.Verdict.{verdict}
 use Rattle.width_table.specs.Limits.{form-depth}
 use Rattle.precision.specs.Promise.{promise}
-use Rattle.irreversible.specs.CallSteps.{answerOf}
+use Rattle.irreversible.specs.Calls.{fixedAnswerOf}
 use borrow.Author.Needs.{needs}
 use Rattle.irreversible.proofs.answer.Statement.{statement}
 use Rattle.irreversible.proofs.answer.Tie as tie
@@ -21,14 +21,14 @@ pixels-right-requires c κs =
     (form-depth (a .table) (ok .form) .1, room .wide .1, room .tall .1, room .first)
 
 returns : tie.Need-returns
-unfolding answerOf
+unfolding fixedAnswerOf
 returns c =
     let j = c .before .before .before in
     let a = j .before .before .args in
     sym (then-refused (verdict (a .table)) _ _ (sym (j .judge .ensures) ∙ ap told (c .before .why .given .1)))
 
 returns-2 : tie.Need-returns-2
-unfolding answerOf
+unfolding fixedAnswerOf
 returns-2 c =
     let m = c .before .before .before in
     let j = m .before .before .before in
@@ -38,7 +38,7 @@ returns-2 c =
     ∙ then-refused (roomAnswer (a .w) (a .h) (length (a .pixels .now)) (a .second) (a .third)) _ _ (sym (m .room-right .ensures) ∙ ap told (c .before .why2 .given .1)))
 
 returns-3 : tie.Need-returns-3
-unfolding answerOf
+unfolding fixedAnswerOf
 returns-3 c =
     let m = c .before .before .before in
     let j = m .before .before .before in

@@ -7,7 +7,7 @@ use lib.Seq.{length-take-le}
 use Rattle.refusals.specs.Answers.{passed}
 use Rattle.irreversible.specs.Calls.{fixedAnswer}
 use Rattle.irreversible.specs.CallLaws.{room}
-use Rattle.irreversible.specs.CallSteps.{answer-is, plane-kept, work-kept, plane-done, work-done, ready}
+use Rattle.irreversible.specs.CallSteps.{plane-kept, work-kept, plane-done, work-done, ready}
 use Rattle.pictures.specs.MemoryLaws.{zeroed-part}
 use borrow.Author.Needs.{needs}
 use Rattle.irreversible.proofs.forward.Statement.{statement}
@@ -17,7 +17,7 @@ use Rattle.irreversible.proofs.forward.Tie as tie
 done : (c : tie.After-enum-told) → let a = c .before .before .before .before .args in fixedAnswer (a .table) (a .w) (a .h) (a .pixels .now) (a .plane .now) (a .work .now) ≡ passed
 done c =
     let a = c .before .before .before .before .args in
-    answer-is (a .table) (a .w) (a .h) (a .pixels .now) (a .plane .now) (a .work .now) ∙ sym (c .before .before .answer .ensures) ∙ ap told (c .enum-told .given .1)
+    sym (c .before .before .answer .ensures) ∙ ap told (c .enum-told .given .1)
 
 -- the work area is long enough
 long : (c : tie.After-enum-told) → let a = c .before .before .before .before .args in length (take (a .w * a .h) (a .work .now)) ≡ a .w * a .h
@@ -47,7 +47,7 @@ returns : tie.Need-returns
 returns c =
     let m = c .before .before in
     let a = m .before .before .before .args in
-    let e = answer-is (a .table) (a .w) (a .h) (a .pixels .now) (a .plane .now) (a .work .now) ∙ sym (m .before .answer .ensures) ∙ ap told (c .before .why .given .1) in
+    let e = sym (m .before .answer .ensures) ∙ ap told (c .before .why .given .1) in
     (sym e, (plane-kept (a .table) (a .w) (a .h) (a .pixels .now) (a .plane .now) (a .work .now) e, work-kept (a .table) (a .w) (a .h) (a .pixels .now) (a .plane .now) (a .work .now) e))
 
 returns-2 : tie.Need-returns-2

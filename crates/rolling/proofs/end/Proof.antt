@@ -4,7 +4,7 @@ use borrow.Author.Needs.{needs}
 use Rattle.refusals.specs.Answers.{passed}
 use Rattle.refusals.specs.Told.{told}
 use Rattle.rolling.specs.Calls.{endAnswer}
-use Rattle.rolling.specs.AnswerLaws.{end-is, end-right, end-worked, end-kept}
+use Rattle.rolling.specs.AnswerLaws.{end-right, end-worked, end-kept}
 use Rattle.rolling.proofs.end.Statement.{statement}
 use Rattle.rolling.proofs.end.Tie as tie
 
@@ -12,7 +12,7 @@ use Rattle.rolling.proofs.end.Tie as tie
 passes : (c : tie.After-enum-told) → let a = c .before .before .before .args in endAnswer (a .scan) (a .held .now) (a .out .now) ≡ passed
 passes c =
     let a = c .before .before .before .args in
-    end-is (a .scan) (a .held .now) (a .out .now) ∙ sym (c .before .before .end-answer .ensures) ∙ ap told (c .enum-told .given .1)
+    sym (c .before .before .end-answer .ensures) ∙ ap told (c .enum-told .given .1)
 
 work-end-requires : tie.Need-work-end-requires
 work-end-requires c κs =
@@ -24,7 +24,7 @@ returns : tie.Need-returns
 returns c =
     let q = c .before .before .before in
     let a = q .before .args in
-    end-kept (a .scan) (a .held .now) (a .out .now) (end-is (a .scan) (a .held .now) (a .out .now) ∙ sym (q .end-answer .ensures) ∙ ap told (c .before .why .given .1))
+    end-kept (a .scan) (a .held .now) (a .out .now) (sym (q .end-answer .ensures) ∙ ap told (c .before .why .given .1))
 
 returns-2 : tie.Need-returns-2
 returns-2 c =

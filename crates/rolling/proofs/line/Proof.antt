@@ -4,7 +4,7 @@ use borrow.Author.Needs.{needs}
 use Rattle.refusals.specs.Answers.{passed}
 use Rattle.refusals.specs.Told.{told}
 use Rattle.rolling.specs.Calls.{lineAnswer}
-use Rattle.rolling.specs.AnswerLaws.{line-is, line-right, line-worked, line-kept}
+use Rattle.rolling.specs.AnswerLaws.{line-right, line-worked, line-kept}
 use Rattle.rolling.proofs.line.Statement.{statement}
 use Rattle.rolling.proofs.line.Tie as tie
 
@@ -12,7 +12,7 @@ use Rattle.rolling.proofs.line.Tie as tie
 passes : (c : tie.After-enum-told) → let a = c .before .before .before .before .args in lineAnswer (a .scan) (a .pixels .now) (a .w) (a .held .now) (a .out .now) ≡ passed
 passes c =
     let a = c .before .before .before .before .args in
-    line-is (a .scan) (a .pixels .now) (a .w) (a .held .now) (a .out .now) ∙ sym (c .before .before .line-answer .ensures) ∙ ap told (c .enum-told .given .1)
+    sym (c .before .before .line-answer .ensures) ∙ ap told (c .enum-told .given .1)
 
 work-line-requires : tie.Need-work-line-requires
 work-line-requires c κs =
@@ -25,7 +25,7 @@ returns c =
     let q = c .before .before .before in
     let a = q .before .before .args in
     line-kept (a .scan) (a .pixels .now) (a .w) (a .held .now) (a .out .now)
-    (line-is (a .scan) (a .pixels .now) (a .w) (a .held .now) (a .out .now) ∙ sym (q .line-answer .ensures) ∙ ap told (c .before .why .given .1))
+    (sym (q .line-answer .ensures) ∙ ap told (c .before .why .given .1))
 
 returns-2 : tie.Need-returns-2
 returns-2 c =

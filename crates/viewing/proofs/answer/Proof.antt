@@ -6,7 +6,8 @@ use Rattle.refusals.specs.Told.{told}
 use Rattle.refusals.specs.AnswerLaws.{then-right, then-refused}
 use Rattle.pictures.specs.PictureLaws.{roomAnswer, sized-then}
 use Rattle.view_precision.specs.Bounds.{viewVerdict}
-use Rattle.viewing.specs.CallSteps.{answerOf, lookable}
+use Rattle.viewing.specs.Calls.{viewAnswerOf}
+use Rattle.viewing.specs.CallSteps.{lookable}
 use Rattle.viewing.proofs.answer.Statement.{statement}
 use Rattle.viewing.proofs.answer.Tie as tie
 
@@ -18,14 +19,14 @@ coefficients-right-requires c κs =
     lookable (a .table) (a .w) (a .h) (a .plane .now) (a .first) (a .third) (sym (j .judge .ensures) ∙ ap told (m .before .enum-told .given .1)) (sym (m .room-right .ensures) ∙ ap told (c .enum-told2 .given .1))
 
 returns : tie.Need-returns
-unfolding answerOf
+unfolding viewAnswerOf
 returns c =
     let j = c .before .before .before in
     let a = j .before .args in
     sym (then-refused (viewVerdict (a .table)) _ _ (sym (j .judge .ensures) ∙ ap told (c .before .why .given .1)))
 
 returns-2 : tie.Need-returns-2
-unfolding answerOf
+unfolding viewAnswerOf
 returns-2 c =
     let m = c .before .before .before in
     let j = m .before .before .before in
@@ -35,7 +36,7 @@ returns-2 c =
     ∙ then-refused (roomAnswer (a .w) (a .h) (a .first) (length (a .plane .now)) (a .third)) _ _ (sym (m .room-right .ensures) ∙ ap told (c .before .why2 .given .1)))
 
 returns-3 : tie.Need-returns-3
-unfolding answerOf
+unfolding viewAnswerOf
 returns-3 c =
     let m = c .before .before .before in
     let j = m .before .before .before in

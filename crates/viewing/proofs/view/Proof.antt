@@ -6,7 +6,7 @@ use Rattle.refusals.specs.Answers.{passed}
 use Rattle.refusals.specs.Told.{told}
 use Rattle.viewing.specs.Calls.{viewAnswer}
 use Rattle.viewing.specs.CallLaws.{call-room}
-use Rattle.viewing.specs.CallSteps.{answer-is, pixels-kept, work-kept, pixels-done, work-done, view-ready}
+use Rattle.viewing.specs.CallSteps.{pixels-kept, work-kept, pixels-done, work-done, view-ready}
 use Rattle.viewing.proofs.view.Statement.{statement}
 use Rattle.viewing.proofs.view.Tie as tie
 
@@ -14,7 +14,7 @@ use Rattle.viewing.proofs.view.Tie as tie
 done : (c : tie.After-enum-told) → let a = c .before .before .before .before .args in viewAnswer (a .table) (a .w) (a .h) (a .plane .now) (a .pixels .now) (a .work .now) ≡ passed
 done c =
     let a = c .before .before .before .before .args in
-    answer-is (a .table) (a .w) (a .h) (a .plane .now) (a .pixels .now) (a .work .now) ∙ sym (c .before .before .answer .ensures) ∙ ap told (c .enum-told .given .1)
+    sym (c .before .before .answer .ensures) ∙ ap told (c .enum-told .given .1)
 
 show-requires : tie.Need-show-requires
 show-requires c κs =
@@ -26,7 +26,7 @@ returns : tie.Need-returns
 returns c =
     let m = c .before .before in
     let a = m .before .before .before .args in
-    let e = answer-is (a .table) (a .w) (a .h) (a .plane .now) (a .pixels .now) (a .work .now) ∙ sym (m .before .answer .ensures) ∙ ap told (c .before .why .given .1) in
+    let e = sym (m .before .answer .ensures) ∙ ap told (c .before .why .given .1) in
     (sym e, (pixels-kept (a .table) (a .w) (a .h) (a .plane .now) (a .pixels .now) (a .work .now) e, work-kept (a .table) (a .w) (a .h) (a .plane .now) (a .pixels .now) (a .work .now) e))
 
 returns-2 : tie.Need-returns-2

@@ -11,7 +11,7 @@ use Rattle.numbers.specs.Lists.{over}
 use Rattle.lines.specs.Lines.{lows, highs}
 use Rattle.lines.specs.Planes.{side, rowByRow}
 use Rattle.lines.specs.PlaneLaws.{side-le}
-use Rattle.refusals.specs.Answers.{Reason, refused, passed, _then_}
+use Rattle.refusals.specs.Answers.{Reason, refused, passed}
 use Rattle.refusals.specs.AnswerLaws.{answered-done, answered-refused}
 use Rattle.width_table.specs.declared.WidthTable.{WidthTable}
 use Rattle.width_table.specs.Limits.{form-levels}

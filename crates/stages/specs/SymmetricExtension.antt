@@ -1,6 +1,6 @@
--- A walk along a line with mirrored edges: from low to high to low .., each step to the side that it did not come from. At an edge it turns
--- back, as the mirror does. Whatever the edges do, the two neighbours of a place of the walk are the places before and after it, so
--- that the line along the walk is an endless one (`along`).
+-- The symmetric extension of a line, as a walk along it with mirrored edges: from low to high to low .., each step to the side that it did not
+-- come from. At an edge it goes back, as the mirror does. Whatever the edges do, the two neighbours of a place are the places before and after
+-- it in the extension, so that the line along it is an endless one (`along`).
 use mathlib.Core.List.{List}
 use Prim.Native.Nat.{ℕ, zero, suc, _+_, _<_, _≤_}
 use mathlib.Core.Path.{_≡_, refl, subst}
@@ -43,7 +43,7 @@ nextHigh n l h b = go (decLe l h)
     go (yes e) = (highBefore l, high-before-beside n l (omega arith) (b .low-in), crossed refl (omega (arith, high-after-next n l (omega arith))))
     go (no e) = (highAfter n l, high-after-beside n l (omega arith) (b .low-in), straight (omega (arith, high-before-next l (omega arith))) refl)
 
--- where a walk stands
+-- a place in it
 record Stand (n : ℕ) : Type 0 where
   pub low : ℕ
   pub high : ℕ
@@ -72,10 +72,10 @@ pub record Extension (n : ℕ) : Type 0 where
   pub inside : (s : Side) (k : ℤ) → place s k < count n s
   pub beside : (s : Side) (k : ℤ) → Two (beforeIn s (place s k)) (afterIn n s (place s k)) (place (other s) (before s k)) (place (other s) (after s k))
 
--- the walk that passes a place at 0
-walkFrom : (n : ℕ) → Stand n → Extension n
+-- the extension that has a place at 0
+extensionFrom : (n : ℕ) → Stand n → Extension n
 unfolding stand onward backward
-walkFrom n p = record {
+extensionFrom n p = record {
   place = λ s k. elim s [ low ↦ stand n p k .low | high ↦ stand n p k .high ];
   inside = λ s k. elim s [ low ↦ stand n p k .beside .low-in | high ↦ stand n p k .beside .high-in ];
   beside = λ s. elim s [ low ↦ at-low | high ↦ at-high ];
@@ -91,12 +91,12 @@ walkFrom n p = record {
     at-high (negsuc zero) = two-back (nextLow n (p .low) _ (nextHigh n (p .low) (p .high) (p .beside) .1) .2)
     at-high (negsuc (suc k)) = two-back (nextLow n (stand n p (negsuc k) .low) _ (nextHigh n (stand n p (negsuc k) .low) (stand n p (negsuc k) .high) (stand n p (negsuc k) .beside) .1) .2)
 
-walkTo : (n : ℕ) → Liftable n → (s : Side) (k : ℕ) → k < count n s → (w : Extension n) × (w .place s (pos 0) ≡ k)
-unfolding walkFrom stand
-walkTo n works low k h = (walkFrom n (record { low = k; high = highAfter n k; beside = high-after-beside n k (some-highs n works) h }), refl)
-walkTo n works high k h = (walkFrom n (record { low = k; high = k; beside = omega arith }), refl)
+extensionAt : (n : ℕ) → Liftable n → (s : Side) (k : ℕ) → k < count n s → (w : Extension n) × (w .place s (pos 0) ≡ k)
+unfolding extensionFrom stand
+extensionAt n works low k h = (extensionFrom n (record { low = k; high = highAfter n k; beside = high-after-beside n k (some-highs n works) h }), refl)
+extensionAt n works high k h = (extensionFrom n (record { low = k; high = k; beside = omega arith }), refl)
 
--- ---- a line of n along a walk
+-- ---- a line of n along its extension
 
 made-two : (t : Kind) (c o : Frac) (f : ℕ → Frac) {a b x y : ℕ} → Two a b x y → made t c o (f a) (f b) ≈ made t c o (f x) (f y)
 unfolding made lift
@@ -131,13 +131,13 @@ module _ (st : List Stage) (n : ℕ) (a : ℕ → ℕ → Frac) (y : ℕ → Sid
   -- sizes on a line of n go by the gains
   pub line-within : Liftable n → (q : ℕ) → 0 < q → (r : Bound → ℕ) (e : Entering) (o : ℕ → ℕ) → ((t : Side) (k : ℕ) → k < count n t → Within (y 0 t k) (r (enters e t)) q) → (m : ℕ) → ((i k : ℕ) → i < m → k < count n (stage st i .side) → Within (a i k) (o i) q) → (s : Side) (k : ℕ) → k < count n s → Within (y m s k) (inputPart st r e s m + nodesPart st s m o m) q
   line-within works q above r e o h m own s k i =
-      let (w, at) = walkTo n works s k i in
+      let (w, at) = extensionAt n works s k i in
       subst (λ (j : ℕ). Within (y m s j) (inputPart st r e s m + nodesPart st s m o m) q) at
       (within-≈ (≈-sym (along w m s (pos 0))) (held-within st s m q above r e o (entered w) (added w) (λ t p. h t (w .place t p) (w .inside t p)) (λ j p l. own j (w .place (stage st j .side) p) l (w .inside (stage st j .side) p))))
 
 -- the same by the exact gain, where nothing is added
 pub line-weighs : (st : List Stage) (n : ℕ) (y : ℕ → Side → ℕ → Frac) → Stages st n (λ i k. zeroF) y → Liftable n → (b q : ℕ) → 0 < q → ((t : Side) (k : ℕ) → k < count n t → Within (y 0 t k) b q) → (m : ℕ) (s : Side) (k : ℕ) → k < count n s → Weighs (exactGain st s m samples) b q (y m s k)
 line-weighs st n y is works b q above h m s k i =
-    let (w, at) = walkTo n works s k i in
+    let (w, at) = extensionAt n works s k i in
     subst (λ (j : ℕ). Weighs (exactGain st s m samples) b q (y m s j)) at
     (weighs-≈ (≈-sym (along st n (λ i k. zeroF) y is w m s (pos 0))) (held-weighs st s m q above b (entered st n (λ i k. zeroF) y is w) (λ t p. h t (w .place t p) (w .inside t p))))

@@ -1,4 +1,4 @@
--- `lifting::biased_cut` meets its contract: the pad makes the total a multiple of 2 ^ (first + cut).
+-- `lifting::biased_cut` meets its contract: the offset makes the total a multiple of 2 ^ (first + cut).
 use mathlib.Core.Path.{_≡_, sym, ap, _∙_}
 use Prim.Native.Nat.{ℕ, _+_, _-_, _*_, _^_, _≤_}
 use native.Mathlib.Omega.{arith}

@@ -1,4 +1,4 @@
--- `lifting::combined` meets its contract: the pad makes the total a multiple of 2 ^ cut.
+-- `lifting::combined` meets its contract: the offset makes the total a multiple of 2 ^ cut.
 use Prim.Native.Nat.{_+_, _*_, _^_, _≤_}
 use native.Mathlib.Omega.{arith}
 use borrow.Author.Needs.{needs}

@@ -1,4 +1,4 @@
--- `lifting::quick_factor` meets its contract: the pad makes the total a multiple of 2 ^ cut.
+-- `lifting::quick_factor` meets its contract: the offset makes the total a multiple of 2 ^ cut.
 use mathlib.Core.Path.{_≡_, sym, subst, ap, _∙_}
 use mathlib.Core.Bool.{false}
 use Prim.Native.Nat.{_*_, _-_}

@@ -7,7 +7,7 @@ use mathlib.Core.List.{List, [], _∷_}
 use mathlib.Core.Path.{_≡_, refl, sym, _∙_, ap, ap₂}
 use native.Mathlib.Omega.{arith}
 use lib.Dec.{lit≤}
-use Rattle.exact.specs.Fractions.{upDiv}
+use Rattle.numbers.specs.Ceiling.{upDiv}
 use Rattle.numbers.specs.Tests.{every, is-between}
 use Rattle.refusals.specs.Answers.{refused, asks}
 use Rattle.stages.specs.Stages.{Side, low, high, Kind, lifts, scales, stage, forward, uncut, replaced, bits}

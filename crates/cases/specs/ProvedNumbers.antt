@@ -6,7 +6,8 @@ use lib.IntN.{ℤ, pos, negsuc}
 use lib.ListN.{getD, length}
 use Rattle.lines.specs.Lines.{lowAfter, highBefore, highAfter, onHighs, onLows, lowsFirst}
 use Rattle.lines.specs.Planes.{fromOne, tabulate}
-use Rattle.exact.specs.Fractions.{_⊕_, _⊗_, whole, magnitude, upDiv, roundedUp}
+use Rattle.exact.specs.Fractions.{_⊕_, _⊗_, whole, magnitude, roundedUp}
+use Rattle.numbers.specs.Ceiling.{upDiv}
 use Rattle.exact.specs.Exact.{alpha, lift}
 use Rattle.stages.specs.Stages as S
 use Rattle.stages.specs.Stages.{forward, made, uncut}

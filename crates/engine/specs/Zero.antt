@@ -16,7 +16,7 @@ use Rattle.width_table.specs.Nodes.{TableNode, tableOrder}
 use Rattle.width_table.specs.Table.{depthRight, levelsRight, formRight, integerBits, fractionBits}
 use Rattle.width_table.specs.Fields.{Field, headBytes, fields}
 use Rattle.width_table.specs.Bytes.{announced, headed, field, formBy, levelsIn, hasFifth, form, tableIn}
-use Rattle.pictures.specs.Pictures.{sideRight, sideAnswer, lengthAnswer, pixelAnswer}
+use Rattle.pictures.specs.Pictures.{sideRight, sideAnswer, lengthAnswer, pixelAnswer, planeOf}
 use Rattle.stages.specs.Rule.{Bound}
 use Rattle.precision.specs.Bounds.{boundOf}
 use Rattle.precision.specs.Verdict.{fits, belowTwoSteps, keptAt, placeNumbers, judgedBy, judged, firstRefusal, verdict}
@@ -24,7 +24,6 @@ use Rattle.reversible.specs.Reversible.{Order}
 use Rattle.reversible.specs.Calls.{limitAnswer, forwardAnswer, hasPicture, backAllowed, backAnswer}
 use Rattle.irreversible.specs.Calls.{fixedAnswerOf, fixedAnswer}
 use Rattle.lines.specs.Planes.{rowByRow}
-use Rattle.pictures.specs.Pictures.{planeOf}
 use Rattle.view_precision.specs.Bounds.{viewable, viewVerdict}
 use Rattle.viewing.specs.Calls.{inWidth, coefficientsRight, viewAnswerOf, viewAnswer}
 use Rattle.rolling.specs.declared.Scan.{Scan}

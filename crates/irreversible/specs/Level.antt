@@ -17,9 +17,8 @@ use Rattle.table_meaning.specs.Products.{productOf}
 use Rattle.precision.specs.Bounds.{nodeBound, rowBound, passBound}
 use Rattle.irreversible.specs.Transforms.{fixedLine}
 use Rattle.irreversible.specs.Claims.{InWidth, LevelInWidth}
-use Rattle.irreversible.specs.Pass.{AtMost32}
+use Rattle.irreversible.specs.Pass.{AtMost32, pass-good, long-in-width, single-in-width}
 use Rattle.stages.specs.Sound.{Good}
-use Rattle.irreversible.specs.Pass.{pass-good, long-in-width, single-in-width}
 
 -- after the rows, and after the columns
 unfoldable pub rowV : WidthTable → ℕ → ℕ → Plane ℤ → Plane ℤ

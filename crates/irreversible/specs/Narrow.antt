@@ -14,7 +14,7 @@ use lib.Dec.{T, leb, leb→le, eqb, eqb-refl, lit≤}
 use lib.Pow.{pow-pos}
 use lib.ListN.{getD}
 use Rattle.numbers.specs.Tests.{both, four}
-use Rattle.exact.specs.Fractions.{upDiv}
+use Rattle.numbers.specs.Ceiling.{upDiv}
 use Rattle.stages.specs.Stages.{Side, low, stage, forward, Product}
 use Rattle.stages.specs.Gains.{Source, samples, node, gain}
 use Rattle.stages.specs.Rule as Rule

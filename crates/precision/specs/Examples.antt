@@ -4,7 +4,8 @@ use mathlib.Core.List.{List, [], _∷_, _++_, map}
 use mathlib.Core.Path.{_≡_, refl, ap}
 use native.Mathlib.Omega.{arith}
 use lib.ListN.{getD}
-use Rattle.exact.specs.Fractions.{_⊕_, _⊗_, whole, magnitude, upDiv, roundedUp}
+use Rattle.exact.specs.Fractions.{_⊕_, _⊗_, whole, magnitude, roundedUp}
+use Rattle.numbers.specs.Ceiling.{upDiv}
 use Rattle.numbers.specs.Tests.{every}
 use Rattle.exact.specs.Exact.{lift}
 use Rattle.width_table.specs.declared.WidthTable.{WidthTable}

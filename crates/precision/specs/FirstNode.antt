@@ -8,7 +8,7 @@ use native.Mathlib.Omega.{arith}
 use lib.Dec.{T, lit≤}
 use lib.Pow.{pow-mono}
 use borrow.Author.Tests.{lt-leb}
-use Rattle.exact.specs.Fractions.{upDiv}
+use Rattle.numbers.specs.Ceiling.{upDiv}
 use Rattle.refusals.specs.Answers.{refused}
 use Rattle.refusals.specs.AnswerLaws.{asks-right, asks-wrong, then-refused}
 use Rattle.stages.specs.Rule as Rule

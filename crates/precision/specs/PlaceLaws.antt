@@ -9,7 +9,7 @@ use lib.Dec.{T, eqb, ltb, leb, leb→le, lit≤}
 use lib.ListN.{getD}
 use lib.Pow.{pow-pos, pow-mono}
 use Rattle.numbers.specs.Tests.{every, both, by-leb}
-use Rattle.exact.specs.Fractions.{upDiv}
+use Rattle.numbers.specs.Ceiling.{upDiv, up-half, up-most}
 use Rattle.width_table.specs.Nodes.{Node, P2, G1, G2, nodeNumber}
 use Rattle.stages.specs.Stages.{low, high, stage, forward, Product, uncut, cutTo, productBits, bits}
 use Rattle.stages.specs.GainTable.{forwardGains}
@@ -153,15 +153,6 @@ module _ (F : Node → ℕ) (fp : Node → Product) (fi : ℕ) (b : Bound) (f : 
 
 -- ---- sizes
 
--- a division by a power of two above 1 at least halves
-up-half : (a k : ℕ) → 1 ≤ k → 2 * upDiv a (2 ^ k) ≤ a + 1
-unfolding upDiv
-up-half a k h = law (2 ^ k) ((a + (2 ^ k - 1)) / 2 ^ k) (pow-mono h) (div-mul-le-self (a + (2 ^ k - 1)) (2 ^ k))
-  where
-    law : (m q : ℕ) → 2 ^ 1 ≤ m → q * m ≤ a + (m - 1) → 2 * q ≤ a + 1
-    law m zero i j = omega arith
-    law m (suc q) i j = omega (arith, mul-le-mul-left q i)
-
 pub loss-most : (f full : ℕ) → loss f full ≤ 2 ^ 32
 unfolding loss
 loss-most f full = go (ltb f full)
@@ -169,15 +160,6 @@ loss-most f full = go (ltb f full)
     go : (t : Bool) → elim t [ true ↦ 2 ^ (32 - f) | false ↦ 0 ] ≤ 2 ^ 32
     go true = pow-mono {i = 32 - f} {j = 32} (omega arith)
     go false = lit≤ tt
-
--- a division rounded up gives no more than what is divided
-up-most : (a k : ℕ) → upDiv a (2 ^ k) ≤ a
-unfolding upDiv
-up-most a k = law (2 ^ k) ((a + (2 ^ k - 1)) / 2 ^ k) (pow-pos k) (div-mul-le-self (a + (2 ^ k - 1)) (2 ^ k))
-  where
-    law : (m q : ℕ) → 0 < m → q * m ≤ a + (m - 1) → q ≤ a
-    law m zero i j = omega arith
-    law (suc m) (suc q) i j = by-leb (λ (x : Bool). suc q ≤ a) (suc q) a (λ h. h) (λ h. absurd (omega (arith, mul-le-mul-right m h)))
 
 pub product-loss-most : (p : Product) (full : ℕ) → productLoss p full ≤ 2 ^ 32
 unfolding productLoss

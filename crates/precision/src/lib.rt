@@ -9,7 +9,7 @@ ghost use Prim.Native.Nat.{ℕ, _+_, _*_, _-_, _^_, _<_, _≤_, max, min};
 ghost use mathlib.Core.List.{[], _∷_};
 ghost use lib.Dec.{T};
 ghost use lib.ListN.{getD, take};
-ghost use Rattle.exact.specs.Fractions.{upDiv};
+ghost use Rattle.numbers.specs.Ceiling.{upDiv};
 ghost use Rattle.stages.specs.GainTable.{forwardGains};
 ghost use Rattle.stages.specs.Stages.{cutTo};
 ghost use Rattle.stages.specs.Rule.{timesGain, loss, productLoss, ownLift, ownScale};

@@ -8,11 +8,12 @@ use native.Mathlib.Decide.{decLt}
 use native.Mathlib.Nat.{mul-le-mul-right, le-antisymm, le-of-mul-le-mul-right, lt-of-mul-lt-mul-right, div-mul-le-self}
 use lib.IntN.{sucℤ-+ℤ, predℤ-+ℤ, +ℤ-idl, ℤ, pos, negsuc, sucℤ, natAbs, _+ℤ_, predℤ}
 use Rattle.numbers.specs.Abs.{abs-mul}
-use Rattle.exact.specs.Fractions.{Frac, _≈_, _⊕_, whole, magnitude, upDiv, roundedUp, zeroF}
+use Rattle.exact.specs.Fractions.{Frac, _≈_, _⊕_, whole, magnitude, roundedUp, zeroF}
+use Rattle.numbers.specs.Ceiling.{upDiv, upDiv-most, up-same}
 use Rattle.exact.specs.FracLaws.{≈-refl, ≈-trans, ⊕-cong, ⊕-zero-r}
 use Rattle.stages.specs.Stages.{Side, low, high, Stage, stage, made, worked}
 use Rattle.stages.specs.Gains.{Line, before, after, valuesAfter, sumTo, Source, samples, lows, highs, node, inputAnswer, nodeAnswer, sumFrom, exactGain, gain}
-use Rattle.stages.specs.Linear.{upDiv-most, linear-none}
+use Rattle.stages.specs.Linear.{linear-none}
 use Rattle.stages.specs.ValueLaws.{input-linear, node-linear}
 
 -- ---- a sum of magnitudes, and zeros
@@ -38,17 +39,6 @@ longer r f none (suc m) big = go (decLt r (suc m)) (longer r f none m)
     go : Dec (r < suc m) → (r ≤ m → sumTo m f ≈ sumTo r f) → sumTo (suc m) f ≈ sumTo r f
     go (yes far) before = far-on (omega arith) (before (omega arith))
     go (no near) before = subst (λ (k : ℕ). sumTo k f ≈ sumTo r f) (omega arith) (≈-refl _)
-
--- rounded up, equal fractions are equal
-up-least : (a d v : ℕ) → 0 < d → a ≤ v * d → upDiv a d ≤ v
-unfolding upDiv
-up-least a d v z h = last (lt-of-mul-lt-mul-right d (omega (arith, div-mul-le-self (a + (d - 1)) d)))
-  where
-    last : {u : ℕ} → u < suc v → u ≤ v
-    last i = omega arith
-
-up-same : (a d b e : ℕ) → 0 < d → 0 < e → a * e ≡ b * d → upDiv a d ≤ upDiv b e
-up-same a d b e zd ze h = up-least a d (upDiv b e) zd (le-of-mul-le-mul-right {m = a} {n = upDiv b e * d} {k = e} (omega (arith, h, mul-le-mul-right d (upDiv-most b e ze))) ze)
 
 pub wholes-≈ : (m : ℕ) {x y : Frac} → x ≈ y → roundedUp m x ≡ roundedUp m y
 unfolding roundedUp

@@ -2,7 +2,8 @@
 use Prim.Native.Nat.{ℕ, _^_}
 use mathlib.Core.Path.{_≡_, refl}
 use mathlib.Core.List.{List, [], _∷_}
-use Rattle.exact.specs.Fractions.{_⊕_, _⊗_, neg, whole, magnitude, upDiv, roundedUp}
+use Rattle.exact.specs.Fractions.{_⊕_, _⊗_, neg, whole, magnitude, roundedUp}
+use Rattle.numbers.specs.Ceiling.{upDiv}
 use Rattle.exact.specs.Exact.{lift}
 use Rattle.stages.specs.Stages.{Stage, Side, low, high, made, forward, inverse, uncut, cutTo, bits}
 use Rattle.stages.specs.Gains.{valuesAfter, sumTo, inputAnswer, nodeAnswer, sumFrom, exactGain, gain}

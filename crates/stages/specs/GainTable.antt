@@ -5,7 +5,8 @@ use Prim.Native.Nat.{ℕ, zero, suc, _-_, _<_}
 use lib.ListN.{getD}
 use Rattle.lines.specs.Planes.{tabulate}
 use Rattle.lines.specs.RowLaws.{tabulate-at}
-use Rattle.exact.specs.Fractions.{_⊕_, _⊗_, neg, whole, magnitude, upDiv, roundedUp}
+use Rattle.exact.specs.Fractions.{_⊕_, _⊗_, neg, whole, magnitude, roundedUp}
+use Rattle.numbers.specs.Ceiling.{upDiv}
 use Rattle.exact.specs.Exact.{lift}
 use Rattle.stages.specs.Stages.{stage, made, forward, inverse}
 use Rattle.stages.specs.Gains.{Source, samples, lows, highs, node, valuesAfter, sumTo, inputAnswer, nodeAnswer, sumFrom, exactGain, gain}

@@ -8,7 +8,8 @@ use native.Mathlib.Decide.{decLe}
 use native.Mathlib.Nat.{mul-le-mul-right, mul-pos, lt-div-mul-add}
 use lib.Dec.{T, eqb→eq, eqb-refl}
 use lib.IntN.{ℤ, pos, negsuc, natAbs, _+ℤ_, _*ℤ_, *ℤ-comm}
-use Rattle.exact.specs.Fractions.{Frac, _≈_, _⊕_, _⊗_, whole, magnitude, upDiv, roundedUp, zeroF, oneF, Within}
+use Rattle.exact.specs.Fractions.{Frac, _≈_, _⊕_, _⊗_, whole, magnitude, roundedUp, zeroF, oneF, Within}
+use Rattle.numbers.specs.Ceiling.{upDiv, upDiv-most}
 use Rattle.exact.specs.FracLaws.{≈-refl, ≈-sym, ≈-trans, ⊕-cong, ⊗-cong, ⊕-zero-l, ⊕-zero-r, ⊗-zero-r, ⊗-one-l, within-≈, within-⊕, within-⊗, within-weaken}
 use Rattle.stages.specs.Gains.{Line, same, unit, sumTo}
 use Rattle.stages.specs.Rule.{timesGain}
@@ -50,11 +51,6 @@ weighs-times b q c x h = record { top = natAbs (c .num); is = refl; most = withi
 
 pub weighs-≈ : {w : Frac} {b q : ℕ} {x y : Frac} → x ≈ y → Weighs w b q x → Weighs w b q y
 weighs-≈ e h = record { top = h .top; is = h .is; most = within-≈ e (h .most) }
-
--- a division rounded up loses nothing
-pub upDiv-most : (a m : ℕ) → 0 < m → a ≤ upDiv a m * m
-unfolding upDiv
-upDiv-most a m z = omega (arith, lt-div-mul-add {a = a + (m - 1)} z)
 
 -- weight and size multiplied as the rule does
 pub weighs-within : {w : Frac} {b q : ℕ} {x : Frac} → 0 < q → Weighs w b q x → Within x (timesGain b (roundedUp 65536 w)) q

@@ -12,13 +12,13 @@ use Rattle.numbers.specs.Dif.{by-dif, difs}
 use Rattle.numbers.specs.Laws.{*ℤ-assoc, *ℤ-one-r}
 use Rattle.numbers.specs.Abs.{abs-mul}
 use Rattle.numbers.specs.Floor.{floor-≤, floor-<, floor-mul-r, round-near}
-use Rattle.exact.specs.Fractions.{Frac, _≈_, _⊕_, _⊗_, neg, upDiv, Within}
+use Rattle.exact.specs.Fractions.{Frac, _≈_, _⊕_, _⊗_, neg, Within}
+use Rattle.numbers.specs.Ceiling.{upDiv, upDiv-most}
 use Rattle.exact.specs.Exact.{lift}
 use Rattle.stages.specs.Stages.{Product, uncut, cutTo, productBits}
 use Rattle.stages.specs.Fixed.{fixedValue, nearest, cut, cutProduct, step, scale}
 use Rattle.stages.specs.Rule.{loss, productLoss, ownLift, ownScale}
 use Rattle.exact.specs.FracLaws.{ring, ≈-refl, ≈-sym, ≈-trans, ⊕-cong, ⊗-cong, ⊕-neg, through, sub-times, sub-own, within-≈, within-⊕, within-product, within-zero, within-weaken}
-use Rattle.stages.specs.Linear.{upDiv-most}
 
 -- ---- v / 2^f
 

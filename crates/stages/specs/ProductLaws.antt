@@ -9,12 +9,12 @@ use lib.Pow.{pow-pos, pow-mono}
 use lib.IntN.{ℤ, pos, _+ℤ_, _*ℤ_}
 use Rattle.numbers.specs.Laws.{*ℤ-one-r}
 use Rattle.numbers.specs.Tests.{ltb-true, ltb-false}
-use Rattle.exact.specs.Fractions.{Frac, upDiv}
+use Rattle.exact.specs.Fractions.{Frac}
+use Rattle.numbers.specs.Ceiling.{upDiv, upDiv-most, up-exact}
 use Rattle.stages.specs.Stages.{uncut, cutTo}
 use Rattle.stages.specs.Fixed.{nearest, cut, cutProduct, step}
 use Rattle.stages.specs.Rule.{loss, productLoss, ownLift}
 use Rattle.stages.specs.Own.{cut-whole, pow-split}
-use Rattle.stages.specs.Linear.{upDiv-most}
 
 pub own-uncut : (F fm fo f r : ℕ) → ownLift uncut F fm fo f r ≡ upDiv r (2 ^ F) + loss f (max fo (F + fm))
 unfolding ownLift productLoss
@@ -52,19 +52,6 @@ own-wide fp F fm fo f r h =
     ∙ ap (λ (k : ℕ). upDiv r (2 ^ F) + 0 + loss f (max fo k)) (bits-wide fp (F + fm) h)
 
 -- ---- the loss as a number
-
-up-exact : (q d : ℕ) → 0 < d → upDiv (q * d) d ≡ q
-unfolding upDiv
-up-exact q d z = le-antisymm (last (lt-of-mul-lt-mul-right d (omega (arith, div-mul-le-self (q * d + (d - 1)) d)))) (least (upDiv-most (q * d) d z))
-  where
-    last : {u : ℕ} → u < suc q → u ≤ q
-    last i = omega arith
-
-    least : {u : ℕ} → q * d ≤ u * d → q ≤ u
-    least {u} h = last' (lt-of-mul-lt-mul-right d (omega arith))
-      where
-        last' : q < suc u → q ≤ u
-        last' i = omega arith
 
 pub loss-narrow : (fp full : ℕ) → fp < full → productLoss (cutTo fp) full ≡ upDiv (2 ^ 32) (2 ^ fp)
 unfolding productLoss

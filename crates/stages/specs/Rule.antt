@@ -4,7 +4,7 @@ use Prim.Native.Nat.{ℕ, zero, suc, _+_, _*_, _-_, _^_, max}
 use mathlib.Core.Bool.{true, false}
 use mathlib.Core.List.{List, [], _∷_}
 use lib.Dec.{ltb}
-use Rattle.exact.specs.Fractions.{upDiv}
+use Rattle.numbers.specs.Ceiling.{upDiv}
 use Rattle.stages.specs.Stages.{Side, low, high, Kind, lifts, scales, Stage, stage, Product, uncut, cutTo, productBits, bits}
 use Rattle.stages.specs.Gains.{Source, samples, lows, highs, node, gain}
 

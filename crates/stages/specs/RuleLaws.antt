@@ -10,7 +10,8 @@ use lib.Dec.{lit<}
 use lib.Pow.{pow-pos}
 use lib.IntN.{ℤ, pos, negsuc}
 use Rattle.numbers.specs.Tests.{ltb-true, ltb-false}
-use Rattle.exact.specs.Fractions.{Frac, _≈_, _⊕_, whole, magnitude, upDiv, roundedUp, zeroF}
+use Rattle.exact.specs.Fractions.{Frac, _≈_, _⊕_, whole, magnitude, roundedUp, zeroF}
+use Rattle.numbers.specs.Ceiling.{upDiv}
 use Rattle.exact.specs.FracLaws.{≈-trans, ⊕-cong, ⊕-zero-r}
 use Rattle.stages.specs.Stages.{Side, low, high, Kind, lifts, scales, Stage, stage, Product, made, worked}
 use Rattle.stages.specs.OnLine.{other}

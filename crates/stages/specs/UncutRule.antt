@@ -2,7 +2,7 @@
 use Prim.Native.Nat.{ℕ, zero, suc, _+_, _^_, max}
 use mathlib.Core.List.{List, [], _∷_}
 use mathlib.Core.Path.{_≡_, refl, _∙_, ap}
-use Rattle.exact.specs.Fractions.{upDiv}
+use Rattle.numbers.specs.Ceiling.{upDiv}
 use Rattle.stages.specs.Stages.{Side, low, high, Kind, lifts, scales, Stage, stage, uncut, bits}
 use Rattle.stages.specs.Gains.{node}
 use Rattle.stages.specs.Rule.{Bound, loss, ownScale, Entering, carried, inputPart, rangeAt, ownErrorOf, stagesPart, owns, errorAt, sideBound}

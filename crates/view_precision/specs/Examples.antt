@@ -6,7 +6,8 @@ use mathlib.Core.List.{List, [], _∷_, _++_}
 use mathlib.Core.Path.{_≡_, refl, ap}
 use lib.Dec.{ltb}
 use lib.ListN.{getD}
-use Rattle.exact.specs.Fractions.{_⊕_, _⊗_, neg, whole, magnitude, upDiv, roundedUp}
+use Rattle.exact.specs.Fractions.{_⊕_, _⊗_, neg, whole, magnitude, roundedUp}
+use Rattle.numbers.specs.Ceiling.{upDiv}
 use Rattle.exact.specs.Exact.{lift}
 use Rattle.numbers.specs.Tests.{every}
 use Rattle.width_table.specs.declared.WidthTable.{WidthTable}

@@ -9,7 +9,7 @@ use lib.Dec.{lit<}
 use borrow.Author.Tests.{le-leb, lt-leb, eq-eqb, ne-eqb}
 use lib.ListN.{set}
 use Rattle.numbers.specs.Tests.{every, ltb-true, ltb-false, left-false, right-false}
-use Rattle.exact.specs.Fractions.{upDiv}
+use Rattle.numbers.specs.Ceiling.{upDiv}
 use Rattle.inverse_lifting.specs.Fixed.{nodeBits, inverseBits, maxValue}
 use Rattle.width_table.specs.Nodes.{Node, P1, U1, P2, U2, G1, G2}
 use Rattle.stages.specs.Stages.{Side, low, high, stage, inverse, uncut, bits}

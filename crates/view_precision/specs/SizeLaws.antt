@@ -8,7 +8,7 @@ use native.Mathlib.Nat.{mul-le-mul-left, mul-le-mul-right, le-trans}
 use lib.Dec.{T, eqb, ltb, leb, leb→le, lit≤, lit<}
 use lib.ListN.{getD, set, replicate}
 use Rattle.numbers.specs.Tests.{every, both}
-use Rattle.exact.specs.Fractions.{upDiv}
+use Rattle.numbers.specs.Ceiling.{upDiv}
 use Rattle.inverse_lifting.specs.Fixed.{nodeBits, inverseBits}
 use Rattle.stages.specs.GainTable.{inverseGains}
 use Rattle.stages.specs.Rule.{Bound, timesGain}

@@ -10,7 +10,8 @@ use native.Mathlib.Omega.{arith}
 use native.Mathlib.Nat.{mul-le-mul-right, pow-le-pow-right, le-trans}
 use lib.Dec.{lit<, lit≤}
 use lib.ListN.{getD}
-use Rattle.exact.specs.Fractions.{_⊕_, _⊗_, neg, whole, magnitude, upDiv, roundedUp}
+use Rattle.exact.specs.Fractions.{_⊕_, _⊗_, neg, whole, magnitude, roundedUp}
+use Rattle.numbers.specs.Ceiling.{upDiv}
 use Rattle.exact.specs.Exact.{lift}
 use Rattle.numbers.specs.Tests.{every, right-false, ltb-false}
 use Rattle.refusals.specs.Answers.{Answer, passed, refused}

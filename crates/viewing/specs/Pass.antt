@@ -15,7 +15,8 @@ use Rattle.numbers.specs.Dif.{by-dif, difs}
 use Rattle.lines.specs.Lines.{lows, highs, Liftable, onHighs, onLows}
 use Rattle.lines.specs.LineLaws.{even-place, odd-place, by-parity}
 use Rattle.lines.specs.OneLaws.{one-single, one-long, by-one}
-use Rattle.exact.specs.Fractions.{Frac, _≈_, _⊕_, neg, upDiv}
+use Rattle.exact.specs.Fractions.{Frac, _≈_, _⊕_, neg}
+use Rattle.numbers.specs.Ceiling.{upDiv}
 use Rattle.exact.specs.FracLaws.{≈-refl, ≈-sym, ≈-trans, ⊕-cong, neg-⊗-l, within-near}
 use Rattle.exact.specs.Exact.{lift, alpha, beta, gamma, delta}
 use Rattle.exact.specs.Inverse.{inverseLift, unG1, unG2, unU2, unP2, unU1, unP1, exactInverseLong, exactInversePass}

@@ -1,6 +1,6 @@
 use Prim.Native.Nat.{_*_, _≤_}
 use native.Mathlib.Omega.{arith}
-use Rattle.exact.specs.Fractions.{upDiv}
+use Rattle.numbers.specs.Ceiling.{upDiv}
 use Rattle.stages.specs.Rule.{timesGain}
 use Rattle.precision.specs.PlaceLaws.{product-most, largest, largestGain}
 use Rattle.precision.proofs.times_gain.Statement.{statement}

@@ -3,7 +3,7 @@ use mathlib.Core.Path.{ap}
 use native.Mathlib.Omega.{arith}
 use native.Mathlib.Nat.{div-lt-iff-lt-mul, mul-le-mul-left}
 use lib.Pow.{pow-mono, pow-pos}
-use Rattle.exact.specs.Fractions.{upDiv}
+use Rattle.numbers.specs.Ceiling.{upDiv}
 use Rattle.precision.proofs.up_div.Statement.{statement}
 use Rattle.precision.proofs.up_div.Tie as tie
 

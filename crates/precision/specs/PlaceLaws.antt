@@ -1,14 +1,14 @@
 -- The bounds of a pass by place numbers are those of Bounds, and are small where what enters the pass is small.
-use Prim.Native.Nat.{ℕ, zero, suc, _+_, _*_, _-_, _/_, _^_, _<_, _≤_, max}
+use Prim.Native.Nat.{ℕ, zero, suc, _+_, _*_, _-_, _^_, _<_, _≤_, max}
 use mathlib.Core.Bool.{Bool, true, false}
 use mathlib.Core.List.{List, [], _∷_}
 use mathlib.Core.Path.{_≡_, refl, sym, _∙_, ap}
 use native.Mathlib.Omega.{arith}
-use native.Mathlib.Nat.{div-mul-le-self, mul-le-mul-left, mul-le-mul-right, le-trans}
+use native.Mathlib.Nat.{mul-le-mul-left, mul-le-mul-right, le-trans}
 use lib.Dec.{T, eqb, ltb, leb, leb→le, lit≤}
 use lib.ListN.{getD}
-use lib.Pow.{pow-pos, pow-mono}
-use Rattle.numbers.specs.Tests.{every, both, by-leb}
+use lib.Pow.{pow-mono}
+use Rattle.numbers.specs.Tests.{every, both}
 use Rattle.numbers.specs.Ceiling.{upDiv, up-half, up-most}
 use Rattle.width_table.specs.Nodes.{Node, P2, G1, G2, nodeNumber}
 use Rattle.stages.specs.Stages.{low, high, stage, forward, Product, uncut, cutTo, productBits, bits}

@@ -5,11 +5,11 @@ use Prim.Native.Nat.{ℕ, zero, suc, _+_, _*_, _-_, _<_, _≤_}
 use mathlib.Core.Path.{_≡_, refl, sym, _∙_, ap, subst}
 use native.Mathlib.Omega.{arith}
 use native.Mathlib.Decide.{decLt}
-use native.Mathlib.Nat.{mul-le-mul-right, le-antisymm, le-of-mul-le-mul-right, lt-of-mul-lt-mul-right, div-mul-le-self}
+use native.Mathlib.Nat.{le-antisymm}
 use lib.IntN.{sucℤ-+ℤ, predℤ-+ℤ, +ℤ-idl, ℤ, pos, negsuc, sucℤ, natAbs, _+ℤ_, predℤ}
 use Rattle.numbers.specs.Abs.{abs-mul}
 use Rattle.exact.specs.Fractions.{Frac, _≈_, _⊕_, whole, magnitude, roundedUp, zeroF}
-use Rattle.numbers.specs.Ceiling.{upDiv, upDiv-most, up-same}
+use Rattle.numbers.specs.Ceiling.{up-same}
 use Rattle.exact.specs.FracLaws.{≈-refl, ≈-trans, ⊕-cong, ⊕-zero-r}
 use Rattle.stages.specs.Stages.{Side, low, high, Stage, stage, made, worked}
 use Rattle.stages.specs.Gains.{Line, before, after, valuesAfter, sumTo, Source, samples, lows, highs, node, inputAnswer, nodeAnswer, sumFrom, exactGain, gain}

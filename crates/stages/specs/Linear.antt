@@ -5,7 +5,7 @@ use mathlib.Core.Path.{_≡_, refl, _∙_, ap, subst}
 use mathlib.Core.Bool.{Bool, true, false}
 use native.Mathlib.Omega.{arith}
 use native.Mathlib.Decide.{decLe}
-use native.Mathlib.Nat.{mul-le-mul-right, mul-pos, lt-div-mul-add}
+use native.Mathlib.Nat.{mul-le-mul-right, mul-pos}
 use lib.Dec.{T, eqb→eq, eqb-refl}
 use lib.IntN.{ℤ, pos, negsuc, natAbs, _+ℤ_, _*ℤ_, *ℤ-comm}
 use Rattle.exact.specs.Fractions.{Frac, _≈_, _⊕_, _⊗_, whole, magnitude, roundedUp, zeroF, oneF, Within}

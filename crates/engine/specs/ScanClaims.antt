@@ -21,7 +21,7 @@ use Rattle.width_table.specs.FormLists.{FullLists}
 use Rattle.width_table.specs.ReadLaws.{table-read}
 use Rattle.width_table.specs.RoundTrip.{read-sized, written-reads}
 use Rattle.width_table.specs.WorkedTables.{usual}
-use Rattle.lifting.specs.Runs.{as-type}
+use Rattle.slices.specs.Runs.{as-type}
 use Rattle.pictures.specs.Pictures.{Admitted, sample}
 use Rattle.pictures.specs.PictureLaws.{over-take}
 use Rattle.precision.specs.Verdict.{verdict}

@@ -25,7 +25,8 @@ use Rattle.width_table.specs.Changes.{widthAnswer, withWidth, constantAnswer, w
 use Rattle.width_table.specs.FormLaws.{no-products}
 use Rattle.width_table.specs.EarlierForms.{formWithout, nameAnswerWithout}
 use Rattle.width_table.specs.WithoutProducts.{then-answered, reads-as-before, named-as-before, writes-as-before}
-use Rattle.pictures.specs.Pictures.{sideAnswer, lengthAnswer, pixelAnswer, planeOf, zeroed}
+use Rattle.pictures.specs.Pictures.{sideAnswer, lengthAnswer, pixelAnswer, planeOf}
+use Rattle.slices.specs.Fronts.{zeroed}
 use Rattle.stages.specs.Rule.{Bound}
 use Rattle.precision.specs.Uncut.{oldBoundOf, oldVerdict, oldBoundAnswer, old-bounds, old-verdict, old-bound-told}
 use Rattle.irreversible.specs.Calls.{fixedAnswerOf, fixedAnswer, fixedPlaneAfter, fixedWork}

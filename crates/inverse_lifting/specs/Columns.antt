@@ -10,8 +10,8 @@ use lib.IntN.{ℤ, pos, natAbs}
 use lib.ListN.{length, set, length-set}
 use lib.Seq.{getD-set-same, getD-set-other}
 use Rattle.lines.specs.Lines.{lows, highs, Liftable}
-use Rattle.lifting.specs.Patch.{at}
-use Rattle.lifting.specs.Runs.{as-type}
+use Rattle.slices.specs.Patch.{at}
+use Rattle.slices.specs.Runs.{as-type}
 use Rattle.inverse_lifting.specs.declared.Pipeline.{Pipeline}
 use Rattle.inverse_lifting.specs.declared.ColumnStrip.{ColumnStrip}
 use Rattle.inverse_lifting.specs.Fixed.{nodeBits, atG1, atG2, limit}

@@ -8,7 +8,7 @@ use lib.ListN.{length}
 use Rattle.lines.specs.Lines.{onHighs, onLows, lowAfter, highBefore, highAfter, interleaved}
 use Rattle.lines.specs.Planes.{fromOne, tabulate}
 use Rattle.stages.specs.Fixed.{nearest, cut, scale}
-use Rattle.lifting.specs.Patch.{at}
+use Rattle.slices.specs.Patch.{at}
 use Rattle.inverse_lifting.specs.Fixed.{nodeBits, inverseStep, atG1, atG2, atU2, atP2, atU1, atP1, fixedInverseLong, fixedInverse, limit}
 use Rattle.inverse_lifting.specs.Planes.{Safe}
 use Rattle.inverse_lifting.specs.Single.{back-single}

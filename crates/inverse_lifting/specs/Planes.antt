@@ -1,7 +1,7 @@
 -- Rows of a plane in memory with the lifting inverted (document 02, job 1), and what keeps the machine's numbers in 64 bits.
 use Prim.Native.Nat.{ℕ, _<_, _≤_}
 use lib.IntN.{ℤ, natAbs}
-use Rattle.lifting.specs.Kernels.{rowsBy}
+use Rattle.slices.specs.Parts.{rowsBy}
 use Rattle.inverse_lifting.specs.Fixed.{nodeBits, fixedInverse, Small, limit}
 
 -- what enters a line of n values, and every value on the way, is at most 2^15 in magnitude at the bits of a node

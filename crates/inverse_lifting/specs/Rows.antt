@@ -11,9 +11,9 @@ use lib.Seq.{getD-set-same, getD-set-other}
 use mir.Syntax.{w64}
 use Rattle.lines.specs.Lines.{lows, highs, Liftable}
 use Rattle.lines.specs.LineLaws.{even-place, odd-place, by-parity}
-use Rattle.lifting.specs.Patch.{at, patch, patch-in}
-use Rattle.lifting.specs.PatchLines.{lineAt, lines-apart, lines-is}
-use Rattle.lifting.specs.SignedRuns.{back}
+use Rattle.slices.specs.Patch.{at, patch, patch-in}
+use Rattle.slices.specs.PatchLines.{lineAt, lines-apart, lines-is}
+use Rattle.slices.specs.SignedRuns.{back}
 use Rattle.inverse_lifting.specs.declared.Pipeline.{Pipeline}
 use Rattle.inverse_lifting.specs.Fixed.{nodeBits, inverseBits, atG1, atG2, fixedInverseLong, fixedInverse, limit}
 use Rattle.inverse_lifting.specs.Planes.{Safe, rowsInverse}

@@ -16,8 +16,8 @@ use Rattle.numbers.specs.Quote.{terms, vars, ring}
 use Rattle.exact.specs.Fractions.{Frac}
 use Rattle.exact.specs.Exact.{alpha, beta, gamma, delta, zeta, zetaInverse}
 use Rattle.numbers.specs.Abs.{mag-of-abs}
-use Rattle.lifting.specs.Runs.{as-type}
-use Rattle.lifting.specs.SignedRuns.{back, got}
+use Rattle.slices.specs.Runs.{as-type}
+use Rattle.slices.specs.SignedRuns.{back, got}
 use Rattle.stages.specs.Fixed.{nearest, cut, scale}
 use Rattle.inverse_lifting.specs.Fixed.{nodeBits, inverseBits, inverseStep, limit}
 use Rattle.inverse_lifting.specs.Cases.{inverseStepEnd}

@@ -12,8 +12,8 @@ use Rattle.lines.specs.Lines.{lows, highs, Liftable, lowAfter, highBefore, high
 use mir.Syntax.{w64}
 use mir.Val.{SFits}
 use mir.Facts.{toZ-ofZ}
-use Rattle.lifting.specs.Runs.{as-type}
-use Rattle.lifting.specs.SignedRuns.{back}
+use Rattle.slices.specs.Runs.{as-type}
+use Rattle.slices.specs.SignedRuns.{back}
 use Rattle.inverse_lifting.specs.declared.Pipeline.{Pipeline}
 use Rattle.inverse_lifting.specs.Fixed.{inverseStep, atG1, atG2, atU2, atP2, atU1, atP1, SmallLong, limit}
 use Rattle.inverse_lifting.specs.Cases.{inverseStepEnd}

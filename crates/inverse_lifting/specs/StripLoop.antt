@@ -7,9 +7,9 @@ use native.Mathlib.Decide.{decLt}
 use lib.IntN.{ℤ, pos}
 use Rattle.lines.specs.Lines.{lows, highs, Liftable}
 use Rattle.lines.specs.LineLaws.{even-place, odd-place, by-parity}
-use Rattle.lifting.specs.Patch.{at}
-use Rattle.lifting.specs.PatchLines.{lineAt, lines-is}
-use Rattle.lifting.specs.Strips.{same-line}
+use Rattle.slices.specs.Patch.{at}
+use Rattle.slices.specs.PatchLines.{lineAt, lines-is}
+use Rattle.slices.specs.PartLaws.{same-line}
 use Rattle.inverse_lifting.specs.declared.ColumnStrip.{ColumnStrip}
 use Rattle.inverse_lifting.specs.declared.ColumnsAt.{ColumnsAt}
 use Rattle.inverse_lifting.specs.Fixed.{fixedInverseLong, fixedInverse}

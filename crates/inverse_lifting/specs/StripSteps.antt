@@ -7,7 +7,7 @@ use native.Mathlib.Omega.{arith}
 use lib.IntN.{ℤ}
 use lib.ListN.{length}
 use Rattle.lines.specs.Lines.{lows, highs}
-use Rattle.lifting.specs.Patch.{at, patch, patch-in, patch-below, patch-out}
+use Rattle.slices.specs.Patch.{at, patch, patch-in, patch-below, patch-out}
 use Rattle.inverse_lifting.specs.declared.ColumnStrip.{ColumnStrip}
 use Rattle.inverse_lifting.specs.declared.ColumnsAt.{ColumnsAt}
 use Rattle.inverse_lifting.specs.Steps.{stepped-as}

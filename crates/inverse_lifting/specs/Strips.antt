@@ -9,9 +9,9 @@ use lib.IntN.{ℤ}
 use lib.ListN.{length}
 use Rattle.lines.specs.Lines.{lows, highs, Liftable}
 use Rattle.numbers.specs.Tests.{ltb-true, ltb-false}
-use Rattle.lifting.specs.Patch.{at, patch, patch-in, patch-below, patch-above}
-use Rattle.lifting.specs.PatchLines.{lineAt, patchLines, lines-out, lines-none, lines-more}
-use Rattle.lifting.specs.Strips.{value-as-was, strips-more}
+use Rattle.slices.specs.Patch.{at, patch, patch-in, patch-below, patch-above}
+use Rattle.slices.specs.PatchLines.{lineAt, patchLines, lines-out, lines-none, lines-more}
+use Rattle.slices.specs.PartLaws.{value-as-was, strips-more}
 use Rattle.stages.specs.Fixed.{cut}
 use Rattle.inverse_lifting.specs.declared.ColumnStrip.{ColumnStrip}
 use Rattle.inverse_lifting.specs.declared.ColumnsAt.{ColumnsAt}

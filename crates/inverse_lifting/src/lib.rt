@@ -5,8 +5,8 @@ ghost use mathlib.Core.Bool.{true};
 ghost use Prim.Native.Nat.{ℕ, _+_, _*_, _<_, _≤_, min, max};
 ghost use lib.ListN.{length};
 ghost use lib.IntN.{natAbs};
-ghost use Rattle.lifting.specs.Patch.{at, Free, patch};
-ghost use Rattle.lifting.specs.Kernels.{Part, rowOf};
+ghost use Rattle.slices.specs.Patch.{at, Free, patch};
+ghost use Rattle.slices.specs.Parts.{Part, rowOf};
 ghost use Rattle.inverse_lifting.specs.Fixed.{nodeBits, limit};
 ghost use Rattle.inverse_lifting.specs.Planes.{Safe, rowsInverse};
 ghost use Rattle.inverse_lifting.specs.Stages.{Inside, Constant, movedBy, endedBy, scaledBy};
@@ -211,17 +211,6 @@ fn stepped(
 
 // ---- places
 
-// The n values of src from place `from` on go to dst from place `to` on.
-fn copy_run(src: &[i64], from: usize, dst: &mut [i64], to: usize, n: usize)
-    requires { ⌜ (from + n ≤ length (now src)) × (to + n ≤ length (now dst)) ⌝ }
-    ensures { λ _. ⌜ at (now (dst .exit)) ≡ patch to n (λ j. at (now (src .entry)) (from + j)) (at (now (dst .entry))) ⌝ }
-{
-    for j in 0..n {
-        let v = src[from + j];
-        dst[to + j] = v;
-    }
-}
-
 // The place that step i reads: i, or the last one where i is past it (what stands there is then not used). Where i is known not to be past
 // it, `inner` may be set.
 fn place(i: usize, last: usize, inner: bool) -> usize
@@ -231,7 +220,7 @@ fn place(i: usize, last: usize, inner: bool) -> usize
     if inner {
         return i;
     }
-    lifting::smaller(i, last)
+    numbers::smaller(i, last)
 }
 
 // ---- a row
@@ -277,13 +266,6 @@ fn row_steps(
     t
 }
 
-// The larger of two numbers.
-fn larger(a: usize, b: usize) -> usize
-    ensures { λ r. ⌜ r ≡ max a b ⌝ }
-{
-    if a < b { b } else { a }
-}
-
 // The row of w values from place `from` on, inverted: it stands in the line from place ROW_START on, and all else there is free.
 // Lows and highs have the bits of a node.
 pub fn row(work: &[i64], line: &mut [i64], from: usize, w: usize)
@@ -292,7 +274,7 @@ pub fn row(work: &[i64], line: &mut [i64], from: usize, w: usize)
     ensures line { λ _. ⌜ Free (now (line .entry)) (now (line .exit)) ⌝ }
 {
     if w < 2 {
-        copy_run(work, from, line, ROW_START, w);
+        slices::copy_run_wide(work, from, line, ROW_START, w);
         return;
     }
     let none = Pipeline {
@@ -304,7 +286,7 @@ pub fn row(work: &[i64], line: &mut [i64], from: usize, w: usize)
         odd: 0,
     };
     let first = row_steps(work, line, from, w, 0, 2, none, false);
-    let end = larger(2, w / 2);
+    let end = numbers::larger(2, w / 2);
     let then = row_steps(work, line, from, w, 2, end, first, true);
     row_steps(work, line, from, w, end, (w + 1) / 2 + 2, then, false);
 }
@@ -322,7 +304,7 @@ pub fn rows(work: &mut [i64], line: &mut [i64], stride: usize, w: usize, h: usiz
     }
     for r in 0..h {
         row(work, line, r * stride, w);
-        copy_run(line, ROW_START, work, r * stride, w);
+        slices::copy_run_wide(line, ROW_START, work, r * stride, w);
     }
 }
 
@@ -472,7 +454,7 @@ fn feed(plane: &[i32], work: &[i64], state: &mut [i64], a: ColumnsAt, b: ColumnS
         load(plane, from + i * width, state, 4 * room, columns);
         return;
     }
-    copy_run(work, from + 2 * i * stride, state, 4 * room, columns);
+    slices::copy_run_wide(work, from + 2 * i * stride, state, 4 * room, columns);
 }
 
 // Step i of a strip at the ends of its columns: what it gives goes to the work area by way of `line`, as far as there are such lines.
@@ -499,9 +481,9 @@ fn outer_step(
     let from = a.from;
     let stride = a.stride;
     let to = from + 2 * (i - 2) * stride;
-    copy_run(line, 0, work, to, columns);
+    slices::copy_run_wide(line, 0, work, to, columns);
     if i - 2 < n / 2 {
-        copy_run(line, room, work, to + stride, columns);
+        slices::copy_run_wide(line, room, work, to + stride, columns);
     }
 }
 
@@ -523,7 +505,7 @@ fn strip_step(
     let width = a.width;
     let stride = a.stride;
     let high = n / 2;
-    let top = from + ((n + 1) / 2 + lifting::smaller(i, high - 1)) * width;
+    let top = from + ((n + 1) / 2 + numbers::smaller(i, high - 1)) * width;
     if i < 2 {
         outer_step(plane, work, state, line, top, a, b, i);
         return;
@@ -622,7 +604,7 @@ pub fn columns(
     let stored = a.stored;
     let mut done = 0;
     while done < w {
-        let s = lifting::smaller(room, w - done);
+        let s = numbers::smaller(room, w - done);
         let at = ColumnsAt {
             width: width,
             stride: stride,

@@ -16,12 +16,11 @@ use Rattle.refusals.specs.AnswerLaws.{answered-done, answered-refused}
 use Rattle.width_table.specs.declared.WidthTable.{WidthTable}
 use Rattle.width_table.specs.Limits.{form-levels}
 use Rattle.width_table.specs.Nodes.{Pass, Rows, LowColumns, HighColumns}
-use Rattle.lifting.specs.Patch.{at}
-use Rattle.lifting.specs.Runs.{as-type}
-use Rattle.lifting.specs.Kernels.{Part, rowOf, columnOf, columnsBy}
-use Rattle.pictures.specs.Pictures.{zeroed}
-use Rattle.lifting.specs.Strips.{pixelLine}
-use Rattle.pictures.specs.MemoryLaws.{loaded}
+use Rattle.slices.specs.Patch.{at}
+use Rattle.slices.specs.Runs.{as-type}
+use Rattle.slices.specs.Parts.{Part, rowOf, columnOf, columnsBy}
+use Rattle.slices.specs.Fronts.{zeroed}
+use Rattle.slices.specs.Pixels.{pixelLine, loaded}
 use Rattle.precision.specs.Verdict.{Accepted}
 use Rattle.precision.specs.Promise.{promise}
 use Rattle.irreversible.specs.Transforms.{fixedLine, fixedPlane}

@@ -7,7 +7,8 @@ use Rattle.numbers.specs.Lists.{over}
 use Rattle.refusals.specs.Answers.{Answer, _then_, answered}
 use Rattle.lines.specs.Planes.{rowByRow}
 use Rattle.width_table.specs.declared.WidthTable.{WidthTable}
-use Rattle.pictures.specs.Pictures.{sideAnswer, lengthAnswer, pixelAnswer, zeroed}
+use Rattle.pictures.specs.Pictures.{sideAnswer, lengthAnswer, pixelAnswer}
+use Rattle.slices.specs.Fronts.{zeroed}
 use Rattle.precision.specs.Verdict.{verdict}
 use Rattle.irreversible.specs.Transforms.{fixedPlane}
 

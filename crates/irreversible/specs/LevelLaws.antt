@@ -18,7 +18,8 @@ use Rattle.width_table.specs.Nodes.{Node, P1, U1, P2, U2, G1, G2, Pass, Rows, L
 use Rattle.width_table.specs.declared.WidthTable.{WidthTable}
 use Rattle.width_table.specs.Table.{constantBits, fractionBits, inputBits}
 use Rattle.lifting.specs.Steps.{FactorSafe}
-use Rattle.lifting.specs.Kernels.{SafeKernel, rowOf, columnOf, rowsBy, columnsBy}
+use Rattle.lifting.specs.Kernels.{SafeKernel}
+use Rattle.slices.specs.Parts.{rowOf, columnOf, rowsBy, columnsBy}
 use Rattle.pictures.specs.MemoryLaws.{Reads, Stands, columnsPlane, columns-in, columns-below, columns-left, columns-right, one-reads, rows-stand, rows-beyond, columns-stand, columns-beyond}
 use Rattle.stages.specs.Stages.{Product}
 use Rattle.stages.specs.Fixed.{cut, step, scale}

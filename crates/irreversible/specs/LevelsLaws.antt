@@ -12,8 +12,8 @@ use Rattle.lines.specs.RowLaws.{place-in}
 use Rattle.width_table.specs.Nodes.{Rows}
 use Rattle.width_table.specs.Limits.{form-levels, form-constants, form-widths, form-input}
 use Rattle.width_table.specs.declared.WidthTable.{WidthTable}
-use Rattle.lifting.specs.Patch.{at, patch, patch-in, patch-above}
-use Rattle.lifting.specs.Strips.{pixelLine}
+use Rattle.slices.specs.Patch.{at, patch, patch-in, patch-above}
+use Rattle.slices.specs.Pixels.{pixelLine}
 use Rattle.pictures.specs.Pictures.{sample}
 use Rattle.pictures.specs.MemoryLaws.{Stands, stands-over}
 use Rattle.precision.specs.Verdict.{Accepted, AcceptPromise}

@@ -18,7 +18,7 @@ use Rattle.lines.specs.Neighbours.{low-after-in, high-before-in, high-after-in}
 use Rattle.width_table.specs.Nodes.{Node, P1, U1, P2, U2, G1, G2}
 use Rattle.lifting.specs.declared.Step.{Step}
 use Rattle.lifting.specs.Steps.{applied, Safe, SumSafe, FactorSafe}
-use Rattle.lifting.specs.Runs.{as-type}
+use Rattle.slices.specs.Runs.{as-type}
 use Rattle.lifting.specs.Passes.{evens}
 use Rattle.lifting.specs.Kernels.{SafeKernel}
 use Rattle.stages.specs.Stages.{Product, uncut, cutTo}

@@ -4,7 +4,7 @@ ghost use Prim.Native.Nat.{_+_, _*_, _-_, _<_, _≤_, _^_, max};
 ghost use lib.IntN.{pos, _*ℤ_};
 ghost use mir.Syntax.{w64};
 ghost use mir.Val.{SFits};
-ghost use Rattle.lifting.specs.Patch.{at};
+ghost use Rattle.slices.specs.Patch.{at};
 ghost use Rattle.lifting.specs.Steps.{SameFactor};
 ghost use Rattle.width_table.specs.Table.{maxFractionBits};
 ghost use Rattle.lines.specs.Planes.{rowByRow};
@@ -24,8 +24,9 @@ ghost use Rattle.irreversible.specs.SafeLaws.{ConstantBits};
 ghost use Rattle.irreversible.specs.LevelLaws.{rowed, columned, levelWorked};
 ghost use Rattle.irreversible.specs.LevelBits.{IsLevel, cutBits};
 ghost use Rattle.irreversible.specs.CallSteps.{RowsReady, ColumnsReady, BothReady, LevelReady, Ready};
-ghost use Rattle.lifting.specs.Kernels.{SameKernel, columnsBy};
-ghost use Rattle.pictures.specs.MemoryLaws.{loaded};
+ghost use Rattle.lifting.specs.Kernels.{SameKernel};
+ghost use Rattle.slices.specs.Parts.{columnsBy};
+ghost use Rattle.slices.specs.Pixels.{loaded};
 use lifting::Factor;
 use lifting::Kernel;
 use lifting::Pair;
@@ -491,7 +492,7 @@ pub fn forward(
         Outcome::Done => {
             let n = w * h;
             transform(table, pixels, plane, &mut work[..n], w, h);
-            pictures::clear(work, n);
+            slices::clear(work, n);
             Outcome::Done
         }
     }

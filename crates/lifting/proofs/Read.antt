@@ -11,7 +11,7 @@ use Rattle.lifting.specs.declared.Step.the-variants.{Scaled, Cut}
 use Rattle.lifting.specs.declared.Factor.{Factor}
 use Rattle.lifting.specs.declared.Factor.the-variants.{Plain}
 use Rattle.lifting.specs.Steps.{applied, ended, Safe}
-use Rattle.lifting.specs.SignedRuns.{back, got}
+use Rattle.slices.specs.SignedRuns.{back, got}
 
 module _ (w : Width) {s s′ : Step} {own x y : ℤ} (fo : SFits w own) (fx : SFits w x) (fy : SFits w y) (same : s ≡ s′) where
   path : applied s own x y ≡ applied s′ (back w own) (back w x) (back w y)

@@ -1,6 +1,6 @@
 -- Steps by unsigned numbers: a value is biased by 2 ^ 31, and a sum of biased values is shifted and unbiased again.
 use mathlib.Core.Path.{_≡_, refl, sym, ap, _∙_, subst}
-use mathlib.Core.Bool.{Bool, true, false, cond}
+use mathlib.Core.Bool.{Bool, true, false}
 use mathlib.Core.List.{List, [], _∷_}
 use Prim.Native.Nat.{ℕ, zero, suc, _+_, _-_, _*_, _/_, _%_, _^_, _<_, _≤_}
 use native.Mathlib.Omega.{arith}
@@ -12,35 +12,13 @@ use lib.Dec.{T}
 use lib.Signed.{shrZ, ltZ}
 use mir.Syntax.{w32, w64}
 use mir.Val.{SFits}
-use borrow.Author.Tests.{lt-ltb, le-ltb, ltb-true, ltb-false}
+use borrow.Author.Tests.{ltb-true, ltb-false}
 use Rattle.numbers.specs.Floor.{floor-add-mul}
 use Rattle.numbers.specs.Quote.{terms, vars, ring}
+use Rattle.slices.specs.Biased.{biased, biased-is, sub-le, sub-lt}
 use Rattle.lifting.specs.declared.Step.the-variants.{Scaled, Separate, Combined}
 use Rattle.lifting.specs.declared.Factor.the-variants.{Plain, Biased}
 use Rattle.lifting.specs.Steps.{signed, signedSum, scaled, SumSafe, SameStep, SameFactor}
-
--- ---- biased values
-
--- z + 2 ^ 31, for a z that an i32 holds
-abbrev pub biased : ℤ → ℕ
-biased (pos n) = n + 2147483648
-biased (negsuc n) = 2147483647 - n
-
-sub-le : (a b : ℕ) → b ≤ a → subℕ a b ≡ pos (a - b)
-sub-le a b h = ap (λ (t : Bool). cond t (negsuc (b - suc a)) (pos (a - b))) (le-ltb a b h)
-
-sub-lt : (a b : ℕ) → a < b → subℕ a b ≡ negsuc (b - suc a)
-sub-lt a b h = ap (λ (t : Bool). cond t (negsuc (b - suc a)) (pos (a - b))) (lt-ltb a b h)
-
-pub biased-is : (z : ℤ) → SFits w32 z → z +ℤ pos 2147483648 ≡ pos (biased z)
-biased-is (pos n) h = refl
-biased-is (negsuc n) h =
-    let l : n < 2147483648 = h .sfits in
-    sub-le 2147483648 (suc n) (omega arith) ∙ ap pos (omega arith)
-
-pub biased-small : (z : ℤ) → SFits w32 z → biased z < 4294967296
-biased-small (pos n) h = let l : n < 2147483648 = h .sfits in omega arith
-biased-small (negsuc n) h = let l : n < 2147483648 = h .sfits in omega arith
 
 -- ---- a sum of biased values, shifted and unbiased
 

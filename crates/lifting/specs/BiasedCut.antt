@@ -15,7 +15,8 @@ use Rattle.numbers.specs.Laws.{twice-times}
 use Rattle.numbers.specs.Quote.{terms, vars, ring}
 use Rattle.lifting.specs.declared.Step.the-variants.{Cut, BiasedCut}
 use Rattle.lifting.specs.Steps.{signed, signedSum, product, cutFirst, SumSafe, CutSafe, BiasedCutSafe, SameStep}
-use Rattle.lifting.specs.Bias.{biased, biased-is, biased-small, unbiased, padded-is, signed-product, signed-sum-fits, fused-most}
+use Rattle.slices.specs.Biased.{biased, biased-is, biased-small}
+use Rattle.lifting.specs.Bias.{unbiased, padded-is, signed-product, signed-sum-fits, fused-most}
 
 -- ---- the sum of such a step
 

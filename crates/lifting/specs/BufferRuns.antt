@@ -7,8 +7,8 @@ use native.Mathlib.Omega.{arith}
 use lib.IntN.{ℤ}
 use lib.ListN.{length}
 use Rattle.lines.specs.Lines.{lows, highs}
-use Rattle.lifting.specs.Patch.{at, patch, patch-ext, patch-to}
-use Rattle.lifting.specs.Runs.{ran, Runs, SafeBy, as-type, next-safe, next-run, front-safe, front-run}
+use Rattle.slices.specs.Patch.{at, patch, patch-ext, patch-to}
+use Rattle.slices.specs.Runs.{ran, Runs, SafeBy, as-type, next-safe, next-run, front-safe, front-run}
 use Rattle.lifting.specs.Buffers.{Buffer, sizes, packed, newHighs, newLows, highsDone, lowsDone, AtHighs, AtLows, at-highs, at-lows, highs-middle, highs-last, lows-first, lows-middle, lows-last}
 
 -- the places of the runs, in a slice m as long as the line buffer l

@@ -10,9 +10,9 @@ use lib.ListN.{length}
 use Rattle.lines.specs.Lines.{lows, highs, Liftable, lowAfter, highBefore, highAfter, onHighs, onLows, lowsFirst, interleaved}
 use Rattle.lines.specs.LineLaws.{some-lows, some-highs, first-low, first-high, even-place, odd-place, by-half, by-parity}
 use Rattle.lines.specs.Neighbours.{low-after-in, high-before-in, high-after-in, low-after-next, high-before-next, high-after-next, low-after-last, high-before-first, high-after-last}
-use Rattle.lifting.specs.Patch.{patch, patch-in, patch-below, patch-above}
-use Rattle.lifting.specs.Runs.{as-type}
-use Rattle.lifting.specs.PatchLines.{lineAt, patchLines, lines-apart, lines-in}
+use Rattle.slices.specs.Patch.{patch, patch-in, patch-below, patch-above}
+use Rattle.slices.specs.Runs.{as-type}
+use Rattle.slices.specs.PatchLines.{lineAt, patchLines, lines-apart, lines-in}
 use Rattle.lifting.specs.declared.Pair.{Pair}
 use Rattle.lifting.specs.Steps.{applied, Safe}
 use Rattle.lifting.specs.Passes.{liftedHighs, liftedLows, SafePair}

@@ -2,20 +2,17 @@
 use mathlib.Core.Path.{_≡_, refl, sym, fun-ext}
 use mathlib.Core.Bool.{Bool, true, false}
 use lib.Dec.{T}
-use Prim.Native.Nat.{ℕ, _+_, _<_, _≤_, _^_}
-use mathlib.Core.List.{List}
+use Prim.Native.Nat.{ℕ, _+_, _<_}
 use lib.IntN.{ℤ}
-use lib.ListN.{length}
 use Rattle.lines.specs.Lines.{lows, highs, onHighs, onLows, lowsFirst, interleaved}
-use Rattle.lines.specs.Planes.{OnLine}
+use Rattle.slices.specs.Parts.{rowsBy, columnsBy}
 use Rattle.lifting.specs.declared.Step.{Step}
 use Rattle.lifting.specs.declared.Factor.{Factor}
 use Rattle.lifting.specs.declared.Pair.{Pair}
 use Rattle.lifting.specs.declared.Kernel.{Kernel}
 use Rattle.lifting.specs.declared.Kernel.the-variants.{One, Two, Inverse}
 use Rattle.lifting.specs.Steps.{applied, Safe, SameStep, scaledBy, FactorSafe, SameFactor}
-use Rattle.lifting.specs.Runs.{as-type}
-use Rattle.lifting.specs.PatchLines.{lineAt, patchLines}
+use Rattle.slices.specs.Runs.{as-type}
 use Rattle.lifting.specs.Passes.{evens, odds, liftedHighs, liftedLows, SafePair}
 
 -- ---- two pairs of steps
@@ -124,31 +121,9 @@ same-two {p} {q} {r} {t} {g1} {g2} {f1} {f2} ep eq eg fg = record {
     l2 : (n : ℕ) (x : ℕ → ℤ) → secondLows r t n x ≡ secondLows p q n x
     l2 n x = same-lows eq n (same-lows ep n refl refl) (same-highs ep n refl refl)
 
--- ---- rows and columns of a plane in memory, whose row r starts at r * stride
+-- ---- rows and columns of a plane in memory
 
--- columns `from` to `from + w - 1` of h rows lie in the plane
-pub record Part (plane : List ℤ) (stride from w h : ℕ) : Type 0 where
-  pub narrow : from + w ≤ stride
-  pub few : h < 2 ^ 31
-  pub wide : stride < 2 ^ 31
-  pub fits : (r : ℕ) → r < h → lineAt from stride r + w ≤ length plane
-
--- row r, from column `from` on; and column j after it
-abbrev pub rowOf : ℕ → ℕ → (ℕ → ℤ) → ℕ → ℕ → ℤ
-rowOf stride from x r c = x (lineAt from stride r + c)
-
-abbrev pub columnOf : ℕ → ℕ → (ℕ → ℤ) → ℕ → ℕ → ℤ
-columnOf stride from x j r = x (lineAt from stride r + j)
-
--- the first w values of h rows, each row by a pass
-abbrev pub rowsBy : OnLine ℤ → ℕ → ℕ → ℕ → (ℕ → ℤ) → ℕ → ℤ
-rowsBy pass stride w h x = patchLines (lineAt 0 stride) w h (λ r. pass w (rowOf stride 0 x r)) x
-
--- w columns of h rows, from column `from` on, each column by a pass
-abbrev pub columnsBy : OnLine ℤ → ℕ → ℕ → ℕ → ℕ → (ℕ → ℤ) → ℕ → ℤ
-columnsBy pass stride from w h x = patchLines (lineAt from stride) w h (λ r j. pass h (columnOf stride from x j) r) x
-
--- the same by a kernel
+-- the first w values of h rows, each row by a kernel; w columns of h rows, from column `from` on, each column by a kernel
 abbrev pub rowsWorked : Kernel → ℕ → ℕ → ℕ → (ℕ → ℤ) → ℕ → ℤ
 rowsWorked k = rowsBy (worked k)
 

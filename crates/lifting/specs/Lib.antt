@@ -1,19 +1,17 @@
 -- Lifting on line buffers: what the code of src/ does to the contents of slices, as functions of the place.
 --   Steps      one lifting step on unlimited integers, and what keeps the machine's step inside its types
+--   SafeRuns   the same at each place of a run
 --   Passes, Kernels   a pass over a line, over rows and over columns of a plane
---   Patch, PatchLines   a slice as a function of the place, with a run of places, or lines, replaced
---   Runs       a step at each place of a run
 --   Buffers    a step at each high or low of the columns of a line buffer; a line buffer filled with lines; a row
 -- Proved of them:
---   SignedRuns, BufferRuns   a step of a run on signed numbers; a step at a line buffer's highs or lows by runs
+--   BufferRuns a step at a line buffer's highs or lows by runs
 --   Bias       steps and scalings by unsigned numbers
 --   BiasedCut  the same of steps whose product is cut first
 --   Ends       the reduced equations at an end of a line are the step there
---   Strips     a strip's lines, worked on their way out of the line buffer; a plane worked row by row and strip by strip; rows of pixels
+--   Strips     a strip's lines, worked on their way out of the line buffer
+--   PixelLaws  a kernel reads its line's own values only; lines of pixels
 pub mod Steps
-pub mod Patch
-pub mod Runs
-pub mod PatchLines
+pub mod SafeRuns
 pub mod Passes
 pub mod Buffers
 pub mod Kernels
@@ -21,5 +19,5 @@ pub mod Bias
 pub mod BiasedCut
 pub mod Ends
 pub mod Strips
-pub mod SignedRuns
+pub mod PixelLaws
 pub mod BufferRuns

@@ -8,15 +8,18 @@ ghost use mir.Syntax.{w32, w64};
 ghost use mir.Val.{SFits};
 ghost use Rattle.lines.specs.Lines.{interleaved};
 ghost use Rattle.lifting.specs.Steps.{applied, ended, PlainStep, Safe, SameStep, SumSafe, signedSum, signed, biasedStep, scaledBy, FactorSafe, SameFactor};
-ghost use Rattle.lifting.specs.Bias.{biased};
+ghost use Rattle.slices.specs.Biased.{biased};
 ghost use Rattle.lifting.specs.BiasedCut.{joined, JoinSafe};
-ghost use Rattle.lifting.specs.Patch.{at, Free, patch};
-ghost use Rattle.lifting.specs.Runs.{ran, Runs, SafeRun};
-ghost use Rattle.lifting.specs.PatchLines.{lineAt, patchLines, Lying};
+ghost use Rattle.slices.specs.Patch.{at, Free, patch};
+ghost use Rattle.slices.specs.Runs.{ran, Runs};
+ghost use Rattle.lifting.specs.SafeRuns.{SafeRun};
+ghost use Rattle.slices.specs.PatchLines.{lineAt, patchLines, Lying};
 ghost use Rattle.lifting.specs.Passes.{evens, odds, Liftable};
 ghost use Rattle.lifting.specs.Buffers.{Buffer, column, highColumn, highsDone, lowsDone, AtHighs, AtLows, liftedBuffer, inverseLiftedBuffer, LiftSafe, InverseLiftSafe, BufferHolds};
-ghost use Rattle.lifting.specs.Kernels.{worked, Forward, SafeKernel, SamePair, Part, rowOf, columnOf, rowsWorked, columnsWorked};
-ghost use Rattle.lifting.specs.Strips.{StripRoom, Ready, Finished, pixelLine};
+ghost use Rattle.lifting.specs.Kernels.{worked, Forward, SafeKernel, SamePair, rowsWorked, columnsWorked};
+ghost use Rattle.slices.specs.Parts.{Part, rowOf, columnOf};
+ghost use Rattle.lifting.specs.Strips.{StripRoom, Ready, Finished};
+ghost use Rattle.slices.specs.Pixels.{pixelLine};
 
 // A lifting step: what it makes of a value and two neighbours is `applied` of specs/Steps. `Separate` and `Combined` are the forms in which a
 // scaled step is run: by products of unsigned numbers, the neighbours' sum negated where the constant is negative. `Cut` cuts the product by
@@ -166,20 +169,12 @@ fn narrowed(z: i64, cut: u32) -> i32
     (z >> cut) as i32
 }
 
-// 2 to a power.
-fn power(k: u32) -> u64
-    requires { ⌜ k ≤ 62 ⌝ }
-    ensures { λ r. ⌜ r ≡ 2 ^ k ⌝ }
-{
-    1u64 << k
-}
-
 // The step `Scaled`, in i64.
 fn scaled_of(k: u32, c: i64, cut: u32, own: i32, x: i32, y: i32) -> i32
     requires { ⌜ Safe (Step.Scaled k c cut) own x y ⌝ }
     ensures { λ r. ⌜ r ≡ applied (Step.Scaled k c cut) own x y ⌝ }
 {
-    let left = times(power(k) as i64, wide(own));
+    let left = times(numbers::power(k) as i64, wide(own));
     let right = times(c, plus(wide(x), wide(y)));
     narrowed(plus(left, right), cut)
 }
@@ -197,8 +192,8 @@ fn join(k: u32, up: u32, cut: u32, own: i32, part: i64) -> i32
     requires { ⌜ JoinSafe k up cut own part ⌝ }
     ensures { λ r. ⌜ r ≡ joined k up cut own part ⌝ }
 {
-    let left = times(power(k) as i64, wide(own));
-    let right = times(power(up) as i64, part);
+    let left = times(numbers::power(k) as i64, wide(own));
+    let right = times(numbers::power(up) as i64, part);
     narrowed(plus(left, right), cut)
 }
 
@@ -209,13 +204,6 @@ fn cut_of(k: u32, c: i64, first: u32, up: u32, cut: u32, own: i32, x: i32, y: i3
 {
     let part = shifted(times(c, plus(wide(x), wide(y))), first);
     join(k, up, cut, own, part)
-}
-
-// z + 2 ^ 31
-pub fn bias(z: i32) -> u32
-    ensures { λ r. ⌜ r ≡ biased z ⌝ }
-{
-    ((z as i64) + 2147483648) as u32
 }
 
 // A product of 32-bit numbers, and offset more.
@@ -272,7 +260,7 @@ fn product(down: bool, c: u32, offset: u64, x: i32, y: i32) -> u64
     requires { ⌜ SumSafe x y × (c < 2147483648) × (offset ≤ 4611686018427387904) ⌝ }
     ensures { λ r. ⌜ (r ≡ c * biased (signedSum down x y) + offset) × (r ≤ 13835058055282163712) ⌝ }
 {
-    fused(c, bias(signed_sum(down, x, y)), offset)
+    fused(c, slices::bias(signed_sum(down, x, y)), offset)
 }
 
 // The step `Separate`: the own value is taken out of the cut.
@@ -300,7 +288,7 @@ fn combined_of(
     ensures { λ r. ⌜ r ≡ applied (Step.Combined down k c offset base cut) own x y ⌝ }
 {
     let part = product(down, c, offset, x, y);
-    narrow(shifted_unbiased(fused(1u32 << k, bias(own), part), cut, base))
+    narrow(shifted_unbiased(fused(1u32 << k, slices::bias(own), part), cut, base))
 }
 
 // Both, by number: `biasedStep` of specs/Steps.
@@ -352,7 +340,7 @@ fn biased_cut_of(
     ensures { λ r. ⌜ r ≡ applied (Step.BiasedCut down k c offset first up base cut) own x y ⌝ }
 {
     let part = realigned(product(down, c, offset, x, y), first, up);
-    narrow(shifted_unbiased(fused(1u32 << k, bias(own), part), cut, base))
+    narrow(shifted_unbiased(fused(1u32 << k, slices::bias(own), part), cut, base))
 }
 
 // One step of one value, not in a biased form.
@@ -417,7 +405,7 @@ fn scaled_end(k: u32, c: i64, cut: u32, own: i32, x: i32) -> i32
     requires { ⌜ Safe (Step.Scaled k c cut) own x x ⌝ }
     ensures { λ r. ⌜ r ≡ ended (Step.Scaled k c cut) own x ⌝ }
 {
-    let left = times(power(k) as i64, wide(own));
+    let left = times(numbers::power(k) as i64, wide(own));
     let right = times(times(2, c), wide(x));
     narrowed(plus(left, right), cut)
 }
@@ -497,7 +485,7 @@ fn biased_by(c: u32, offset: u64, base: u64, cut: u32, x: i32) -> i32
     requires { ⌜ FactorSafe (Factor.Biased c offset base cut) x ⌝ }
     ensures { λ r. ⌜ r ≡ scaledBy (Factor.Biased c offset base cut) x ⌝ }
 {
-    narrow(shifted_unbiased(fused(c, bias(x), offset), cut, base))
+    narrow(shifted_unbiased(fused(c, slices::bias(x), offset), cut, base))
 }
 
 // ---- one run
@@ -815,13 +803,13 @@ fn combined(down: bool, k: u32, c: u32, cut: u32) -> Step
     requires { ⌜ (1 ≤ cut) × (cut ≤ 61) × (k ≤ 30) × (c < 2147483648) ⌝ }
     ensures { λ r. ⌜ SameStep (Step.Scaled k (signed down c) cut) r ⌝ }
 {
-    let total = (power(k) + (c as u64)) * 2147483648;
+    let total = (numbers::power(k) + (c as u64)) * 2147483648;
     let base = multiple(total, cut);
     Step::Combined {
         down,
         k,
         c,
-        offset: base * power(cut) - total,
+        offset: base * numbers::power(cut) - total,
         base,
         cut,
     }
@@ -869,10 +857,10 @@ fn biased_cut(down: bool, k: u32, c: u32, first: u32, up: u32, cut: u32) -> Step
         down,
         k,
         c,
-        offset: m * power(first + cut) - total,
+        offset: m * numbers::power(first + cut) - total,
         first,
         up,
-        base: power(31 + k - cut) + m * power(up),
+        base: numbers::power(31 + k - cut) + m * numbers::power(up),
         cut,
     }
 }
@@ -940,7 +928,7 @@ fn quick_factor(c: i64, cut: u32) -> Factor
     let base = multiple(total, cut);
     Factor::Biased {
         c: f,
-        offset: base * power(cut) - total,
+        offset: base * numbers::power(cut) - total,
         base,
         cut,
     }
@@ -970,18 +958,7 @@ pub fn fastest_pair(pair: Pair) -> Pair
 
 // ---- values copied and scaled
 
-// The n values of src from place `from` on go to dst from place `to` on.
-fn copy_run(src: &[i32], from: usize, dst: &mut [i32], to: usize, n: usize)
-    requires { ⌜ (from + n ≤ length (now src)) × (to + n ≤ length (now dst)) ⌝ }
-    ensures { λ _. ⌜ at (now (dst .exit)) ≡ patch to n (λ j. at (now (src .entry)) (from + j)) (at (now (dst .entry))) ⌝ }
-{
-    for j in 0..n {
-        let v = src[from + j];
-        dst[to + j] = v;
-    }
-}
-
-// The same, each value scaled on the way.
+// The n values of src from place `from` on, each scaled, go to dst from place `to` on.
 fn plain_scale_run(src: &[i32], from: usize, dst: &mut [i32], to: usize, n: usize, c: i64, cut: u32)
     requires { ⌜ (from + n ≤ length (now src)) × (to + n ≤ length (now dst)) ⌝ }
     requires { ⌜ ((j : ℕ) → j < n → FactorSafe (Factor.Plain c cut) (at (now src) (from + j))) ⌝ }
@@ -1160,12 +1137,12 @@ fn copy_lines(
 {
     if step == m {
         if leap == m {
-            copy_run(src, from, dst, to, n * m);
+            slices::copy_run(src, from, dst, to, n * m);
             return;
         }
     }
     for i in 0..n {
-        copy_run(src, from + i * step, dst, to + i * leap, m);
+        slices::copy_run(src, from + i * step, dst, to + i * leap, m);
     }
 }
 
@@ -1213,8 +1190,8 @@ fn copy_pair(src: &[i32], a: usize, b: usize, dst: &mut [i32], c: usize, d: usiz
     requires { ⌜ (a + m ≤ length (now src)) × (b + m ≤ length (now src)) × (c + m ≤ length (now dst)) × (d + m ≤ length (now dst)) ⌝ }
     ensures { λ _. ⌜ at (now (dst .exit)) ≡ patch d m (λ j. at (now (src .entry)) (b + j)) (patch c m (λ j. at (now (src .entry)) (a + j)) (at (now (dst .entry)))) ⌝ }
 {
-    copy_run(src, a, dst, c, m);
-    copy_run(src, b, dst, d, m);
+    slices::copy_run(src, a, dst, c, m);
+    slices::copy_run(src, b, dst, d, m);
 }
 
 // The strip's lines go to the line buffer, the even ones first.
@@ -1231,7 +1208,7 @@ fn split_lines(plane: &[i32], buffer: &mut [i32], stride: usize, from: usize, s:
         copy_pair(plane, a, a + stride, buffer, c, top + c, s);
     }
     if high < low {
-        copy_run(plane, from + 2 * high * stride, buffer, high * s, s);
+        slices::copy_run(plane, from + 2 * high * stride, buffer, high * s, s);
     }
 }
 
@@ -1249,7 +1226,7 @@ fn merge_lines(buffer: &[i32], plane: &mut [i32], stride: usize, from: usize, s:
         copy_pair(buffer, c, top + c, plane, a, a + stride, s);
     }
     if high < low {
-        copy_run(buffer, high * s, plane, from + 2 * high * stride, s);
+        slices::copy_run(buffer, high * s, plane, from + 2 * high * stride, s);
     }
 }
 
@@ -1582,13 +1559,6 @@ pub fn rows(
 // As many columns as a strip has at most.
 const STRIP: usize = 64;
 
-// The smaller of two numbers.
-pub fn smaller(a: usize, b: usize) -> usize
-    ensures { λ r. ⌜ r ≡ min a b ⌝ }
-{
-    if a < b { a } else { b }
-}
-
 // w columns of h rows, from column `from` on, worked in place through the line buffer, strip by strip.
 pub fn columns(
     plane: &mut [i32],
@@ -1604,10 +1574,10 @@ pub fn columns(
     ensures plane { λ _. ⌜ at (now (plane .exit)) ≡ columnsWorked kernel stride from w h (at (now (plane .entry))) ⌝ }
     ensures buffer { λ _. ⌜ Free (now (buffer .entry)) (now (buffer .exit)) ⌝ }
 {
-    let most = smaller(STRIP, buffer.len() / h);
+    let most = numbers::smaller(STRIP, buffer.len() / h);
     let mut done = 0;
     while done < w {
-        let s = smaller(most, w - done);
+        let s = numbers::smaller(most, w - done);
         strip(plane, buffer, stride, from + done, s, h, kernel);
         done += s;
     }

@@ -4,7 +4,7 @@
 --   PictureLaws   what these refusals say where they are not given
 --   PixelLaws     these refusals as the code of src/ finds them
 --   RangeChecks   what a look over values tells
---   MemoryLaws    a plane in memory while kernels work its rows and columns
+--   MemoryLaws    a plane in memory while passes work its rows and columns
 pub mod Pictures
 pub mod PictureLaws
 pub mod PixelLaws

@@ -3,10 +3,9 @@ use Prim.Native.Nat.{ℕ, _+_, _*_, _-_, _^_, _≤_}
 use mathlib.Core.Bool.{Bool, _&&_}
 use mathlib.Core.List.{List}
 use lib.Dec.{leb, ltb}
-use lib.ListN.{getD, take, replicate}
+use lib.ListN.{getD, take}
 use lib.IntN.{ℤ, pos, _-ℤ_}
 use Rattle.numbers.specs.Tests.{every}
-use Rattle.numbers.specs.Lists.{over}
 use Rattle.refusals.specs.Answers.{Answer, passed, asks}
 use Rattle.lines.specs.Planes.{Plane}
 
@@ -41,7 +40,3 @@ sample pixels B w r c = pos (getD pixels (r * w + c) 0) -ℤ pos (2 ^ (B - 1))
 -- a plane's value at a row and a column, from its elements row by row
 abbrev pub planeOf : ℕ → List ℤ → Plane ℤ
 planeOf w plane r c = getD plane (r * w + c) (pos 0)
-
--- a work area whose first n elements are zero
-abbrev pub zeroed : ℕ → List ℤ → List ℤ
-zeroed n work = over (replicate n (pos 0)) work

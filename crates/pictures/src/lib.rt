@@ -1,15 +1,15 @@
-// Pictures and planes in memory: refusals 8, 9 and 10, looks over values, the middle of the pixels, the work area cleared.
+// Pictures and planes in memory: refusals 8, 9 and 10, looks over values, the middle of the pixels.
 ghost use mathlib.Core.Path.{_≡_};
 ghost use Prim.Native.Nat.{ℕ, _+_, _*_, _-_, _<_, _≤_, _^_};
 ghost use lib.ListN.{length};
 ghost use Rattle.width_table.specs.Table.{maxDepth};
 ghost use Rattle.lines.specs.Planes.{side};
-ghost use Rattle.lifting.specs.Patch.{at};
-ghost use Rattle.lifting.specs.PatchLines.{lineAt};
-ghost use Rattle.lifting.specs.Kernels.{rowOf};
+ghost use Rattle.slices.specs.Patch.{at};
+ghost use Rattle.slices.specs.PatchLines.{lineAt};
+ghost use Rattle.slices.specs.Parts.{rowOf};
 ghost use Rattle.refusals.specs.Answers.{_then_};
 ghost use Rattle.refusals.specs.Told.{told};
-ghost use Rattle.pictures.specs.Pictures.{maxSide, sideRight, sideAnswer, lengthAnswer, pixelAnswer, zeroed};
+ghost use Rattle.pictures.specs.Pictures.{maxSide, sideRight, sideAnswer, lengthAnswer, pixelAnswer};
 ghost use Rattle.pictures.specs.PixelLaws.{Largest};
 ghost use Rattle.pictures.specs.RangeChecks.{Tells, Between, OfBits, aboveLeast};
 use refusals::Outcome;
@@ -169,7 +169,7 @@ pub fn part_between(
 fn above(v: i32, top: u32) -> u32
     ensures { λ r. ⌜ r ≡ aboveLeast top v ⌝ }
 {
-    let bits = std::num::wrapping_add_u32(lifting::bias(v), 2147483648);
+    let bits = std::num::wrapping_add_u32(slices::bias(v), 2147483648);
     std::num::wrapping_add_u32(bits, top)
 }
 
@@ -204,14 +204,4 @@ pub fn part_of_bits(
         fits = fits & all_of_bits(values, from + i * stride, w, bits);
     }
     fits
-}
-
-// The first n elements become 0.
-pub fn clear(work: &mut [i32], n: usize)
-    requires { ⌜ n ≤ length (now work) ⌝ }
-    ensures { λ _. ⌜ now (work .exit) ≡ zeroed n (now (work .entry)) ⌝ }
-{
-    for i in 0..n {
-        work[i] = 0;
-    }
 }

@@ -12,7 +12,8 @@ use Rattle.width_table.specs.Table.{depthRight, levelsRight, maxDepth, maxLevel
 use Rattle.numbers.specs.Lists.{over}
 use Rattle.refusals.specs.AnswerLaws.{asks-done, asks-right, asks-wrong, then-done, then-assoc, then-right, then-refused, answered-done, answered-refused}
 use Rattle.lines.specs.Planes.{rowByRow}
-use Rattle.pictures.specs.Pictures.{pixelAnswer, sample, zeroed}
+use Rattle.pictures.specs.Pictures.{pixelAnswer, sample}
+use Rattle.slices.specs.Fronts.{zeroed}
 use Rattle.pictures.specs.PictureLaws.{roomAnswer, sized-then, sized-done, pixels-done}
 use Rattle.reversible.specs.Reversible.{Order, columnsFirst, forward}
 use Rattle.reversible.specs.Calls.{limitAnswer, forwardAnswer, forwardPlane, forwardWork, hasPicture, backAllowed, backAnswer, backPixels, backWork}

@@ -8,7 +8,7 @@ use lib.IntN.{ℤ, pos, natAbs, negℤ}
 use Rattle.numbers.specs.Abs.{abs-≤}
 use Rattle.lines.specs.Planes.{side, inverseLevels}
 use Rattle.lines.specs.PlaneLaws.{side-le, Agree}
-use Rattle.lifting.specs.Kernels.{rowOf}
+use Rattle.slices.specs.Parts.{rowOf}
 use Rattle.pictures.specs.RangeChecks.{Tells, Between}
 use Rattle.reversible.specs.Reversible.{Order, inverse}
 use Rattle.reversible.specs.LevelLaws.{BoundedPart, planeAt}

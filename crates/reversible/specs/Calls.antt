@@ -11,7 +11,8 @@ use Rattle.numbers.specs.Lists.{over}
 use Rattle.refusals.specs.Answers.{Answer, passed, asks, _then_, answered}
 use Rattle.lines.specs.Planes.{rowByRow}
 use Rattle.width_table.specs.Table.{depthRight, levelsRight}
-use Rattle.pictures.specs.Pictures.{sideAnswer, lengthAnswer, pixelAnswer, sample, planeOf, zeroed}
+use Rattle.pictures.specs.Pictures.{sideAnswer, lengthAnswer, pixelAnswer, sample, planeOf}
+use Rattle.slices.specs.Fronts.{zeroed}
 use Rattle.reversible.specs.Reversible.{Order, forward, inverse}
 
 -- 4: depth and levels are within their limits

@@ -14,9 +14,9 @@ use Rattle.lifting.specs.declared.Step.the-variants.{Predict, Update}
 use Rattle.lifting.specs.Steps.{applied}
 use Rattle.lifting.specs.Passes.{evens, odds}
 use Rattle.lifting.specs.Kernels.{worked, SafeKernel, columnsWorked}
-use Rattle.lifting.specs.Patch.{patch, patch-in, patch-below, patch-above}
-use Rattle.lifting.specs.Strips.{pixelLine}
-use Rattle.pictures.specs.MemoryLaws.{loaded, pixel-columns-worked}
+use Rattle.slices.specs.Patch.{patch, patch-in, patch-below, patch-above}
+use Rattle.slices.specs.Pixels.{pixelLine, loaded}
+use Rattle.lifting.specs.PixelLaws.{pixel-columns-worked}
 use Rattle.reversible.specs.Sizes.{forwardKernel}
 
 -- column c of the samples of a picture of w columns

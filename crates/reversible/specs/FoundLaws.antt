@@ -15,10 +15,10 @@ use Rattle.numbers.specs.Tests.{both, and-intro}
 use Rattle.lines.specs.Planes.{Plane}
 use Rattle.lines.specs.PlaneLaws.{Agree}
 use Rattle.lines.specs.RowLaws.{place-in, rows-length, rows-at, every-row, every-row-at}
-use Rattle.lifting.specs.Patch.{at, patch, patch-in, patch-above}
+use Rattle.slices.specs.Patch.{at, patch, patch-in, patch-above}
 use Rattle.pictures.specs.Pictures.{planeOf}
 use Rattle.pictures.specs.RangeChecks.{Tells, Between, tells-same}
-use Rattle.pictures.specs.MemoryLaws.{over-is}
+use Rattle.slices.specs.FrontLaws.{over-is}
 use Rattle.reversible.specs.Reversible.{Order, inverse}
 use Rattle.reversible.specs.ReversibleLaws.{back-agrees}
 use Rattle.reversible.specs.Calls.{pixelsBack, isPixel, hasPicture}

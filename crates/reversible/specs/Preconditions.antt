@@ -9,11 +9,12 @@ use lib.IntN.{ℤ, pos, natAbs, _-ℤ_}
 use lib.ListN.{length, getD, take}
 use Rattle.numbers.specs.Tests.{every}
 use Rattle.lifting.specs.declared.Kernel.{Kernel}
-use Rattle.lifting.specs.Kernels.{Part, SafeKernel, rowOf, columnOf}
-use Rattle.lifting.specs.Patch.{at, patch-in}
+use Rattle.slices.specs.Parts.{Part, rowOf, columnOf}
+use Rattle.lifting.specs.Kernels.{SafeKernel}
+use Rattle.slices.specs.Patch.{at, patch-in}
 use Rattle.pictures.specs.Pictures.{maxSide, Admitted}
 use Rattle.pictures.specs.PictureLaws.{Room}
-use Rattle.pictures.specs.MemoryLaws.{loaded}
+use Rattle.slices.specs.Pixels.{loaded}
 use Rattle.lines.specs.Lines.{Liftable}
 use Rattle.lines.specs.Planes.{Plane, side}
 use Rattle.lines.specs.PlaneLaws.{side-le}

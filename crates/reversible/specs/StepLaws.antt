@@ -10,10 +10,11 @@ use Rattle.numbers.specs.Dif.{difs}
 use Rattle.numbers.specs.Lists.{over}
 use Rattle.lines.specs.Planes.{rowByRow}
 use Rattle.lines.specs.PlaneLaws.{side-none, Agree}
-use Rattle.lifting.specs.Patch.{at, patch-above}
+use Rattle.slices.specs.Patch.{at, patch-above}
 use Rattle.pictures.specs.Pictures.{sample}
 use Rattle.pictures.specs.PictureLaws.{pixel-below}
-use Rattle.pictures.specs.MemoryLaws.{loaded, stands-over}
+use Rattle.slices.specs.Pixels.{loaded}
+use Rattle.pictures.specs.MemoryLaws.{stands-over}
 use Rattle.reversible.specs.Reversible.{columnsFirst, forward}
 use Rattle.reversible.specs.ReversibleLaws.{forward-agrees}
 use Rattle.reversible.specs.LevelLaws.{BoundedPart, planeAt}

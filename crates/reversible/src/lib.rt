@@ -9,13 +9,13 @@ ghost use Rattle.refusals.specs.Answers.{_then_};
 ghost use Rattle.refusals.specs.Told.{told};
 ghost use Rattle.lines.specs.Planes.{rowByRow};
 ghost use Rattle.lines.specs.Lines.{lows, highs};
-ghost use Rattle.lifting.specs.Patch.{at, patch};
+ghost use Rattle.slices.specs.Patch.{at, patch};
 ghost use Rattle.lifting.specs.Steps.{applied, Safe};
-ghost use Rattle.lifting.specs.Strips.{pixelLine};
+ghost use Rattle.slices.specs.Pixels.{pixelLine, loaded};
 ghost use Rattle.lifting.specs.Kernels.{columnsWorked};
-ghost use Rattle.pictures.specs.Pictures.{sideAnswer, lengthAnswer, sample, zeroed};
+ghost use Rattle.pictures.specs.Pictures.{sideAnswer, lengthAnswer, sample};
+ghost use Rattle.slices.specs.Fronts.{zeroed};
 ghost use Rattle.pictures.specs.RangeChecks.{Tells, Between};
-ghost use Rattle.pictures.specs.MemoryLaws.{loaded};
 ghost use Rattle.reversible.specs.Reversible.{columnsFirst, rowsFirst, forward};
 ghost use Rattle.reversible.specs.Calls.{limitAnswer, forwardAnswer, forwardPlane, forwardWork, backAnswer, backPixels, backWork};
 ghost use Rattle.reversible.specs.Orders.{orderOf};
@@ -329,7 +329,7 @@ fn transform(
 {
     let size = w * h;
     levels_forward(pixels, depth, plane, &mut work[..size], w, h, levels);
-    pictures::clear(work, size);
+    slices::clear(work, size);
 }
 
 // The 5/3 transform of a picture, columns before rows: refusals 4, 8, 9 and 10; the plane, and a work area of which the first w * h elements become 0.
@@ -501,7 +501,7 @@ fn take_back(
         write_pixels(work, pixels, n, depth);
         true
     } else {
-        pictures::clear(work, n);
+        slices::clear(work, n);
         false
     }
 }

@@ -14,8 +14,9 @@ use borrow.Author.Tests.{lt-ltb, le-ltb}
 use Rattle.lines.specs.Lines.{lows, highs}
 use Rattle.lifting.specs.declared.Step.{Step}
 use Rattle.lifting.specs.declared.Factor.{Factor}
-use Rattle.lifting.specs.Patch.{patch, patch-in, patch-out, patch-below, patch-above, patch-is}
-use Rattle.lifting.specs.Runs.{ran, SafeRun, as-type}
+use Rattle.slices.specs.Patch.{patch, patch-in, patch-out, patch-below, patch-above, patch-is}
+use Rattle.slices.specs.Runs.{ran, as-type}
+use Rattle.lifting.specs.SafeRuns.{SafeRun}
 use Rattle.lifting.specs.Steps.{applied, Safe, scaledBy, FactorSafe}
 use Rattle.pictures.specs.Pictures.{maxSide}
 use Rattle.rolling.specs.Calls.{heldLines}

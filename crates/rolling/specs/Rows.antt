@@ -5,7 +5,7 @@ use mathlib.Core.Path.{_≡_}
 use native.Mathlib.Omega.{arith}
 use lib.IntN.{pos, _-ℤ_}
 use lib.ListN.{length, getD}
-use Rattle.lifting.specs.Strips.{pixelLine}
+use Rattle.slices.specs.Pixels.{pixelLine}
 use Rattle.width_table.specs.Nodes.{Rows}
 use Rattle.width_table.specs.declared.WidthTable.{WidthTable}
 use Rattle.pictures.specs.Pictures.{Admitted, sample}

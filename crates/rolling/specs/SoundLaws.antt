@@ -12,13 +12,13 @@ use lib.Seq.{drop-append-add, drop-drop, length-front, length-take-le}
 use lib.IntN.{ℤ, pos}
 use borrow.Author.Tests.{lt-ltb, le-ltb}
 use Rattle.lines.specs.Lines.{lows, highs}
-use Rattle.lifting.specs.Patch.{at}
-use Rattle.lifting.specs.PatchLines.{lineAt}
-use Rattle.lifting.specs.Runs.{as-type}
+use Rattle.slices.specs.Patch.{at}
+use Rattle.slices.specs.PatchLines.{lineAt}
+use Rattle.slices.specs.Runs.{as-type}
 use Rattle.width_table.specs.Nodes.{P1, U1, P2, Pass, LowColumns, HighColumns, columnPass}
 use Rattle.width_table.specs.declared.WidthTable.{WidthTable}
 use Rattle.width_table.specs.Table.{fractionBits, inputBits}
-use Rattle.pictures.specs.Pictures.{zeroed}
+use Rattle.slices.specs.Fronts.{zeroed}
 use Rattle.pictures.specs.RangeChecks.{Tells, OfBits}
 use Rattle.irreversible.specs.Claims.{InNodeWidth}
 use Rattle.rolling.specs.Schedule.{columnPassAt}

@@ -14,7 +14,7 @@ use Rattle.numbers.specs.Dif.{by-dif, difs}
 use Rattle.width_table.specs.Nodes.{P1, U1, P2}
 use Rattle.width_table.specs.declared.WidthTable.{WidthTable}
 use Rattle.width_table.specs.Table.{fractionBits, inputBits}
-use Rattle.lifting.specs.Patch.{at, patch-above}
+use Rattle.slices.specs.Patch.{at, patch-above}
 use Rattle.pictures.specs.MemoryLaws.{stands-over}
 use Rattle.irreversible.specs.Claims.{InNodeWidth}
 use Rattle.rolling.specs.declared.Taken.the-variants.{Zero, One, Two, Three, Four, OddMany, EvenMany}

@@ -6,7 +6,7 @@ use lib.Dec.{T}
 use lib.ListN.{length}
 use lib.IntN.{ℤ}
 use Rattle.width_table.specs.declared.WidthTable.{WidthTable}
-use Rattle.lifting.specs.Patch.{at}
+use Rattle.slices.specs.Patch.{at}
 use Rattle.rolling.specs.declared.Taken.{Taken}
 use Rattle.rolling.specs.declared.Taken.the-variants.{Four, EvenMany}
 use Rattle.rolling.specs.Schedule.{Line, evenTaken, heldAfter, lineGives, endGives}

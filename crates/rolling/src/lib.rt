@@ -4,8 +4,8 @@ ghost use Prim.Native.Nat.{ℕ, _+_, _*_, _<_, _≤_};
 ghost use mathlib.Core.Logic.{_⊎_};
 ghost use lib.ListN.{length};
 ghost use Rattle.refusals.specs.Told.{told};
-ghost use Rattle.lifting.specs.Patch.{at};
-ghost use Rattle.lifting.specs.PatchLines.{lineAt};
+ghost use Rattle.slices.specs.Patch.{at};
+ghost use Rattle.slices.specs.PatchLines.{lineAt};
 ghost use Rattle.width_table.specs.Numbered.{passOf, IsPass};
 ghost use Rattle.width_table.specs.Table.{maxFractionBits};
 ghost use Rattle.pictures.specs.RangeChecks.{Tells};
@@ -191,7 +191,7 @@ fn make_sound(table: WidthTable, held: &mut [i32], w: usize)
             return;
         }
     }
-    pictures::clear(held, 5 * w);
+    slices::clear(held, 5 * w);
 }
 
 // ---- the stages of the columns
@@ -394,7 +394,7 @@ fn first_row(table: WidthTable, pixels: &[u16], w: usize, held: &mut [i32])
     requires { ⌜ LineRight table (now pixels) w × Lent (now held) w ⌝ }
     ensures { λ _. ⌜ HeldWorked table w Taken.Zero (rowOf table (now (pixels .entry)) w) (now (held .entry)) (now (held .exit)) ⌝ }
 {
-    pictures::clear(held, 5 * w);
+    slices::clear(held, 5 * w);
     row_to(table, pixels, w, held, 0);
 }
 

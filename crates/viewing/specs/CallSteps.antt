@@ -18,11 +18,12 @@ use Rattle.width_table.specs.declared.WidthTable.{WidthTable}
 use Rattle.width_table.specs.Limits.{form-depth, form-levels}
 use Rattle.width_table.specs.Nodes.{G1, Rows, LowColumns, columnPass}
 use Rattle.width_table.specs.Table.{maxLevels, fractionBits}
-use Rattle.lifting.specs.Patch.{at}
-use Rattle.lifting.specs.Runs.{as-type}
-use Rattle.lifting.specs.PatchLines.{lineAt}
-use Rattle.lifting.specs.Kernels.{Part, rowOf}
-use Rattle.pictures.specs.Pictures.{maxSide, planeOf, zeroed}
+use Rattle.slices.specs.Patch.{at}
+use Rattle.slices.specs.Runs.{as-type}
+use Rattle.slices.specs.PatchLines.{lineAt}
+use Rattle.slices.specs.Parts.{Part, rowOf}
+use Rattle.pictures.specs.Pictures.{maxSide, planeOf}
+use Rattle.slices.specs.Fronts.{zeroed}
 use Rattle.pictures.specs.PictureLaws.{roomAnswer, sized-done}
 use Rattle.irreversible.specs.LevelBits.{IsLevel}
 use Rattle.inverse_lifting.specs.Fixed.{nodeBits, fixedInverse}

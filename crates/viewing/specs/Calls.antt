@@ -11,7 +11,8 @@ use Rattle.refusals.specs.Answers.{Answer, passed, asks, _then_, answered}
 use Rattle.lines.specs.Planes.{Plane, rowByRow}
 use Rattle.width_table.specs.declared.WidthTable.{WidthTable}
 use Rattle.width_table.specs.Table.{integerBits, fractionBits}
-use Rattle.pictures.specs.Pictures.{sideAnswer, lengthAnswer, planeOf, zeroed}
+use Rattle.pictures.specs.Pictures.{sideAnswer, lengthAnswer, planeOf}
+use Rattle.slices.specs.Fronts.{zeroed}
 use Rattle.irreversible.specs.Claims.{keptNode}
 use Rattle.view_precision.specs.Bounds.{viewVerdict}
 use Rattle.viewing.specs.View.{viewPicture}

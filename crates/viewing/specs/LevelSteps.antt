@@ -19,9 +19,9 @@ use Rattle.lines.specs.PlaneLaws.{columns-first-in}
 use Rattle.width_table.specs.Nodes.{G1, G2, Pass, Rows, LowColumns, HighColumns, columnPass}
 use Rattle.width_table.specs.declared.WidthTable.{WidthTable}
 use Rattle.stages.specs.Fixed.{cut, scale}
-use Rattle.lifting.specs.PatchLines.{lineAt, lines-apart, lines-in, lines-out}
-use Rattle.lifting.specs.Kernels.{rowOf, rowsBy}
-use Rattle.lifting.specs.Strips.{same-line}
+use Rattle.slices.specs.PatchLines.{lineAt, lines-apart, lines-in, lines-out}
+use Rattle.slices.specs.Parts.{rowOf, rowsBy}
+use Rattle.slices.specs.PartLaws.{same-line}
 use Rattle.pictures.specs.MemoryLaws.{Reads, one-reads}
 use Rattle.inverse_lifting.specs.Fixed.{nodeBits, inverseBits, inverseStep, atG1, atG2, atU2, atP2, atU1, atP1, fixedInverseLong, fixedInverse, SmallLong, Small, limit}
 use Rattle.inverse_lifting.specs.declared.ColumnsAt.{ColumnsAt}

@@ -16,7 +16,8 @@ use Rattle.lines.specs.RowLaws.{tabulate-same, rows-same}
 use Rattle.width_table.specs.Nodes.{Node, G1, G2, Pass, Rows, LowColumns, TableNode, nodeAt, columnPass}
 use Rattle.width_table.specs.declared.WidthTable.{WidthTable}
 use Rattle.width_table.specs.Table.{integerBits, fractionBits}
-use Rattle.pictures.specs.Pictures.{sideAnswer, lengthAnswer, planeOf, zeroed}
+use Rattle.pictures.specs.Pictures.{sideAnswer, lengthAnswer, planeOf}
+use Rattle.slices.specs.Fronts.{zeroed}
 use Rattle.precision.specs.Verdict.{keptAt, verdict}
 use Rattle.view_precision.specs.Products.{SeenAlike, seen-verdict, same-nodes}
 use Rattle.inverse_lifting.specs.Fixed.{nodeBits, fixedInverse}

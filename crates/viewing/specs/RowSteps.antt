@@ -8,11 +8,12 @@ use lib.IntN.{ℤ, pos, natAbs}
 use lib.ListN.{length, getD}
 use Rattle.numbers.specs.Lists.{over}
 use Rattle.lines.specs.Planes.{Plane, rowByRow}
-use Rattle.lifting.specs.Patch.{at, patch, patch-in, patch-above, patch-is}
-use Rattle.lifting.specs.PatchLines.{lineAt, patchLines, lines-apart, lines-out, lines-in, lines-more, packed-lines}
-use Rattle.lifting.specs.Kernels.{Part, rowOf}
-use Rattle.pictures.specs.Pictures.{zeroed}
-use Rattle.pictures.specs.MemoryLaws.{plane-over, patch-zeroed}
+use Rattle.slices.specs.Patch.{at, patch, patch-in, patch-above, patch-is}
+use Rattle.slices.specs.PatchLines.{lineAt, patchLines, lines-apart, lines-out, lines-in, lines-more, packed-lines}
+use Rattle.slices.specs.Parts.{Part, rowOf}
+use Rattle.slices.specs.Fronts.{zeroed}
+use Rattle.pictures.specs.MemoryLaws.{plane-over}
+use Rattle.slices.specs.FrontLaws.{patch-zeroed}
 use Rattle.width_table.specs.Table.{maxDepth}
 use Rattle.inverse_lifting.specs.Fixed.{nodeBits, fixedInverse, limit}
 use Rattle.inverse_lifting.specs.Planes.{Safe}

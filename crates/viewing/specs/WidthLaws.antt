@@ -20,10 +20,10 @@ use Rattle.lines.specs.RowLaws.{every-row, every-row-at}
 use Rattle.width_table.specs.declared.WidthTable.{WidthTable}
 use Rattle.width_table.specs.Nodes.{Node, G1, G2, Pass, LowColumns, HighColumns, TableNode, nodeAt}
 use Rattle.width_table.specs.Table.{integerBits, fractionBits}
-use Rattle.lifting.specs.Patch.{at}
-use Rattle.lifting.specs.Runs.{as-type}
-use Rattle.lifting.specs.PatchLines.{lineAt}
-use Rattle.lifting.specs.Kernels.{Part, rowOf}
+use Rattle.slices.specs.Patch.{at}
+use Rattle.slices.specs.Runs.{as-type}
+use Rattle.slices.specs.PatchLines.{lineAt}
+use Rattle.slices.specs.Parts.{Part, rowOf}
 use Rattle.width_table.specs.Limits.{form-levels}
 use Rattle.precision.specs.Verdict.{Accepted}
 use Rattle.precision.specs.Promise.{promise}

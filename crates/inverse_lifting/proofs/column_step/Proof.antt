@@ -11,8 +11,8 @@ use mir.Val.{SFits}
 use mir.Facts.{toZ-ofZ, sfits-widen}
 use Rattle.numbers.specs.Auto.{rd}
 use Rattle.lines.specs.Lines.{lows, highs}
-use Rattle.lifting.specs.Patch.{at}
-use Rattle.lifting.specs.Runs.{as-type}
+use Rattle.slices.specs.Patch.{at}
+use Rattle.slices.specs.Runs.{as-type}
 use Rattle.inverse_lifting.specs.Fixed.{limit}
 use Rattle.inverse_lifting.specs.Stages.{read, size-read, again, scaledBy, cutBits, atInverse, atZeta}
 use Rattle.inverse_lifting.specs.Steps.{SomeReady, Stepped}

@@ -5,8 +5,8 @@ use Prim.Native.Nat.{ℕ, _+_, _*_, _-_, _≤_}
 use native.Mathlib.Omega.{arith}
 use lib.IntN.{natAbs}
 use lib.ListN.{length}
-use Rattle.lifting.specs.Patch.{at}
-use Rattle.lifting.specs.PatchLines.{lines-none, lines-to}
+use Rattle.slices.specs.Patch.{at}
+use Rattle.slices.specs.PatchLines.{lines-none, lines-to}
 use Rattle.inverse_lifting.specs.declared.ColumnsAt.{ColumnsAt}
 use Rattle.inverse_lifting.specs.Fixed.{limit}
 use Rattle.inverse_lifting.specs.Planes.{Safe}

@@ -21,7 +21,7 @@ returns-3 c =
     let l = c .before in
     let t = l .before .before in
     let s = t .before .before in
-    fed-left (s .args .plane .now) (s .args .work .now) (s .args .state .now) _ (s .args .a) (s .args .b) (s .args .i) (omega arith) _ (l .copy-run .ensures) (t .if2 .left) (λ j. refl)
+    fed-left (s .args .plane .now) (s .args .work .now) (s .args .state .now) _ (s .args .a) (s .args .b) (s .args .i) (omega arith) _ (l .copy-run-wide .ensures) (t .if2 .left) (λ j. refl)
 
 pub feed-spec : {M : Type 1} → statement M
 feed-spec =

@@ -10,19 +10,19 @@ returns c =
     let s = t .before .before .before in
     outer-none (s .pre .1) (t .steps .ensures) _ (c .if1 .taken)
 
-copy-run-requires : tie.Need-copy-run-requires
-copy-run-requires c κs =
+copy-run-wide-requires : tie.Need-copy-run-wide-requires
+copy-run-wide-requires c κs =
     let s = c .before .before .before .before .before .before .before .before in
     (omega (arith, s .pre .0 .placed .narrow, s .pre .0 .placed .spare), even-fits (s .pre .0 .placed) (s .args .i) (s .pre .0 .within))
 
-add-copy-run : tie.Need-add-copy-run
-add-copy-run c =
+add-copy-run-wide : tie.Need-add-copy-run-wide
+add-copy-run-wide c =
     let f = c .before .before in
     let s = f .before .before .before .before .before .before .before .before .before .before .before in
     omega (arith, odd-fits (s .pre .0 .placed) (s .args .i) (f .if2 .taken))
 
-copy-run-requires-2 : tie.Need-copy-run-requires-2
-copy-run-requires-2 c κs =
+copy-run-wide-requires-2 : tie.Need-copy-run-wide-requires-2
+copy-run-wide-requires-2 c κs =
     let f = c .before .before in
     let s = f .before .before .before .before .before .before .before .before .before .before .before in
     (omega (arith, s .pre .0 .placed .narrow, s .pre .0 .placed .spare), omega (arith, odd-fits (s .pre .0 .placed) (s .args .i) (f .if2 .taken)))
@@ -34,7 +34,7 @@ returns-2 c =
     let g = k .before .before .before in
     let t = g .before .before .before in
     let s = t .before .before .before in
-    outer-two (s .pre .1) (t .steps .ensures) _ _ (omega (arith, s .pre .0 .placed .lies .narrow)) (omega (arith, g .if1 .left)) (f .if2 .taken) (k .copy-run .ensures) (c .before .copy-run2 .ensures)
+    outer-two (s .pre .1) (t .steps .ensures) _ _ (omega (arith, s .pre .0 .placed .lies .narrow)) (omega (arith, g .if1 .left)) (f .if2 .taken) (k .copy-run-wide .ensures) (c .before .copy-run-wide2 .ensures)
 
 returns-3 : tie.Need-returns-3
 returns-3 c =
@@ -42,7 +42,7 @@ returns-3 c =
     let g = k .before .before .before in
     let t = g .before .before .before in
     let s = t .before .before .before in
-    outer-one (s .pre .1) (t .steps .ensures) _ _ (omega (arith, g .if1 .left)) (omega (arith, c .if2 .left)) (k .copy-run .ensures)
+    outer-one (s .pre .1) (t .steps .ensures) _ _ (omega (arith, g .if1 .left)) (omega (arith, c .if2 .left)) (k .copy-run-wide .ensures)
 
 pub outer-step-spec : {M : Type 1} → statement M
 outer-step-spec =
@@ -55,9 +55,9 @@ outer-step-spec =
     (λ c. omega arith)
     (λ c. let s = c .before .before .before .before .before .before in omega (arith, even-fits (s .pre .0 .placed) (s .args .i) (s .pre .0 .within)))
     (λ c. let s = c .before .before .before .before .before .before in omega (arith, even-fits (s .pre .0 .placed) (s .args .i) (s .pre .0 .within)))
-    copy-run-requires
-    add-copy-run
-    copy-run-requires-2
+    copy-run-wide-requires
+    add-copy-run-wide
+    copy-run-wide-requires-2
     (λ c. omega arith)
     (λ c. omega arith)
     (λ c. omega arith)

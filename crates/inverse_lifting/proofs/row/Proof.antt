@@ -27,7 +27,7 @@ row-steps-requires-3 c κs =
 returns : tie.Need-returns
 returns c =
     let s = c .before .before .before .before in
-    (row-single (s .args .work .now) (s .args .from) (s .args .w) _ _ (omega arith) (c .before .copy-run .ensures), omega arith)
+    (row-single (s .args .work .now) (s .args .from) (s .args .w) _ _ (omega arith) (c .before .copy-run-wide .ensures), omega arith)
 
 returns-2 : tie.Need-returns-2
 returns-2 c = (row-inverted (c .before .row-steps3 .ensures) (long (c .before .before .before .before .before .before .before .before .before .before)), omega arith)

@@ -5,7 +5,7 @@ use native.Mathlib.Omega.{arith}
 use lib.ListN.{length, length-set}
 use lib.Dec.{lit≤, lit<}
 use Rattle.lines.specs.Lines.{lows, highs}
-use Rattle.lifting.specs.Patch.{at}
+use Rattle.slices.specs.Patch.{at}
 use Rattle.inverse_lifting.specs.Stages.{again}
 use Rattle.inverse_lifting.specs.Steps.{PipelineHolds, Ready, step-held, step-gives}
 use Rattle.inverse_lifting.specs.Rows.{rowLine, Stand, low-small, high-small, step-ready, step-asked, step-taken, held-at, stand-next}

@@ -3,9 +3,9 @@ use mathlib.Core.Path.{_≡_, refl, sym, subst, _∙_}
 use Prim.Native.Nat.{_*_, _-_, _≤_}
 use native.Mathlib.Omega.{arith}
 use lib.ListN.{length}
-use Rattle.lifting.specs.Patch.{at, patch-ext}
-use Rattle.lifting.specs.PatchLines.{lines-none, lines-to}
-use Rattle.lifting.specs.Strips.{row-kept, row-next}
+use Rattle.slices.specs.Patch.{at, patch-ext}
+use Rattle.slices.specs.PatchLines.{lines-none, lines-to}
+use Rattle.slices.specs.PartLaws.{row-kept, row-next}
 use Rattle.inverse_lifting.specs.Fixed.{nodeBits, fixedInverse}
 use Rattle.inverse_lifting.specs.Planes.{Safe, rowsInverse}
 use Rattle.inverse_lifting.specs.Rows.{rows-single}
@@ -32,8 +32,8 @@ row-requires c κs =
       safe = subst (Safe nodeBits nodeBits (a .args .w)) (sym (row-kept (a .args .stride) (a .args .w) (t .loop .r) (t .loop .r * a .args .stride) (omega (arith, part .narrow)) _ _ _ (t .loop .inv .3) (omega arith))) (a .pre .1 (t .loop .r) (i .loop-test .taken));
     }
 
-copy-run-requires : tie.Need-copy-run-requires Inv-loop μ-loop
-copy-run-requires c κs =
+copy-run-wide-requires : tie.Need-copy-run-wide-requires Inv-loop μ-loop
+copy-run-wide-requires c κs =
     let i = c .before .before .before .before .before .before in
     let there = i .before .before .before .pre .0 .0 .fits (i .before .loop .r) (i .loop-test .taken) in
     (omega arith, omega arith)
@@ -47,7 +47,7 @@ loop-again c =
       omega arith,
       omega arith,
       row-next (fixedInverse nodeBits nodeBits) (a .args .stride) (a .args .w) (t .loop .r) (t .loop .r * a .args .stride) (omega (arith, a .pre .0 .0 .narrow)) (at (a .args .work .now)) _ _ (t .loop .inv .3) (omega arith)
-          (c .before .copy-run .ensures ∙ patch-ext _ _ _ _ _ (n .row .ensures .0)),
+          (c .before .copy-run-wide .ensures ∙ patch-ext _ _ _ _ _ (n .row .ensures .0)),
     )
 
 returns-2 : tie.Need-returns-2 Inv-loop μ-loop
@@ -64,7 +64,7 @@ rows-spec =
     (λ c. omega (arith, c .before .before .before .before .before .pre .0 .0 .fits (c .before .before .before .loop .r) (c .before .before .loop-test .taken)))
     row-requires
     (λ c. omega (arith, c .before .before .before .before .before .before .before .before .before .pre .0 .0 .fits (c .before .before .before .before .before .before .before .loop .r) (c .before .before .before .before .before .before .loop-test .taken)))
-    copy-run-requires
+    copy-run-wide-requires
     (λ c. omega arith)
     (λ c. omega arith)
     loop-again

@@ -5,7 +5,7 @@ use native.Mathlib.Omega.{arith}
 use lib.Dec.{lit≤}
 use lib.IntN.{ℤ, pos, natAbs}
 use lib.ListN.{length, length-set}
-use Rattle.lifting.specs.Patch.{at, patch-none, patch-set, patch-to}
+use Rattle.slices.specs.Patch.{at, patch-none, patch-set, patch-to}
 use Rattle.inverse_lifting.specs.Fixed.{limit}
 use Rattle.inverse_lifting.specs.Stages.{scaledBy, read, size-read, again}
 use Rattle.inverse_lifting.specs.Single.{atOne, scaled-one}

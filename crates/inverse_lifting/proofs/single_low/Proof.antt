@@ -8,8 +8,8 @@ use mir.Syntax.{w32, w64}
 use mir.Val.{SFits}
 use mir.Facts.{toZ-ofZ, sfits-widen}
 use Rattle.numbers.specs.Auto.{rd}
-use Rattle.lifting.specs.Patch.{at}
-use Rattle.lifting.specs.PatchLines.{lineAt}
+use Rattle.slices.specs.Patch.{at}
+use Rattle.slices.specs.PatchLines.{lineAt}
 use Rattle.inverse_lifting.specs.Strips.{source-stored, source-left}
 use Rattle.inverse_lifting.proofs.single_low.Statement.{statement}
 use Rattle.inverse_lifting.proofs.single_low.Tie as tie

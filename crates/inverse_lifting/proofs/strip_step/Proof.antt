@@ -3,7 +3,7 @@ use mathlib.Core.Path.{_≡_, ap}
 use Prim.Native.Nat.{ℕ, _+_}
 use native.Mathlib.Omega.{arith}
 use Rattle.lines.specs.Lines.{lows}
-use Rattle.lifting.specs.PatchLines.{lineAt}
+use Rattle.slices.specs.PatchLines.{lineAt}
 use Rattle.inverse_lifting.specs.Strips.{highPlace}
 use Rattle.inverse_lifting.specs.StripSteps.{high-fits, even-fits, inner-step, inner-stepped}
 use Rattle.inverse_lifting.proofs.strip_step.Statement.{statement}

@@ -2,9 +2,9 @@ use mathlib.Core.Path.{_∙_}
 use native.Mathlib.Omega.{arith}
 use borrow.Author.Needs.{needs}
 use Rattle.width_table.specs.Numbered.{passOf}
-use Rattle.lifting.specs.Patch.{at}
-use Rattle.lifting.specs.PatchLines.{lineAt, patchLines}
-use Rattle.lifting.specs.Kernels.{columnOf}
+use Rattle.slices.specs.Patch.{at}
+use Rattle.slices.specs.PatchLines.{lineAt, patchLines}
+use Rattle.slices.specs.Parts.{columnOf}
 use Rattle.irreversible.specs.KernelLaws.{kernel-line, factor-line}
 use Rattle.irreversible.proofs.columns_by.Statement.{statement}
 use Rattle.irreversible.proofs.columns_by.Tie as tie

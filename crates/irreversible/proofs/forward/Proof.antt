@@ -8,7 +8,7 @@ use Rattle.refusals.specs.Answers.{passed}
 use Rattle.irreversible.specs.Calls.{fixedAnswer}
 use Rattle.irreversible.specs.CallLaws.{room}
 use Rattle.irreversible.specs.CallSteps.{plane-kept, work-kept, plane-done, work-done, ready}
-use Rattle.pictures.specs.MemoryLaws.{zeroed-part}
+use Rattle.slices.specs.FrontLaws.{zeroed-part}
 use borrow.Author.Needs.{needs}
 use Rattle.irreversible.proofs.forward.Statement.{statement}
 use Rattle.irreversible.proofs.forward.Tie as tie

@@ -5,12 +5,13 @@ use native.Mathlib.Omega.{arith}
 use native.Mathlib.Nat.{mul-le-mul}
 use lib.IntN.{ℤ}
 use Rattle.width_table.specs.Nodes.{Rows}
-use Rattle.lifting.specs.Patch.{at}
-use Rattle.lifting.specs.PatchLines.{lineAt, patchLines}
-use Rattle.lifting.specs.Runs.{as-type}
-use Rattle.lifting.specs.Kernels.{worked, SafeKernel, rowOf}
-use Rattle.lifting.specs.Strips.{pixelLine}
-use Rattle.pictures.specs.MemoryLaws.{loaded, put-loaded, pixel-rows-worked}
+use Rattle.slices.specs.Patch.{at}
+use Rattle.slices.specs.PatchLines.{lineAt, patchLines}
+use Rattle.slices.specs.Runs.{as-type}
+use Rattle.lifting.specs.Kernels.{worked, SafeKernel}
+use Rattle.slices.specs.Parts.{rowOf}
+use Rattle.slices.specs.Pixels.{pixelLine, loaded}
+use Rattle.lifting.specs.PixelLaws.{put-loaded, pixel-rows-worked}
 use Rattle.width_table.specs.Limits.{form-depth}
 use Rattle.precision.specs.Promise.{promise}
 use Rattle.irreversible.specs.KernelLaws.{kernelOf, kernel-line}

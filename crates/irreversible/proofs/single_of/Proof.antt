@@ -2,7 +2,7 @@ use mathlib.Core.Path.{_≡_, _∙_}
 use Prim.Native.Nat.{_≤_}
 use native.Mathlib.Omega.{arith}
 use Rattle.lifting.specs.Steps.{SameFactor}
-use Rattle.lifting.specs.Runs.{as-type}
+use Rattle.slices.specs.Runs.{as-type}
 use Rattle.width_table.specs.Nodes.{G1}
 use Rattle.width_table.specs.Table.{maxFractionBits, fractionBits, inputBits}
 use Rattle.width_table.specs.Numbered.{passOf}

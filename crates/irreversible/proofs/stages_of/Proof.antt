@@ -4,7 +4,7 @@ use native.Mathlib.Omega.{arith}
 use borrow.Author.Needs.{needs}
 use lib.ListN.{getD}
 use Rattle.lifting.specs.Steps.{SameFactor}
-use Rattle.lifting.specs.Runs.{as-type}
+use Rattle.slices.specs.Runs.{as-type}
 use Rattle.lifting.specs.Kernels.{SamePair}
 use Rattle.exact.specs.Fractions.{Frac}
 use Rattle.exact.specs.Exact.{alpha, beta, gamma, delta, zeta, zetaInverse}

@@ -7,9 +7,9 @@ use lib.ListN.{length}
 use Rattle.lines.specs.Lines.{lows}
 use Rattle.lines.specs.Planes.{side}
 use Rattle.lines.specs.PlaneLaws.{side-le}
-use Rattle.lifting.specs.Patch.{at}
-use Rattle.lifting.specs.Runs.{as-type}
-use Rattle.pictures.specs.MemoryLaws.{loaded}
+use Rattle.slices.specs.Patch.{at}
+use Rattle.slices.specs.Runs.{as-type}
+use Rattle.slices.specs.Pixels.{loaded}
 use Rattle.width_table.specs.Limits.{form-levels}
 use Rattle.precision.specs.Promise.{promise}
 use Rattle.irreversible.specs.LevelLaws.{levelWorked}

@@ -2,8 +2,8 @@ use mathlib.Core.Path.{sym, ap, _∙_}
 use native.Mathlib.Omega.{arith}
 use Rattle.lines.specs.Lines.{lows, highs}
 use Rattle.width_table.specs.Nodes.{HighColumns}
-use Rattle.lifting.specs.Runs.{as-type}
-use Rattle.lifting.specs.Kernels.{columnOf, columnsBy}
+use Rattle.slices.specs.Runs.{as-type}
+use Rattle.slices.specs.Parts.{columnOf, columnsBy}
 use Rattle.irreversible.specs.Transforms.{fixedLine}
 use Rattle.irreversible.specs.LevelLaws.{LineSafe}
 use Rattle.irreversible.specs.CallSteps.{part-of}

@@ -4,8 +4,8 @@ use native.Mathlib.Omega.{arith}
 use borrow.Author.Needs.{needs}
 use mir.Syntax.{w32, w64}
 use Rattle.lifting.specs.Steps.{Safe}
-use Rattle.lifting.specs.Runs.{as-type}
-use Rattle.lifting.specs.SignedRuns.{got}
+use Rattle.slices.specs.Runs.{as-type}
+use Rattle.slices.specs.SignedRuns.{got}
 use Rattle.lifting.specs.Ends.{unbiased, unbiased-is, unbiased-safe}
 use Rattle.lifting.proofs.Read.{safe-back, ended-back, scaled-as, scaled-back, cut-as, cut-back}
 use Rattle.lifting.proofs.apply_end.Statement.{statement}

@@ -7,8 +7,9 @@ use lib.IntN.{pos, _-ℤ_, _*ℤ_}
 use lib.Signed.{shrZ}
 use mir.Syntax.{w32, w64}
 use mir.Facts.{toZ-ofZ}
-use Rattle.lifting.specs.Bias.{biased, padded-is, fused-small, cut-small, base-small}
-use Rattle.lifting.specs.SignedRuns.{got, fits-at}
+use Rattle.slices.specs.Biased.{biased}
+use Rattle.lifting.specs.Bias.{padded-is, fused-small, cut-small, base-small}
+use Rattle.slices.specs.SignedRuns.{got, fits-at}
 use Rattle.lifting.proofs.biased_by.Statement.{statement}
 use Rattle.lifting.proofs.biased_by.Tie as tie
 

@@ -9,9 +9,9 @@ use lib.Pow.{pow-mono, shl-exact}
 use mir.Syntax.{w32, w64}
 use mir.Facts.{toZ-ofZ}
 use Rattle.lifting.specs.Steps.{cutFirst, signed, signedSum}
-use Rattle.lifting.specs.Bias.{biased}
+use Rattle.slices.specs.Biased.{biased}
 use Rattle.lifting.specs.BiasedCut.{biased-cut-is, whole-small, product-small, cut-base-small}
-use Rattle.lifting.specs.SignedRuns.{got, fits-at}
+use Rattle.slices.specs.SignedRuns.{got, fits-at}
 use Rattle.lifting.proofs.biased_cut_of.Statement.{statement}
 use Rattle.lifting.proofs.biased_cut_of.Tie as tie
 

@@ -7,9 +7,9 @@ use lib.ListN.{length, length-set}
 use mir.Syntax.{w32}
 use Rattle.lifting.specs.declared.Step.{Step}
 use Rattle.lifting.specs.Steps.{applied, Safe, biasedStep}
-use Rattle.lifting.specs.Patch.{at, patch-none, patch-set, patch-to}
-use Rattle.lifting.specs.Runs.{ran}
-use Rattle.lifting.specs.SignedRuns.{turn-safe, turn-gives}
+use Rattle.slices.specs.Patch.{at, patch-none, patch-set, patch-to}
+use Rattle.slices.specs.Runs.{ran}
+use Rattle.slices.specs.SignedRuns.{turn-safe, turn-gives}
 use Rattle.lifting.proofs.biased_run.Statement.{statement}
 use Rattle.lifting.proofs.biased_run.Tie as tie
 

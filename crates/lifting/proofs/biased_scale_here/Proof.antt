@@ -8,9 +8,9 @@ use mir.Syntax.{w32}
 use Rattle.lifting.specs.declared.Factor.{Factor}
 use Rattle.lifting.specs.declared.Factor.the-variants.{Biased}
 use Rattle.lifting.specs.Steps.{scaledBy, FactorSafe}
-use Rattle.lifting.specs.Patch.{at, patch, patch-none, patch-set, patch-to}
-use Rattle.lifting.specs.Runs.{own-as-was}
-use Rattle.lifting.specs.SignedRuns.{back, got}
+use Rattle.slices.specs.Patch.{at, patch, patch-none, patch-set, patch-to}
+use Rattle.slices.specs.Runs.{own-as-was}
+use Rattle.slices.specs.SignedRuns.{back, got}
 use Rattle.lifting.proofs.biased_scale_here.Statement.{statement}
 use Rattle.lifting.proofs.biased_scale_here.Tie as tie
 

@@ -3,9 +3,10 @@ use mathlib.Core.Path.{_≡_, refl, sym, ap, subst, _∙_}
 use Prim.Native.Nat.{ℕ, _+_, _*_, _-_, _≤_}
 use native.Mathlib.Omega.{arith}
 use lib.ListN.{length}
-use Rattle.lifting.specs.Patch.{at}
+use Rattle.slices.specs.Patch.{at}
 use Rattle.lifting.specs.Kernels.{worked, SafeKernel, columnsWorked}
-use Rattle.lifting.specs.Strips.{column-as-was, columns-more, columns-none, some-width, enough-room, part-strip}
+use Rattle.slices.specs.PartLaws.{column-as-was, columns-more, columns-none}
+use Rattle.lifting.specs.Strips.{some-width, enough-room, part-strip}
 use Rattle.lifting.proofs.columns.Statement.{statement}
 use Rattle.lifting.proofs.columns.Tie as tie
 

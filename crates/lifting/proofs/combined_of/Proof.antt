@@ -8,8 +8,9 @@ use lib.Pow.{pow-mono, shl-exact}
 use mir.Syntax.{w32, w64}
 use mir.Facts.{toZ-ofZ}
 use Rattle.lifting.specs.Steps.{scaled, signed, signedSum}
-use Rattle.lifting.specs.Bias.{biased, combined-is, fused-small, cut-small, base-small}
-use Rattle.lifting.specs.SignedRuns.{got, fits-at}
+use Rattle.slices.specs.Biased.{biased}
+use Rattle.lifting.specs.Bias.{combined-is, fused-small, cut-small, base-small}
+use Rattle.slices.specs.SignedRuns.{got, fits-at}
 use Rattle.lifting.proofs.combined_of.Statement.{statement}
 use Rattle.lifting.proofs.combined_of.Tie as tie
 

@@ -4,7 +4,7 @@ use mathlib.Core.Bool.{Bool}
 use borrow.Author.Needs.{needs}
 use Rattle.lifting.specs.declared.Step.{Step}
 use Rattle.lifting.specs.declared.Step.the-variants.{Combined}
-use Rattle.lifting.specs.Patch.{at}
+use Rattle.slices.specs.Patch.{at}
 use Rattle.lifting.proofs.Turn.{run-asks, run-gives}
 use Rattle.lifting.proofs.combined_run.Statement.{statement}
 use Rattle.lifting.proofs.combined_run.Tie as tie

@@ -3,8 +3,8 @@ use mathlib.Core.Path.{_≡_, refl, ap, _∙_}
 use Prim.Native.Nat.{ℕ, _+_, _*_, _-_, _≤_}
 use native.Mathlib.Omega.{arith}
 use lib.ListN.{length}
-use Rattle.lifting.specs.Patch.{at}
-use Rattle.lifting.specs.PatchLines.{lineAt, patchLines, lines-none, lines-more, lines-to, packed-is, packed-fits}
+use Rattle.slices.specs.Patch.{at}
+use Rattle.slices.specs.PatchLines.{lineAt, patchLines, lines-none, lines-more, lines-to, packed-is, packed-fits}
 use Rattle.lifting.proofs.copy_lines.Statement.{statement}
 use Rattle.lifting.proofs.copy_lines.Tie as tie
 

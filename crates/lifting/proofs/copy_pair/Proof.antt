@@ -2,7 +2,7 @@
 use mathlib.Core.Path.{ap, _∙_}
 use Prim.Native.Nat.{_+_}
 use native.Mathlib.Omega.{arith}
-use Rattle.lifting.specs.Patch.{at, patch}
+use Rattle.slices.specs.Patch.{at, patch}
 use Rattle.lifting.proofs.copy_pair.Statement.{statement}
 use Rattle.lifting.proofs.copy_pair.Tie as tie
 

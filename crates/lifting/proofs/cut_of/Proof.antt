@@ -7,9 +7,9 @@ use lib.Signed.{shrZ}
 use mir.Syntax.{w32, w64}
 use mir.Facts.{toZ-ofZ}
 use Rattle.lifting.specs.Steps.{product}
-use Rattle.lifting.specs.Runs.{as-type}
+use Rattle.slices.specs.Runs.{as-type}
 use Rattle.lifting.specs.BiasedCut.{joined, JoinSafe, cut-joins}
-use Rattle.lifting.specs.SignedRuns.{back, got, fits-at}
+use Rattle.slices.specs.SignedRuns.{back, got, fits-at}
 use Rattle.lifting.proofs.Signed.{sfits-wide}
 use Rattle.lifting.proofs.cut_of.Statement.{statement}
 use Rattle.lifting.proofs.cut_of.Tie as tie

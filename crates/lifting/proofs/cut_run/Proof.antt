@@ -6,8 +6,9 @@ use lib.IntN.{ℤ}
 use Rattle.lifting.specs.declared.Step.{Step}
 use Rattle.lifting.specs.declared.Step.the-variants.{BiasedCut}
 use Rattle.lifting.specs.Steps.{applied}
-use Rattle.lifting.specs.Patch.{at}
-use Rattle.lifting.specs.Runs.{ran, Runs, SafeRun}
+use Rattle.slices.specs.Patch.{at}
+use Rattle.slices.specs.Runs.{ran, Runs}
+use Rattle.lifting.specs.SafeRuns.{SafeRun}
 use Rattle.lifting.proofs.Turn.{run-asks, run-gives}
 use Rattle.lifting.proofs.cut_run.Statement.{statement}
 use Rattle.lifting.proofs.cut_run.Tie as tie

@@ -5,7 +5,7 @@ use borrow.Author.Needs.{needs}
 use lib.Dec.{T}
 use lib.IntN.{ℤ}
 use Rattle.lifting.specs.declared.Kernel.{Kernel}
-use Rattle.lifting.specs.Patch.{at}
+use Rattle.slices.specs.Patch.{at}
 use Rattle.lifting.specs.Kernels.{forwards}
 use Rattle.lifting.specs.Strips.{StripRoom, Ready, Finished}
 use Rattle.lifting.proofs.finish.Statement.{statement}

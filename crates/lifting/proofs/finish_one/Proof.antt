@@ -1,7 +1,7 @@
 -- `lifting::finish_one` meets its contract: the lines are lifted and put into the plane.
 use mathlib.Core.Path.{_∙_}
 use native.Mathlib.Omega.{arith}
-use Rattle.lifting.specs.PatchLines.{lines-ext}
+use Rattle.slices.specs.PatchLines.{lines-ext}
 use Rattle.lifting.specs.Kernels.{worked}
 use Rattle.lifting.specs.Buffers.{lift-held, lift-asked, held-at}
 use Rattle.lifting.specs.Strips.{buffer-of, buffer-lines, plane-lines}

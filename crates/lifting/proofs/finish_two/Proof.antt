@@ -5,13 +5,14 @@ use native.Mathlib.Omega.{arith}
 use lib.IntN.{ℤ}
 use lib.ListN.{length}
 use Rattle.lines.specs.Lines.{lows, highs}
-use Rattle.lifting.specs.Patch.{at}
+use Rattle.slices.specs.Patch.{at}
 use Rattle.lines.specs.LineLaws.{first-low, first-high}
 use Rattle.lifting.specs.Steps.{scaledBy, FactorSafe}
 use Rattle.lifting.specs.Passes.{evens, odds}
 use Rattle.lifting.specs.Kernels.{worked, secondHighs, secondLows}
 use Rattle.lifting.specs.Buffers.{BufferHolds, sizes, lift-held, lift-asked}
-use Rattle.lifting.specs.Strips.{buffer-of, buffer-lines, plane-lines, some-lines, both-halves}
+use Rattle.lifting.specs.Strips.{buffer-of, buffer-lines, plane-lines, both-halves}
+use Rattle.slices.specs.PartLaws.{some-lines}
 use Rattle.lifting.proofs.finish_two.Statement.{statement}
 use Rattle.lifting.proofs.finish_two.Tie as tie
 

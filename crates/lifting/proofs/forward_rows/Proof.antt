@@ -3,10 +3,11 @@ use mathlib.Core.Path.{_≡_, refl, sym, subst}
 use Prim.Native.Nat.{ℕ, _*_, _-_, _≤_}
 use native.Mathlib.Omega.{arith}
 use lib.ListN.{length}
-use Rattle.lifting.specs.Patch.{at}
-use Rattle.lifting.specs.PatchLines.{lines-none, lines-to}
-use Rattle.lifting.specs.Kernels.{worked, SafeKernel, columnOf, rowsWorked}
-use Rattle.lifting.specs.Strips.{row-as-was, row-done}
+use Rattle.slices.specs.Patch.{at}
+use Rattle.slices.specs.PatchLines.{lines-none, lines-to}
+use Rattle.lifting.specs.Kernels.{worked, SafeKernel, rowsWorked}
+use Rattle.slices.specs.Parts.{columnOf}
+use Rattle.slices.specs.PartLaws.{row-as-was, row-done}
 use Rattle.lifting.proofs.forward_rows.Statement.{statement}
 use Rattle.lifting.proofs.forward_rows.Tie as tie
 

@@ -10,7 +10,7 @@ use mir.Syntax.{w32, w64}
 use mir.Val.{toZ}
 use mir.Facts.{toZ-ofZ, toZ-pos}
 use Rattle.lifting.specs.BiasedCut.{joined}
-use Rattle.lifting.specs.SignedRuns.{back, got, fits-at}
+use Rattle.slices.specs.SignedRuns.{back, got, fits-at}
 use Rattle.lifting.proofs.join.Statement.{statement}
 use Rattle.lifting.proofs.join.Tie as tie
 

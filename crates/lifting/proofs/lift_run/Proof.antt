@@ -5,8 +5,9 @@ use borrow.Author.Needs.{needs}
 use lib.IntN.{ℤ}
 use Rattle.lifting.specs.declared.Step.{Step}
 use Rattle.lifting.specs.Steps.{applied, PlainStep}
-use Rattle.lifting.specs.Patch.{at}
-use Rattle.lifting.specs.Runs.{ran, Runs, SafeRun}
+use Rattle.slices.specs.Patch.{at}
+use Rattle.slices.specs.Runs.{ran, Runs}
+use Rattle.lifting.specs.SafeRuns.{SafeRun}
 use Rattle.lifting.proofs.Read.{scaled-back, cut-back}
 use Rattle.lifting.proofs.Turn.{run-asks, run-gives}
 use Rattle.lifting.proofs.lift_run.Statement.{statement}

@@ -1,6 +1,6 @@
 -- `lifting::merge` meets its contract.
 use native.Mathlib.Omega.{arith}
-use Rattle.lifting.specs.Patch.{at}
+use Rattle.slices.specs.Patch.{at}
 use Rattle.lifting.specs.Strips.{as-row, one-column, woven-row}
 use Rattle.lifting.proofs.merge.Statement.{statement}
 use Rattle.lifting.proofs.merge.Tie as tie

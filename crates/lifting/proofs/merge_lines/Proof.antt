@@ -4,8 +4,8 @@ use Prim.Native.Nat.{_*_, _-_, _≤_}
 use native.Mathlib.Omega.{arith}
 use lib.ListN.{length}
 use Rattle.lines.specs.Lines.{highs}
-use Rattle.lifting.specs.Patch.{at}
-use Rattle.lifting.specs.PatchLines.{lineAt, patchLines, lines-none, lines-to}
+use Rattle.slices.specs.Patch.{at}
+use Rattle.slices.specs.PatchLines.{lineAt, patchLines, lines-none, lines-to}
 use Rattle.lifting.specs.Buffers.{sizes}
 use Rattle.lifting.specs.Strips.{two-lines, last-line, woven, woven-pair, woven-last}
 use Rattle.lifting.proofs.merge_lines.Statement.{statement}

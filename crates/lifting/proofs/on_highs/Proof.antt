@@ -5,7 +5,7 @@ use native.Mathlib.Omega.{arith}
 use lib.IntN.{ℤ}
 use Rattle.lines.specs.Lines.{lows}
 use Rattle.lifting.specs.Steps.{applied, Safe}
-use Rattle.lifting.specs.Patch.{at}
+use Rattle.slices.specs.Patch.{at}
 use Rattle.lifting.specs.Buffers.{Sizes, sizes}
 use Rattle.lifting.specs.BufferRuns.{middle-high-runs, last-high-runs, someHighs, middle-high-asks, middle-highs, last-high-asks, all-highs, no-last-high}
 use Rattle.lifting.proofs.on_highs.Statement.{statement}

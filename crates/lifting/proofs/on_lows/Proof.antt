@@ -5,7 +5,7 @@ use native.Mathlib.Omega.{arith}
 use lib.IntN.{ℤ}
 use Rattle.lines.specs.Lines.{highs}
 use Rattle.lifting.specs.Steps.{applied, Safe}
-use Rattle.lifting.specs.Patch.{at}
+use Rattle.slices.specs.Patch.{at}
 use Rattle.lifting.specs.Buffers.{Sizes, sizes}
 use Rattle.lifting.specs.BufferRuns.{first-low-runs, middle-low-runs, last-low-runs, someLows, first-low-asks, first-lows, middle-low-asks, middle-lows, last-low-asks, all-lows, no-last-low}
 use Rattle.lifting.proofs.on_lows.Statement.{statement}

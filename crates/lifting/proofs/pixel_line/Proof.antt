@@ -3,7 +3,7 @@ use Prim.Native.Nat.{_+_, _-_}
 use native.Mathlib.Omega.{arith}
 use borrow.Author.Needs.{needs}
 use lib.IntN.{pos}
-use Rattle.lifting.specs.Patch.{patch-part, patch-to}
+use Rattle.slices.specs.Patch.{patch-part, patch-to}
 use Rattle.lifting.proofs.pixel_line.Statement.{statement}
 use Rattle.lifting.proofs.pixel_line.Tie as tie
 

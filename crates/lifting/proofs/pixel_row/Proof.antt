@@ -4,11 +4,11 @@ use Prim.Native.Nat.{ℕ}
 use native.Mathlib.Omega.{arith}
 use borrow.Author.Needs.{needs}
 use lib.IntN.{ℤ}
-use Rattle.lifting.specs.Patch.{at}
+use Rattle.slices.specs.Patch.{at}
 use Rattle.lifting.specs.Steps.{scaledBy, FactorSafe}
 use Rattle.lifting.specs.Kernels.{worked, firstLows, firstHighs, secondLows, secondHighs}
 use Rattle.lifting.specs.Buffers.{BufferHolds, lift-held, lift-asked, row-low, row-high, row-at, lows-each, highs-each}
-use Rattle.lifting.specs.Strips.{pixelLine}
+use Rattle.slices.specs.Pixels.{pixelLine}
 use Rattle.lifting.proofs.pixel_row.Statement.{statement}
 use Rattle.lifting.proofs.pixel_row.Tie as tie
 

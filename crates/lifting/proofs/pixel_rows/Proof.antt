@@ -4,10 +4,11 @@ use Prim.Native.Nat.{suc, _*_, _-_, _≤_}
 use native.Mathlib.Nat.{mul-le-mul-right}
 use native.Mathlib.Omega.{arith}
 use lib.ListN.{length}
-use Rattle.lifting.specs.Patch.{at}
-use Rattle.lifting.specs.PatchLines.{lineAt, patchLines, lines-none, lines-to}
+use Rattle.slices.specs.Patch.{at}
+use Rattle.slices.specs.PatchLines.{lineAt, patchLines, lines-none, lines-to}
 use Rattle.lifting.specs.Kernels.{worked}
-use Rattle.lifting.specs.Strips.{pixelLine, row-put}
+use Rattle.slices.specs.Pixels.{pixelLine}
+use Rattle.slices.specs.PartLaws.{row-put}
 use Rattle.lifting.proofs.pixel_rows.Statement.{statement}
 use Rattle.lifting.proofs.pixel_rows.Tie as tie
 

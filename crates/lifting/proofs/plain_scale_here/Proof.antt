@@ -9,9 +9,9 @@ use mir.Val.{toZ}
 use mir.Facts.{toZ-ofZ}
 use Rattle.lifting.specs.declared.Factor.the-variants.{Plain}
 use Rattle.lifting.specs.Steps.{scaledBy, FactorSafe}
-use Rattle.lifting.specs.Patch.{at, patch, patch-none, patch-set, patch-to}
-use Rattle.lifting.specs.Runs.{as-type, own-as-was}
-use Rattle.lifting.specs.SignedRuns.{back, got}
+use Rattle.slices.specs.Patch.{at, patch, patch-none, patch-set, patch-to}
+use Rattle.slices.specs.Runs.{as-type, own-as-was}
+use Rattle.slices.specs.SignedRuns.{back, got}
 use Rattle.lifting.proofs.plain_scale_here.Statement.{statement}
 use Rattle.lifting.proofs.plain_scale_here.Tie as tie
 

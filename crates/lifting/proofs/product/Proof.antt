@@ -6,8 +6,9 @@ use borrow.Author.Needs.{needs}
 use mir.Syntax.{w32}
 use mir.Facts.{toZ-ofZ}
 use Rattle.lifting.specs.Steps.{signedSum}
-use Rattle.lifting.specs.Bias.{biased, fused-small, fused-most}
-use Rattle.lifting.specs.SignedRuns.{got}
+use Rattle.slices.specs.Biased.{biased}
+use Rattle.lifting.specs.Bias.{fused-small, fused-most}
+use Rattle.slices.specs.SignedRuns.{got}
 use Rattle.lifting.proofs.product.Statement.{statement}
 use Rattle.lifting.proofs.product.Tie as tie
 

@@ -7,8 +7,8 @@ use lib.IntN.{pos, _-ℤ_}
 use lib.ListN.{getD, length-set}
 use mir.Syntax.{w32}
 use mir.Facts.{toZ-ofZ}
-use Rattle.lifting.specs.Patch.{patch-one}
-use Rattle.lifting.specs.Strips.{pixelLine}
+use Rattle.slices.specs.Patch.{patch-one}
+use Rattle.slices.specs.Pixels.{pixelLine}
 use Rattle.lifting.proofs.put_pixel.Statement.{statement}
 use Rattle.lifting.proofs.put_pixel.Tie as tie
 

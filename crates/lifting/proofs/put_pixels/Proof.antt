@@ -6,9 +6,9 @@ use borrow.Author.Needs.{needs}
 use lib.IntN.{pos, _-ℤ_}
 use lib.ListN.{length, getD, set, length-set}
 use mir.Syntax.{w32}
-use Rattle.lifting.specs.Patch.{at, patch, patch-none, patch-set, patch-to}
-use Rattle.lifting.specs.Strips.{pixelLine}
-use Rattle.lifting.specs.SignedRuns.{back, got}
+use Rattle.slices.specs.Patch.{at, patch, patch-none, patch-set, patch-to}
+use Rattle.slices.specs.Pixels.{pixelLine}
+use Rattle.slices.specs.SignedRuns.{back, got}
 use Rattle.lifting.proofs.put_pixels.Statement.{statement}
 use Rattle.lifting.proofs.put_pixels.Tie as tie
 

@@ -8,10 +8,10 @@ use lib.Signed.{ltZ}
 use mir.Syntax.{w64}
 use mir.Facts.{toZ-ofZ}
 use Rattle.lifting.specs.declared.Step.the-variants.{Cut}
-use Rattle.lifting.specs.Runs.{as-type}
+use Rattle.slices.specs.Runs.{as-type}
 use Rattle.lifting.specs.Steps.{SameStep, signed}
 use Rattle.lifting.specs.Bias.{signed-is}
-use Rattle.lifting.specs.SignedRuns.{back}
+use Rattle.slices.specs.SignedRuns.{back}
 use Rattle.lifting.proofs.quick_cut.Statement.{statement}
 use Rattle.lifting.proofs.quick_cut.Tie as tie
 

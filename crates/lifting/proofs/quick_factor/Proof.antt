@@ -8,7 +8,7 @@ use lib.IntN.{ℤ, pos, natAbs}
 use lib.Signed.{ltZ}
 use mir.Facts.{toZ-ofZ}
 use Rattle.lifting.specs.declared.Factor.the-variants.{Plain, Biased}
-use Rattle.lifting.specs.Runs.{as-type}
+use Rattle.slices.specs.Runs.{as-type}
 use Rattle.lifting.specs.Steps.{SameFactor}
 use Rattle.lifting.specs.Bias.{Padded, padded, biased-same, positive}
 use Rattle.lifting.proofs.quick_factor.Statement.{statement}

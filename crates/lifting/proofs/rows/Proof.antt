@@ -6,9 +6,10 @@ use borrow.Author.Needs.{needs}
 use lib.ListN.{length}
 use lib.IntN.{ℤ}
 use Rattle.lifting.specs.declared.Kernel.{Kernel}
-use Rattle.lifting.specs.Patch.{at}
+use Rattle.slices.specs.Patch.{at}
 use Rattle.lifting.specs.Passes.{Liftable}
-use Rattle.lifting.specs.Kernels.{Forward, SafeKernel, Part, rowOf, rowsWorked}
+use Rattle.lifting.specs.Kernels.{Forward, SafeKernel, rowsWorked}
+use Rattle.slices.specs.Parts.{Part, rowOf}
 use Rattle.lifting.proofs.rows.Statement.{statement}
 use Rattle.lifting.proofs.rows.Tie as tie
 

@@ -6,7 +6,7 @@ use lib.IntN.{ℤ}
 use lib.ListN.{length}
 use Rattle.lifting.specs.declared.Factor.{Factor}
 use Rattle.lifting.specs.Steps.{scaledBy, FactorSafe}
-use Rattle.lifting.specs.Patch.{at, patch}
+use Rattle.slices.specs.Patch.{at, patch}
 use Rattle.lifting.proofs.Read.{plain-back}
 use Rattle.lifting.proofs.scale_here.Statement.{statement}
 use Rattle.lifting.proofs.scale_here.Tie as tie

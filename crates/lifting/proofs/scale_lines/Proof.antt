@@ -4,8 +4,8 @@ use Prim.Native.Nat.{ℕ, _+_, _-_, _≤_}
 use native.Mathlib.Omega.{arith}
 use lib.ListN.{length}
 use Rattle.lifting.specs.Steps.{scaledBy, FactorSafe}
-use Rattle.lifting.specs.Patch.{at}
-use Rattle.lifting.specs.PatchLines.{lineAt, patchLines, lines-none, lines-more, lines-to, packed-is, packed-fits}
+use Rattle.slices.specs.Patch.{at}
+use Rattle.slices.specs.PatchLines.{lineAt, patchLines, lines-none, lines-more, lines-to, packed-is, packed-fits}
 use Rattle.lifting.specs.Buffers.{by-line}
 use Rattle.lifting.proofs.scale_lines.Statement.{statement}
 use Rattle.lifting.proofs.scale_lines.Tie as tie

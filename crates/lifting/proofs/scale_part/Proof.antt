@@ -6,10 +6,10 @@ use native.Mathlib.Omega.{arith}
 use lib.IntN.{ℤ}
 use lib.ListN.{length}
 use Rattle.lifting.specs.Steps.{scaledBy, FactorSafe}
-use Rattle.lifting.specs.Patch.{at}
-use Rattle.lifting.specs.PatchLines.{lineAt, patchLines, lines-apart, lines-out, lines-none, lines-more, lines-to, packed-is}
+use Rattle.slices.specs.Patch.{at}
+use Rattle.slices.specs.PatchLines.{lineAt, patchLines, lines-apart, lines-out, lines-none, lines-more, lines-to, packed-is}
 use Rattle.lifting.specs.Buffers.{by-line}
-use Rattle.lifting.specs.Kernels.{Part}
+use Rattle.slices.specs.Parts.{Part}
 use Rattle.lifting.proofs.scale_part.Statement.{statement}
 use Rattle.lifting.proofs.scale_part.Tie as tie
 

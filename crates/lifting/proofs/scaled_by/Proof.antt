@@ -6,7 +6,7 @@ use lib.IntN.{ℤ, _*ℤ_}
 use lib.Signed.{shrZ}
 use mir.Syntax.{w32, w64}
 use mir.Facts.{toZ-ofZ}
-use Rattle.lifting.specs.SignedRuns.{back, got, fits-at}
+use Rattle.slices.specs.SignedRuns.{back, got, fits-at}
 use Rattle.lifting.proofs.scaled_by.Statement.{statement}
 use Rattle.lifting.proofs.scaled_by.Tie as tie
 

@@ -11,7 +11,7 @@ use mir.Val.{toZ}
 use mir.Facts.{toZ-ofZ, toZ-pos}
 use Rattle.lifting.specs.declared.Step.the-variants.{Scaled}
 use Rattle.lifting.specs.Steps.{scaledEnd}
-use Rattle.lifting.specs.SignedRuns.{back, got, fits-at}
+use Rattle.slices.specs.SignedRuns.{back, got, fits-at}
 use Rattle.numbers.specs.Laws.{twice-times}
 use Rattle.lifting.specs.Ends.{ended-fits}
 use Rattle.lifting.proofs.scaled_end.Statement.{statement}

@@ -11,7 +11,7 @@ use mir.Val.{toZ}
 use mir.Facts.{toZ-ofZ, toZ-pos}
 use Rattle.lifting.specs.Steps.{scaled}
 use Rattle.lifting.proofs.Signed.{sfits-wide}
-use Rattle.lifting.specs.SignedRuns.{back, got, fits-at}
+use Rattle.slices.specs.SignedRuns.{back, got, fits-at}
 use Rattle.lifting.proofs.scaled_of.Statement.{statement}
 use Rattle.lifting.proofs.scaled_of.Tie as tie
 

@@ -7,8 +7,9 @@ use lib.IntN.{ℤ, pos, _+ℤ_, _-ℤ_, _*ℤ_}
 use mir.Syntax.{w32, w64}
 use mir.Facts.{toZ-ofZ}
 use Rattle.lifting.specs.Steps.{scaled, signed, signedSum}
-use Rattle.lifting.specs.Bias.{biased, separate-is, cut-small, base-small}
-use Rattle.lifting.specs.SignedRuns.{back, got, fits-at}
+use Rattle.slices.specs.Biased.{biased}
+use Rattle.lifting.specs.Bias.{separate-is, cut-small, base-small}
+use Rattle.slices.specs.SignedRuns.{back, got, fits-at}
 use Rattle.lifting.proofs.separate_of.Statement.{statement}
 use Rattle.lifting.proofs.separate_of.Tie as tie
 

@@ -7,8 +7,9 @@ use lib.IntN.{ℤ}
 use Rattle.lifting.specs.declared.Step.{Step}
 use Rattle.lifting.specs.declared.Step.the-variants.{Separate}
 use Rattle.lifting.specs.Steps.{applied}
-use Rattle.lifting.specs.Patch.{at}
-use Rattle.lifting.specs.Runs.{ran, Runs, SafeRun}
+use Rattle.slices.specs.Patch.{at}
+use Rattle.slices.specs.Runs.{ran, Runs}
+use Rattle.lifting.specs.SafeRuns.{SafeRun}
 use Rattle.lifting.proofs.Turn.{run-asks, run-gives}
 use Rattle.lifting.proofs.separate_run.Statement.{statement}
 use Rattle.lifting.proofs.separate_run.Tie as tie

@@ -10,7 +10,7 @@ use mir.Facts.{toZ-ofZ, toZ-pos}
 use Rattle.numbers.specs.Laws.{zero-less}
 use Rattle.lifting.specs.Steps.{signed}
 use Rattle.lifting.specs.Bias.{difference-fits}
-use Rattle.lifting.specs.SignedRuns.{fits-at}
+use Rattle.slices.specs.SignedRuns.{fits-at}
 use Rattle.lifting.proofs.signed_of.Statement.{statement}
 use Rattle.lifting.proofs.signed_of.Tie as tie
 

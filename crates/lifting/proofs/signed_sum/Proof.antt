@@ -6,7 +6,7 @@ use lib.IntN.{ℤ, pos, _+ℤ_, _-ℤ_}
 use mir.Syntax.{w32}
 use mir.Facts.{toZ-ofZ}
 use Rattle.lifting.specs.Steps.{signedSum}
-use Rattle.lifting.specs.SignedRuns.{back}
+use Rattle.slices.specs.SignedRuns.{back}
 use Rattle.lifting.proofs.signed_sum.Statement.{statement}
 use Rattle.lifting.proofs.signed_sum.Tie as tie
 

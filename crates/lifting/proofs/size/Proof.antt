@@ -11,7 +11,7 @@ use mir.Syntax.{w32, w64}
 use mir.Val.{SFits, Fits}
 use mir.Facts.{toZ-ofZ}
 use Rattle.lifting.specs.Bias.{below-zero, above-zero}
-use Rattle.lifting.specs.SignedRuns.{back}
+use Rattle.slices.specs.SignedRuns.{back}
 use Rattle.lifting.proofs.size.Statement.{statement}
 use Rattle.lifting.proofs.size.Tie as tie
 

@@ -1,10 +1,10 @@
 -- `lifting::split` meets its contract.
 use mathlib.Core.Path.{sym}
 use native.Mathlib.Omega.{arith}
-use Rattle.lifting.specs.Patch.{at}
-use Rattle.lifting.specs.Runs.{as-type}
+use Rattle.slices.specs.Patch.{at}
+use Rattle.slices.specs.Runs.{as-type}
 use Rattle.lifting.specs.Passes.{evens, odds}
-use Rattle.lifting.specs.Kernels.{columnOf}
+use Rattle.slices.specs.Parts.{columnOf}
 use Rattle.lifting.specs.Buffers.{BufferHolds}
 use Rattle.lifting.specs.Strips.{as-row, one-column}
 use Rattle.lifting.proofs.split.Statement.{statement}

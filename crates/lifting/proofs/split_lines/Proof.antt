@@ -4,9 +4,9 @@ use Prim.Native.Nat.{_*_, _-_, _≤_}
 use native.Mathlib.Omega.{arith}
 use lib.ListN.{length}
 use Rattle.lines.specs.Lines.{lows, highs}
-use Rattle.lifting.specs.Patch.{at}
+use Rattle.slices.specs.Patch.{at}
 use Rattle.lifting.specs.Passes.{evens, odds}
-use Rattle.lifting.specs.Kernels.{columnOf}
+use Rattle.slices.specs.Parts.{columnOf}
 use Rattle.lifting.specs.Buffers.{Filled, filled-none, filled-low, filled-high, filled-to, sizes}
 use Rattle.lifting.specs.Strips.{two-lines, last-line}
 use Rattle.lifting.proofs.split_lines.Statement.{statement}

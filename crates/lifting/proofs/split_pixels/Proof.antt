@@ -5,10 +5,11 @@ use native.Mathlib.Omega.{arith}
 use lib.IntN.{ℤ}
 use lib.ListN.{length}
 use Rattle.lines.specs.Lines.{lows, highs}
-use Rattle.lifting.specs.Patch.{at, patch}
+use Rattle.slices.specs.Patch.{at, patch}
 use Rattle.lifting.specs.Passes.{evens, odds}
 use Rattle.lifting.specs.Buffers.{Filled, filled-none, filled-low, filled-high, filled-to}
-use Rattle.lifting.specs.Strips.{pixelLine, pixel-at}
+use Rattle.slices.specs.Pixels.{pixelLine}
+use Rattle.lifting.specs.PixelLaws.{pixel-at}
 use Rattle.lifting.proofs.split_pixels.Statement.{statement}
 use Rattle.lifting.proofs.split_pixels.Tie as tie
 

@@ -4,8 +4,9 @@ use Prim.Native.Nat.{ℕ, _<_}
 use borrow.Author.Needs.{needs}
 use lib.IntN.{ℤ}
 use Rattle.lifting.specs.declared.Kernel.{Kernel}
-use Rattle.lifting.specs.Patch.{at}
-use Rattle.lifting.specs.Kernels.{Forward, SafeKernel, columnOf, columnsWorked}
+use Rattle.slices.specs.Patch.{at}
+use Rattle.lifting.specs.Kernels.{Forward, SafeKernel, columnsWorked}
+use Rattle.slices.specs.Parts.{columnOf}
 use Rattle.lifting.specs.Strips.{StripRoom}
 use Rattle.lifting.proofs.strip.Statement.{statement}
 use Rattle.lifting.proofs.strip.Tie as tie

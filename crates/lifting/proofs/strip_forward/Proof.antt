@@ -1,7 +1,7 @@
 -- `lifting::strip_forward` meets its contract: the lines are split and finished.
 use native.Mathlib.Omega.{arith}
-use Rattle.lifting.specs.Patch.{at}
-use Rattle.lifting.specs.Kernels.{columnOf}
+use Rattle.slices.specs.Patch.{at}
+use Rattle.slices.specs.Parts.{columnOf}
 use Rattle.lifting.specs.Strips.{strip-of}
 use Rattle.lifting.proofs.strip_forward.Statement.{statement}
 use Rattle.lifting.proofs.strip_forward.Tie as tie

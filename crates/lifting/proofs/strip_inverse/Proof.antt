@@ -3,9 +3,10 @@ use mathlib.Core.Path.{_∙_}
 use Prim.Native.Nat.{_+_}
 use native.Mathlib.Omega.{arith}
 use Rattle.lines.specs.Lines.{lows}
-use Rattle.lifting.specs.Patch.{at}
-use Rattle.lifting.specs.PatchLines.{lines-ext}
-use Rattle.lifting.specs.Kernels.{worked, columnOf}
+use Rattle.slices.specs.Patch.{at}
+use Rattle.slices.specs.PatchLines.{lines-ext}
+use Rattle.lifting.specs.Kernels.{worked}
+use Rattle.slices.specs.Parts.{columnOf}
 use Rattle.lifting.specs.Buffers.{BufferHolds, whole-held, inverse-lift-held, inverse-lift-asked, held-woven}
 use Rattle.lifting.specs.Strips.{buffer-of, buffer-lines, plane-lines, strip-of}
 use Rattle.lifting.proofs.strip_inverse.Statement.{statement}

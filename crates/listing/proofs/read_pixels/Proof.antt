@@ -4,8 +4,8 @@ use Prim.Native.Nat.{_-_, _≤_}
 use native.Mathlib.Omega.{arith}
 use borrow.Author.Needs.{needs}
 use lib.ListN.{length, getD, length-set}
-use Rattle.lifting.specs.Patch.{patch, patch-none}
-use Rattle.pictures.specs.MemoryLaws.{patch-next, patch-over}
+use Rattle.slices.specs.Patch.{patch, patch-none}
+use Rattle.slices.specs.FrontLaws.{patch-next, patch-over}
 use Rattle.listing.specs.Listing.{copyPixels}
 use Rattle.listing.specs.InputLaws.{pixels-length, pixel-at}
 use Rattle.listing.proofs.read_pixels.Statement.{statement}

@@ -3,7 +3,7 @@ use Prim.Native.Nat.{ℕ, _+_, _%_}
 use mathlib.Core.Path.{_≡_, _∙_, ap}
 use borrow.Author.Needs.{needs}
 use mir.Facts.{toZ-ofZ}
-use Rattle.lifting.specs.Bias.{biased}
+use Rattle.slices.specs.Biased.{biased}
 use Rattle.pictures.specs.RangeChecks.{above-is}
 use Rattle.pictures.proofs.above.Statement.{statement}
 use Rattle.pictures.proofs.above.Tie as tie

@@ -7,7 +7,7 @@ use mir.Syntax.{w32}
 use mir.Val.{toZ}
 use mir.Facts.{toZ-ofZ}
 use lib.IntN.{ℤ}
-use Rattle.lifting.specs.Patch.{at}
+use Rattle.slices.specs.Patch.{at}
 use Rattle.pictures.specs.RangeChecks.{Tells, Every, Between, every-none, every-more}
 use Rattle.numbers.specs.Auto.{rd}
 use Rattle.pictures.proofs.all_between.Statement.{statement}

@@ -11,7 +11,7 @@ use lib.Dec.{ltb}
 use lib.IntN.{ℤ}
 use lib.Pow.{pow-mono}
 use Rattle.numbers.specs.Auto.{rd}
-use Rattle.lifting.specs.Patch.{at}
+use Rattle.slices.specs.Patch.{at}
 use Rattle.pictures.specs.RangeChecks.{Tells, OfBits, aboveLeast, Gathered, gathered-none, gathered-more, gathered-tells}
 use Rattle.pictures.proofs.all_of_bits.Statement.{statement}
 use Rattle.pictures.proofs.all_of_bits.Tie as tie

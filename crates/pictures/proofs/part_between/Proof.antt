@@ -6,8 +6,8 @@ use lib.IntN.{ℤ}
 use mir.Syntax.{w32}
 use mir.Val.{toZ}
 use mir.Facts.{toZ-ofZ}
-use Rattle.lifting.specs.Patch.{at}
-use Rattle.lifting.specs.Kernels.{rowOf}
+use Rattle.slices.specs.Patch.{at}
+use Rattle.slices.specs.Parts.{rowOf}
 use Rattle.pictures.specs.RangeChecks.{Tells, Every, Between, every-none, every-more}
 use Rattle.numbers.specs.Auto.{rd}
 use Rattle.pictures.proofs.part_between.Statement.{statement}

@@ -2,8 +2,8 @@
 use mathlib.Core.Path.{_≡_, subst}
 use Prim.Native.Nat.{ℕ, _-_, _≤_, _<_}
 use native.Mathlib.Omega.{arith}
-use Rattle.lifting.specs.Patch.{at}
-use Rattle.lifting.specs.Kernels.{rowOf}
+use Rattle.slices.specs.Patch.{at}
+use Rattle.slices.specs.Parts.{rowOf}
 use Rattle.pictures.specs.RangeChecks.{Tells, Every, OfBits, every-none, every-more}
 use Rattle.pictures.proofs.part_of_bits.Statement.{statement}
 use Rattle.pictures.proofs.part_of_bits.Tie as tie

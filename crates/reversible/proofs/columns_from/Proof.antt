@@ -2,7 +2,7 @@
 use mathlib.Core.Path.{_∙_}
 use native.Mathlib.Omega.{arith}
 use borrow.Author.Needs.{needs}
-use Rattle.lifting.specs.Patch.{at}
+use Rattle.slices.specs.Patch.{at}
 use Rattle.reversible.specs.LevelLaws.{columns-one, columns-more}
 use Rattle.reversible.proofs.columns_from.Statement.{statement}
 use Rattle.reversible.proofs.columns_from.Tie as tie

@@ -7,8 +7,8 @@ use lib.IntN.{pos}
 use lib.ListN.{length, length-set}
 use mir.Syntax.{w32}
 use mir.Facts.{toZ-ofZ}
-use Rattle.lifting.specs.Patch.{at, patch, patch-none, patch-to}
-use Rattle.pictures.specs.MemoryLaws.{patch-next}
+use Rattle.slices.specs.Patch.{at, patch, patch-none, patch-to}
+use Rattle.slices.specs.FrontLaws.{patch-next}
 use Rattle.reversible.proofs.copy_front.Statement.{statement}
 use Rattle.reversible.proofs.copy_front.Tie as tie
 

@@ -5,8 +5,8 @@ use native.Mathlib.Omega.{arith}
 use borrow.Author.Needs.{needs}
 use lib.IntN.{ℤ, pos, _-ℤ_}
 use lib.ListN.{getD}
-use Rattle.lifting.specs.Patch.{at, patch-ext}
-use Rattle.pictures.specs.MemoryLaws.{loaded}
+use Rattle.slices.specs.Patch.{at, patch-ext}
+use Rattle.slices.specs.Pixels.{loaded}
 use Rattle.reversible.specs.Sizes.{forwardKernel}
 use Rattle.reversible.specs.LevelLaws.{columnsFrom, columns-one, columns-more}
 use Rattle.reversible.specs.Preconditions.{first-columns}

@@ -2,7 +2,7 @@
 use mathlib.Core.Path.{sym, subst}
 use borrow.Author.Needs.{needs}
 use lib.Dec.{T}
-use Rattle.lifting.specs.Patch.{at}
+use Rattle.slices.specs.Patch.{at}
 use Rattle.reversible.specs.Orders.{orderOf}
 use Rattle.reversible.specs.FoundLaws.{found-all, found-none}
 use Rattle.reversible.proofs.found.Statement.{statement}

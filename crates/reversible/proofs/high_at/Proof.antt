@@ -6,8 +6,8 @@ use lib.ListN.{length}
 use Rattle.lines.specs.Lines.{lows}
 use Rattle.lifting.specs.declared.Step.the-variants.{Predict}
 use Rattle.lifting.specs.Steps.{applied, Safe}
-use Rattle.lifting.specs.Runs.{as-type}
-use Rattle.lifting.specs.Patch.{at, patch-ext}
+use Rattle.slices.specs.Runs.{as-type}
+use Rattle.slices.specs.Patch.{at, patch-ext}
 use Rattle.reversible.specs.Columns.{line-in, lines-few, high-middle, high-last}
 use Rattle.reversible.proofs.high_at.Statement.{statement}
 use Rattle.reversible.proofs.high_at.Tie as tie

@@ -9,10 +9,10 @@ use mir.Syntax.{w32}
 use mir.Facts.{toZ-ofZ}
 use Rattle.lifting.specs.declared.Step.the-variants.{Predict}
 use Rattle.lifting.specs.Steps.{applied, ended, Safe}
-use Rattle.lifting.specs.Runs.{as-type}
+use Rattle.slices.specs.Runs.{as-type}
 use Rattle.lifting.specs.Ends.{ended-is}
-use Rattle.lifting.specs.Patch.{at, patch, patch-none, patch-set, patch-to}
-use Rattle.lifting.specs.Strips.{pixelLine}
+use Rattle.slices.specs.Patch.{at, patch, patch-none, patch-set, patch-to}
+use Rattle.slices.specs.Pixels.{pixelLine}
 use Rattle.reversible.proofs.high_end.Statement.{statement}
 use Rattle.reversible.proofs.high_end.Tie as tie
 

@@ -4,7 +4,7 @@ use native.Mathlib.Omega.{arith}
 use borrow.Author.Needs.{needs}
 use Prim.Native.Nat.{ℕ}
 use lib.IntN.{ℤ}
-use Rattle.lifting.specs.Patch.{at}
+use Rattle.slices.specs.Patch.{at}
 use Rattle.reversible.specs.declared.CopyOrder.{CopyOrder}
 use Rattle.reversible.specs.Orders.{orderOf}
 use Rattle.reversible.specs.Sizes.{inverseKernel}

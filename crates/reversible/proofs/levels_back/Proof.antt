@@ -4,7 +4,7 @@ use Prim.Native.Nat.{ℕ, _-_, _≤_}
 use native.Mathlib.Omega.{arith}
 use lib.Dec.{T}
 use lib.ListN.{length}
-use Rattle.lifting.specs.Patch.{at}
+use Rattle.slices.specs.Patch.{at}
 use Rattle.reversible.specs.LevelLaws.{levelInverse}
 use Rattle.reversible.specs.LoopLaws.{BackLeft, one-more, back-none, back-more}
 use Rattle.reversible.specs.Preconditions.{level-room, part-here}

@@ -7,8 +7,8 @@ use lib.ListN.{length}
 use Rattle.lines.specs.Lines.{lows}
 use Rattle.lines.specs.Planes.{side}
 use Rattle.lines.specs.PlaneLaws.{side-one, side-more, side-le}
-use Rattle.lifting.specs.Patch.{at}
-use Rattle.pictures.specs.MemoryLaws.{loaded}
+use Rattle.slices.specs.Patch.{at}
+use Rattle.slices.specs.Pixels.{loaded}
 use Rattle.reversible.specs.LevelLaws.{levelForward}
 use Rattle.reversible.specs.LoopLaws.{ForwardDone, forward-first, forward-more, forward-part}
 use Rattle.reversible.specs.Preconditions.{levels-room, level-room}

@@ -8,8 +8,8 @@ use Rattle.lines.specs.Lines.{lows, highs}
 use Rattle.lines.specs.LineLaws.{some-highs}
 use Rattle.lifting.specs.declared.Step.the-variants.{Update}
 use Rattle.lifting.specs.Steps.{applied, Safe}
-use Rattle.lifting.specs.Runs.{as-type}
-use Rattle.lifting.specs.Patch.{at, patch-ext}
+use Rattle.slices.specs.Runs.{as-type}
+use Rattle.slices.specs.Patch.{at, patch-ext}
 use Rattle.reversible.specs.Columns.{line-in, lines-few, low-first, low-middle, low-last}
 use Rattle.reversible.proofs.low_at.Statement.{statement}
 use Rattle.reversible.proofs.low_at.Tie as tie

@@ -4,7 +4,7 @@ use Prim.Native.Nat.{_+_, _-_, _≤_}
 use native.Mathlib.Omega.{arith}
 use lib.ListN.{length}
 use Rattle.lines.specs.Lines.{highs}
-use Rattle.lifting.specs.Patch.{at}
+use Rattle.slices.specs.Patch.{at}
 use Rattle.reversible.specs.Columns.{LinesDone, lines-few, lines-none, high-more, low-more, columns-done, highs-all, lows-to, room-as}
 use Rattle.reversible.proofs.pixel_columns.Statement.{statement}
 use Rattle.reversible.proofs.pixel_columns.Tie as tie

@@ -2,7 +2,7 @@
 use mathlib.Core.Path.{_∙_}
 use native.Mathlib.Omega.{arith}
 use borrow.Author.Needs.{needs}
-use Rattle.lifting.specs.Patch.{at}
+use Rattle.slices.specs.Patch.{at}
 use Rattle.reversible.specs.LevelLaws.{rows-one, rows-more}
 use Rattle.reversible.proofs.rows_from.Statement.{statement}
 use Rattle.reversible.proofs.rows_from.Tie as tie

@@ -8,10 +8,10 @@ use lib.Dec.{T}
 use lib.IntN.{ℤ}
 use lib.ListN.{length, drop}
 use lib.Seq.{length-take-le, length-front}
-use Rattle.lifting.specs.Patch.{at}
+use Rattle.slices.specs.Patch.{at}
 use Rattle.reversible.specs.Orders.{orderOf}
 use Rattle.reversible.specs.FoundLaws.{Found, found-front, taken, taken-none}
-use Rattle.pictures.specs.MemoryLaws.{zeroed-part}
+use Rattle.slices.specs.FrontLaws.{zeroed-part}
 use Rattle.reversible.specs.Preconditions.{other-slices}
 use Rattle.reversible.proofs.take_back.Statement.{statement}
 use Rattle.reversible.proofs.take_back.Tie as tie

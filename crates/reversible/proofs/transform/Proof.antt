@@ -4,7 +4,7 @@ use Prim.Native.Nat.{_*_}
 use native.Mathlib.Omega.{arith}
 use borrow.Author.Needs.{needs}
 use lib.Seq.{length-take-le, length-front}
-use Rattle.pictures.specs.MemoryLaws.{zeroed-part}
+use Rattle.slices.specs.FrontLaws.{zeroed-part}
 use Rattle.reversible.specs.Preconditions.{other-slices}
 use Rattle.reversible.specs.StepLaws.{worked-plane}
 use Rattle.reversible.proofs.transform.Statement.{statement}

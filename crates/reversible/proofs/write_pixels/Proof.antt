@@ -8,9 +8,9 @@ use lib.ListN.{length, length-set, getD}
 use lib.Pow.{pow-mono}
 use mir.Syntax.{w32}
 use mir.Facts.{toZ-ofZ}
-use Rattle.lifting.specs.Patch.{at, patch, patch-none, patch-above, patch-to}
-use Rattle.lifting.specs.Runs.{as-type}
-use Rattle.pictures.specs.MemoryLaws.{patch-next, patch-zeroed}
+use Rattle.slices.specs.Patch.{at, patch, patch-none, patch-above, patch-to}
+use Rattle.slices.specs.Runs.{as-type}
+use Rattle.slices.specs.FrontLaws.{patch-next, patch-zeroed}
 use Rattle.numbers.specs.Auto.{rd}
 use Rattle.pictures.specs.RangeChecks.{Between}
 use Rattle.reversible.proofs.write_pixels.Statement.{statement}

@@ -5,7 +5,7 @@ use native.Mathlib.Omega.{arith}
 use Rattle.width_table.specs.Nodes.{P1, U1, P2}
 use Rattle.width_table.specs.Table.{maxFractionBits, fractionBits, inputBits}
 use Rattle.width_table.specs.Numbered.{passOf}
-use Rattle.lifting.specs.Patch.{at}
+use Rattle.slices.specs.Patch.{at}
 use Rattle.irreversible.specs.LevelBits.{fraction-is, input-is}
 use Rattle.rolling.specs.SoundLaws.{look-in, no-entering, no-p1, no-u1, last-tells}
 use Rattle.rolling.proofs.columns_sound.Statement.{statement}

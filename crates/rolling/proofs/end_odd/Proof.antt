@@ -4,7 +4,7 @@ use Prim.Native.Nat.{ℕ}
 use native.Mathlib.Omega.{arith}
 use borrow.Author.Needs.{needs}
 use lib.IntN.{ℤ}
-use Rattle.lifting.specs.Patch.{at}
+use Rattle.slices.specs.Patch.{at}
 use Rattle.rolling.specs.Program.{SecondFits, LastFits, secondDone, setU1, setU2, oddDone, lastGiven, twoGiven, PastSame}
 use Rattle.rolling.specs.ProgramLaws.{U1-done, odd-U1, odd-second, odd-last, past-then, past-one, past-second}
 use Rattle.rolling.proofs.end_odd.Statement.{statement}

@@ -2,7 +2,7 @@
 use mathlib.Core.Path.{_∙_, ap}
 use native.Mathlib.Omega.{arith}
 use borrow.Author.Needs.{needs}
-use Rattle.lifting.specs.Patch.{at}
+use Rattle.slices.specs.Patch.{at}
 use Rattle.rolling.specs.Schedule.{Line}
 use Rattle.rolling.specs.Memory.{setLine}
 use Rattle.rolling.specs.Program.{single-line, single-may}

@@ -2,7 +2,7 @@
 use mathlib.Core.Path.{_≡_, sym, subst}
 use native.Mathlib.Omega.{arith}
 use borrow.Author.Needs.{needs}
-use Rattle.lifting.specs.Patch.{at}
+use Rattle.slices.specs.Patch.{at}
 use Rattle.rolling.specs.Memory.{moved, SafeStage}
 use Rattle.rolling.specs.Program.{setP1}
 use Rattle.rolling.specs.ProgramLaws.{P1-done, U1-done, before-apart, first-P1, first-U1}

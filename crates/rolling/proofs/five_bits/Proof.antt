@@ -1,6 +1,6 @@
 -- `rolling::five_bits` meets its contract: a look over the values' bits.
 use native.Mathlib.Omega.{arith}
-use Rattle.lifting.specs.Patch.{at}
+use Rattle.slices.specs.Patch.{at}
 use Rattle.rolling.specs.SoundLaws.{tells-five}
 use Rattle.rolling.proofs.five_bits.Statement.{statement}
 use Rattle.rolling.proofs.five_bits.Tie as tie

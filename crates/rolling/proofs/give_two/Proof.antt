@@ -3,7 +3,7 @@ use mathlib.Core.Path.{_∙_, ap}
 use Prim.Native.Nat.{_+_}
 use native.Mathlib.Omega.{arith}
 use borrow.Author.Needs.{needs}
-use Rattle.lifting.specs.Patch.{at}
+use Rattle.slices.specs.Patch.{at}
 use Rattle.rolling.specs.Schedule.{Line}
 use Rattle.rolling.specs.Memory.{lineIn, setLine}
 use Rattle.rolling.specs.Program.{G1-line, G1-may, G2-line, G2-may}

@@ -4,7 +4,7 @@ use Prim.Native.Nat.{ℕ}
 use native.Mathlib.Omega.{arith}
 use borrow.Author.Needs.{needs}
 use lib.IntN.{ℤ}
-use Rattle.lifting.specs.Patch.{at}
+use Rattle.slices.specs.Patch.{at}
 use Rattle.rolling.specs.Memory.{lineIn, setLine, SafeScaling}
 use Rattle.rolling.specs.Program.{setU2, G1-line}
 use Rattle.rolling.specs.ProgramLaws.{U2-done, last-U2, last-G1}

@@ -4,7 +4,7 @@ use Prim.Native.Nat.{ℕ}
 use native.Mathlib.Omega.{arith}
 use borrow.Author.Needs.{needs}
 use lib.IntN.{ℤ}
-use Rattle.lifting.specs.Patch.{at}
+use Rattle.slices.specs.Patch.{at}
 use Rattle.rolling.specs.Memory.{moved}
 use Rattle.rolling.specs.Program.{SecondFits, secondDone, firstKept, laterDone, twoGiven}
 use Rattle.rolling.specs.ProgramLaws.{later-second}

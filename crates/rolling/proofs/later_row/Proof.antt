@@ -5,7 +5,7 @@ use native.Mathlib.Omega.{arith}
 use borrow.Author.Needs.{needs}
 use lib.IntN.{ℤ}
 use Rattle.width_table.specs.declared.WidthTable.{WidthTable}
-use Rattle.lifting.specs.Patch.{at}
+use Rattle.slices.specs.Patch.{at}
 use Rattle.rolling.specs.Calls.{heldLines}
 use Rattle.rolling.specs.Program.{LaterFits, laterDone, laterKept, twoGiven}
 use Rattle.rolling.specs.ProgramLaws.{past-later}

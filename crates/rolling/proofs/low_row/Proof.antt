@@ -5,7 +5,7 @@ use Prim.Native.Nat.{ℕ, _*_}
 use native.Mathlib.Omega.{arith}
 use borrow.Author.Needs.{needs}
 use lib.IntN.{ℤ}
-use Rattle.lifting.specs.Patch.{at}
+use Rattle.slices.specs.Patch.{at}
 use Rattle.rolling.specs.Calls.{heldLines}
 use Rattle.rolling.specs.Memory.{setLine, lineIn, past-set}
 use Rattle.rolling.specs.Program.{HeldFits, Enters}

@@ -9,9 +9,9 @@ use Rattle.width_table.specs.Limits.{form-depth}
 use Rattle.width_table.specs.Nodes.{Rows}
 use Rattle.lifting.specs.declared.Kernel.{Kernel}
 use Rattle.lifting.specs.declared.Kernel.the-variants.{Two}
-use Rattle.lifting.specs.Patch.{at, patch}
+use Rattle.slices.specs.Patch.{at, patch}
 use Rattle.lifting.specs.Kernels.{worked, SameKernel}
-use Rattle.lifting.specs.Strips.{pixelLine}
+use Rattle.slices.specs.Pixels.{pixelLine}
 use Rattle.pictures.specs.Pictures.{sample}
 use Rattle.precision.specs.Promise.{promise}
 use Rattle.irreversible.specs.KernelLaws.{kernelOf, kernel-line}

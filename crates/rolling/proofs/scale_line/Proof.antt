@@ -7,8 +7,8 @@ use borrow.Author.Needs.{needs}
 use lib.ListN.{length}
 use Rattle.lines.specs.Lines.{lows}
 use Rattle.lifting.specs.Steps.{FactorSafe}
-use Rattle.lifting.specs.Patch.{at}
-use Rattle.lifting.specs.Runs.{as-type}
+use Rattle.slices.specs.Patch.{at}
+use Rattle.slices.specs.Runs.{as-type}
 use Rattle.rolling.specs.Calls.{outLines}
 use Rattle.rolling.specs.Memory.{in-lent, pick-low, pick-high, scaling-in-two}
 use Rattle.rolling.proofs.scale_line.Statement.{statement}

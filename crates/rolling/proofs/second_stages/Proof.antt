@@ -2,7 +2,7 @@
 use mathlib.Core.Path.{_≡_, refl, sym, subst}
 use native.Mathlib.Omega.{arith}
 use borrow.Author.Needs.{needs}
-use Rattle.lifting.specs.Patch.{at}
+use Rattle.slices.specs.Patch.{at}
 use Rattle.rolling.specs.Memory.{SafeStage}
 use Rattle.rolling.specs.Program.{setP2}
 use Rattle.rolling.specs.ProgramLaws.{P2-done, U2-done, after-apart, before-apart-2, second-P2, second-U2}

@@ -9,9 +9,9 @@ use mir.Syntax.{w32}
 use mir.Facts.{toZ-ofZ}
 use Rattle.width_table.specs.Limits.{form-depth}
 use Rattle.width_table.specs.Nodes.{Rows}
-use Rattle.lifting.specs.Patch.{at, patch, patch-in, patch-one}
+use Rattle.slices.specs.Patch.{at, patch, patch-in, patch-one}
 use Rattle.lifting.specs.Steps.{FactorSafe, scaledBy}
-use Rattle.lifting.specs.Strips.{pixelLine}
+use Rattle.slices.specs.Pixels.{pixelLine}
 use Rattle.precision.specs.Promise.{promise}
 use Rattle.irreversible.specs.KernelLaws.{factor-line}
 use Rattle.rolling.specs.Memory.{setLine, changed-there}

@@ -6,8 +6,8 @@ use borrow.Author.Needs.{needs}
 use lib.ListN.{length}
 use Rattle.lines.specs.Lines.{lows}
 use Rattle.lifting.specs.Steps.{Safe}
-use Rattle.lifting.specs.Patch.{at}
-use Rattle.lifting.specs.Runs.{as-type}
+use Rattle.slices.specs.Patch.{at}
+use Rattle.slices.specs.Runs.{as-type}
 use Rattle.rolling.specs.Memory.{in-lent, lines-apart, pick-low, second-safe, stage-in-two}
 use Rattle.rolling.proofs.stage_line.Statement.{statement}
 use Rattle.rolling.proofs.stage_line.Tie as tie

@@ -8,7 +8,7 @@ use borrow.Author.Needs.{needs}
 use lib.IntN.{ℤ}
 use lib.ListN.{length}
 use Rattle.width_table.specs.declared.WidthTable.{WidthTable}
-use Rattle.lifting.specs.Patch.{at}
+use Rattle.slices.specs.Patch.{at}
 use Rattle.rolling.specs.declared.Taken.{Taken}
 use Rattle.rolling.specs.declared.Taken.the-variants.{Zero, Two, Three, Four, OddMany, EvenMany}
 use Rattle.rolling.specs.Schedule.{Line, lineGives, endGives}

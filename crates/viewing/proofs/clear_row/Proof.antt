@@ -4,7 +4,7 @@ use Prim.Native.Nat.{_-_, _≤_}
 use native.Mathlib.Omega.{arith}
 use lib.IntN.{pos}
 use lib.ListN.{length, length-set}
-use Rattle.lifting.specs.Patch.{at, patch, patch-none, patch-set, patch-to}
+use Rattle.slices.specs.Patch.{at, patch, patch-none, patch-set, patch-to}
 use Rattle.viewing.proofs.clear_row.Statement.{statement}
 use Rattle.viewing.proofs.clear_row.Tie as tie
 

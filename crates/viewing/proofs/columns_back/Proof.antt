@@ -2,8 +2,8 @@
 use mathlib.Core.Path.{_≡_, sym, _∙_}
 use native.Mathlib.Omega.{arith}
 use Rattle.lines.specs.Lines.{lows, highs}
-use Rattle.lifting.specs.Patch.{at}
-use Rattle.lifting.specs.Runs.{as-type}
+use Rattle.slices.specs.Patch.{at}
+use Rattle.slices.specs.Runs.{as-type}
 use Rattle.inverse_lifting.specs.Planes.{Safe}
 use Rattle.inverse_lifting.specs.Strips.{source, inverted}
 use Rattle.viewing.specs.LevelSteps.{lowSite, highSite, lowed}

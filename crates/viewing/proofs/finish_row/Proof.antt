@@ -2,7 +2,7 @@
 use mathlib.Core.Path.{ap, _∙_}
 use native.Mathlib.Omega.{arith}
 use lib.ListN.{getD}
-use Rattle.lifting.specs.Patch.{patch-ext}
+use Rattle.slices.specs.Patch.{patch-ext}
 use Rattle.viewing.specs.View.{pixel}
 use Rattle.viewing.specs.RowSteps.{taken-small}
 use Rattle.viewing.proofs.finish_row.Statement.{statement}

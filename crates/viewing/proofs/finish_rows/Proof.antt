@@ -3,8 +3,8 @@ use mathlib.Core.Path.{_≡_, refl}
 use Prim.Native.Nat.{_-_, _≤_}
 use native.Mathlib.Omega.{arith}
 use lib.ListN.{length, getD}
-use Rattle.lifting.specs.Patch.{at}
-use Rattle.lifting.specs.PatchLines.{lines-none, lines-to}
+use Rattle.slices.specs.Patch.{at}
+use Rattle.slices.specs.PatchLines.{lines-none, lines-to}
 use Rattle.viewing.specs.RowSteps.{shownRows, clearedRows, row-ready, shown-more, cleared-more}
 use Rattle.viewing.proofs.finish_rows.Statement.{statement}
 use Rattle.viewing.proofs.finish_rows.Tie as tie

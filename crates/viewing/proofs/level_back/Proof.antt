@@ -3,7 +3,7 @@ use mathlib.Core.Path.{sym, ap, _∙_, subst}
 use Prim.Native.Nat.{ℕ}
 use native.Mathlib.Omega.{arith}
 use lib.IntN.{ℤ}
-use Rattle.lifting.specs.Kernels.{rowOf, rowsBy}
+use Rattle.slices.specs.Parts.{rowOf, rowsBy}
 use Rattle.inverse_lifting.specs.Fixed.{nodeBits, fixedInverse}
 use Rattle.inverse_lifting.specs.Planes.{Safe}
 use Rattle.viewing.specs.View.{viewLine}

@@ -5,8 +5,8 @@ use native.Mathlib.Numerals.{add-one}
 use native.Mathlib.Omega.{arith}
 use lib.IntN.{ℤ}
 use lib.ListN.{length}
-use Rattle.lifting.specs.Patch.{at}
-use Rattle.lifting.specs.Runs.{as-type}
+use Rattle.slices.specs.Patch.{at}
+use Rattle.slices.specs.Runs.{as-type}
 use Rattle.viewing.specs.LevelSteps.{levelInverse}
 use Rattle.viewing.specs.CallSteps.{LevelReady, LevelsLeft, levels-some, levels-few, left-all, level-ready, left-less}
 use Rattle.viewing.proofs.levels_back.Statement.{statement}

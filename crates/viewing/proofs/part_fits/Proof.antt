@@ -7,8 +7,8 @@ use Rattle.precision.specs.Promise.{promise}
 use Rattle.width_table.specs.Limits.{integer-read, fraction-read}
 use Rattle.width_table.specs.Numbered.{nodeOf, passOf}
 use Rattle.width_table.specs.Table.{maxIntegerBits, maxFractionBits, integerBits, fractionBits}
-use Rattle.lifting.specs.Patch.{at}
-use Rattle.lifting.specs.Kernels.{rowOf}
+use Rattle.slices.specs.Patch.{at}
+use Rattle.slices.specs.Parts.{rowOf}
 use Rattle.pictures.specs.RangeChecks.{Tells, OfBits}
 use Rattle.viewing.specs.WidthLaws.{tells-fits}
 use Rattle.viewing.proofs.part_fits.Statement.{statement}

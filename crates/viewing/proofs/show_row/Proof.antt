@@ -7,7 +7,7 @@ use lib.IntN.{ℤ, natAbs}
 use lib.ListN.{length, length-set, getD}
 use mir.Syntax.{w64}
 use mir.Facts.{toZ-ofZ}
-use Rattle.lifting.specs.Patch.{at, patch, patch-none, patch-set, patch-to}
+use Rattle.slices.specs.Patch.{at, patch, patch-none, patch-set, patch-to}
 use Rattle.inverse_lifting.specs.Fixed.{limit}
 use Rattle.viewing.specs.View.{pixel}
 use Rattle.viewing.proofs.show_row.Statement.{statement}

@@ -8,8 +8,8 @@ use lib.Signed.{mag}
 use mir.Syntax.{Width}
 use mir.Val.{SFits, toZ, ofZ, hbits}
 use mir.Facts.{toZ-ofZ}
-use Rattle.lifting.specs.Patch.{at}
-use Rattle.lifting.specs.Runs.{ran, Runs, SafeBy, as-type, own-as-was, side-as-was}
+use Rattle.slices.specs.Patch.{at}
+use Rattle.slices.specs.Runs.{ran, Runs, SafeBy, as-type, own-as-was, side-as-was}
 
 -- a number read back from its bits
 abbrev pub back : Width → ℤ → ℤ

@@ -1,13 +1,13 @@
--- `pictures::clear` meets its contract: the first i elements are 0.
+-- `slices::clear` meets its contract: the first i elements are 0.
 use mathlib.Core.Path.{_≡_, refl}
 use Prim.Native.Nat.{_-_, _≤_}
 use native.Mathlib.Omega.{arith}
 use lib.IntN.{pos}
 use lib.ListN.{length, length-set}
-use Rattle.lifting.specs.Patch.{at, patch, patch-none}
-use Rattle.pictures.specs.MemoryLaws.{patch-next, patch-zeroed}
-use Rattle.pictures.proofs.clear.Statement.{statement}
-use Rattle.pictures.proofs.clear.Tie as tie
+use Rattle.slices.specs.Patch.{at, patch, patch-none}
+use Rattle.slices.specs.FrontLaws.{patch-next, patch-zeroed}
+use Rattle.slices.proofs.clear.Statement.{statement}
+use Rattle.slices.proofs.clear.Tie as tie
 
 abbrev Inv-loop : tie.InvT-loop
 Inv-loop work₀ n i₀ work i = (i ≤ n) × (length work ≡ length work₀) × (at work ≡ patch 0 i (λ k. pos 0) (at work₀))

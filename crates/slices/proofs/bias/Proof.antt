@@ -1,11 +1,11 @@
--- `lifting::bias` meets its contract.
+-- `slices::bias` meets its contract.
 use native.Mathlib.Nat.{lt-trans}
 use lib.Dec.{lit<}
 use mir.Syntax.{w64}
 use mir.Facts.{toZ-ofZ, toZ-pos, sfits-widen}
-use Rattle.lifting.specs.Bias.{biased-is, biased-small}
-use Rattle.lifting.proofs.bias.Statement.{statement}
-use Rattle.lifting.proofs.bias.Tie as tie
+use Rattle.slices.specs.Biased.{biased-is, biased-small}
+use Rattle.slices.proofs.bias.Statement.{statement}
+use Rattle.slices.proofs.bias.Tie as tie
 
 cast-result : tie.Need-cast-result
 cast-result c = rw (toZ-ofZ (c .fits .z)) (sfits-widen tt (c .fits .z))

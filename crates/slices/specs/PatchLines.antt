@@ -9,8 +9,8 @@ use native.Mathlib.Numerals.{add-one}
 use native.Mathlib.Omega.{arith}
 use lib.IntN.{ℤ}
 use lib.ListN.{length}
-use Rattle.lifting.specs.Patch.{patch, patch-in, patch-below, patch-above, patch-out, patch-is, patch-ext, patch-none, Place, place, below, inside, above}
-use Rattle.lifting.specs.Runs.{Apart}
+use Rattle.slices.specs.Patch.{patch, patch-in, patch-below, patch-above, patch-out, patch-is, patch-ext, patch-none, Place, place, below, inside, above}
+use Rattle.slices.specs.Runs.{Apart}
 
 abbrev pub lineAt : ℕ → ℕ → ℕ → ℕ
 lineAt base stride i = base + i * stride

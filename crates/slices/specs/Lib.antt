@@ -9,9 +9,9 @@
 --   Pixels      pixels, each less the middle of its range (`pixelLine`, `loaded`)
 --   Biased      values of 32 bits as unsigned numbers (`biased`)
 -- Laws:
---   SignedRuns  a turn of a run on signed numbers
+--   Filling     a loop that fills a run, or lines, turn by turn
+--   SignedRuns  such a loop on signed numbers
 --   PartLaws    a plane worked row by row, or strip by strip
---   Filling     a loop that fills a run, turn by turn
 --   FrontLaws   what is written over the front, element by element
 pub mod Patch
 pub mod Runs
@@ -20,7 +20,7 @@ pub mod Parts
 pub mod Fronts
 pub mod Pixels
 pub mod Biased
+pub mod Filling
 pub mod SignedRuns
 pub mod PartLaws
-pub mod Filling
 pub mod FrontLaws

@@ -1,21 +1,17 @@
 -- `lifting::runs::biased_cut_run` meets its contract.
-use mathlib.Core.Path.{_≡_, refl}
-use Prim.Native.Nat.{_-_, _≤_}
+use Prim.Native.Nat.{_-_}
 use native.Mathlib.Omega.{arith}
-use lib.IntN.{pos}
-use lib.ListN.{length, length-set}
-use mir.Syntax.{w32}
 use Rattle.lifting.specs.declared.Step.{Step}
 use Rattle.lifting.specs.declared.Step.the-variants.{BiasedCut}
-use Rattle.lifting.specs.Steps.{applied, Safe}
-use Rattle.slices.specs.Patch.{at, patch-none, patch-set, patch-to}
-use Rattle.slices.specs.Runs.{ran}
-use Rattle.slices.specs.SignedRuns.{turn-safe, turn-gives}
+use Rattle.lifting.specs.Steps.{applied}
+use Rattle.lifting.specs.SafeRuns.{step-asks, step-done}
+use Rattle.slices.specs.Filling.{filling-none, filling-all}
+use Rattle.slices.specs.SignedRuns.{Running}
 use Rattle.lifting.proofs.runs.biased_cut_run.Statement.{statement}
 use Rattle.lifting.proofs.runs.biased_cut_run.Tie as tie
 
 abbrev Inv-loop : tie.InvT-loop
-Inv-loop buf₀ t a b n down k c offset first up base cut j₀ buf j = (j ≤ n) × (length buf ≡ length buf₀) × (at buf ≡ ran (applied (BiasedCut down k c offset first up base cut)) t a b j (at buf₀))
+Inv-loop buf₀ t a b n down k c offset first up base cut j₀ buf j = Running (applied (BiasedCut down k c offset first up base cut)) t a b n buf₀ buf j
 
 abbrev μ-loop : tie.MeasureT-loop
 μ-loop buf₀ t a b n down k c offset first up base cut j₀ buf j = n - j
@@ -23,48 +19,12 @@ abbrev μ-loop : tie.MeasureT-loop
 abbrev form : tie.Start Inv-loop μ-loop → Step
 form s = BiasedCut (s .args .down) (s .args .k) (s .args .c) (s .args .offset) (s .args .first) (s .args .up) (s .args .base) (s .args .cut)
 
-loop-holds : tie.Need-loop-holds Inv-loop μ-loop
-loop-holds c = (omega arith, refl, patch-none _ 0 _ _ refl)
-
-biased-cut-of-requires : tie.Need-biased-cut-of-requires Inv-loop μ-loop
-biased-cut-of-requires c κs =
-    let i = c .before .before .before in
-    let s = i .before .before in
-    turn-safe w32 (applied (form s)) (Safe (form s)) _ _ _ _ _ _ _ (s .pre .0) (i .before .loop .inv .2) (i .loop-test .taken) (c .before .before .biased-cut-of-arg .given) (c .before .biased-cut-of-arg2 .given) (c .biased-cut-of-arg3 .given) (s .pre .1)
-
-loop-again : tie.Need-loop-again Inv-loop μ-loop
-loop-again c =
-    let g = c .before in
-    let i = g .before .before .before in
-    let s = i .before .before in
-    let v = turn-gives w32 (applied (form s)) (Safe (form s)) _ _ _ _ _ _ _ (s .pre .0) (i .before .loop .inv .2) (i .loop-test .taken) (g .before .before .biased-cut-of-arg .given) (g .before .biased-cut-of-arg2 .given) (g .biased-cut-of-arg3 .given) _ (c .biased-cut-of .ok) (c .biased-cut-of .ensures) in
-    (omega arith, simp length-set (i .before .loop .inv .1), patch-set (s .args .t) (i .before .loop .j) _ _ (i .before .loop .buf) (pos 0) (i .before .loop .inv .2) (omega arith) _ v)
-
-returns : tie.Need-returns Inv-loop μ-loop
-returns c = patch-to _ _ _ _ _ _ (c .before .loop .inv .2) (omega arith)
-
 pub biased-cut-run-spec : {M : Type 1} → statement M
-biased-cut-run-spec =
-    tie.close
-    (tie.spec
-    Inv-loop
-    μ-loop
-    loop-holds
+biased-cut-run-spec = tie.close (tie.spec Inv-loop μ-loop
+    (λ c. filling-none _ _ _ _)
+    (λ c. omega arith) (λ c. omega arith) (λ c. omega arith) (λ c. omega arith) (λ c. omega arith) (λ c. omega arith) (λ c. omega arith) (λ c. omega arith) (λ c. omega arith)
+    (λ c κs. let i = c .before .before .before in let s = i .before .before in step-asks (form s) (s .pre .0) (i .before .loop .inv) (i .loop-test .taken) (c .before .before .biased-cut-of-arg .given) (c .before .biased-cut-of-arg2 .given) (c .biased-cut-of-arg3 .given) (s .pre .1))
+    (λ c. omega arith) (λ c. omega arith) (λ c. omega arith) (λ c. omega arith) (λ c. omega arith)
+    (λ c. let g = c .before in let i = g .before .before .before in let s = i .before .before in step-done (form s) (s .pre .0) (i .before .loop .inv) (i .loop-test .taken) (g .before .before .biased-cut-of-arg .given) (g .before .biased-cut-of-arg2 .given) (g .biased-cut-of-arg3 .given) (c .biased-cut-of .ok) (c .biased-cut-of .ensures))
     (λ c. omega arith)
-    (λ c. omega arith)
-    (λ c. omega arith)
-    (λ c. omega arith)
-    (λ c. omega arith)
-    (λ c. omega arith)
-    (λ c. omega arith)
-    (λ c. omega arith)
-    (λ c. omega arith)
-    biased-cut-of-requires
-    (λ c. omega arith)
-    (λ c. omega arith)
-    (λ c. omega arith)
-    (λ c. omega arith)
-    (λ c. omega arith)
-    loop-again
-    (λ c. omega arith)
-    returns)
+    (λ c. filling-all (c .before .loop .inv) (omega arith)))

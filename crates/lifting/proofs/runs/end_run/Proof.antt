@@ -1,65 +1,27 @@
 -- `lifting::runs::end_run` meets its contract.
-use mathlib.Core.Path.{_≡_, refl, _∙_}
-use Prim.Native.Nat.{_-_, _≤_}
+use Prim.Native.Nat.{_-_}
 use native.Mathlib.Omega.{arith}
-use lib.IntN.{pos}
-use lib.ListN.{length, length-set}
-use mir.Syntax.{w32}
-use Rattle.lifting.specs.Steps.{applied, Safe}
-use Rattle.slices.specs.Patch.{at, patch-none, patch-set, patch-to}
-use Rattle.slices.specs.Runs.{ran}
-use Rattle.slices.specs.SignedRuns.{turn-safe, turn-gives}
+use mathlib.Core.Path.{_∙_}
+use Rattle.lifting.specs.Steps.{applied}
 use Rattle.lifting.specs.Ends.{ended-is}
+use Rattle.lifting.specs.SafeRuns.{step-asks, step-done}
+use Rattle.slices.specs.Filling.{filling-none, filling-all}
+use Rattle.slices.specs.SignedRuns.{Running}
 use Rattle.lifting.proofs.runs.end_run.Statement.{statement}
 use Rattle.lifting.proofs.runs.end_run.Tie as tie
 
 abbrev Inv-loop : tie.InvT-loop
-Inv-loop buf₀ t a n step j₀ buf j = (j ≤ n) × (length buf ≡ length buf₀) × (at buf ≡ ran (applied step) t a a j (at buf₀))
+Inv-loop buf₀ t a n step j₀ buf j = Running (applied step) t a a n buf₀ buf j
 
 abbrev μ-loop : tie.MeasureT-loop
 μ-loop buf₀ t a n step j₀ buf j = n - j
 
-loop-holds : tie.Need-loop-holds Inv-loop μ-loop
-loop-holds c = (omega arith, refl, patch-none _ 0 _ _ refl)
-
-apply-end-requires : tie.Need-apply-end-requires Inv-loop μ-loop
-apply-end-requires c κs =
-    let i = c .before .before in
-    let s = i .before .before in
-    let x = c .apply-end-arg2 .given in
-    turn-safe w32 (applied (s .args .step)) (Safe (s .args .step)) _ _ _ _ _ _ _ (s .pre .0) (i .before .loop .inv .2) (i .loop-test .taken) (c .before .apply-end-arg .given) x x (s .pre .1)
-
-loop-again : tie.Need-loop-again Inv-loop μ-loop
-loop-again c =
-    let g = c .before in
-    let i = g .before .before in
-    let s = i .before .before in
-    let x = g .apply-end-arg2 .given in
-    let v = turn-gives w32 (applied (s .args .step)) (Safe (s .args .step)) _ _ _ _ _ _ _ (s .pre .0) (i .before .loop .inv .2) (i .loop-test .taken) (g .before .apply-end-arg .given) x x _ (c .apply-end .ok) (c .apply-end .ensures ∙ ended-is (s .args .step) _ _) in
-    (omega arith, simp length-set (i .before .loop .inv .1), patch-set (s .args .t) (i .before .loop .j) _ _ (i .before .loop .buf) (pos 0) (i .before .loop .inv .2) (omega arith) _ v)
-
-returns : tie.Need-returns Inv-loop μ-loop
-returns c = patch-to _ _ _ _ _ _ (c .before .loop .inv .2) (omega arith)
-
 pub end-run-spec : {M : Type 1} → statement M
-end-run-spec =
-    tie.close
-    (tie.spec
-    Inv-loop
-    μ-loop
-    loop-holds
+end-run-spec = tie.close (tie.spec Inv-loop μ-loop
+    (λ c. filling-none _ _ _ _)
+    (λ c. omega arith) (λ c. omega arith) (λ c. omega arith) (λ c. omega arith) (λ c. omega arith) (λ c. omega arith)
+    (λ c κs. let i = c .before .before in let s = i .before .before in step-asks (s .args .step) (s .pre .0) (i .before .loop .inv) (i .loop-test .taken) (c .before .apply-end-arg .given) (c .apply-end-arg2 .given) (c .apply-end-arg2 .given) (s .pre .1))
+    (λ c. omega arith) (λ c. omega arith) (λ c. omega arith) (λ c. omega arith) (λ c. omega arith)
+    (λ c. let g = c .before in let i = g .before .before in let s = i .before .before in step-done (s .args .step) (s .pre .0) (i .before .loop .inv) (i .loop-test .taken) (g .before .apply-end-arg .given) (g .apply-end-arg2 .given) (g .apply-end-arg2 .given) (c .apply-end .ok) (c .apply-end .ensures ∙ ended-is (s .args .step) _ _))
     (λ c. omega arith)
-    (λ c. omega arith)
-    (λ c. omega arith)
-    (λ c. omega arith)
-    (λ c. omega arith)
-    (λ c. omega arith)
-    apply-end-requires
-    (λ c. omega arith)
-    (λ c. omega arith)
-    (λ c. omega arith)
-    (λ c. omega arith)
-    (λ c. omega arith)
-    loop-again
-    (λ c. omega arith)
-    returns)
+    (λ c. filling-all (c .before .loop .inv) (omega arith)))

@@ -1,68 +1,35 @@
--- `lifting::runs::plain_scale_here` meets its contract. The loop's invariant: the run's first j places are done; the others are as they were.
-use mathlib.Core.Path.{_≡_, refl, sym, ap, _∙_}
-use Prim.Native.Nat.{_+_, _-_, _≤_}
+-- `lifting::runs::plain_scale_here` meets its contract.
+use mathlib.Core.Path.{sym, subst, _∙_}
+use Prim.Native.Nat.{_+_, _-_}
 use native.Mathlib.Omega.{arith}
-use lib.IntN.{pos}
-use lib.ListN.{length, length-set}
+use lib.IntN.{ℤ}
 use mir.Syntax.{w32, w64}
 use mir.Val.{toZ}
 use mir.Facts.{toZ-ofZ}
+use Rattle.lifting.specs.declared.Factor.{Factor}
 use Rattle.lifting.specs.declared.Factor.the-variants.{Plain}
 use Rattle.lifting.specs.Steps.{scaledBy, FactorSafe}
-use Rattle.slices.specs.Patch.{at, patch, patch-none, patch-set, patch-to}
-use Rattle.slices.specs.Runs.{as-type, own-as-was}
-use Rattle.slices.specs.SignedRuns.{back, got}
+use Rattle.slices.specs.Patch.{at, patch}
+use Rattle.slices.specs.Filling.{Filling, filling-none, filling-more, filling-all, filling-own}
+use Rattle.slices.specs.SignedRuns.{back, value-safe, value-gives}
 use Rattle.lifting.proofs.runs.plain_scale_here.Statement.{statement}
 use Rattle.lifting.proofs.runs.plain_scale_here.Tie as tie
 
 abbrev Inv-loop : tie.InvT-loop
-Inv-loop buf₀ from n c cut j₀ buf j = (j ≤ n) × (length buf ≡ length buf₀) × (at buf ≡ patch from j (λ i. scaledBy (Plain (toZ w64 c) cut) (at buf₀ (from + i))) (at buf₀))
+Inv-loop buf₀ from n c cut j₀ buf j = Filling from n (λ i. scaledBy (Plain (toZ w64 c) cut) (at buf₀ (from + i))) buf₀ buf j
 
 abbrev μ-loop : tie.MeasureT-loop
 μ-loop buf₀ from n c cut j₀ buf j = n - j
 
-loop-holds : tie.Need-loop-holds Inv-loop μ-loop
-loop-holds c = (omega arith, refl, patch-none _ 0 _ _ refl)
-
-scaled-by-requires : tie.Need-scaled-by-requires Inv-loop μ-loop
-scaled-by-requires c κs =
-    let t = c .before .before .loop in
-    let a = c .before .before .before in
-    let e : back w32 (at (t .buf) (a .args .from + t .j)) ≡ at (a .args .buf .now) (a .args .from + t .j) = got w32 (c .scaled-by-arg .given) (own-as-was _ _ _ _ _ (t .inv .2)) in
-    as-type (λ u. FactorSafe (Plain (sym (toZ-ofZ (a .fits .c)) u) (a .args .cut)) (sym e u)) (a .pre .1 (t .j) (c .before .loop-test .taken))
-
-loop-again : tie.Need-loop-again Inv-loop μ-loop
-loop-again c =
-    let t = c .before .before .before .loop in
-    let a = c .before .before .before .before in
-    let e : back w32 (at (t .buf) (a .args .from + t .j)) ≡ at (a .args .buf .now) (a .args .from + t .j) = got w32 (c .before .scaled-by-arg .given) (own-as-was _ _ _ _ _ (t .inv .2)) in (
-      omega arith,
-      simp length-set (t .inv .1),
-      patch-set _ (t .j) _ _ (t .buf) (pos 0) (t .inv .2) (omega arith) _ (got w32 (c .scaled-by .ok) (c .scaled-by .ensures ∙ ap (scaledBy (Plain (back w64 (a .args .c)) (a .args .cut))) e)),
-    )
-
-returns : tie.Need-returns Inv-loop μ-loop
-returns c =
-    let a = c .before .before in
-    patch-to _ _ _ _ _ _ (c .before .loop .inv .2) (omega arith)
-    ∙ (λ u. patch (a .args .from) (a .args .n) (λ j. scaledBy (Plain (toZ-ofZ (a .fits .c) u) (a .args .cut)) (at (a .args .buf .now) (a .args .from + j))) (at (a .args .buf .now)))
+abbrev factor : tie.Start Inv-loop μ-loop → Factor
+factor s = Plain (back w64 (s .args .c)) (s .args .cut)
 
 pub plain-scale-here-spec : {M : Type 1} → statement M
-plain-scale-here-spec =
-    tie.close
-    (tie.spec
-    Inv-loop
-    μ-loop
-    loop-holds
+plain-scale-here-spec = tie.close (tie.spec Inv-loop μ-loop
+    (λ c. filling-none _ _ _ _)
+    (λ c. omega arith) (λ c. omega arith) (λ c. omega arith)
+    (λ c κs. let s = c .before .before .before in value-safe w32 (at (s .args .buf .now) (s .args .from + c .before .before .loop .j)) (c .scaled-by-arg .given) (filling-own (c .before .before .loop .inv)) (FactorSafe (factor s)) (subst (λ (z : ℤ). FactorSafe (Plain z (s .args .cut)) (at (s .args .buf .now) (s .args .from + c .before .before .loop .j))) (sym (toZ-ofZ (s .fits .c))) (s .pre .1 (c .before .before .loop .j) (c .before .loop-test .taken))))
+    (λ c. omega arith) (λ c. omega arith) (λ c. omega arith) (λ c. omega arith) (λ c. omega arith)
+    (λ c. let s = c .before .before .before .before in filling-more (c .before .before .before .loop .inv) (omega arith) (omega arith) _ (value-gives w32 (at (s .args .buf .now) (s .args .from + c .before .before .before .loop .j)) (c .before .scaled-by-arg .given) (filling-own (c .before .before .before .loop .inv)) (scaledBy (factor s)) (c .scaled-by .ok) (c .scaled-by .ensures)))
     (λ c. omega arith)
-    (λ c. omega arith)
-    (λ c. omega arith)
-    scaled-by-requires
-    (λ c. omega arith)
-    (λ c. omega arith)
-    (λ c. omega arith)
-    (λ c. omega arith)
-    (λ c. omega arith)
-    loop-again
-    (λ c. omega arith)
-    returns)
+    (λ c. let s = c .before .before in filling-all (c .before .loop .inv) (omega arith) ∙ (λ u. patch (s .args .from) (s .args .n) (λ j. scaledBy (Plain (toZ-ofZ (s .fits .c) u) (s .args .cut)) (at (s .args .buf .now) (s .args .from + j))) (at (s .args .buf .now)))))

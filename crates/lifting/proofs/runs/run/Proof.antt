@@ -1,65 +1,25 @@
 -- `lifting::runs::run` meets its contract.
-use mathlib.Core.Path.{_≡_, refl}
-use Prim.Native.Nat.{_-_, _≤_}
+use Prim.Native.Nat.{_-_}
 use native.Mathlib.Omega.{arith}
-use lib.IntN.{pos}
-use lib.ListN.{length, length-set}
-use mir.Syntax.{w32}
-use Rattle.lifting.specs.Steps.{applied, Safe}
-use Rattle.slices.specs.Patch.{at, patch-none, patch-set, patch-to}
-use Rattle.slices.specs.Runs.{ran}
-use Rattle.slices.specs.SignedRuns.{turn-safe, turn-gives}
+use Rattle.lifting.specs.Steps.{applied}
+use Rattle.lifting.specs.SafeRuns.{step-asks, step-done}
+use Rattle.slices.specs.Filling.{filling-none, filling-all}
+use Rattle.slices.specs.SignedRuns.{Running}
 use Rattle.lifting.proofs.runs.run.Statement.{statement}
 use Rattle.lifting.proofs.runs.run.Tie as tie
 
 abbrev Inv-loop : tie.InvT-loop
-Inv-loop buf₀ t a b n step j₀ buf j = (j ≤ n) × (length buf ≡ length buf₀) × (at buf ≡ ran (applied step) t a b j (at buf₀))
+Inv-loop buf₀ t a b n step j₀ buf j = Running (applied step) t a b n buf₀ buf j
 
 abbrev μ-loop : tie.MeasureT-loop
 μ-loop buf₀ t a b n step j₀ buf j = n - j
 
-loop-holds : tie.Need-loop-holds Inv-loop μ-loop
-loop-holds c = (omega arith, refl, patch-none _ 0 _ _ refl)
-
-apply-requires : tie.Need-apply-requires Inv-loop μ-loop
-apply-requires c κs =
-    let i = c .before .before .before in
-    let s = i .before .before in
-    (s .pre .0 .0, turn-safe w32 (applied (s .args .step)) (Safe (s .args .step)) _ _ _ _ _ _ _ (s .pre .0 .1) (i .before .loop .inv .2) (i .loop-test .taken) (c .before .before .apply-arg .given) (c .before .apply-arg2 .given) (c .apply-arg3 .given) (s .pre .1))
-
-loop-again : tie.Need-loop-again Inv-loop μ-loop
-loop-again c =
-    let g = c .before in
-    let i = g .before .before .before in
-    let s = i .before .before in
-    let v = turn-gives w32 (applied (s .args .step)) (Safe (s .args .step)) _ _ _ _ _ _ _ (s .pre .0 .1) (i .before .loop .inv .2) (i .loop-test .taken) (g .before .before .apply-arg .given) (g .before .apply-arg2 .given) (g .apply-arg3 .given) _ (c .apply .ok) (c .apply .ensures) in
-    (omega arith, simp length-set (i .before .loop .inv .1), patch-set (s .args .t) (i .before .loop .j) _ _ (i .before .loop .buf) (pos 0) (i .before .loop .inv .2) (omega arith) _ v)
-
-returns : tie.Need-returns Inv-loop μ-loop
-returns c = patch-to _ _ _ _ _ _ (c .before .loop .inv .2) (omega arith)
-
 pub run-spec : {M : Type 1} → statement M
-run-spec =
-    tie.close
-    (tie.spec
-    Inv-loop
-    μ-loop
-    loop-holds
+run-spec = tie.close (tie.spec Inv-loop μ-loop
+    (λ c. filling-none _ _ _ _)
+    (λ c. omega arith) (λ c. omega arith) (λ c. omega arith) (λ c. omega arith) (λ c. omega arith) (λ c. omega arith) (λ c. omega arith) (λ c. omega arith) (λ c. omega arith)
+    (λ c κs. let i = c .before .before .before in let s = i .before .before in (s .pre .0 .0, step-asks (s .args .step) (s .pre .0 .1) (i .before .loop .inv) (i .loop-test .taken) (c .before .before .apply-arg .given) (c .before .apply-arg2 .given) (c .apply-arg3 .given) (s .pre .1)))
+    (λ c. omega arith) (λ c. omega arith) (λ c. omega arith) (λ c. omega arith) (λ c. omega arith)
+    (λ c. let g = c .before in let i = g .before .before .before in let s = i .before .before in step-done (s .args .step) (s .pre .0 .1) (i .before .loop .inv) (i .loop-test .taken) (g .before .before .apply-arg .given) (g .before .apply-arg2 .given) (g .apply-arg3 .given) (c .apply .ok) (c .apply .ensures))
     (λ c. omega arith)
-    (λ c. omega arith)
-    (λ c. omega arith)
-    (λ c. omega arith)
-    (λ c. omega arith)
-    (λ c. omega arith)
-    (λ c. omega arith)
-    (λ c. omega arith)
-    (λ c. omega arith)
-    apply-requires
-    (λ c. omega arith)
-    (λ c. omega arith)
-    (λ c. omega arith)
-    (λ c. omega arith)
-    (λ c. omega arith)
-    loop-again
-    (λ c. omega arith)
-    returns)
+    (λ c. filling-all (c .before .loop .inv) (omega arith)))

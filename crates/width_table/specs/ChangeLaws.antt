@@ -18,7 +18,8 @@ use Rattle.width_table.specs.Nodes.{nodesPerPass, passesPerLevel, nodesP
 use Rattle.width_table.specs.Table.{maxLevels, widthBytes, passBytes, depthRight, levelsRight, constantRight, widthRight, productRight, constantBits, nodePlace, productPlace, nodeRight, productHeld, formRight}
 use Rattle.width_table.specs.Changes.{hasNode, widthAnswer, withWidth, constantAnswer, withConstant, hasProduct, productAnswer, withProduct}
 use Rattle.width_table.specs.Readers.{orZero, constantBitsAt, integerBitsAt, fractionBitsAt, productWidthAt}
-use Rattle.width_table.specs.FormLists.{FullLists, allNodes, allProducts, everyFrom, holds-at, holds-all, pairRight, placeRight, numberRight, numberAt, book-places, product-places, constants-list}
+use Rattle.width_table.specs.Lists.{FullLists}
+use Rattle.width_table.specs.FormLists.{allNodes, allProducts, everyFrom, holds-at, holds-all, pairRight, placeRight, numberRight, numberAt, book-places, product-places, constants-list}
 use Rattle.width_table.specs.FormLaws.{node-in, product-in, few-levels}
 
 -- ---- parts

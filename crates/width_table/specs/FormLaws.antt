@@ -1,21 +1,22 @@
 -- The form of a table in memory, rule by rule.
-use Prim.Native.Nat.{ℕ, zero, suc, _≤_}
+use Prim.Native.Nat.{ℕ, zero, suc, _+_, _-_, _<_, _≤_}
 use mathlib.Core.Bool.{Bool, true, false, _&&_}
 use mathlib.Core.List.{List, [], _∷_}
 use mathlib.Core.Path.{_≡_, refl, sym, _∙_, ap, ap₂, subst}
 use native.Mathlib.Omega.{arith}
 use lib.Dec.{T, eqb, leb·zero, leb·suc-zero, eqb·zero-suc}
-use lib.ListN.{take, drop}
+use lib.ListN.{length, getD, take, drop, drop-of-length-le}
+use lib.Seq.{drop-cons}
 use Rattle.width_table.specs.declared.WidthTable.{WidthTable}
 use Rattle.refusals.specs.Answers.{Answer, refused, passed, asks, answered}
+use Rattle.numbers.specs.Lists.{next-two}
 use Rattle.numbers.specs.Tests.{both, three, left-false, right-false, between-≤, between, every}
 use Rattle.width_table.specs.Nodes.{nodesPerPass, passesPerLevel, productsPerPass}
 use Rattle.width_table.specs.Numbered.{IsNode, IsPass, IsProduct}
-use Rattle.width_table.specs.Table.{maxLevels, depthRight, levelsRight, constantRight, widthRight, productRight, formRight}
-use Rattle.width_table.specs.Fields.{widthsRight, nodeBytes, productBytes, usedProducts}
+use Rattle.width_table.specs.Table.{maxLevels, widthBytes, depthRight, levelsRight, constantRight, widthRight, productRight, formRight}
+use Rattle.width_table.specs.Lists.{widthsRight, nodeBytes, productBytes, usedProducts, formLists}
 use Rattle.width_table.specs.Changes.{hasNode, widthAnswer, withWidth, tableAfterWidth, constantAnswer, withConstant, tableAfterConstant, hasProduct, productAnswer, withProduct, tableAfterProduct}
 use Rattle.width_table.specs.Limits.{form-levels}
-use Rattle.width_table.specs.FormLists.{formLists}
 
 zero-test : (n : ℕ) → between 0 0 n ≡ eqb 0 n
 zero-test zero = refl
@@ -25,6 +26,27 @@ pub zeros-test : (l : List ℕ) → every (between 0 0) l ≡ every (eqb 0) l
 unfolding every
 zeros-test [] = refl
 zeros-test (a ∷ l) = ap₂ _&&_ (zero-test a) (zeros-test l)
+
+-- ---- widths, two by two
+
+module _ (l : List ℕ) (i : ℕ) (h : i + 1 < length l) where
+  pub widths-next : widthRight (getD l i 0) (getD l (i + 1) 0) ≡ true → widthsRight (drop i l) ≡ widthsRight (drop (i + widthBytes) l)
+  unfolding widthsRight
+  widths-next e = ap widthsRight (next-two l 0 i h) ∙ ap (λ (t : Bool). t && widthsRight (drop (i + widthBytes) l)) e
+
+  pub widths-stop : widthRight (getD l i 0) (getD l (i + 1) 0) ≡ false → widthsRight (drop i l) ≡ false
+  unfolding widthsRight
+  widths-stop e = ap widthsRight (next-two l 0 i h) ∙ ap (λ (t : Bool). t && widthsRight (drop (i + widthBytes) l)) e
+
+pub widths-odd : (l : List ℕ) (i : ℕ) → i < length l → length l - i < widthBytes → widthsRight (drop i l) ≡ false
+unfolding widthsRight
+widths-odd l i h k = ap widthsRight (drop-cons l i 0 h ∙ ap (λ (r : List ℕ). getD l i 0 ∷ r) (drop-of-length-le l {i = suc i} (omega arith)))
+
+pub widths-end : (l : List ℕ) (i : ℕ) → length l ≤ i → widthsRight (drop i l) ≡ true
+unfolding widthsRight
+widths-end l i h = ap widthsRight (drop-of-length-le l h)
+
+-- ---- the form
 
 -- no more products are used than there are
 pub used-few : (t : WidthTable) → t .levels ≤ maxLevels → usedProducts t ≤ productBytes maxLevels
@@ -92,17 +114,23 @@ module _ (t : WidthTable) where
 
 -- ---- a change
 
-module _ (L level pass node : ℕ) where
-  pub node-in : hasNode L level pass node ≡ true → ((1 ≤ level) × (level ≤ L)) × IsPass pass × IsNode node
-  node-in e =
-      let (l, p, n) = three (between 1 L level) (between 1 passesPerLevel pass) (between 1 nodesPerPass node) (subst T (sym e) tt) in
-      (between-≤ 1 L level l, between-≤ 1 passesPerLevel pass p, between-≤ 1 nodesPerPass node n)
+-- what a table of L levels has
+module _ (L level pass : ℕ) where
+  pub pass-in : between 1 L level && between 1 passesPerLevel pass ≡ true → ((1 ≤ level) × (level ≤ L)) × IsPass pass
+  pass-in e =
+      let (l, p) = both (between 1 L level) (between 1 passesPerLevel pass) (subst T (sym e) tt) in
+      (between-≤ 1 L level l, between-≤ 1 passesPerLevel pass p)
 
-module _ (L level pass product : ℕ) where
-  pub product-in : hasProduct L level pass product ≡ true → ((1 ≤ level) × (level ≤ L)) × IsPass pass × IsProduct product
-  product-in e =
-      let (l, p, k) = three (between 1 L level) (between 1 passesPerLevel pass) (between 1 productsPerPass product) (subst T (sym e) tt) in
-      (between-≤ 1 L level l, between-≤ 1 passesPerLevel pass p, between-≤ 1 productsPerPass product k)
+  part-in : (most part : ℕ) → between 1 L level && between 1 passesPerLevel pass && between 1 most part ≡ true → ((1 ≤ level) × (level ≤ L)) × IsPass pass × ((1 ≤ part) × (part ≤ most))
+  part-in most part e =
+      let (l, p, n) = three (between 1 L level) (between 1 passesPerLevel pass) (between 1 most part) (subst T (sym e) tt) in
+      (between-≤ 1 L level l, between-≤ 1 passesPerLevel pass p, between-≤ 1 most part n)
+
+  pub node-in : (node : ℕ) → hasNode L level pass node ≡ true → ((1 ≤ level) × (level ≤ L)) × IsPass pass × IsNode node
+  node-in = part-in nodesPerPass
+
+  pub product-in : (product : ℕ) → hasProduct L level pass product ≡ true → ((1 ≤ level) × (level ≤ L)) × IsPass pass × IsProduct product
+  product-in = part-in productsPerPass
 
 -- three rules
 first-fails : (a b c : Bool) → a ≡ false → a && b && c ≡ false
@@ -116,6 +144,10 @@ third-fails a b c e = right-false (a && b) c e
 
 all-hold : (a b c : Bool) → a ≡ true → b ≡ true → c ≡ true → a && b && c ≡ true
 all-hold a b c e f g = ap (λ (x : Bool). x && b && c) e ∙ ap (λ (x : Bool). x && c) f ∙ g
+
+-- a refused change answers and gives the same as what refuses it
+pub gives-back : {o p q : Answer Unit} {t u v : WidthTable} → (o ≡ p) × (u ≡ t) → (p ≡ q) × (t ≡ v) → (o ≡ q) × (u ≡ v)
+gives-back h k = (h .0 ∙ k .0, h .1 ∙ k .1)
 
 -- what a change answers and gives, by its rules
 module _ (t : WidthTable) (level pass node IB f : ℕ) where

@@ -13,24 +13,7 @@ use Rattle.numbers.specs.Lists.{next-one, next-two, rest-whole}
 use Rattle.width_table.specs.declared.WidthTable.{WidthTable}
 use Rattle.width_table.specs.Nodes.{everyNode, nodesPerPass, nodesPerLevel, productsPerLevel, nodeNumber, tableOrder, productOrder}
 use Rattle.width_table.specs.Table.{maxLevels, widthBytes, depthRight, levelsRight, constantRight, widthRight, productRight, nodeRight, productHeld, formRight}
-use Rattle.width_table.specs.Fields.{nodeBytes, productBytes, widthsRight, usedProducts}
-
--- what its type says of every table in memory
-pub record FullLists (t : WidthTable) : Type 0 where
-  pub constants : length (t .constants) ≡ nodesPerPass
-  pub nodes : length (t .nodes) ≡ nodeBytes maxLevels
-  pub products : length (t .products) ≡ productBytes maxLevels
-
--- the same form by lists
-unfoldable pub formLists : WidthTable → Bool
-formLists t =
-    depthRight (t .depth)
-    && levelsRight (t .levels)
-    && every constantRight (t .constants)
-    && widthsRight (take (nodeBytes (t .levels)) (t .nodes))
-    && every (eqb 0) (drop (nodeBytes (t .levels)) (t .nodes))
-    && every productRight (take (usedProducts t) (t .products))
-    && every (eqb 0) (drop (usedProducts t) (t .products))
+use Rattle.width_table.specs.Lists.{nodeBytes, productBytes, widthsRight, FullLists, formLists}
 
 -- ---- tests of a run of places
 

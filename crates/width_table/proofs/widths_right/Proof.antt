@@ -3,8 +3,8 @@ use mathlib.Core.Path.{_≡_, refl, _∙_, sym}
 use native.Mathlib.Omega.{arith}
 use borrow.Author.Needs.{needs}
 use lib.ListN.{length, drop}
-use Rattle.width_table.specs.Fields.{widthsRight}
-use Rattle.width_table.specs.ReadLaws.{widths-next, widths-stop, widths-odd, widths-end}
+use Rattle.width_table.specs.Lists.{widthsRight}
+use Rattle.width_table.specs.FormLaws.{widths-next, widths-stop, widths-odd, widths-end}
 use Rattle.width_table.proofs.widths_right.Statement.{statement}
 use Rattle.width_table.proofs.widths_right.Tie as tie
 

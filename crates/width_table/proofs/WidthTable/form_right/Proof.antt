@@ -5,11 +5,11 @@ use native.Mathlib.Omega.{arith}
 use lib.Dec.{eqb}
 use lib.ListN.{length, take, drop, length-map}
 use lib.Seq.{length-take-le}
-use Rattle.width_table.specs.Fields.{nodeBytes}
+use Rattle.width_table.specs.Lists.{nodeBytes, FullLists, formLists}
+use Rattle.width_table.specs.Table.{maxLevels, productRight, formRight}
 use Rattle.numbers.specs.Tests.{between, every}
 use Rattle.numbers.specs.Lists.{rest-whole}
-use Rattle.width_table.specs.Table.{maxLevels, productRight, formRight}
-use Rattle.width_table.specs.FormLists.{FullLists, formLists, form-lists}
+use Rattle.width_table.specs.FormLists.{form-lists}
 use Rattle.width_table.specs.FormLaws.{zeros-test, used-few, limits-wrong, levels-few, constants-wrong, widths-wrong, unused-wrong, products-wrong, unused-products-decide}
 use borrow.Author.Needs.{needs}
 use Rattle.width_table.proofs.WidthTable.form_right.Statement.{statement}

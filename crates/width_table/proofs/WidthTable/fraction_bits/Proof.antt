@@ -1,42 +1,11 @@
-use Prim.Native.Nat.{ℕ, _+_}
-use mathlib.Core.Path.{sym, _∙_, ap}
-use mathlib.Core.Bool.{Bool}
-use native.Mathlib.Omega.{arith}
-use lib.ListN.{getD}
-use Rattle.width_table.specs.Table.{maxLevels, nodePlace}
-use Rattle.width_table.specs.FormLaws.{node-in}
-use Rattle.width_table.specs.Readers.{orZero, fractionBitsAt}
+use Rattle.width_table.specs.Readers.{fractionBitsAt}
 use borrow.Author.Needs.{needs}
 use Rattle.width_table.proofs.WidthTable.fraction_bits.Statement.{statement}
 use Rattle.width_table.proofs.WidthTable.fraction_bits.Tie as tie
 
 returns : tie.Need-returns
 unfolding fractionBitsAt
-returns c =
-    let a = c .before .before .args in
-    sym (ap (λ (x : Bool). orZero x (getD (a .t1 .nodes) (nodePlace (a .level) (a .pass) (a .node) + 1) 0)) (sym (c .before .has-node .ensures) ∙ c .if1 .left))
-
-node-place-requires : tie.Need-node-place-requires
-node-place-requires c κs =
-    let a = c .before .before .args in
-    let n = node-in maxLevels (a .level) (a .pass) (a .node) (sym (c .before .has-node .ensures) ∙ c .if1 .taken) in
-    omega (arith, n .0 .0, n .0 .1, n .1 .0, n .1 .1, n .2 .0, n .2 .1)
-
-returns-2 : tie.Need-returns-2
-unfolding fractionBitsAt
-returns-2 c =
-    let i = c .before .before in
-    let a = i .before .before .args in
-    ap (λ (n : ℕ). getD (a .t1 .nodes) (n + 1) 0) (c .before .node-place .ensures .0)
-    ∙ sym (ap (λ (x : Bool). orZero x (getD (a .t1 .nodes) (nodePlace (a .level) (a .pass) (a .node) + 1) 0)) (sym (i .before .has-node .ensures) ∙ i .if1 .taken))
+returns c = c .node-number .ensures
 
 pub fraction-bits-spec : {M : Type 1} → statement M
-fraction-bits-spec =
-    tie.close
-    (tie.spec
-    (λ c κs. search needs)
-    returns
-    node-place-requires
-    (λ c. search needs)
-    (λ c. search needs)
-    returns-2)
+fraction-bits-spec = tie.close (tie.spec (λ c κs. search needs) returns)

@@ -1,10 +1,9 @@
-use Prim.Native.Nat.{ℕ}
-use mathlib.Core.Path.{sym, _∙_, ap}
-use mathlib.Core.Bool.{Bool}
+use Prim.Native.Nat.{ℕ, _+_}
+use mathlib.Core.Path.{_≡_, _∙_, ap}
 use native.Mathlib.Omega.{arith}
 use lib.ListN.{getD}
 use Rattle.width_table.specs.Table.{maxLevels, nodePlace}
-use Rattle.width_table.specs.FormLaws.{node-in}
+use Rattle.width_table.specs.Changes.{hasNode}
 use Rattle.width_table.specs.Readers.{orZero, integerBitsAt}
 use borrow.Author.Needs.{needs}
 use Rattle.width_table.proofs.WidthTable.integer_bits.Statement.{statement}
@@ -13,24 +12,11 @@ use Rattle.width_table.proofs.WidthTable.integer_bits.Tie as tie
 returns : tie.Need-returns
 unfolding integerBitsAt
 returns c =
-    let a = c .before .before .args in
-    sym (ap (λ (x : Bool). orZero x (getD (a .t1 .nodes) (nodePlace (a .level) (a .pass) (a .node)) 0)) (sym (c .before .has-node .ensures) ∙ c .if1 .left))
-
-node-place-requires : tie.Need-node-place-requires
-node-place-requires c κs =
-    let a = c .before .before .args in
-    let n = node-in maxLevels (a .level) (a .pass) (a .node) (sym (c .before .has-node .ensures) ∙ c .if1 .taken) in
-    omega (arith, n .0 .0, n .0 .1, n .1 .0, n .1 .1, n .2 .0, n .2 .1)
-
-returns-2 : tie.Need-returns-2
-unfolding integerBitsAt
-returns-2 c =
-    let i = c .before .before in
-    let a = i .before .before .args in
-    ap (λ (n : ℕ). getD (a .t1 .nodes) n 0) (c .before .node-place .ensures .0)
-    ∙ sym (ap (λ (x : Bool). orZero x (getD (a .t1 .nodes) (nodePlace (a .level) (a .pass) (a .node)) 0)) (sym (i .before .has-node .ensures) ∙ i .if1 .taken))
+    let a = c .before .args in
+    c .node-number .ensures ∙ ap (λ (k : ℕ). orZero (hasNode maxLevels (a .level) (a .pass) (a .node)) (getD (a .self .nodes) k 0)) (none (nodePlace (a .level) (a .pass) (a .node)))
+  where
+    none : (n : ℕ) → n + 0 ≡ n
+    none n = omega arith
 
 pub integer-bits-spec : {M : Type 1} → statement M
-integer-bits-spec =
-    tie.close
-    (tie.spec (λ c κs. search needs) returns node-place-requires (λ c. search needs) returns-2)
+integer-bits-spec = tie.close (tie.spec (λ c κs. search needs) returns)

@@ -1,6 +1,6 @@
 use mathlib.Core.Path.{sym, ap}
 use mathlib.Core.Bool.{Bool, true, false}
-use Rattle.width_table.specs.Fields.{productBytes}
+use Rattle.width_table.specs.Lists.{productBytes}
 use borrow.Author.Needs.{needs}
 use Rattle.width_table.proofs.WidthTable.used_products.Statement.{statement}
 use Rattle.width_table.proofs.WidthTable.used_products.Tie as tie

@@ -1,6 +1,6 @@
 use mathlib.Core.Path.{sym, _∙_}
 use native.Mathlib.Omega.{arith}
-use Rattle.width_table.specs.FormLaws.{table-not-formed, no-stage, no-bits, constant-changes}
+use Rattle.width_table.specs.FormLaws.{gives-back, table-not-formed, no-stage, no-bits, constant-changes}
 use Rattle.numbers.specs.Tests.{in-limits}
 use Rattle.width_table.specs.Nodes.{nodesPerPass}
 use borrow.Author.Needs.{needs}
@@ -9,18 +9,18 @@ use Rattle.width_table.proofs.WidthTable.with_constant.Tie as tie
 
 returns : tie.Need-returns
 returns c =
-    let a = c .before .before .args in
-    table-not-formed (a .t1) (a .node) (a .bits) (sym (c .before .form-right .ensures) ∙ c .if1 .left)
+    let a = c .before .before .before .args in
+    gives-back (c .not-changed .ensures) (table-not-formed (a .t1) (a .node) (a .bits) (sym (c .before .before .form-right .ensures) ∙ c .before .if1 .left))
 
 returns-2 : tie.Need-returns-2
 returns-2 c =
-    let a = c .before .before .before .before .args in
-    no-stage (a .t1) (a .node) (a .bits) (sym (c .before .in-between .ensures) ∙ c .if2 .left)
+    let a = c .before .before .before .before .before .args in
+    gives-back (c .not-changed2 .ensures) (no-stage (a .t1) (a .node) (a .bits) (sym (c .before .before .in-between .ensures) ∙ c .before .if2 .left))
 
 returns-3 : tie.Need-returns-3
 returns-3 c =
-    let a = c .before .before .before .before .before .before .args in
-    no-bits (a .t1) (a .node) (a .bits) (sym (c .before .in-between2 .ensures) ∙ c .if3 .left)
+    let a = c .before .before .before .before .before .before .before .args in
+    gives-back (c .not-changed3 .ensures) (no-bits (a .t1) (a .node) (a .bits) (sym (c .before .before .in-between2 .ensures) ∙ c .before .if3 .left))
 
 sub-self : tie.Need-sub-self
 sub-self c =
@@ -44,9 +44,12 @@ with-constant-spec =
     tie.close
     (tie.spec
     (λ c κs. search needs)
+    (λ c κs. search needs)
     returns
     (λ c κs. search needs)
+    (λ c κs. search needs)
     returns-2
+    (λ c κs. search needs)
     (λ c κs. search needs)
     returns-3
     sub-self

@@ -4,30 +4,30 @@ use mathlib.Core.List.{List}
 use native.Mathlib.Omega.{arith}
 use lib.ListN.{set}
 use Rattle.width_table.specs.declared.WidthTable.{WidthTable}
-use Rattle.width_table.specs.FormLaws.{product-not-formed, no-products, no-product, no-product-width, product-changes, product-in, few-levels}
+use Rattle.width_table.specs.FormLaws.{gives-back, product-not-formed, no-products, no-product, no-product-width, product-changes, product-in, few-levels}
 use borrow.Author.Needs.{needs}
 use Rattle.width_table.proofs.WidthTable.with_product.Statement.{statement}
 use Rattle.width_table.proofs.WidthTable.with_product.Tie as tie
 
 returns : tie.Need-returns
 returns c =
-    let a = c .before .before .args in
-    product-not-formed (a .t1) (a .level) (a .pass) (a .product) (a .bits) (sym (c .before .form-right .ensures) ∙ c .if1 .left)
+    let a = c .before .before .before .args in
+    gives-back (c .not-changed .ensures) (product-not-formed (a .t1) (a .level) (a .pass) (a .product) (a .bits) (sym (c .before .before .form-right .ensures) ∙ c .before .if1 .left))
 
 returns-2 : tie.Need-returns-2
 returns-2 c =
-    let a = c .before .before .before .args in
-    no-products (a .t1) (a .level) (a .pass) (a .product) (a .bits) (c .if2 .left)
+    let a = c .before .before .before .before .args in
+    gives-back (c .not-changed2 .ensures) (no-products (a .t1) (a .level) (a .pass) (a .product) (a .bits) (c .before .if2 .left))
 
 returns-3 : tie.Need-returns-3
 returns-3 c =
-    let a = c .before .before .before .before .before .args in
-    no-product (a .t1) (a .level) (a .pass) (a .product) (a .bits) (sym (c .before .has-product .ensures) ∙ c .if3 .left)
+    let a = c .before .before .before .before .before .before .args in
+    gives-back (c .not-changed3 .ensures) (no-product (a .t1) (a .level) (a .pass) (a .product) (a .bits) (sym (c .before .before .has-product .ensures) ∙ c .before .if3 .left))
 
 returns-4 : tie.Need-returns-4
 returns-4 c =
-    let a = c .before .before .before .before .before .before .before .args in
-    no-product-width (a .t1) (a .level) (a .pass) (a .product) (a .bits) (sym (c .before .in-between .ensures) ∙ c .if4 .left)
+    let a = c .before .before .before .before .before .before .before .before .args in
+    gives-back (c .not-changed4 .ensures) (no-product-width (a .t1) (a .level) (a .pass) (a .product) (a .bits) (sym (c .before .before .in-between .ensures) ∙ c .before .if4 .left))
 
 product-place-requires : tie.Need-product-place-requires
 product-place-requires c κs =
@@ -56,10 +56,14 @@ with-product-spec =
     tie.close
     (tie.spec
     (λ c κs. search needs)
+    (λ c κs. search needs)
     returns
+    (λ c κs. search needs)
     returns-2
     (λ c κs. search needs)
+    (λ c κs. search needs)
     returns-3
+    (λ c κs. search needs)
     (λ c κs. search needs)
     returns-4
     product-place-requires

@@ -4,25 +4,25 @@ use mathlib.Core.List.{List}
 use native.Mathlib.Omega.{arith}
 use lib.ListN.{set}
 use Rattle.width_table.specs.declared.WidthTable.{WidthTable}
-use Rattle.width_table.specs.FormLaws.{not-formed, no-node, no-width, width-changes, node-in, few-levels}
+use Rattle.width_table.specs.FormLaws.{gives-back, not-formed, no-node, no-width, width-changes, node-in, few-levels}
 use borrow.Author.Needs.{needs}
 use Rattle.width_table.proofs.WidthTable.with_width.Statement.{statement}
 use Rattle.width_table.proofs.WidthTable.with_width.Tie as tie
 
 returns : tie.Need-returns
 returns c =
-    let a = c .before .before .args in
-    not-formed (a .t1) (a .level) (a .pass) (a .node) (a .integer) (a .fraction) (sym (c .before .form-right .ensures) ∙ c .if1 .left)
+    let a = c .before .before .before .args in
+    gives-back (c .not-changed .ensures) (not-formed (a .t1) (a .level) (a .pass) (a .node) (a .integer) (a .fraction) (sym (c .before .before .form-right .ensures) ∙ c .before .if1 .left))
 
 returns-2 : tie.Need-returns-2
 returns-2 c =
-    let a = c .before .before .before .before .args in
-    no-node (a .t1) (a .level) (a .pass) (a .node) (a .integer) (a .fraction) (sym (c .before .has-node .ensures) ∙ c .if2 .left)
+    let a = c .before .before .before .before .before .args in
+    gives-back (c .not-changed2 .ensures) (no-node (a .t1) (a .level) (a .pass) (a .node) (a .integer) (a .fraction) (sym (c .before .before .has-node .ensures) ∙ c .before .if2 .left))
 
 returns-3 : tie.Need-returns-3
 returns-3 c =
-    let a = c .before .before .before .before .before .before .args in
-    no-width (a .t1) (a .level) (a .pass) (a .node) (a .integer) (a .fraction) (sym (c .before .width-right .ensures) ∙ c .if3 .left)
+    let a = c .before .before .before .before .before .before .before .args in
+    gives-back (c .not-changed3 .ensures) (no-width (a .t1) (a .level) (a .pass) (a .node) (a .integer) (a .fraction) (sym (c .before .before .width-right .ensures) ∙ c .before .if3 .left))
 
 node-place-requires : tie.Need-node-place-requires
 node-place-requires c κs =
@@ -50,9 +50,12 @@ with-width-spec =
     tie.close
     (tie.spec
     (λ c κs. search needs)
+    (λ c κs. search needs)
     returns
     (λ c κs. search needs)
+    (λ c κs. search needs)
     returns-2
+    (λ c κs. search needs)
     (λ c κs. search needs)
     returns-3
     node-place-requires

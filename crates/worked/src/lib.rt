@@ -1,0 +1,1 @@
+// Worked computations of the crates below (specs/); there is no code.

@@ -10,8 +10,8 @@ use Rattle.numbers.specs.Tests.{every}
 use Rattle.refusals.specs.Answers.{Answer, done, asks, answered}
 use Rattle.width_table.specs.declared.WidthTable.{WidthTable}
 use Rattle.width_table.specs.Table.{formRight}
-use Rattle.width_table.specs.Fields.{productsTag, tableSize}
-use Rattle.width_table.specs.Bytes.{form, tableIn, emptyTable, tableBytes}
+use Rattle.table_bytes.specs.Fields.{productsTag, tableSize}
+use Rattle.table_bytes.specs.Bytes.{form, tableIn, emptyTable, tableBytes}
 use Rattle.rolling.specs.declared.Taken.{Taken}
 use Rattle.rolling.specs.declared.Taken.the-variants.{Zero, One, Two, Three, Four, OddMany, EvenMany}
 use Rattle.rolling.specs.declared.Scan.{Scan}

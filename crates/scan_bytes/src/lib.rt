@@ -1,6 +1,6 @@
 // A rolling scan as bytes of the caller (include/suzdrepa.h). Definitions in specs/.
 ghost use mathlib.Core.Path.{_≡_};
-ghost use Prim.Native.Nat.{_+_, _*_, _≤_};
+ghost use Prim.Native.Nat.{_+_, _≤_};
 ghost use lib.Dec.{eqb};
 ghost use lib.ListN.{length, getD, replicate};
 ghost use Rattle.numbers.specs.Tests.{every};
@@ -73,19 +73,12 @@ fn not_read(why: Refusal) -> ScanRead
     ScanRead {
         outcome: Outcome::Refused(why),
         scan: Scan {
-            table: WidthTable::empty(),
+            table: table_bytes::empty(),
             width: 0,
             taken: Taken::Zero,
             ended: true,
         },
     }
-}
-
-// Two bytes, high byte first.
-fn two(high: u8, low: u8) -> usize
-    ensures { λ r. ⌜ r ≡ high * 256 + low ⌝ }
-{
-    (high as usize) * 256 + (low as usize)
 }
 
 // The scan that right bytes hold, with the table that was read from them.
@@ -95,7 +88,7 @@ fn scan_held(table: WidthTable, state: &[u8]) -> Scan
 {
     Scan {
         table,
-        width: two(state[TABLE_ROOM], state[TABLE_ROOM + 1]),
+        width: numbers::two(state[TABLE_ROOM], state[TABLE_ROOM + 1]) as usize,
         taken: taken_of(state[TABLE_ROOM + 2]),
         ended: state[TABLE_ROOM + 3] == 1,
     }
@@ -106,7 +99,7 @@ fn table_end(state: &[u8]) -> usize
     requires { ⌜ scanLength ≤ length (now state) ⌝ }
     ensures { λ r. ⌜ r ≡ tableEnd (now (state .entry)) ⌝ }
 {
-    if state[FOUR_FIELDS] == WidthTable::PRODUCTS_TAG {
+    if state[FOUR_FIELDS] == table_bytes::PRODUCTS_TAG {
         return TABLE_ROOM;
     }
     FOUR_FIELDS
@@ -142,7 +135,7 @@ pub fn read(state: &[u8]) -> ScanRead
     if all_zeros(&state[end..TABLE_ROOM]) {} else {
         return not_read(Refusal::OutOfTurn);
     }
-    let read = WidthTable::read(&state[..end]);
+    let read = table_bytes::read(&state[..end]);
     let outcome = read.outcome;
     match outcome {
         Outcome::Refused(_) => not_read(Refusal::OutOfTurn),
@@ -206,7 +199,7 @@ pub fn write(scan: Scan, state: &mut [u8])
     }
     put_zeros(TABLE_ROOM, state);
     let table = scan.table;
-    table.write(state);
+    table_bytes::write(table, state);
     let taken = scan.taken;
     renew(scan.width, taken, scan.ended, state);
 }

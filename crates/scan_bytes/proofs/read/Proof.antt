@@ -7,8 +7,8 @@ use lib.Seq.{length-take-le}
 use Rattle.refusals.specs.Answers.{Reason, done, refused, passed}
 use Rattle.refusals.specs.Told.{told}
 use Rattle.width_table.specs.declared.WidthTable.{WidthTable}
-use Rattle.width_table.specs.Bytes.{form, tableIn, tableRead}
-use Rattle.width_table.specs.ReadLaws.{table-read}
+use Rattle.table_bytes.specs.Bytes.{form, tableIn, tableRead}
+use Rattle.table_bytes.specs.ReadLaws.{table-read}
 use Rattle.scan_bytes.specs.ScanBytes.{tableRoom, scanLength, tableEnd, heldWith, scanIn, endedScan, scanRead}
 use Rattle.scan_bytes.specs.Told.{toldRead}
 use Rattle.scan_bytes.specs.declared.ScanRead.{ScanRead}

@@ -1,8 +1,8 @@
 use mathlib.Core.Path.{sym, _∙_, ap}
 use native.Mathlib.Omega.{arith}
 use lib.ListN.{length-map}
-use Rattle.width_table.specs.Bytes.{bytesAfter}
-use Rattle.width_table.specs.FormLists.{FullLists}
+use Rattle.table_bytes.specs.Bytes.{bytesAfter}
+use Rattle.width_table.specs.Lists.{FullLists}
 use Rattle.scan_bytes.specs.ScanBytes.{numbersAfter}
 use Rattle.scan_bytes.specs.ByteLaws.{Keepable, kept-is, not-kept, no-room, kept, all-written}
 use borrow.Author.Needs.{needs}

@@ -134,20 +134,13 @@ fn put_refused(text: &mut [u8], why: Refusal) -> usize
     put_line(text, next, &numbers)
 }
 
-// Two bytes, high first.
-fn two(high: u8, low: u8) -> u16
-    ensures { λ r. ⌜ r ≡ high * 256 + low ⌝ }
-{
-    (high as u16) * 256 + (low as u16)
-}
-
 // The pixels of an input that holds n of them and no more.
 fn read_pixels(bytes: &[u8], pixels: &mut [u16], n: usize)
     requires { ⌜ (length (now bytes) ≡ headBytes + 2 * n) × (n ≤ length (now pixels)) ⌝ }
     ensures { λ _. ⌜ now (pixels .exit) ≡ over (copyPixels (now (bytes .entry))) (now (pixels .entry)) ⌝ }
 {
     for i in 0..n {
-        pixels[i] = two(bytes[HEAD + 2 * i], bytes[HEAD + 2 * i + 1]);
+        pixels[i] = numbers::two(bytes[HEAD + 2 * i], bytes[HEAD + 2 * i + 1]);
     }
 }
 
@@ -164,8 +157,8 @@ fn head_of(bytes: &[u8]) -> Head
     requires { ⌜ headBytes ≤ length (now bytes) ⌝ }
     ensures { λ r. ⌜ r ≡ headIn (now (bytes .entry)) ⌝ }
 {
-    let w = two(bytes[2], bytes[3]);
-    let h = two(bytes[4], bytes[5]);
+    let w = numbers::two(bytes[2], bytes[3]);
+    let h = numbers::two(bytes[4], bytes[5]);
     Head {
         depth: bytes[0],
         levels: bytes[1],

@@ -11,11 +11,11 @@ use Rattle.refusals.specs.Answers.{Reason, Answer, done, refused, passed, asks,
 use Rattle.refusals.specs.AnswerLaws.{gives-done, gives-refused, then-right, then-refused, answered-done, answered-refused}
 use Rattle.width_table.specs.declared.WidthTable.{WidthTable}
 use Rattle.width_table.specs.Table.{formRight}
-use Rattle.width_table.specs.Fields.{tableSize, valueStart, valueLength}
-use Rattle.width_table.specs.Bytes.{levelsIn, hasFifth, form, tableIn, writeAnswer, writing, tableBytes, bytesAfter}
-use Rattle.width_table.specs.Names.{nameAnswer, naming}
+use Rattle.table_bytes.specs.Fields.{tableSize, valueStart, valueLength}
+use Rattle.table_bytes.specs.Bytes.{levelsIn, hasFifth, form, tableIn, writeAnswer, writing, tableBytes, bytesAfter}
+use Rattle.table_bytes.specs.Names.{nameAnswer, naming}
 use Rattle.width_table.specs.Changes.{widthAnswer, withWidth, tableAfterWidth, constantAnswer, withConstant, tableAfterConstant, productAnswer, withProduct, tableAfterProduct}
-use Rattle.width_table.specs.RoundTrip.{read-sized}
+use Rattle.table_bytes.specs.RoundTrip.{read-sized}
 use Rattle.width_table.specs.ChangeLaws.{width-form, constant-form, product-form}
 use Rattle.precision.specs.Verdict.{verdict}
 use Rattle.precision.specs.BoundCalls.{boundAnswer}

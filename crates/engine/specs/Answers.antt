@@ -9,10 +9,11 @@ use Rattle.numbers.specs.Lists.{over}
 use Rattle.refusals.specs.Answers.{Answer, passed, asks, _then_, answered}
 use Rattle.width_table.specs.declared.WidthTable.{WidthTable}
 use Rattle.width_table.specs.Table.{maxLevels}
-use Rattle.width_table.specs.Fields.{productBytes, tableSize, valueStart, valueLength}
-use Rattle.width_table.specs.Bytes.{levelsIn, hasFifth, form, tableIn, tableBytes}
+use Rattle.width_table.specs.Lists.{productBytes}
+use Rattle.table_bytes.specs.Fields.{tableSize, valueStart, valueLength}
+use Rattle.table_bytes.specs.Bytes.{levelsIn, hasFifth, form, tableIn, tableBytes}
 use Rattle.width_table.specs.Changes.{widthAnswer, withWidth, constantAnswer, withConstant, productAnswer, withProduct}
-use Rattle.width_table.specs.Names.{nameAnswer}
+use Rattle.table_bytes.specs.Names.{nameAnswer}
 use Rattle.stages.specs.Rule.{Bound}
 use Rattle.precision.specs.Verdict.{verdict}
 use Rattle.precision.specs.BoundCalls.{boundAnswer, boundNumbered}

@@ -13,10 +13,10 @@ use Rattle.numbers.specs.Lists.{over}
 use Rattle.refusals.specs.Answers.{Answer, passed, asks, _then_, answered}
 use Rattle.refusals.specs.AnswerLaws.{then-assoc}
 use Rattle.width_table.specs.declared.WidthTable.{WidthTable}
-use Rattle.width_table.specs.Fields.{tableSize, valueStart, valueLength}
-use Rattle.width_table.specs.Bytes.{levelsIn, hasFifth, form, tableIn, tableBytes}
-use Rattle.width_table.specs.EarlierForms.{earlierForm, earlierNameAnswer, NotFive, PresentChanges}
-use Rattle.width_table.specs.EarlierOrder.{earlier-four, call-changes, same-after, same-lent, same-named}
+use Rattle.table_bytes.specs.Fields.{tableSize, valueStart, valueLength}
+use Rattle.table_bytes.specs.Bytes.{levelsIn, hasFifth, form, tableIn, tableBytes}
+use Rattle.table_bytes.specs.EarlierForms.{earlierForm, earlierNameAnswer, NotFive, PresentChanges}
+use Rattle.table_bytes.specs.EarlierOrder.{earlier-four, call-changes, same-after, same-lent, same-named}
 use Rattle.precision.specs.Verdict.{verdict}
 use Rattle.precision.specs.BoundCalls.{boundAnswer}
 use Rattle.irreversible.specs.Calls.{fixedAnswer, fixedPlaneAfter, fixedWork}

@@ -14,10 +14,10 @@ use Rattle.lines.specs.Planes.{side, rowByRow}
 use Rattle.exact.specs.Picture.{exactSample, exactPlane}
 use Rattle.width_table.specs.declared.WidthTable.{WidthTable}
 use Rattle.width_table.specs.Table.{formRight}
-use Rattle.width_table.specs.Bytes.{form, tableIn, tableBytes}
-use Rattle.width_table.specs.FormLists.{FullLists}
-use Rattle.width_table.specs.ReadLaws.{table-read}
-use Rattle.width_table.specs.RoundTrip.{written-reads}
+use Rattle.table_bytes.specs.Bytes.{form, tableIn, tableBytes}
+use Rattle.width_table.specs.Lists.{FullLists}
+use Rattle.table_bytes.specs.ReadLaws.{table-read}
+use Rattle.table_bytes.specs.RoundTrip.{written-reads}
 use Rattle.precision.specs.Promise.{promise}
 use Rattle.pictures.specs.Pictures.{planeOf}
 use Rattle.pictures.specs.PictureLaws.{Room, roomAnswer, sized-then, sized-right, pixels-right}

@@ -15,11 +15,11 @@ use Rattle.refusals.specs.Answers.{Answer, done, refused, passed, asks, _then_,
 use Rattle.refusals.specs.AnswerLaws.{then-done, then-right, then-refused, then-assoc, gives-done, answered-done}
 use Rattle.width_table.specs.declared.WidthTable.{WidthTable}
 use Rattle.width_table.specs.Table.{formRight}
-use Rattle.width_table.specs.Fields.{Field, headBytes, fields}
-use Rattle.width_table.specs.Bytes.{announced, headed, field, formBy, levelsIn, hasFifth, form, tableIn, tableBytes}
-use Rattle.width_table.specs.FormLists.{FullLists}
-use Rattle.width_table.specs.ReadLaws.{table-read}
-use Rattle.width_table.specs.RoundTrip.{read-sized, written-reads}
+use Rattle.table_bytes.specs.Fields.{Field, headBytes, fields}
+use Rattle.table_bytes.specs.Bytes.{announced, headed, field, formBy, levelsIn, hasFifth, form, tableIn, tableBytes}
+use Rattle.width_table.specs.Lists.{FullLists}
+use Rattle.table_bytes.specs.ReadLaws.{table-read}
+use Rattle.table_bytes.specs.RoundTrip.{read-sized, written-reads}
 use Rattle.width_table.specs.WorkedTables.{usual}
 use Rattle.slices.specs.Runs.{as-type}
 use Rattle.pictures.specs.Pictures.{Admitted, sample}

@@ -19,14 +19,17 @@ use Rattle.lines.specs.Planes.{Plane, rowByRow}
 use Rattle.width_table.specs.declared.WidthTable.{WidthTable}
 use Rattle.width_table.specs.Numbered.{passOf, nodeOf}
 use Rattle.width_table.specs.Nodes.{nodeAt}
-use Rattle.width_table.specs.Fields.{fields, tableSize, valueStart, valueLength, bytesOf}
-use Rattle.width_table.specs.Bytes.{levelsIn, hasFifth, form, tableIn, tableBytes}
+use Rattle.table_bytes.specs.Fields.{fields, tableSize, valueStart, valueLength, bytesOf}
+use Rattle.table_bytes.specs.Bytes.{levelsIn, hasFifth, form, tableIn, tableBytes}
 use Rattle.width_table.specs.Changes.{widthAnswer, withWidth, constantAnswer, withConstant, withProduct}
 use Rattle.width_table.specs.FormLaws.{no-products}
 use Rattle.width_table.specs.EarlierForms.{formWithout, nameAnswerWithout}
 use Rattle.width_table.specs.WithoutProducts.{then-answered, reads-as-before, named-as-before, writes-as-before}
 use Rattle.pictures.specs.Pictures.{sideAnswer, lengthAnswer, pixelAnswer, planeOf}
 use Rattle.slices.specs.Fronts.{zeroed}
+use Rattle.table_bytes.specs.EarlierForms.{formWithout, nameAnswerWithout}
+use Rattle.table_bytes.specs.WithoutProducts.{then-answered, reads-as-before, named-as-before, writes-as-before}
+use Rattle.pictures.specs.Pictures.{sideAnswer, lengthAnswer, pixelAnswer, planeOf, zeroed}
 use Rattle.stages.specs.Rule.{Bound}
 use Rattle.precision.specs.Uncut.{oldBoundOf, oldVerdict, oldBoundAnswer, old-bounds, old-verdict, old-bound-told}
 use Rattle.irreversible.specs.Calls.{fixedAnswerOf, fixedAnswer, fixedPlaneAfter, fixedWork}

@@ -14,8 +14,8 @@ use Rattle.refusals.specs.AnswerLaws.{FromOne, done-from-one, asks-from-one, th
 use Rattle.width_table.specs.declared.WidthTable.{WidthTable}
 use Rattle.width_table.specs.Nodes.{TableNode, tableOrder}
 use Rattle.width_table.specs.Table.{depthRight, levelsRight, formRight, integerBits, fractionBits}
-use Rattle.width_table.specs.Fields.{Field, headBytes, fields}
-use Rattle.width_table.specs.Bytes.{announced, headed, field, formBy, levelsIn, hasFifth, form, tableIn}
+use Rattle.table_bytes.specs.Fields.{Field, headBytes, fields}
+use Rattle.table_bytes.specs.Bytes.{announced, headed, field, formBy, levelsIn, hasFifth, form, tableIn}
 use Rattle.pictures.specs.Pictures.{sideRight, sideAnswer, lengthAnswer, pixelAnswer, planeOf}
 use Rattle.stages.specs.Rule.{Bound}
 use Rattle.precision.specs.Bounds.{boundOf}

@@ -5,8 +5,8 @@ ghost use lib.Dec.{leb};
 ghost use lib.ListN.{length};
 ghost use Rattle.refusals.specs.Answers.{done, passed, asks, _then_, answered, code};
 ghost use Rattle.refusals.specs.Told.{told};
-ghost use Rattle.width_table.specs.Bytes.{form, writeAnswer, bytesAfter};
-ghost use Rattle.width_table.specs.Names.{nameAnswer};
+ghost use Rattle.table_bytes.specs.Bytes.{form, writeAnswer, bytesAfter};
+ghost use Rattle.table_bytes.specs.Names.{nameAnswer};
 ghost use Rattle.reversible.specs.Reversible.{columnsFirst, rowsFirst};
 ghost use Rattle.reversible.specs.Calls.{forwardAnswer, forwardPlane, forwardWork, backAnswer, backPixels, backWork};
 ghost use Rattle.engine.specs.Answers.{checkAnswer, tableBoundAnswer, rangeAfter, errorAfter, startAfter, lengthAfter, changeAnswer, changeOut, constantChangeAnswer, constantChangeOut, productChangeAnswer, productChangeOut, tableWith, tableFrom, answer97, plane97, work97, viewCheckAnswer, distanceAfter, viewAnswer97, viewPixels97, viewWork97};
@@ -20,17 +20,17 @@ use refusals::refusal_code;
 use rolling::Begun;
 use rolling::Given;
 use rolling::ScanAnswer;
-use width_table::Named;
+use table_bytes::Named;
+use table_bytes::Written;
 use width_table::TableAnswer;
 use width_table::WidthTable;
-use width_table::Written;
 
 // Whether bytes are those of a width table: 0, or 1 to 5.
 #[no_mangle]
 pub extern "C" fn suz_table_form(table: &[u8]) -> u32
     ensures { λ r. ⌜ r ≡ code (form (now (table .entry))) ⌝ }
 {
-    refusals::code(width_table::form_of(table))
+    refusals::code(table_bytes::form_of(table))
 }
 
 // Where the value of a tag stands in the table's bytes; start and length are written where the answer is 0.
@@ -40,7 +40,7 @@ pub extern "C" fn suz_table_value(table: &[u8], tag: u8, start: &mut u32, length
     ensures start { λ _. ⌜ now (start .exit) ≡ startAfter (now (table .entry)) tag (now (start .entry)) ⌝ }
     ensures length { λ _. ⌜ now (length .exit) ≡ lengthAfter (now (table .entry)) tag (now (length .entry)) ⌝ }
 {
-    match width_table::value_place(table, tag) {
+    match table_bytes::value_place(table, tag) {
         Named::NotNamed(why) => refusal_code(why),
         Named::Value { start: s, len } => {
             *start = s as u32;
@@ -55,7 +55,7 @@ pub extern "C" fn suz_table_value(table: &[u8], tag: u8, start: &mut u32, length
 pub extern "C" fn suz_table_check(table: &[u8]) -> u32
     ensures { λ r. ⌜ r ≡ code (checkAnswer (now (table .entry))) ⌝ }
 {
-    let read = WidthTable::read(table);
+    let read = table_bytes::read(table);
     let outcome = read.outcome;
     match outcome {
         Outcome::Refused(why) => refusal_code(why),
@@ -80,7 +80,7 @@ pub extern "C" fn suz_table_bound(
     ensures range { λ _. ⌜ now (range .exit) ≡ rangeAfter (now (table .entry)) level pass node (now (range .entry)) ⌝ }
     ensures error { λ _. ⌜ now (error .exit) ≡ errorAfter (now (table .entry)) level pass node (now (error .entry)) ⌝ }
 {
-    let read = WidthTable::read(table);
+    let read = table_bytes::read(table);
     let outcome = read.outcome;
     match outcome {
         Outcome::Refused(why) => refusal_code(why),
@@ -105,7 +105,7 @@ fn table_written(table: WidthTable, out: &mut [u8]) -> u32
     ensures answer { λ r. ⌜ r ≡ code (writeAnswer table (now (out .entry))) ⌝ }
     ensures out { λ _. ⌜ now (out .exit) ≡ bytesAfter table (now (out .entry)) ⌝ }
 {
-    match table.write(out) {
+    match table_bytes::write(table, out) {
         Written::Bytes(_) => 0,
         Written::NotWritten(why) => refusal_code(why),
     }
@@ -140,7 +140,7 @@ pub extern "C" fn suz_table_change(
     ensures answer { λ r. ⌜ r ≡ code (changeAnswer (now (table .entry)) level pass node integer fraction (now (out .entry))) ⌝ }
     ensures out { λ _. ⌜ now (out .exit) ≡ changeOut (now (table .entry)) level pass node integer fraction (now (out .entry)) ⌝ }
 {
-    let read = WidthTable::read(table);
+    let read = table_bytes::read(table);
     let outcome = read.outcome;
     match outcome {
         Outcome::Refused(why) => refusal_code(why),
@@ -157,7 +157,7 @@ pub extern "C" fn suz_table_change_constant(table: &[u8], node: u8, bits: u8, ou
     ensures answer { λ r. ⌜ r ≡ code (constantChangeAnswer (now (table .entry)) node bits (now (out .entry))) ⌝ }
     ensures out { λ _. ⌜ now (out .exit) ≡ constantChangeOut (now (table .entry)) node bits (now (out .entry)) ⌝ }
 {
-    let read = WidthTable::read(table);
+    let read = table_bytes::read(table);
     let outcome = read.outcome;
     match outcome {
         Outcome::Refused(why) => refusal_code(why),
@@ -181,7 +181,7 @@ pub extern "C" fn suz_table_change_product(
     ensures answer { λ r. ⌜ r ≡ code (productChangeAnswer (now (table .entry)) level pass product bits (now (out .entry))) ⌝ }
     ensures out { λ _. ⌜ now (out .exit) ≡ productChangeOut (now (table .entry)) level pass product bits (now (out .entry)) ⌝ }
 {
-    let read = WidthTable::read(table);
+    let read = table_bytes::read(table);
     let outcome = read.outcome;
     match outcome {
         Outcome::Refused(why) => refusal_code(why),
@@ -302,7 +302,7 @@ pub extern "C" fn suz_forward97(
     ensures plane { λ _. ⌜ now (plane .exit) ≡ plane97 (now (table .entry)) width height (now (pixels .entry)) (now (plane .entry)) (now (work .entry)) ⌝ }
     ensures work { λ _. ⌜ now (work .exit) ≡ work97 (now (table .entry)) width height (now (pixels .entry)) (now (plane .entry)) (now (work .entry)) ⌝ }
 {
-    let read = WidthTable::read(table);
+    let read = table_bytes::read(table);
     let outcome = read.outcome;
     match outcome {
         Outcome::Refused(why) => refusal_code(why),
@@ -318,7 +318,7 @@ pub extern "C" fn suz_forward97(
 pub extern "C" fn suz_table_view(table: &[u8]) -> u32
     ensures { λ r. ⌜ r ≡ code (viewCheckAnswer (now (table .entry))) ⌝ }
 {
-    let read = WidthTable::read(table);
+    let read = table_bytes::read(table);
     let outcome = read.outcome;
     match outcome {
         Outcome::Refused(why) => refusal_code(why),
@@ -335,7 +335,7 @@ pub extern "C" fn suz_view_distance(table: &[u8], distance: &mut u64) -> u32
     ensures answer { λ r. ⌜ r ≡ code (viewCheckAnswer (now (table .entry))) ⌝ }
     ensures distance { λ _. ⌜ now (distance .exit) ≡ distanceAfter (now (table .entry)) (now (distance .entry)) ⌝ }
 {
-    let read = WidthTable::read(table);
+    let read = table_bytes::read(table);
     let outcome = read.outcome;
     match outcome {
         Outcome::Refused(why) => refusal_code(why),
@@ -368,7 +368,7 @@ pub extern "C" fn suz_view97(
     ensures pixels { λ _. ⌜ now (pixels .exit) ≡ viewPixels97 (now (table .entry)) width height (now (plane .entry)) (now (pixels .entry)) (now (work .entry)) ⌝ }
     ensures work { λ _. ⌜ now (work .exit) ≡ viewWork97 (now (table .entry)) width height (now (plane .entry)) (now (pixels .entry)) (now (work .entry)) ⌝ }
 {
-    let read = WidthTable::read(table);
+    let read = table_bytes::read(table);
     let outcome = read.outcome;
     match outcome {
         Outcome::Refused(why) => refusal_code(why),
@@ -404,7 +404,7 @@ pub extern "C" fn suz_scan_begin(table: &[u8], state: &mut [u8]) -> u32
     ensures answer { λ r. ⌜ r ≡ code (scanBeginAnswer (now (table .entry)) (now (state .entry))) ⌝ }
     ensures state { λ _. ⌜ now (state .exit) ≡ scanBeginState (now (table .entry)) (now (state .entry)) ⌝ }
 {
-    let read = WidthTable::read(table);
+    let read = table_bytes::read(table);
     let outcome = read.outcome;
     match outcome {
         Outcome::Refused(why) => refusal_code(why),

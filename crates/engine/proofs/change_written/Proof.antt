@@ -2,7 +2,7 @@ use mathlib.Core.Path.{sym, _∙_, ap}
 use Rattle.refusals.specs.declared.Outcome.{Outcome}
 use Rattle.refusals.specs.Answers.{_then_, answered, code}
 use Rattle.refusals.specs.Told.{told}
-use Rattle.width_table.specs.Bytes.{writeAnswer, bytesAfter}
+use Rattle.table_bytes.specs.Bytes.{writeAnswer, bytesAfter}
 use borrow.Author.Needs.{needs}
 use Rattle.engine.proofs.change_written.Statement.{statement}
 use Rattle.engine.proofs.change_written.Tie as tie

@@ -2,7 +2,7 @@ use mathlib.Core.Path.{sym, _∙_, ap}
 use Rattle.refusals.specs.Answers.{code}
 use Rattle.refusals.specs.Told.{told}
 use Rattle.width_table.specs.declared.WidthTable.{WidthTable}
-use Rattle.width_table.specs.ReadLaws.{table-read}
+use Rattle.table_bytes.specs.ReadLaws.{table-read}
 use Rattle.irreversible.specs.Calls.{fixedAnswer, fixedPlaneAfter, fixedWork}
 use Rattle.engine.specs.AnswerLaws.{unread97, read97}
 use borrow.Author.Needs.{needs}

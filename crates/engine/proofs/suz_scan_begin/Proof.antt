@@ -1,7 +1,7 @@
 use mathlib.Core.Path.{sym, _∙_, ap}
 use Rattle.refusals.specs.Answers.{Answer, code}
 use Rattle.refusals.specs.Told.{told}
-use Rattle.width_table.specs.ReadLaws.{table-read}
+use Rattle.table_bytes.specs.ReadLaws.{table-read}
 use Rattle.rolling.specs.Calls.{beginAnswer, scanOf}
 use Rattle.engine.specs.ScanLaws.{begin-unread, begin-read}
 use borrow.Author.Needs.{needs}

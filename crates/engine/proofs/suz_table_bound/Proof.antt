@@ -3,7 +3,7 @@ use Rattle.refusals.specs.Answers.{code}
 use Rattle.refusals.specs.Told.{told}
 use Rattle.refusals.specs.AnswerLaws.{answered-done}
 use Rattle.width_table.specs.declared.WidthTable.{WidthTable}
-use Rattle.width_table.specs.ReadLaws.{table-read}
+use Rattle.table_bytes.specs.ReadLaws.{table-read}
 use Rattle.precision.specs.BoundCalls.{boundAnswer, rangeTold, errorTold}
 use Rattle.engine.specs.AnswerLaws.{bound-unread, bound-read}
 use borrow.Author.Needs.{needs}

@@ -3,7 +3,7 @@ use Rattle.refusals.specs.Answers.{code}
 use Rattle.refusals.specs.Told.{told}
 use Rattle.width_table.specs.declared.WidthTable.{WidthTable}
 use Rattle.width_table.specs.Changes.{widthAnswer, tableAfterWidth}
-use Rattle.width_table.specs.ReadLaws.{table-read}
+use Rattle.table_bytes.specs.ReadLaws.{table-read}
 use Rattle.engine.specs.AnswerLaws.{change-unread, width-changed}
 use borrow.Author.Needs.{needs}
 use Rattle.engine.proofs.suz_table_change.Statement.{statement}

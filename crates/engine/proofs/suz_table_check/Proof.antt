@@ -1,7 +1,7 @@
 use mathlib.Core.Path.{sym, _∙_, ap}
 use Rattle.refusals.specs.Answers.{code}
 use Rattle.refusals.specs.Told.{told}
-use Rattle.width_table.specs.ReadLaws.{table-read}
+use Rattle.table_bytes.specs.ReadLaws.{table-read}
 use Rattle.precision.specs.Verdict.{verdict}
 use Rattle.engine.specs.AnswerLaws.{check-refused, check-judged}
 use borrow.Author.Needs.{needs}

@@ -1,8 +1,8 @@
 use mathlib.Core.Path.{sym, _∙_, ap}
 use native.Mathlib.Omega.{arith}
 use Rattle.refusals.specs.Answers.{code}
-use Rattle.width_table.specs.Told.{toldNamed}
-use Rattle.width_table.specs.NameLaws.{valued}
+use Rattle.table_bytes.specs.Told.{toldNamed}
+use Rattle.table_bytes.specs.NameLaws.{valued}
 use Rattle.engine.specs.AnswerLaws.{name-refused, name-found}
 use borrow.Author.Needs.{needs}
 use Rattle.engine.proofs.suz_table_value.Statement.{statement}

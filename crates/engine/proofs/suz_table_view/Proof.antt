@@ -1,7 +1,7 @@
 use mathlib.Core.Path.{sym, _∙_, ap}
 use Rattle.refusals.specs.Answers.{code}
 use Rattle.refusals.specs.Told.{told}
-use Rattle.width_table.specs.ReadLaws.{table-read}
+use Rattle.table_bytes.specs.ReadLaws.{table-read}
 use Rattle.view_precision.specs.Bounds.{viewVerdict}
 use Rattle.engine.specs.AnswerLaws.{view-refused, view-judged}
 use borrow.Author.Needs.{needs}

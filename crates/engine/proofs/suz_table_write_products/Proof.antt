@@ -1,7 +1,7 @@
 use mathlib.Core.Path.{_∙_, ap}
 use Rattle.refusals.specs.Answers.{code}
 use Rattle.width_table.specs.declared.WidthTable.{WidthTable}
-use Rattle.width_table.specs.Bytes.{writeAnswer, bytesAfter}
+use Rattle.table_bytes.specs.Bytes.{writeAnswer, bytesAfter}
 use borrow.Author.Needs.{needs}
 use Rattle.engine.proofs.suz_table_write_products.Statement.{statement}
 use Rattle.engine.proofs.suz_table_write_products.Tie as tie

@@ -2,7 +2,7 @@ use mathlib.Core.Path.{sym, _∙_, ap}
 use Rattle.refusals.specs.Answers.{code}
 use Rattle.refusals.specs.Told.{told}
 use Rattle.width_table.specs.declared.WidthTable.{WidthTable}
-use Rattle.width_table.specs.ReadLaws.{table-read}
+use Rattle.table_bytes.specs.ReadLaws.{table-read}
 use Rattle.viewing.specs.Calls.{viewAnswer, viewPixels, viewWork}
 use Rattle.engine.specs.AnswerLaws.{unread-view, read-view}
 use borrow.Author.Needs.{needs}

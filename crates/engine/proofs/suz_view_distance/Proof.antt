@@ -3,7 +3,7 @@ use Rattle.refusals.specs.Answers.{code, answered}
 use Rattle.refusals.specs.Told.{told}
 use Rattle.refusals.specs.AnswerLaws.{answered-done}
 use Rattle.width_table.specs.declared.WidthTable.{WidthTable}
-use Rattle.width_table.specs.ReadLaws.{table-read}
+use Rattle.table_bytes.specs.ReadLaws.{table-read}
 use Rattle.view_precision.specs.Bounds.{viewVerdict, viewDistance}
 use Rattle.engine.specs.AnswerLaws.{view-refused, view-judged, leaves-distance}
 use borrow.Author.Needs.{needs}

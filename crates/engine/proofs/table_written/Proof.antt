@@ -1,6 +1,6 @@
 use mathlib.Core.Path.{sym, _∙_, ap}
 use Rattle.refusals.specs.Answers.{code}
-use Rattle.width_table.specs.Told.{toldWritten}
+use Rattle.table_bytes.specs.Told.{toldWritten}
 use Rattle.engine.specs.AnswerLaws.{write-done, write-refused}
 use borrow.Author.Needs.{needs}
 use Rattle.engine.proofs.table_written.Statement.{statement}

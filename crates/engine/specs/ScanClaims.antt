@@ -26,7 +26,7 @@ use Rattle.pictures.specs.Pictures.{Admitted, sample}
 use Rattle.pictures.specs.PictureLaws.{over-take}
 use Rattle.precision.specs.Verdict.{verdict}
 use Rattle.precision.specs.Promise.{promise}
-use Rattle.precision.specs.Examples.{usual-accepted}
+use Rattle.worked_precision.specs.Verdicts.{usual-accepted}
 use Rattle.irreversible.specs.Claims.{LevelInWidth}
 use Rattle.rolling.specs.declared.Scan.{Scan}
 use Rattle.rolling.specs.Calls.{beginAnswer, scanOf, heldLines, outLines, lineAnswer, givenByLine, scanAfter, LineLeft, LineCall, endAnswer, givenByEnd, scanEnded, EndLeft, EndCall}

@@ -7,7 +7,6 @@
 --   FirstNode   first-node-refused: level 1 row P1 with IB 2 is refused 6, whatever the other numbers
 --   Before      the analysis without job 6, and same-verdict: no verdict changes by it
 --   Uncut       job 7: the analysis in which no product is cut, and old-bounds, old-verdict: a table without tag 5 keeps its own
---   Examples    tables that are accepted, tables that are refused 4, 6 and 7, with tag 5 and without it, and bounds of nodes
 -- For the program:
 --   Places      nodes, passes and bounds by number
 --   ProductReads   the width of a product as a number
@@ -19,7 +18,6 @@ pub mod Verdict
 pub mod BoundCalls
 pub mod Promise
 pub mod FirstNode
-pub mod Examples
 pub mod Places
 pub mod PlaceLaws
 pub mod ProductReads

@@ -20,7 +20,7 @@ use Rattle.lines.specs.RowLaws.{place-in, rows-length, rows-at}
 use Rattle.width_table.specs.declared.WidthTable.{WidthTable}
 use Rattle.pictures.specs.Pictures.{Admitted, planeOf}
 use Rattle.width_table.specs.WorkedTables.{usual, cut}
-use Rattle.precision.specs.Examples.{usual-accepted, cut-accepted}
+use Rattle.worked_precision.specs.Verdicts.{usual-accepted, cut-accepted}
 use Rattle.rolling.specs.declared.Taken.{Taken}
 use Rattle.rolling.specs.declared.Taken.the-variants.{Zero, One, Two, Three, Four, OddMany, EvenMany}
 use Rattle.rolling.specs.declared.Scan.{Scan}

@@ -1,42 +1,30 @@
--- The judge of viewing before document 02, job 6, word by word as it was, to compare with: lines of one value were refused, so the even
--- output had the bound of lines of two values or more.
+-- The judge of viewing before document 02, job 6, to compare with: lines of one value were refused, so every pass had the bounds of lines of
+-- two values or more.
 use Prim.Native.Nat.{ℕ, zero, suc, _+_, _-_, _^_}
 use mathlib.Core.Bool.{Bool, true, _&&_}
 use lib.Dec.{ltb}
 use Rattle.refusals.specs.Answers.{Answer, passed, asks, _then_}
-use Rattle.stages.specs.Stages.{low, high}
 use Rattle.stages.specs.Rule.{Bound}
-use Rattle.width_table.specs.Nodes.{Node, P1, U1, P2, U2, G1, G2, Pass, Rows, LowColumns, HighColumns}
+use Rattle.width_table.specs.Nodes.{Node, G1, G2, Pass, Rows, LowColumns, HighColumns}
 use Rattle.width_table.specs.declared.WidthTable.{WidthTable}
 use Rattle.precision.specs.Verdict.{verdict}
-use Rattle.view_precision.specs.Bounds.{larger, boundAfter, stored, startBound, stepsAllowed, passRight}
-
-module _ (a b : Bound) where
-  unfoldable pub boundAtBefore : Node → Bound
-  boundAtBefore G1 = boundAfter a b low 1
-  boundAtBefore G2 = boundAfter a b high 2
-  boundAtBefore U2 = boundAfter a b low 3
-  boundAtBefore P2 = boundAfter a b high 4
-  boundAtBefore U1 = boundAfter a b low 5
-  boundAtBefore P1 = boundAfter a b high 6
-
-  unfoldable pub passGivesBefore : Bound
-  passGivesBefore = larger (boundAtBefore U1) (boundAtBefore P1)
+use Rattle.view_precision.specs.Bounds.{stored, startBound, stepsAllowed, passRight}
+use Rattle.view_precision.specs.LongLines.{longBound, longGives}
 
 module _ (t : WidthTable) (steps l : ℕ) (b : Bound) where
   unfoldable pub fromLowBefore : Bound
-  fromLowBefore = passGivesBefore b (stored t steps l LowColumns G2)
+  fromLowBefore = longGives b (stored t steps l LowColumns G2)
 
   unfoldable pub fromHighBefore : Bound
-  fromHighBefore = passGivesBefore (stored t steps l HighColumns G1) (stored t steps l HighColumns G2)
+  fromHighBefore = longGives (stored t steps l HighColumns G1) (stored t steps l HighColumns G2)
 
   unfoldable pub passBoundBefore : Pass → Node → Bound
-  passBoundBefore LowColumns = boundAtBefore b (stored t steps l LowColumns G2)
-  passBoundBefore HighColumns = boundAtBefore (stored t steps l HighColumns G1) (stored t steps l HighColumns G2)
-  passBoundBefore Rows = boundAtBefore fromLowBefore fromHighBefore
+  passBoundBefore LowColumns = longBound b (stored t steps l LowColumns G2)
+  passBoundBefore HighColumns = longBound (stored t steps l HighColumns G1) (stored t steps l HighColumns G2)
+  passBoundBefore Rows = longBound fromLowBefore fromHighBefore
 
   unfoldable pub levelGivesBefore : Bound
-  levelGivesBefore = passGivesBefore fromLowBefore fromHighBefore
+  levelGivesBefore = longGives fromLowBefore fromHighBefore
 
 unfoldable pub givesFromBefore : WidthTable → ℕ → ℕ → Bound → Bound
 givesFromBefore t steps zero b = b

@@ -1,5 +1,4 @@
--- Document 02, job 6, makes no bound of viewing smaller (`node-more`, `gives-more`), so that no table is newly viewable
--- (`viewable-still`). A table that is newly refused is in Examples.
+-- Document 02, job 6, makes no bound of viewing smaller (LongLaws), so that no table is newly viewable (`viewable-still`).
 use Prim.Native.Nat.{ℕ, zero, suc, _+_, _*_, _-_, _^_}
 use mathlib.Core.Bool.{Bool, _&&_}
 use mathlib.Core.List.{List, [], _∷_}
@@ -9,38 +8,15 @@ use lib.Dec.{T, leb→le, le→leb, ltb→lt, lt→ltb}
 use Rattle.numbers.specs.Tests.{every, both, four, and-intro}
 use Rattle.refusals.specs.Answers.{passed}
 use Rattle.refusals.specs.AnswerLaws.{asks-done, asks-right, then-done, then-right}
-use Rattle.stages.specs.Stages.{Side, low, high, inverse, uncut}
-use Rattle.stages.specs.Rule.{Bound, apart}
-use Rattle.stages.specs.RuleLaws.{AtMost, apart-at-most, bound-grows}
-use Rattle.inverse_lifting.specs.Fixed.{nodeBits, inverseBits, maxValue}
-use Rattle.width_table.specs.Nodes.{Node, P1, U1, P2, U2, G1, G2, Pass, Rows, LowColumns, HighColumns}
+use Rattle.stages.specs.Rule.{Bound}
+use Rattle.stages.specs.RuleLaws.{AtMost}
+use Rattle.inverse_lifting.specs.Fixed.{maxValue}
+use Rattle.width_table.specs.Nodes.{Node, Pass, Rows, LowColumns, HighColumns}
 use Rattle.width_table.specs.declared.WidthTable.{WidthTable}
 use Rattle.precision.specs.Verdict.{verdict}
-use Rattle.view_precision.specs.Bounds.{larger, boundAfter, even, inverseBound, passGives, fromLow, fromHigh, passBound, levelGives, givesFrom, startBound, pixelBound, withinMax, passRight, nodesRight, viewable, viewVerdict}
-use Rattle.view_precision.specs.Odd.{odd-range, odd-error}
-use Rattle.view_precision.specs.Before.{boundAtBefore, passGivesBefore, fromLowBefore, fromHighBefore, passBoundBefore, levelGivesBefore, givesFromBefore, pixelBoundBefore, nodesRightBefore, viewableBefore, viewVerdictBefore}
-
--- ---- no bound is smaller, where what enters is not
-
-module _ {a a' b b' : Bound} (h : AtMost a a') (k : AtMost b b') where
-  after-more : (s : Side) (m : ℕ) → AtMost (boundAfter a b s m) (boundAfter a' b' s m)
-  after-more = bound-grows inverse (apart a b) (apart a' b') (λ i. inverseBits) (λ i. uncut) (λ s. 0) (λ i. nodeBits) (apart-at-most h k)
-
-  pub node-more : (n : Node) → AtMost (boundAtBefore a b n) (inverseBound a' b' n)
-  unfolding boundAtBefore inverseBound even larger
-  node-more G1 = after-more low 1
-  node-more G2 = after-more high 2
-  node-more U2 = after-more low 3
-  node-more P2 = after-more high 4
-  node-more U1 = let m = after-more low 5 in record { range = omega (arith, m .range); error = omega (arith, m .error) }
-  node-more P1 = let m = after-more high 6 in record { range = omega (arith, m .range, odd-range a' b'); error = omega (arith, m .error, odd-error a' b') }
-
-  pub gives-more : AtMost (passGivesBefore a b) (passGives a' b')
-  unfolding passGivesBefore passGives inverseBound larger
-  gives-more = record {
-    range = omega (arith, node-more U1 .range, node-more P1 .range);
-    error = omega (arith, node-more U1 .error, node-more P1 .error);
-  }
+use Rattle.view_precision.specs.Bounds.{fromLow, fromHigh, passBound, levelGives, givesFrom, startBound, pixelBound, withinMax, passRight, nodesRight, viewable, viewVerdict}
+use Rattle.view_precision.specs.LongLaws.{node-more, gives-more}
+use Rattle.view_precision.specs.Before.{fromLowBefore, fromHighBefore, passBoundBefore, levelGivesBefore, givesFromBefore, pixelBoundBefore, nodesRightBefore, viewableBefore, viewVerdictBefore}
 
 -- ---- no table is newly viewable
 

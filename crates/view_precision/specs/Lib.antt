@@ -1,11 +1,12 @@
 -- The precision analysis of viewing (document 02, jobs 1 and 6).
 --   Bounds     range and error of each node of the inverse, the pixel bound, refusal 13; the distance from scan to view
+--   LongLines  the bounds of a pass on lines of two values or more
 --   Before     the judge before job 6
 -- Proved of them:
 --   Odd        odd-larger : what a pass gives on is the larger of the odd output and the low input
+--   LongLaws   gives-more : on lines of two values or more a pass gives on no more
 --   BeforeLaws viewable-still : a table that is viewable was viewable before job 6
 --   Products   job 7: of the table viewing takes depth, levels and the kept nodes' widths alone (products-no-matter)
---   Examples   tables that are viewable, tables that are refused 13, one of them newly; pixel bounds and distances as numbers
 -- For the program:
 --   Places     stages, sources of errors and bounds by number
 --   PlaceLaws  these are the bounds of Bounds
@@ -13,10 +14,11 @@
 --   LevelLaws  what the program has after some levels, and its two answers
 pub mod Bounds
 pub mod Odd
+pub mod LongLines
+pub mod LongLaws
 pub mod Before
 pub mod BeforeLaws
 pub mod Products
-pub mod Examples
 pub mod Places
 pub mod PlaceLaws
 pub mod SizeLaws

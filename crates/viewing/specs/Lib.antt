@@ -12,10 +12,8 @@
 --   CallLaws   call-done, call-viewable, call-room, call-stored: when a call is done; call-pixel, call-near: what then stands in the pixels
 --   Forward    forward-stored, forward-held, forward-shown: what the 9/7 call stores is never refused 12, and how far the shown pixels are
 --              from the scanned ones
---   Deepest    too-deep: an accepted table of L levels that is deeper than `deepest L` is refused 13; deepest-viewed: these limits are reached
 --   Unchanged  view-unchanged: sides that were admitted before job 6
 --   Products   seen-plane, seen-picture, seen-answer: of the table viewing takes depth, levels and the kept nodes' widths alone (job 7)
---   Examples   worked lines, planes, greys and widths; a call that is done; a picture, and what is stored of it
 -- Proofs: Pass (by the rule of the crate stages, which is sound), Level lead to Viewing, in this order.
 -- For the proofs of the code:
 --   Words      every value that a level takes or leaves is at most 2^15; 64 bits hold the numbers that a pixel forms
@@ -35,8 +33,6 @@ pub mod Scan
 pub mod CallLaws
 pub mod Forward
 pub mod Words
-pub mod Examples
-pub mod Deepest
 pub mod Unchanged
 pub mod Products
 pub mod WidthLaws

@@ -1,1 +1,1 @@
-// Worked computations of the crates below (specs/); there is no code.
+// Worked computations of the crates below, in specs/; no code.

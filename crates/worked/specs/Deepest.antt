@@ -4,7 +4,7 @@
 -- the bounds of viewing grow with the ranges of what is stored.
 use Prim.Native.Nat.{ℕ, zero, suc, _+_, _*_, _-_, _^_, _<_, _≤_}
 use mathlib.Core.Bool.{Bool, true, false}
-use mathlib.Core.List.{List, [], _∷_, _++_}
+use mathlib.Core.List.{List, [], _∷_}
 use mathlib.Core.Path.{_≡_, refl, _∙_, ap}
 use native.Mathlib.Omega.{arith}
 use native.Mathlib.Nat.{mul-le-mul-right, pow-le-pow-right, le-trans}
@@ -21,19 +21,20 @@ use Rattle.stages.specs.Gains.{gain, exactGain, sumFrom, sumTo, inputAnswer, no
 use Rattle.stages.specs.Rule as Rule
 use Rattle.stages.specs.Rule.{Bound}
 use Rattle.stages.specs.RuleLaws.{AtMost}
-use Rattle.width_table.specs.Nodes.{productsPerLevel, columnPass, lastNode}
+use Rattle.width_table.specs.Nodes.{columnPass, lastNode}
 use Rattle.width_table.specs.Limits.{form-depth, form-levels}
 use Rattle.width_table.specs.declared.WidthTable.{WidthTable}
-use Rattle.width_table.specs.Table.{maxDepth, maxLevels, maxConstantBits, maxIntegerBits, maxFractionBits, levelBytes, integerBits, formRight}
+use Rattle.width_table.specs.Table.{maxDepth, maxLevels, integerBits, formRight}
 use Rattle.precision.specs.Bounds as Judge
 use Rattle.table_meaning.specs.Products.{productOf}
 use Rattle.precision.specs.Verdict.{judged, firstRefusal, verdict, Accepted, AcceptPromise}
 use Rattle.precision.specs.Promise.{promise}
 use Rattle.view_precision.specs.Bounds
-use Rattle.view_precision.specs.Before.{boundAtBefore, passGivesBefore}
-use Rattle.view_precision.specs.BeforeLaws.{gives-more}
+use Rattle.view_precision.specs.LongLines.{longBound, longGives}
+use Rattle.view_precision.specs.LongLaws.{gives-more}
 use Rattle.view_precision.specs.Bounds.{stored, levelGives, givesFrom, startBound, pixelBound, nodesRight, viewable, viewVerdict}
 use Rattle.irreversible.specs.Narrow.{least-bits}
+use Rattle.worked.specs.ViewTables.{leastTable}
 
 -- the greatest depth at which a table of L levels, 1 to 5, can be viewed (document 02, job 1: refusal 13)
 abbrev pub deepest : ℕ → ℕ
@@ -52,7 +53,7 @@ leastStored l = record { range = 2 ^ (2 * l - 1) * 2 ^ 32; error = 0 }
 
 -- what level l, and levels k to 1, give of it at least, where b bounds the low-low (lines of two or more suffice)
 leastGives : ℕ → Bound → Bound
-leastGives l b = passGivesBefore (passGivesBefore b (leastStored l)) (passGivesBefore (leastStored l) (leastStored l))
+leastGives l b = longGives (longGives b (leastStored l)) (longGives (leastStored l) (leastStored l))
 
 leastFrom : ℕ → Bound → Bound
 leastFrom zero b = b
@@ -90,7 +91,7 @@ numbers = 552196 ∷ 2201719 ∷ 9809170 ∷ 44357886 ∷ []
 
 -- of 2 to 5 levels, in whole numbers of 2^-32, computed once for all
 least-pixels : leastPixel 2 ∷ leastPixel 3 ∷ leastPixel 4 ∷ leastPixel 5 ∷ [] ≡ numbers
-unfolding leastFrom leastGives passGivesBefore boundAtBefore Bounds.larger Rule.sideBound Rule.rangeAt Rule.errorAt Rule.owns Rule.stagesPart Rule.ownErrorOf Rule.inputPart Rule.ownLift Rule.productLoss Rule.ownScale Rule.loss Rule.timesGain bits upDiv gain exactGain sumFrom sumTo inputAnswer nodeAnswer valuesAfter made roundedUp lift _⊕_ _⊗_ neg whole magnitude
+unfolding leastFrom leastGives longGives longBound Bounds.larger Rule.sideBound Rule.rangeAt Rule.errorAt Rule.owns Rule.stagesPart Rule.ownErrorOf Rule.inputPart Rule.ownLift Rule.productLoss Rule.ownScale Rule.loss Rule.timesGain bits upDiv gain exactGain sumFrom sumTo inputAnswer nodeAnswer valuesAfter made roundedUp lift _⊕_ _⊗_ neg whole magnitude
 least-pixels = refl
 
 nth : (k : ℕ) → getD (leastPixel 2 ∷ leastPixel 3 ∷ leastPixel 4 ∷ leastPixel 5 ∷ []) k 0 ≡ getD numbers k 0
@@ -122,42 +123,6 @@ too-deep t accepted deep =
     (le-trans (half-grey (t .levels) (t .depth) least most deep (form-depth t (ok .form) .1)) (pixel-least t ok))))
 
 -- ---- the limits are reached
-
--- the widest node
-abbrev wide : List ℕ
-wide = maxIntegerBits ∷ maxFractionBits ∷ []
-
--- of a kept node of level l: the least integer bits
-abbrev kept : ℕ → List ℕ
-kept l = 2 * l ∷ 6 ∷ []
-
--- a pass: widths of G1, of G2
-abbrev pass : List ℕ → List ℕ → List ℕ
-pass g1 g2 = wide ++ wide ++ wide ++ wide ++ g1 ++ g2
-
--- level l: width of its low-low
-abbrev level : ℕ → List ℕ → List ℕ
-level l lowLow = pass wide wide ++ pass lowLow (kept l) ++ pass (kept l) (kept l)
-
--- levels 1 to k, before the last
-abbrev inner : ℕ → List ℕ
-inner zero = []
-inner (suc k) = inner k ++ level (suc k) wide
-
-abbrev zeros : ℕ → List ℕ
-zeros zero = []
-zeros (suc k) = 0 ∷ zeros k
-
--- a table of depth B and L levels whose kept nodes have the least integer bits
-abbrev pub leastTable : ℕ → ℕ → WidthTable
-leastTable B L = record {
-  depth = B;
-  levels = L;
-  constants = maxConstantBits ∷ maxConstantBits ∷ maxConstantBits ∷ maxConstantBits ∷ maxConstantBits ∷ maxConstantBits ∷ [];
-  nodes = inner (L - 1) ++ level L (kept L) ++ zeros ((maxLevels - L) * levelBytes);
-  «has_products» = false;
-  products = zeros (productsPerLevel * maxLevels);
-}
 
 abbrev answer : ℕ → List (Answer Unit) → Answer Unit
 answer k l = getD l k passed

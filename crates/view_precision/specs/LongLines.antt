@@ -1,0 +1,19 @@
+-- The bounds of an inverse pass on lines of two values or more, fed lows with bound a and highs with bound b.
+use Rattle.stages.specs.Stages.{low, high}
+use Rattle.stages.specs.Rule.{Bound}
+use Rattle.width_table.specs.Nodes.{Node, P1, U1, P2, U2, G1, G2}
+use Rattle.view_precision.specs.Bounds.{larger, boundAfter}
+
+module _ (a b : Bound) where
+  -- of each node
+  unfoldable pub longBound : Node → Bound
+  longBound G1 = boundAfter a b low 1
+  longBound G2 = boundAfter a b high 2
+  longBound U2 = boundAfter a b low 3
+  longBound P2 = boundAfter a b high 4
+  longBound U1 = boundAfter a b low 5
+  longBound P1 = boundAfter a b high 6
+
+  -- what a pass gives on
+  unfoldable pub longGives : Bound
+  longGives = larger (longBound U1) (longBound P1)

@@ -1,0 +1,1 @@
+// Worked verdicts of the judge, in specs/; no code.

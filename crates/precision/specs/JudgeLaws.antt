@@ -19,15 +19,17 @@ use Rattle.width_table.specs.Readers.{constantBitsAt, integerBitsAt, fractionBi
 use Rattle.width_table.specs.Limits.{in-nodes, form-constants, form-widths, constant-read, integer-read, fraction-read, cut-read, input-read}
 use Rattle.stages.specs.Stages.{Product, cutTo}
 use Rattle.stages.specs.Rule.{timesGain, ownLift, ownScale}
+use Rattle.bounds_rule.specs.Carried.{asHeld, carriedTo}
+use Rattle.stages.specs.GainTable.{forwardGains}
 use Rattle.table_meaning.specs.Products.{productOf}
 use Rattle.precision.specs.Bounds.{nodeBound, rowBound, passBound, boundOf}
 use Rattle.precision.specs.Verdict.{fits, keptColumn, keptAt, judged, firstRefusal}
 use Rattle.precision.specs.Promise.{each-accepts}
-use Rattle.precision.specs.Places.{places, mostFitting, gainAt, carriedTo, multiplied, other, fed, bitsOf, ownErrorAt, ownErrorOf, ownHere, ownsOf, ownBy, asHeld, judgedAs, boundOfNode, At, Limited, Read, Enters, BoundsOf}
+use Rattle.precision.specs.Places.{places, mostFitting, largest, gainAt, multiplied, other, fed, bitsOf, ownErrorAt, ownErrorOf, ownHere, ownsOf, ownBy, judgedAs, boundOfNode, At, Limited, Read, Enters, BoundsOf}
 use Rattle.precision.specs.ProductReads.{own-number}
 use Rattle.width_table.specs.Numbered.{nodeOf, passOf, IsNode, IsPass, IsProduct, node-number, pass-number}
-use Rattle.precision.specs.PlaceLaws.{largest, by-place, multiplied-place, gain-most, times-small, carried-start, carried-next, carried-small, own-is, range-is, error-is, total-is, own-small, owns-most}
-use Rattle.precision.specs.declared.Bound as Code
+use Rattle.precision.specs.PlaceLaws.{by-place, multiplied-place, times-small, carried-start, carried-next, carried-small, own-is, range-is, error-is, total-is, own-small, owns-most}
+use Rattle.bounds_rule.specs.declared.Bound as Code
 use Rattle.precision.specs.declared.PassBounds.{PassBounds}
 use Rattle.precision.specs.declared.Widths.{Widths}
 
@@ -133,7 +135,7 @@ Carries v x = (i : ℕ) → i < places → getD x i 0 ≡ timesGain v (gainAt 0 
 
 -- and what the places below k have of their own
 abbrev pub Errors : WidthTable → ℕ → ℕ → ℕ → List ℕ → Type 0
-Errors t l p k x = (i : ℕ) → i < places → getD x i 0 ≡ carriedTo (ownsOf t l (passOf p) k) i places
+Errors t l p k x = (i : ℕ) → i < places → getD x i 0 ≡ carriedTo forwardGains (ownsOf t l (passOf p) k) i places
 
 -- what the program holds once the pass is entered
 pub record Started (t : WidthTable) (l p : ℕ) (b : Code.Bound) (w : Widths) (ranges errors : List ℕ) : Type 0 where
@@ -162,7 +164,7 @@ module _ {t : WidthTable} {l p : ℕ} {b : Code.Bound} (h : Enters t l p b) wher
   errors-start x c i j = c i j ∙ ap (λ (e : Code.Bound). timesGain (e .error) (gainAt 0 i)) (h .is) ∙ sym (carried-start (constantBits t) (productOf t l P) (inputBits t l P) (fed t l P) (fractionBits t l P) i)
 
   pub ranges-small : (x : List ℕ) → Carries (b .range) x → (i : ℕ) → i < places → getD x i 0 ≤ 2 ^ 48
-  ranges-small x r i j = omega (arith, r i j, times-small (b .range) (gainAt 0 i) (omega (arith, h .small)) (gain-most 0 i))
+  ranges-small x r i j = omega (arith, r i j, times-small (b .range) 0 i (omega (arith, h .small)))
 
   pub errors-small : (k : ℕ) (x : List ℕ) → Errors t l p k x → (i : ℕ) → i < places → getD x i 0 ≤ places * 2 ^ 48
   errors-small k x e i j = omega (arith, e i j, carried-small (ownsOf t l P k) (owns-small k) i places)
@@ -190,10 +192,10 @@ module _ {t : WidthTable} {l p : ℕ} {b : Code.Bound} (h : Enters t l p b) wher
       ∙ sym (carried-next (constantBits t) (productOf t l P) (inputBits t l P) (fed t l P) (fractionBits t l P) j k i)
 
   -- all of them: the bounds
-  bound-is : (k : ℕ) → IsNode k → bound (timesGain (b .range) (gainAt 0 k)) (carriedTo (ownsOf t l P places) k places) ≡ boundOfNode t l p k
+  bound-is : (k : ℕ) → IsNode k → bound (timesGain (b .range) (gainAt 0 k)) (carriedTo forwardGains (ownsOf t l P places) k places) ≡ boundOfNode t l p k
   bound-is k i =
-      ap (λ (r : ℕ). bound (timesGain r (gainAt 0 k)) (carriedTo (ownsOf t l P places) k places)) range-fed
-      ∙ ap (λ (r : ℕ). bound r (carriedTo (ownsOf t l P places) k places)) (range-is (constantBits t) (productOf t l P) (inputBits t l P) (fed t l P) (fractionBits t l P) k i)
+      ap (λ (r : ℕ). bound (timesGain r (gainAt 0 k)) (carriedTo forwardGains (ownsOf t l P places) k places)) range-fed
+      ∙ ap (λ (r : ℕ). bound r (carriedTo forwardGains (ownsOf t l P places) k places)) (range-is (constantBits t) (productOf t l P) (inputBits t l P) (fed t l P) (fractionBits t l P) k i)
       ∙ ap (bound _) (error-is (constantBits t) (productOf t l P) (inputBits t l P) (fed t l P) (fractionBits t l P) k i)
       ∙ ap asHeld (sym (bound-fed t l P (nodeOf k)))
 

@@ -10,7 +10,7 @@ use lib.Dec.{T, lit≤}
 use lib.ListN.{length, getD, take, drop, length-append}
 use lib.Seq.{take-suc, take-all, take-add, take-take, take-append-le, take-append-add}
 use Rattle.refusals.specs.Answers.{Reason, Answer, done, refused, passed, _then_, answered}
-use Rattle.refusals.specs.AnswerLaws.{asks-wrong, asks-right, then-right, then-refused}
+use Rattle.refusals.specs.AnswerLaws.{asks-wrong, asks-right, then-done, then-right, then-refused}
 use Rattle.width_table.specs.declared.WidthTable.{WidthTable}
 use Rattle.width_table.specs.Nodes.{Node, P1, G1, G2, nodesPerPass, nodesPerLevel, Pass, Rows, LowColumns, HighColumns, TableNode, nodeAt, passNodes, levelNodes, tableOrder}
 use Rattle.width_table.specs.Numbered.{nodeOf, passOf, IsNode, IsPass}
@@ -21,10 +21,11 @@ use Rattle.precision.specs.Bounds.{entering, boundOf}
 use Rattle.precision.specs.Verdict.{judged, firstRefusal, verdict}
 use Rattle.precision.specs.BoundCalls.{nodesBefore, boundAnswer}
 use Rattle.precision.specs.Promise.{refusal-++}
-use Rattle.precision.specs.Places.{mostFitting, asHeld, fed, fedAfter, At, Enters, Reached}
+use Rattle.precision.specs.Places.{mostFitting, fed, fedAfter, At, Enters, Reached, Goes, After}
+use Rattle.bounds_rule.specs.Carried.{asHeld}
 use Rattle.precision.specs.PlaceLaws.{by-place}
 use Rattle.precision.specs.JudgeLaws.{by-pass, at-pass, accepted-small}
-use Rattle.precision.specs.declared.Bound as Code
+use Rattle.bounds_rule.specs.declared.Bound as Code
 
 -- ---- the first part of a list
 
@@ -33,6 +34,12 @@ pub stays : (t : WidthTable) (r : Reason) (ps : List TableNode) (k m : ℕ) → 
 stays t r ps k m h e =
     let z : m ≡ k + (m - k) = omega arith in
     ap (λ (m : ℕ). firstRefusal t (take m ps)) z ∙ ap (firstRefusal t) (take-add k (m - k) ps) ∙ refusal-++ t (take k ps) _ ∙ then-refused _ _ r e
+
+-- what stands before is accepted with it
+pub accepted-before : (t : WidthTable) (ps : List TableNode) (k m : ℕ) → k ≤ m → firstRefusal t (take m ps) ≡ passed → firstRefusal t (take k ps) ≡ passed
+accepted-before t ps k m h e =
+    let z : k + (m - k) ≡ m = omega arith in
+    then-done (firstRefusal t (take k ps)) _ (sym (ap (firstRefusal t) (take-add k (m - k) ps) ∙ refusal-++ t (take k ps) _) ∙ ap (λ (m : ℕ). firstRefusal t (take m ps)) z ∙ e) .0
 
 -- one node more
 one-more : (t : WidthTable) (ps : List TableNode) (k : ℕ) (d : TableNode) → k < length ps → firstRefusal t (take k ps) ≡ passed → firstRefusal t (take (suc k) ps) ≡ judged t (getD ps k d)
@@ -113,20 +120,13 @@ before-is t (suc k) p h n i =
 
 -- ---- into a pass
 
--- o is the first refusal of the nodes before; where there is none, the program holds b, which comes next
-abbrev Goes : WidthTable → List TableNode → Bound → Answer Unit → Code.Bound → Type 0
-Goes t before b o held = (o ≡ firstRefusal t before) × (o ≡ passed → Reached b held)
-
 -- where a node before it is refused, nothing enters
 pub not-reached : (t : WidthTable) (before : List TableNode) (b : Bound) (r : Reason) (held : Code.Bound) → firstRefusal t before ≡ refused r → Goes t before b (refused r) held
 not-reached t before b r held e = (sym e, λ d. let z : _≡_ {A = ℕ} 0 1 = cc in absurd (omega arith))
 
--- the same of the first k passes of a level, and of the pass that follows them
-abbrev pub After : WidthTable → ℕ → ℕ → Answer Unit → Code.Bound → Type 0
-After t l k = Goes t (take (k * nodesPerPass) (levelNodes l)) (fedAfter t l k)
-
-pub rows-refused : (t : WidthTable) (l : ℕ) (r : Reason) (k : ℕ) (b : Code.Bound) → 1 ≤ k → firstRefusal t (passNodes l Rows) ≡ refused r → After t l k (refused r) b
-rows-refused t l r k b i e = not-reached t _ _ r b (stays t r (levelNodes l) nodesPerPass (k * nodesPerPass) (omega arith) e)
+-- a pass after one that is refused
+pub next-refused : (t : WidthTable) (l p : ℕ) (r : Reason) (b : Bound) (held : Code.Bound) → firstRefusal t (take ((p - 1) * nodesPerPass) (levelNodes l)) ≡ refused r → Goes t (take (p * nodesPerPass) (levelNodes l)) b (refused r) held
+next-refused t l p r b held e = not-reached t _ b r held (stays t r (levelNodes l) ((p - 1) * nodesPerPass) (p * nodesPerPass) (omega arith) e)
 
 module _ {t : WidthTable} {l : ℕ} where
   -- what node n of an accepted pass leaves
@@ -145,24 +145,15 @@ module _ {t : WidthTable} {l : ℕ} where
   unfolding firstRefusal
   after-none k b e h = subst (λ (k : ℕ). After t l k passed b) (sym e) (refl, λ d. record { is = h .is; small = h .small })
 
-  module _ (h : At t l 1) where
-    pub after-rows : (k : ℕ) (o : Answer Unit) (b : Code.Bound) → k ≡ 1 → o ≡ firstRefusal t (passNodes l Rows) → b ≡ asHeld (boundOf t (nodeAt l Rows G1)) → After t l k o b
-    after-rows k o b e x d = subst (λ (k : ℕ). After t l k o b) (sym e) (left-by 1 G1 _ o b h d x (λ y. sym x ∙ y))
+  -- a pass after which others come
+  pub pass-next : {p : ℕ} → At t l p → firstRefusal t (take ((p - 1) * nodesPerPass) (levelNodes l)) ≡ passed → firstRefusal t (take (p * nodesPerPass) (levelNodes l)) ≡ firstRefusal t (passNodes l (passOf p))
+  pass-next {p} h e =
+      let z : p * nodesPerPass ≡ (p - 1) * nodesPerPass + nodesPerPass = omega (arith, h .pass) in
+      ap (λ (m : ℕ). firstRefusal t (take m (levelNodes l))) z ∙ ap (firstRefusal t) (pass-part l p nodesPerPass (h .pass) (omega arith)) ∙ refusal-++ t _ _ ∙ then-right _ _ e
 
-    module _ (rows : firstRefusal t (passNodes l Rows) ≡ passed) where
-      low-is : firstRefusal t (take (2 * nodesPerPass) (levelNodes l)) ≡ firstRefusal t (passNodes l LowColumns)
-      low-is = refusal-++ t (passNodes l Rows) (passNodes l LowColumns) ∙ then-right _ _ rows
-
-      pub after-low : (k : ℕ) (o : Answer Unit) (b : Code.Bound) → k ≡ 2 → o ≡ firstRefusal t (passNodes l LowColumns) → b ≡ asHeld (boundOf t (nodeAt l Rows G2)) → After t l k o b
-      after-low k o b e x d = subst (λ (k : ℕ). After t l k o b) (sym e) (left-by 1 G2 _ o b h d (x ∙ sym low-is) (λ y. rows))
-
-      pub after-high : (k : ℕ) (o : Answer Unit) (b : Code.Bound) → k ≡ 3 → firstRefusal t (passNodes l LowColumns) ≡ passed → o ≡ firstRefusal t (passNodes l HighColumns) → b ≡ asHeld (boundOf t (nodeAt l LowColumns G1)) → After t l k o b
-      after-high k o b e low x d =
-          subst (λ (k : ℕ). After t l k o b) (sym e)
-          (left-by 2 G1 _ o b (at-pass h 2 (lit≤ tt, lit≤ tt)) d (x ∙ sym (refusal-++ t (passNodes l Rows ++ passNodes l LowColumns) (passNodes l HighColumns) ∙ then-right _ _ (low-is ∙ low))) (λ y. low))
-
-      pub low-refused : (r : Reason) (k : ℕ) (b : Code.Bound) → 2 ≤ k → firstRefusal t (passNodes l LowColumns) ≡ refused r → After t l k (refused r) b
-      low-refused r k b i e = not-reached t _ _ r b (stays t r (levelNodes l) (2 * nodesPerPass) (k * nodesPerPass) (omega arith) (low-is ∙ e))
+  -- what it leaves then
+  pub next-left : {p : ℕ} (n : Node) {o : Answer Unit} {b : Code.Bound} → At t l p → firstRefusal t (take ((p - 1) * nodesPerPass) (levelNodes l)) ≡ passed → o ≡ firstRefusal t (passNodes l (passOf p)) → b ≡ asHeld (boundOf t (nodeAt l (passOf p) n)) → Goes t (take (p * nodesPerPass) (levelNodes l)) (boundOf t (nodeAt l (passOf p) n)) o b
+  next-left {p} n {o} {b} h before e d = left-by p n _ o b h d (e ∙ sym (pass-next h before)) (λ x. sym e ∙ x)
 
 -- ---- into a level
 

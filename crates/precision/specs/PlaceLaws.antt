@@ -1,17 +1,18 @@
 -- The bounds of a pass by place numbers are those of Bounds, and are small where what enters the pass is small.
 use Prim.Native.Nat.{ℕ, zero, suc, _+_, _*_, _-_, _^_, _<_, _≤_, max}
 use mathlib.Core.Bool.{Bool, true, false}
-use mathlib.Core.List.{List, [], _∷_}
+use mathlib.Core.List.{List, []}
 use mathlib.Core.Path.{_≡_, refl, sym, _∙_, ap}
 use native.Mathlib.Omega.{arith}
-use native.Mathlib.Nat.{mul-le-mul-left, mul-le-mul-right, le-trans}
-use lib.Dec.{T, eqb, ltb, leb, leb→le, lit≤}
+use native.Mathlib.Nat.{le-trans}
+use lib.Dec.{eqb, ltb, lit≤}
 use lib.ListN.{getD}
-use lib.Pow.{pow-mono}
-use Rattle.numbers.specs.Tests.{every, both}
-use Rattle.numbers.specs.Ceiling.{upDiv, up-half, up-most}
+use Rattle.numbers.specs.Tests.{every}
+use Rattle.numbers.specs.Ceiling.{upDiv, up-half}
 use Rattle.width_table.specs.Nodes.{Node, P2, G1, G2, nodeNumber}
-use Rattle.stages.specs.Stages.{low, high, stage, forward, Product, uncut, cutTo, productBits, bits}
+use Rattle.stages.specs.Stages.{low, high, stage, forward, Product, productBits, bits}
+use Rattle.bounds_rule.specs.Carried.{carriedTo, mostGain}
+use Rattle.bounds_rule.specs.CarriedLaws.{times-most, product-most, gain-within, carried-within, loss-most, product-loss-most}
 use Rattle.stages.specs.GainTable.{forwardGains}
 use Rattle.stages.specs.ForwardLaws as Forward
 use Rattle.stages.specs.Rule as Rule
@@ -20,12 +21,8 @@ use Rattle.stages.specs.ValueLaws.{weighed}
 use Rattle.stages.specs.RuleLaws as RuleLaws
 use Rattle.stages.specs.RuleLaws.{timesGain-zero, timesGain-none, timesGain-one, bound-start, bound-kept}
 use Rattle.precision.specs.Bounds.{nodeBound}
-use Rattle.precision.specs.Places.{places, mostFitting, gainAt, carriedTo, multiplied, other, bitsAt, ownAt, totalAt, ownErrorAt, ownsBelow}
+use Rattle.precision.specs.Places.{places, mostFitting, largest, gainAt, multiplied, other, bitsAt, ownAt, totalAt, ownErrorAt, ownsBelow}
 use Rattle.width_table.specs.Numbered.{nodeOf, IsNode}
-
--- an own error is at most this: 7.5 times mostFitting
-abbrev pub largest : ℕ
-largest = 15 * 2 ^ 42
 
 -- ---- the six nodes by number
 
@@ -48,47 +45,26 @@ multiplied-place k h = go (eqb k (nodeNumber G2))
 
 -- ---- products by a gain
 
-pub times-most : (x g : ℕ) → timesGain x g * 65536 ≤ x * g + 65535
-unfolding timesGain upDiv
-times-most x g = omega arith
-
--- what holds of each entry and of what stands for a missing one
-at-any : {A : Type 0} (test : A → Bool) (d : A) → T (test d) → (l : List A) → T (every test l) → (k : ℕ) → T (test (getD l k d))
+pub gain-most : (i j : ℕ) → gainAt i j ≤ mostGain
 unfolding every
-at-any test d h [] e k = h
-at-any test d h (x ∷ xs) e zero = both (test x) (every test xs) e .0
-at-any test d h (x ∷ xs) e (suc k) = at-any test d h xs (both (test x) (every test xs) e .1) k
+gain-most = gain-within mostGain forwardGains tt
 
-abbrev pub largestGain : ℕ
-largestGain = 273434
+-- a product by a gain stays below 2^48
+pub times-small : (x i j : ℕ) → x ≤ largest → timesGain x (gainAt i j) ≤ 2 ^ 48
+times-small x i j h = omega (arith, times-most x (gainAt i j), product-most largest mostGain x (gainAt i j) h (gain-most i j))
 
-pub gain-most : (i j : ℕ) → gainAt i j ≤ largestGain
-unfolding every
-gain-most i j =
-    let small : ℕ → Bool = λ g. leb g largestGain in
-    leb→le _ _ (at-any small 0 tt (getD forwardGains i []) (at-any (every small) [] tt forwardGains tt i) j)
-
--- a product by a gain fits, and stays below 2^48
-pub product-most : (x g : ℕ) → x ≤ largest → g ≤ largestGain → x * g ≤ largest * largestGain
-product-most x g h k = le-trans (mul-le-mul-right g h) (mul-le-mul-left largest k)
-
-pub times-small : (x g : ℕ) → x ≤ largest → g ≤ largestGain → timesGain x g ≤ 2 ^ 48
-times-small x g h k = omega (arith, times-most x g, product-most x g h k)
-
-pub carried-small : (x : List ℕ) → ((i : ℕ) → getD x i 0 ≤ largest) → (j n : ℕ) → carriedTo x j n ≤ n * 2 ^ 48
-unfolding carriedTo
-carried-small x h j zero = omega arith
-carried-small x h j (suc n) = omega (arith, carried-small x h j n, times-small (getD x n 0) (gainAt n j) (h n) (gain-most n j))
+pub carried-small : (x : List ℕ) → ((i : ℕ) → getD x i 0 ≤ largest) → (j n : ℕ) → carriedTo forwardGains x j n ≤ n * 2 ^ 48
+carried-small x h j = carried-within forwardGains x j (2 ^ 48) (λ i. times-small (getD x i 0) i j (h i))
 
 -- ---- the bounds by number
 
 module _ (F : Node → ℕ) (fp : Node → Product) (fi : ℕ) (b : Bound) (f : Node → ℕ) where
   -- what the input carries, and what one place more does
-  pub carried-start : (j : ℕ) → carriedTo (ownsBelow F fp fi b f 1) j places ≡ timesGain (b .error) (gainAt 0 j)
+  pub carried-start : (j : ℕ) → carriedTo forwardGains (ownsBelow F fp fi b f 1) j places ≡ timesGain (b .error) (gainAt 0 j)
   unfolding carriedTo ownsBelow ownAt
   carried-start j = simp timesGain-zero (omega arith)
 
-  pub carried-next : (j k : ℕ) → IsNode k → carriedTo (ownsBelow F fp fi b f (k + 1)) j places ≡ carriedTo (ownsBelow F fp fi b f k) j places + timesGain (ownAt F fp fi b f k) (gainAt k j)
+  pub carried-next : (j k : ℕ) → IsNode k → carriedTo forwardGains (ownsBelow F fp fi b f (k + 1)) j places ≡ carriedTo forwardGains (ownsBelow F fp fi b f k) j places + timesGain (ownAt F fp fi b f k) (gainAt k j)
   unfolding carriedTo ownsBelow
   carried-next j =
       by-place _
@@ -128,7 +104,7 @@ module _ (F : Node → ℕ) (fp : Node → Product) (fi : ℕ) (b : Bound) (f : 
   error-at : (k : ℕ) → k < places → Rule.errorAt forward (together b) Fs fps (λ s. fi) fs (stage forward (k - 1) .side) k ≡ timesGain (b .error) (gainAt 0 k) + weighed (λ i. gainAt (suc i) k) (RuleLaws.ownAt forward (together b) Fs fps (λ s. fi) fs) k
   error-at = Forward.error-at b Fs fps fi fs
 
-  pub error-is : (k : ℕ) → IsNode k → carriedTo (ownsBelow F fp fi b f places) k places ≡ nodeBound F fp fi b f (nodeOf k) .error
+  pub error-is : (k : ℕ) → IsNode k → carriedTo forwardGains (ownsBelow F fp fi b f places) k places ≡ nodeBound F fp fi b f (nodeOf k) .error
   unfolding carriedTo ownsBelow ownAt nodeBound Rule.sideBound weighed
   error-is =
       by-place _
@@ -140,7 +116,7 @@ module _ (F : Node → ℕ) (fp : Node → Product) (fi : ℕ) (b : Bound) (f : 
       (simp timesGain-none (omega (arith, error-at 6 (lit≤ tt), timesGain-none (RuleLaws.ownAt forward (together b) Fs fps (λ s. fi) fs 3), timesGain-none (RuleLaws.ownAt forward (together b) Fs fps (λ s. fi) fs 4))))
 
   -- what the places below k carry to the place that k multiplies
-  pub total-is : (k : ℕ) → IsNode k → timesGain (b .range) (gainAt 0 (multiplied k)) + carriedTo (ownsBelow F fp fi b f k) (multiplied k) places ≡ totalAt F fp fi b f (multiplied k)
+  pub total-is : (k : ℕ) → IsNode k → timesGain (b .range) (gainAt 0 (multiplied k)) + carriedTo forwardGains (ownsBelow F fp fi b f k) (multiplied k) places ≡ totalAt F fp fi b f (multiplied k)
   unfolding carriedTo ownsBelow ownAt totalAt nodeBound Rule.sideBound weighed
   total-is =
       by-place _
@@ -152,23 +128,6 @@ module _ (F : Node → ℕ) (fp : Node → Product) (fi : ℕ) (b : Bound) (f : 
       (simp (timesGain-zero, timesGain-none) (omega (arith, range-is 3 (lit≤ tt, lit≤ tt), error-at 3 (lit≤ tt))))
 
 -- ---- sizes
-
-pub loss-most : (f full : ℕ) → loss f full ≤ 2 ^ 32
-unfolding loss
-loss-most f full = go (ltb f full)
-  where
-    go : (t : Bool) → elim t [ true ↦ 2 ^ (32 - f) | false ↦ 0 ] ≤ 2 ^ 32
-    go true = pow-mono {i = 32 - f} {j = 32} (omega arith)
-    go false = lit≤ tt
-
-pub product-loss-most : (p : Product) (full : ℕ) → productLoss p full ≤ 2 ^ 32
-unfolding productLoss
-product-loss-most uncut full = lit≤ tt
-product-loss-most (cutTo fp) full = go (ltb fp full)
-  where
-    go : (t : Bool) → elim t [ true ↦ upDiv (2 ^ 32) (2 ^ fp) | false ↦ 0 ] ≤ 2 ^ 32
-    go true = up-most (2 ^ 32) fp
-    go false = lit≤ tt
 
 pub own-half : (F : Node → ℕ) (fp : Node → Product) (fi : ℕ) (b : Bound) (f : Node → ℕ) (k r : ℕ) → 1 ≤ F (nodeOf k) → 2 * ownErrorAt F fp fi b f k r ≤ r + 1 + 4 * 2 ^ 32
 unfolding ownErrorAt ownLift ownScale
@@ -190,7 +149,7 @@ abbrev weighted : List ℕ → ℕ → ℕ → ℕ
 weighted x j zero = 0
 weighted x j (suc n) = weighted x j n + getD x n 0 * gainAt n j
 
-carried-most : (x : List ℕ) (j n : ℕ) → carriedTo x j n * 65536 ≤ weighted x j n + n * 65535
+carried-most : (x : List ℕ) (j n : ℕ) → carriedTo forwardGains x j n * 65536 ≤ weighted x j n + n * 65535
 unfolding carriedTo
 carried-most x j zero = omega arith
 carried-most x j (suc n) = omega (arith, carried-most x j n, times-most (getD x n 0) (gainAt n j))

@@ -4,23 +4,24 @@ use mathlib.Core.Bool.{Bool, true, false}
 use mathlib.Core.List.{List, [], _∷_}
 use lib.Dec.{T, ltb, eqb}
 use mathlib.Core.Path.{_≡_}
-use lib.ListN.{getD}
-use Rattle.refusals.specs.Answers.{Answer}
+use lib.ListN.{getD, take}
+use Rattle.refusals.specs.Answers.{Answer, passed}
 use Rattle.width_table.specs.Numbered.{nodeOf, passOf, IsNode, IsPass, IsProduct}
-use Rattle.width_table.specs.Nodes.{Node, P2, G1, G2, nodesPerPass, nodeNumber, Pass, Rows, LowColumns, HighColumns, nodeAt}
+use Rattle.width_table.specs.Nodes.{Node, P2, G1, G2, nodesPerPass, nodeNumber, Pass, Rows, LowColumns, HighColumns, TableNode, nodeAt, levelNodes}
 use Rattle.width_table.specs.declared.WidthTable.{WidthTable}
 use Rattle.width_table.specs.Table.{maxConstantBits, maxIntegerBits, maxFractionBits, maxProductBits, constantBits, fractionBits, inputBits, formRight}
 use Rattle.width_table.specs.Readers.{constantBitsAt, integerBitsAt, fractionBitsAt, cutAt, inputBitsAt}
 use Rattle.stages.specs.Stages.{forward, Product, cutTo}
+use Rattle.bounds_rule.specs.Carried.{asHeld, asBound, gainIn}
 use Rattle.stages.specs.GainTable.{forwardGains}
 use Rattle.stages.specs.RuleLaws as RuleLaws
-use Rattle.stages.specs.Rule.{Bound, together, timesGain, ownLift, ownScale}
+use Rattle.stages.specs.Rule.{Bound, together, ownLift, ownScale}
 use Rattle.table_meaning.specs.Products.{productOf}
 use Rattle.precision.specs.Bounds.{nodeBound, boundOf, entering}
-use Rattle.precision.specs.declared.Bound as Code
+use Rattle.bounds_rule.specs.declared.Bound as Code
 use Rattle.precision.specs.declared.PassBounds.{PassBounds}
 use Rattle.precision.specs.declared.Widths.{Widths}
-use Rattle.precision.specs.Verdict.{judgedBy}
+use Rattle.precision.specs.Verdict.{judgedBy, firstRefusal}
 use Rattle.precision.specs.BoundCalls.{boundNumbered}
 
 -- the input and the nodes
@@ -35,14 +36,13 @@ mostFitting = 2 ^ (maxIntegerBits - 1) * 2 ^ 32
 abbrev pub mostTotal : ℕ
 mostTotal = 2 ^ 51
 
+-- an own error of that pass is at most this: 7.5 times mostFitting
+abbrev pub largest : ℕ
+largest = 15 * 2 ^ 42
+
 -- the gain from place i to place j, in whole numbers of 2^-16
 abbrev pub gainAt : ℕ → ℕ → ℕ
-gainAt i j = getD (getD forwardGains i []) j 0
-
--- what the first n places carry to place j, where x has what each has of its own
-unfoldable pub carriedTo : List ℕ → ℕ → ℕ → ℕ
-carriedTo x j zero = 0
-carriedTo x j (suc n) = carriedTo x j n + timesGain (getD x n 0) (gainAt n j)
+gainAt = gainIn forwardGains
 
 -- the place whose value a stage multiplies, and that of the other operand of P1, U1, P2, U2
 abbrev pub multiplied : ℕ → ℕ
@@ -116,10 +116,7 @@ ownBy w k r = elim (ltb k (nodeNumber G1)) [
   | false ↦ ownScale (getD (w .constants) (k - 1) 0) (getD (w .fractions) (multiplied k) 0) (getD (w .fractions) k 0) r
 ]
 
--- a bound as the program holds it
-abbrev pub asHeld : Bound → Code.Bound
-asHeld b = record { range = b .range; error = b .error }
-
+-- the bound of a node by its numbers, as the program holds it
 abbrev pub boundOfNode : WidthTable → ℕ → ℕ → ℕ → Code.Bound
 boundOfNode t l p n = asHeld (boundNumbered t l p n)
 
@@ -129,7 +126,7 @@ heldAt b k = record { range = getD (b .ranges) k 0; error = getD (b .errors) k 0
 
 -- the verdict on a node whose bound is so held
 unfoldable pub judgedAs : Code.Bound → ℕ → ℕ → Bool → List ℕ → Answer Unit
-judgedAs b = judgedBy (record { range = b .range; error = b .error })
+judgedAs b = judgedBy (asBound b)
 
 -- level l and pass p are ones of a table of right form
 pub record At (t : WidthTable) (l p : ℕ) : Type 0 where
@@ -170,3 +167,11 @@ pub record BoundsOf (t : WidthTable) (l p : ℕ) (b : PassBounds) : Type 0 where
 pub record Reached (b : Bound) (held : Code.Bound) : Type 0 where
   pub is : held ≡ asHeld b
   pub small : held .range + held .error ≤ mostFitting
+
+-- o is the first refusal of the nodes before; where there is none, the program holds b, which comes next
+abbrev pub Goes : WidthTable → List TableNode → Bound → Answer Unit → Code.Bound → Type 0
+Goes t before b o held = (o ≡ firstRefusal t before) × (o ≡ passed → Reached b held)
+
+-- the same of the first k passes of a level, and of the pass that follows them
+abbrev pub After : WidthTable → ℕ → ℕ → Answer Unit → Code.Bound → Type 0
+After t l k = Goes t (take (k * nodesPerPass) (levelNodes l)) (fedAfter t l k)

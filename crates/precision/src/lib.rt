@@ -1,23 +1,22 @@
 // The precision analysis of a width table (document 01: the judge; document 02, jobs 6 and 7). Every definition that the contracts cite
 // is in specs/. All bounds are whole numbers of 2^-32.
+use bounds_rule::Bound;
 use refusals::NodePlace;
 use refusals::Outcome;
 use refusals::Refusal;
 use width_table::WidthTable;
 ghost use mathlib.Core.Path.{_≡_};
-ghost use Prim.Native.Nat.{ℕ, _+_, _*_, _-_, _^_, _<_, _≤_, max, min};
+ghost use Prim.Native.Nat.{ℕ, _+_, _*_, _-_, _^_, _<_, _≤_};
 ghost use mathlib.Core.List.{[], _∷_};
 ghost use lib.Dec.{T};
 ghost use lib.ListN.{getD, take};
-ghost use Rattle.numbers.specs.Ceiling.{upDiv};
 ghost use Rattle.stages.specs.GainTable.{forwardGains};
-ghost use Rattle.stages.specs.Stages.{cutTo};
-ghost use Rattle.stages.specs.Rule.{timesGain, loss, productLoss, ownLift, ownScale};
+ghost use Rattle.stages.specs.Rule.{timesGain};
 ghost use Rattle.precision.specs.Verdict.{keptAt, firstRefusal, verdict};
-ghost use Rattle.precision.specs.Places.{places, mostTotal, asHeld, gainAt, multiplied, other, ownBy, heldAt, judgedAs, fedAfter, At, Limited, Read, Enters, BoundsOf, Reached};
+ghost use Rattle.precision.specs.Places.{places, mostTotal, largest, gainAt, multiplied, other, ownBy, heldAt, judgedAs, fedAfter, At, Limited, Read, Enters, BoundsOf, Reached, After};
+ghost use Rattle.bounds_rule.specs.Carried.{asHeld};
 ghost use Rattle.width_table.specs.Numbered.{nodeOf, passOf, IsNode, IsPass, IsProduct};
 ghost use Rattle.width_table.specs.Readers.{cutAt};
-ghost use Rattle.precision.specs.PlaceLaws.{largest, largestGain};
 ghost use Rattle.precision.specs.Bounds.{entering, boundOf};
 ghost use Rattle.precision.specs.BoundCalls.{nodesBefore, boundAnswer, boundNumbered, rangeTold, errorTold};
 ghost use Rattle.refusals.specs.Answers.{passed, refused, answered};
@@ -25,74 +24,11 @@ ghost use Rattle.refusals.specs.Told.{toldRefusal, told};
 ghost use Rattle.width_table.specs.Table.{maxConstantBits, maxIntegerBits, maxFractionBits, maxProductBits, formRight};
 ghost use Rattle.width_table.specs.Nodes.{G1, G2, nodesPerPass, passNumber, passesPerLevel, Rows, nodeAt, passNodes, levelNodes, tableOrder};
 
-// Range and error of a place.
-struct Bound {
-    range: u64,
-    error: u64,
-}
-
-impl Bound {
-    // The places of a pass: 0 the input, 1 to 6 the nodes.
-    const PLACES: u8 = WidthTable::NODES + 1;
-    // 1 and 1/2 in whole numbers of 2^-32.
-    const ONE: u64 = 1 << 32;
-
-    const HALF: u64 = Bound::ONE / 2;
-}
-
-// 2^bits.
-pub fn power(bits: u8) -> u64
-    requires { ⌜ bits < 64 ⌝ }
-    ensures { λ r. ⌜ r ≡ 2 ^ bits ⌝ }
-{
-    1u64 << bits
-}
-
-// x / 2^bits, rounded up.
-pub fn up_div(x: u64, bits: u8) -> u64
-    requires { ⌜ (x ≤ 2 ^ 63) × (bits < 64) ⌝ }
-    ensures { λ r. ⌜ (r ≡ upDiv x (2 ^ bits)) × (r ≤ x) ⌝ }
-{
-    let divisor = power(bits);
-    (x + (divisor - 1)) / divisor
-}
-
-// The larger of two.
-fn larger(x: u8, y: u8) -> u8
-    ensures { λ r. ⌜ r ≡ max x y ⌝ }
-{
-    if x < y { y } else { x }
-}
-
-// The smaller of two.
-fn smaller(x: u8, y: u8) -> u8
-    ensures { λ r. ⌜ r ≡ min x y ⌝ }
-{
-    if x < y { x } else { y }
-}
-
-// 2^-f where f is below the full precision.
-fn loss_of(f: u8, full: u8) -> u64
-    requires { ⌜ f ≤ maxFractionBits ⌝ }
-    ensures { λ r. ⌜ (r ≡ loss f full) × (r ≤ 2 ^ 32) ⌝ }
-{
-    if f < full { power(32 - f) } else { 0 }
-}
-
-// The loss of a product of so many bits that is cut to its width: 2^-width where the width is below them, rounded up.
-fn product_loss(width: u8, full: u8) -> u64
-    requires { ⌜ width ≤ maxProductBits ⌝ }
-    ensures { λ r. ⌜ (r ≡ productLoss (cutTo width) full) × (r ≤ 2 ^ 32) ⌝ }
-{
-    if width < full {
-        up_div(Bound::ONE, width)
-    } else {
-        0
-    }
-}
+// The places of a pass: 0 the input, 1 to 6 the nodes.
+const PLACES: u8 = WidthTable::NODES + 1;
 
 // The gains from a place to each, in whole numbers of 2^-16. Place 0 is the input, places 1 to 6 are the nodes.
-fn gains_from(place: u8) -> [u64; Bound::PLACES as usize]
+fn gains_from(place: u8) -> [u64; PLACES as usize]
     requires { ⌜ place < places ⌝ }
     ensures { λ r. ⌜ r ≡ getD forwardGains place [] ⌝ }
 {
@@ -107,46 +43,18 @@ fn gains_from(place: u8) -> [u64; Bound::PLACES as usize]
     }
 }
 
-// A product by a gain, rounded up by itself.
-fn times_gain(x: u64, gain: u64) -> u64
-    requires { ⌜ (x ≤ largest) × (gain ≤ largestGain) ⌝ }
-    ensures { λ r. ⌜ (r ≡ timesGain x gain) × (r ≤ 2 ^ 48) ⌝ }
-{
-    (x * gain + 65535) / 65536
-}
-
 // The sums of all places, to each of which is added what one place has, carried to it.
-fn carry(sums: [u64; Bound::PLACES as usize], x: u64, from: u8) -> [u64; Bound::PLACES as usize]
+fn carry(sums: [u64; PLACES as usize], x: u64, from: u8) -> [u64; PLACES as usize]
     requires { ⌜ (x ≤ largest) × (from < places) × ((i : ℕ) → i < places → getD sums i 0 ≤ mostTotal) ⌝ }
     ensures { λ r. ⌜ ((i : ℕ) → i < places → getD r i 0 ≡ getD sums i 0 + timesGain x (gainAt from i)) ⌝ }
 {
     let gains = gains_from(from);
     let mut carried = sums;
-    for to in 0..Bound::PLACES {
+    for to in 0..PLACES {
         let place = to as usize;
-        carried[place] += times_gain(x, gains[place]);
+        carried[place] += bounds_rule::times_gain(x, gains[place]);
     }
     carried
-}
-
-// Own error of a stage P1, U1, P2, U2 whose product is cut to `width` bits and whose constant has so many; the value that it multiplies
-// has `multiplied` bits and `total` is its range plus error.
-fn own_lift(width: u8, constant: u8, multiplied: u8, other: u8, f: u8, total: u64) -> u64
-    requires { ⌜ (width ≤ maxProductBits) × (constant ≤ maxConstantBits) × (multiplied ≤ maxFractionBits) × (f ≤ maxFractionBits) × (total ≤ mostTotal) ⌝ }
-    ensures { λ r. ⌜ r ≡ ownLift (cutTo width) constant multiplied other f total ⌝ }
-{
-    let full = constant + multiplied;
-    up_div(total, constant)
-        + product_loss(width, full)
-        + loss_of(f, larger(other, smaller(width, full)))
-}
-
-// Own error of a stage G1, G2.
-fn own_scale(constant: u8, multiplied: u8, f: u8, total: u64) -> u64
-    requires { ⌜ (constant ≤ maxConstantBits) × (multiplied ≤ maxFractionBits) × (f ≤ maxFractionBits) × (total ≤ mostTotal) ⌝ }
-    ensures { λ r. ⌜ r ≡ ownScale constant multiplied f total ⌝ }
-{
-    up_div(total, constant + 1) + loss_of(f, constant + multiplied)
 }
 
 // The widths of a pass: the bits of its constants and its nodes' integer bits, from P1 on; the fractional bits of its places; the bits
@@ -154,7 +62,7 @@ fn own_scale(constant: u8, multiplied: u8, f: u8, total: u64) -> u64
 struct Widths {
     constants: [u8; WidthTable::CONSTANTS],
     integers: [u8; WidthTable::NODES as usize],
-    fractions: [u8; Bound::PLACES as usize],
+    fractions: [u8; PLACES as usize],
     products: [u8; WidthTable::PRODUCTS as usize],
 }
 
@@ -240,16 +148,16 @@ fn own_error(widths: Widths, node: u8, total: u64) -> u64
     if node < WidthTable::G1 {
         let other = widths.fractions[other_place(node) as usize];
         let width = widths.products[node as usize - 1];
-        return own_lift(width, constant, multiplied, other, f, total);
+        return bounds_rule::own_lift(width, constant, multiplied, other, f, total);
     }
-    own_scale(constant, multiplied, f, total)
+    bounds_rule::own_scale(constant, multiplied, f, total)
 }
 
 // The widths of a pass, and the ranges and errors of its places.
 struct PassBounds {
     widths: Widths,
-    ranges: [u64; Bound::PLACES as usize],
-    errors: [u64; Bound::PLACES as usize],
+    ranges: [u64; PLACES as usize],
+    errors: [u64; PLACES as usize],
 }
 
 // The bounds of a pass. What enters it is carried to each place, and so is each node's own error once those before it are.
@@ -258,10 +166,10 @@ fn pass_bounds(table: WidthTable, level: u8, pass: u8, input: Bound) -> PassBoun
     ensures { λ r. ⌜ BoundsOf table level pass r ⌝ }
 {
     let widths = widths_of(table, level, pass);
-    let zeros = [0u64; Bound::PLACES as usize];
+    let zeros = [0u64; PLACES as usize];
     let ranges = carry(zeros, input.range, 0);
     let mut errors = carry(zeros, input.error, 0);
-    for node in 1..Bound::PLACES {
+    for node in 1..PLACES {
         let operand = multiplied_place(node) as usize;
         let own = own_error(widths, node, ranges[operand] + errors[operand]);
         errors = carry(errors, own, node);
@@ -310,8 +218,8 @@ fn judge_bound(bound: Bound, integer: u8, fraction: u8, kept: bool, place: NodeP
     requires { ⌜ (bound .range + bound .error ≤ mostTotal) × (1 ≤ integer) × (integer ≤ maxIntegerBits) × (fraction ≤ maxFractionBits) ⌝ }
     ensures { λ r. ⌜ told r ≡ judgedAs bound integer fraction kept (place .level ∷ place .pass ∷ place .node ∷ []) ⌝ }
 {
-    let step = power(32 - fraction);
-    if bound.range + bound.error + step <= power(integer - 1) * Bound::ONE {} else {
+    let step = numbers::power((32 - fraction) as u32);
+    if bound.range + bound.error + step <= numbers::power((integer - 1) as u32) * Bound::ONE {} else {
         return Outcome::Refused(Refusal::DoesNotFit(place));
     }
     if kept {} else {
@@ -381,6 +289,24 @@ struct Entered {
     bound: Bound,
 }
 
+// A pass after those before it in its level: the first refusal up to its end; where there is none, what it leaves.
+fn next_pass(table: WidthTable, level: u8, pass: u8, before: Outcome, input: Bound) -> PassAnswer
+    requires { ⌜ At table level pass ⌝ }
+    requires { ⌜ After table level (pass - 1) (told before) input ⌝ }
+    ensures outcome { λ r. ⌜ told (r .outcome) ≡ firstRefusal table (take (pass * nodesPerPass) (levelNodes level)) ⌝ }
+    ensures low { λ r. ⌜ (told (r .outcome) ≡ passed → Reached (boundOf table (nodeAt level (passOf pass) G1)) (r .low)) ⌝ }
+    ensures high { λ r. ⌜ (told (r .outcome) ≡ passed → Reached (boundOf table (nodeAt level (passOf pass) G2)) (r .high)) ⌝ }
+{
+    match before {
+        Outcome::Refused(why) => PassAnswer {
+            outcome: Outcome::Refused(why),
+            low: input,
+            high: input,
+        },
+        Outcome::Done => judge_pass(table, level, pass, input),
+    }
+}
+
 // Into the pass that follows the first passes of a level, as many as `done` says: columns take what the rows leave; after all three
 // come the rows of the next level, which take the low-low.
 fn enter_pass(table: WidthTable, level: u8, done: u8, input: Bound) -> Entered
@@ -395,7 +321,7 @@ fn enter_pass(table: WidthTable, level: u8, done: u8, input: Bound) -> Entered
             bound: input,
         };
     }
-    let rows = judge_pass(table, level, WidthTable::ROWS, input);
+    let rows = next_pass(table, level, WidthTable::ROWS, Outcome::Done, input);
     let first = rows.outcome;
     let low = rows.low;
     if done == 1 {
@@ -404,14 +330,7 @@ fn enter_pass(table: WidthTable, level: u8, done: u8, input: Bound) -> Entered
             bound: low,
         };
     }
-    match first {
-        Outcome::Refused(why) => return Entered {
-            outcome: Outcome::Refused(why),
-            bound: low,
-        },
-        Outcome::Done => {}
-    }
-    let low_columns = judge_pass(table, level, WidthTable::LOW_COLUMNS, low);
+    let low_columns = next_pass(table, level, WidthTable::LOW_COLUMNS, first, low);
     let second = low_columns.outcome;
     let high = rows.high;
     if done == 2 {
@@ -420,14 +339,7 @@ fn enter_pass(table: WidthTable, level: u8, done: u8, input: Bound) -> Entered
             bound: high,
         };
     }
-    match second {
-        Outcome::Refused(why) => return Entered {
-            outcome: Outcome::Refused(why),
-            bound: high,
-        },
-        Outcome::Done => {}
-    }
-    let high_columns = judge_pass(table, level, WidthTable::HIGH_COLUMNS, high);
+    let high_columns = next_pass(table, level, WidthTable::HIGH_COLUMNS, second, high);
     let third = high_columns.outcome;
     let low_low = low_columns.low;
     Entered {
@@ -443,7 +355,7 @@ fn enter_level(table: WidthTable, done: u8) -> Entered
     ensures bound { λ r. ⌜ (told (r .outcome) ≡ passed → Reached (entering table (done + 1)) (r .bound)) ⌝ }
 {
     let mut input = Bound {
-        range: Bound::HALF,
+        range: Bound::ONE / 2,
         error: 0,
     };
     for before in 0..done {

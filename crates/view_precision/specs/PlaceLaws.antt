@@ -23,7 +23,8 @@ use Rattle.stages.specs.RuleLaws as RuleLaws
 use Rattle.stages.specs.RuleLaws.{timesGain-zero, timesGain-none, weighed-ext, error-sum, bound-start, bound-kept}
 use Rattle.view_precision.specs.Bounds.{larger, boundAfter, even, odd, inverseBound, withinMax, passRight}
 use Rattle.view_precision.specs.Odd.{ownOdd, odd-differs}
-use Rattle.view_precision.specs.Places.{stages, sources, scalings, evenStage, nodeAfter, gainAt, carriedTo, boundFrom, nodeFrom, total, totalFrom, inverseOwnError, ownAt, ownsBelow}
+use Rattle.view_precision.specs.Places.{stages, sources, scalings, evenStage, nodeAfter, gainAt, boundFrom, nodeFrom, total, totalFrom, inverseOwnError, ownAt, ownsBelow}
+use Rattle.bounds_rule.specs.Carried.{carriedTo}
 
 -- ---- the six stages by number
 

@@ -15,7 +15,7 @@ use Rattle.stages.specs.Rule.{Bound, apart, timesGain}
 use Rattle.stages.specs.RuleLaws as RuleLaws
 use Rattle.view_precision.specs.Bounds.{larger, passBound, passRight, levelGives}
 use Rattle.view_precision.specs.Odd.{ownOdd}
-use Rattle.view_precision.specs.declared.Bound as Code
+use Rattle.bounds_rule.specs.declared.Bound as Code
 
 -- stages from 0; sources: 0 the lows, 1 the highs, from 2 on the stages
 abbrev pub stages : ℕ

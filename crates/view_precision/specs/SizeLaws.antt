@@ -14,7 +14,8 @@ use Rattle.stages.specs.GainTable.{inverseGains}
 use Rattle.stages.specs.Rule.{Bound, timesGain}
 use Rattle.view_precision.specs.Bounds.{larger, odd, inverseBound, passGives}
 use Rattle.view_precision.specs.Odd.{odd-larger}
-use Rattle.view_precision.specs.Places.{stages, sources, scalings, evenStage, gainAt, carriedTo, boundFrom, nodeFrom, total, totalFrom, inverseOwnError, ownAt, ownsBelow, AtMostStored, mostFed, largest, SmallFed, AllSmall, mostTotal}
+use Rattle.view_precision.specs.Places.{stages, sources, scalings, evenStage, gainAt, boundFrom, nodeFrom, total, totalFrom, inverseOwnError, ownAt, ownsBelow, AtMostStored, mostFed, largest, SmallFed, AllSmall, mostTotal}
+use Rattle.bounds_rule.specs.Carried.{carriedTo}
 use Rattle.view_precision.specs.PlaceLaws.{own-is, total-is, owns-again, node-is}
 
 -- ---- products by a gain

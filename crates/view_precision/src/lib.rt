@@ -15,7 +15,8 @@ ghost use Rattle.width_table.specs.Numbered.{nodeOf, passOf, IsNode};
 ghost use Rattle.width_table.specs.Table.{formRight};
 ghost use Rattle.precision.specs.Places.{At};
 ghost use Rattle.view_precision.specs.Bounds.{larger, inverseBound, passGives, stored, levelGives, givesFrom, startBound, passRight, stepsAllowed, viewDistance, viewVerdict};
-ghost use Rattle.view_precision.specs.Places.{stages, sources, mostEntering, largest, mostTotal, gainAt, carriedTo, boundFrom, nodeFrom, totalFrom, inverseOwnError, ownsBelow, asBound, SmallFed, AllSmall, AtMostStored, levelRight, levelsRight};
+ghost use Rattle.view_precision.specs.Places.{stages, sources, mostEntering, largest, mostTotal, gainAt, boundFrom, nodeFrom, totalFrom, inverseOwnError, ownsBelow, SmallFed, AllSmall, AtMostStored, levelRight, levelsRight};
+ghost use Rattle.bounds_rule.specs.Carried.{carriedTo, asBound};
 
 // Range and error.
 struct Bound {

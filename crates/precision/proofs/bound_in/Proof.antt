@@ -4,7 +4,7 @@ use borrow.Author.Needs.{needs}
 use lib.Dec.{lit≤}
 use Rattle.refusals.specs.Answers.{passed}
 use Rattle.refusals.specs.Told.{told}
-use Rattle.precision.specs.declared.Bound.{Bound}
+use Rattle.bounds_rule.specs.declared.Bound.{Bound}
 use Rattle.precision.specs.Places.{Enters}
 use Rattle.precision.specs.JudgeLaws.{at-pass}
 use Rattle.precision.specs.OrderLaws.{enters, enters-level, tells, level-refuses, pass-refuses, node-answers}

@@ -6,8 +6,9 @@ use native.Mathlib.Decide.{decLt}
 use lib.ListN.{length, getD, set, length-set}
 use lib.Seq.{getD-set-same, getD-set-other}
 use Rattle.stages.specs.Rule.{timesGain}
+use Rattle.bounds_rule.specs.Carried.{mostGain}
 use Rattle.precision.specs.Places.{places, gainAt}
-use Rattle.precision.specs.PlaceLaws.{largestGain, gain-most}
+use Rattle.precision.specs.PlaceLaws.{gain-most, times-small}
 use Rattle.precision.proofs.carry.Statement.{statement}
 use Rattle.precision.proofs.carry.Tie as tie
 
@@ -44,22 +45,27 @@ loop-holds c = (omega arith, omega (arith, c .before .good), ((λ i j. absurd (o
 times-gain-requires : tie.Need-times-gain-requires Inv-loop μ-loop
 times-gain-requires c κs =
     let g = c .before .before in
-    (g .before .pre .0, subst (λ (l : List ℕ). getD l (c .before .loop .to) 0 ≤ largestGain) (sym (g .gains-from .ensures)) (gain-most (g .before .args .from) (c .before .loop .to)))
+    (omega (arith, g .before .pre .0), subst (λ (l : List ℕ). getD l (c .before .loop .to) 0 ≤ mostGain) (sym (g .gains-from .ensures)) (gain-most (g .before .args .from) (c .before .loop .to)))
+
+-- what is added
+sum : (c : tie.After-times-gain Inv-loop μ-loop) → let i = c .before .before in c .times-gain .result ≡ timesGain (i .before .before .args .x) (gainAt (i .before .before .args .from) (i .loop .to))
+sum c =
+    let i = c .before .before in
+    c .times-gain .ensures ∙ ap (λ (l : List ℕ). timesGain (i .before .before .args .x) (getD l (i .loop .to) 0)) (i .before .gains-from .ensures)
 
 add-carried : tie.Need-add-carried Inv-loop μ-loop
 add-carried c =
     let i = c .before .before in
-    omega (arith, i .loop .inv .2 .1 (i .loop .to) (omega arith), i .before .before .pre .2 (i .loop .to) (omega arith), c .times-gain .ensures .1)
+    omega (arith, i .loop .inv .2 .1 (i .loop .to) (omega arith), i .before .before .pre .2 (i .loop .to) (omega arith), sum c, times-small (i .before .before .args .x) (i .before .before .args .from) (i .loop .to) (i .before .before .pre .0))
 
 loop-again : tie.Need-loop-again Inv-loop μ-loop
 loop-again c =
     let i = c .before .before in
     let g = i .before in
-    let a = g .before .args in
-    let sum = c .times-gain .ensures .0 ∙ ap (λ (l : List ℕ). timesGain (a .x) (getD l (i .loop .to) 0)) (g .gains-from .ensures) in (
+    let a = g .before .args in (
       omega arith,
       simp length-set (i .loop .inv .1),
-      added-next (λ j. timesGain (a .x) (gainAt (a .from) j)) (a .sums) (i .loop .carried) (i .loop .to) _ (omega arith) (ap (λ (x : ℕ). getD (i .loop .carried) (i .loop .to) 0 + x) sum) (i .loop .inv .2),
+      added-next (λ j. timesGain (a .x) (gainAt (a .from) j)) (a .sums) (i .loop .carried) (i .loop .to) _ (omega arith) (ap (λ (x : ℕ). getD (i .loop .carried) (i .loop .to) 0 + x) (sum c)) (i .loop .inv .2),
     )
 
 returns : tie.Need-returns Inv-loop μ-loop

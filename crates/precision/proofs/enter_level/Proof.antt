@@ -8,7 +8,8 @@ use Rattle.refusals.specs.Told.{told}
 use Rattle.width_table.specs.Nodes.{tableOrder}
 use Rattle.precision.specs.Bounds.{entering}
 use Rattle.precision.specs.Verdict.{firstRefusal}
-use Rattle.precision.specs.Places.{mostFitting, asHeld, Reached}
+use Rattle.precision.specs.Places.{mostFitting, Reached}
+use Rattle.bounds_rule.specs.Carried.{asHeld}
 use Rattle.precision.specs.OrderLaws.{not-reached, enters-first, enters-next, level-at, level-refused, level-accepted}
 use Rattle.precision.proofs.enter_level.Statement.{statement}
 use Rattle.precision.proofs.enter_level.Tie as tie

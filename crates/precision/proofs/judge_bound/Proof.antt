@@ -49,9 +49,11 @@ judge-bound-spec =
     tie.close
     (tie.spec
     (λ c. omega arith)
+    (λ c. omega arith)
     (λ c κs. omega arith)
     (λ c. omega arith)
     add-if1-2
+    (λ c. omega arith)
     (λ c. omega arith)
     (λ c κs. omega arith)
     mul-if1

@@ -35,7 +35,7 @@ own-lift-requires c κs =
     let m = c .before .before .before .before .before .before in
     let s = m .before .before in
     let l = s .pre .0 in
-    (l .product (s .args .node) (omega arith, omega arith), l .constant (s .args .node) (s .pre .1 .0), l .fraction (m .multiplied-place .result) (operand m), l .fraction (s .args .node) (omega arith), s .pre .1 .1)
+    omega (arith, l .product (s .args .node) (omega arith, omega arith), l .constant (s .args .node) (s .pre .1 .0), l .fraction (m .multiplied-place .result) (operand m), l .fraction (s .args .node) (omega arith), s .pre .1 .1)
 
 returns : tie.Need-returns
 returns c =
@@ -52,7 +52,7 @@ own-scale-requires c κs =
     let m = c .before .before .before in
     let s = m .before .before in
     let l = s .pre .0 in
-    (l .constant (s .args .node) (s .pre .1 .0), l .fraction (m .multiplied-place .result) (operand m), l .fraction (s .args .node) (omega arith), s .pre .1 .1)
+    omega (arith, l .constant (s .args .node) (s .pre .1 .0), l .fraction (m .multiplied-place .result) (operand m), l .fraction (s .args .node) (omega arith), s .pre .1 .1)
 
 returns-2 : tie.Need-returns-2
 returns-2 c =

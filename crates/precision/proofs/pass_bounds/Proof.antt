@@ -7,7 +7,7 @@ use Rattle.stages.specs.Rule.{timesGain}
 use Rattle.precision.specs.Places.{places, gainAt, mostTotal, ownHere}
 use Rattle.width_table.specs.declared.WidthTable.{WidthTable}
 use Rattle.width_table.specs.Numbered.{passOf}
-use Rattle.precision.specs.declared.Bound.{Bound}
+use Rattle.bounds_rule.specs.declared.Bound.{Bound}
 use Rattle.precision.specs.PlaceLaws.{multiplied-place}
 use Rattle.precision.specs.JudgeLaws.{limited, own-read, Carries, Errors, Started, errors-start, ranges-small, errors-small, own-here, own-most, errors-next, all-held}
 use Rattle.precision.proofs.pass_bounds.Statement.{statement}

@@ -2,7 +2,8 @@ use Prim.Native.Nat.{_*_, _-_, _≤_}
 use mathlib.Core.Path.{_≡_, ap, _∙_}
 use native.Mathlib.Omega.{arith}
 use native.Mathlib.Numerals.{add-one}
-use Rattle.view_precision.specs.Places.{sources, largest, carriedTo}
+use Rattle.view_precision.specs.Places.{sources, largest}
+use Rattle.bounds_rule.specs.Carried.{carriedTo}
 use Rattle.view_precision.proofs.error_at.Statement.{statement}
 use Rattle.view_precision.proofs.error_at.Tie as tie
 

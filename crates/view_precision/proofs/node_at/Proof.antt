@@ -2,7 +2,8 @@ use Prim.Native.Nat.{_≤_}
 use mathlib.Core.Path.{_≡_, sym, _∙_, ap, subst}
 use Rattle.stages.specs.Rule.{Bound}
 use Rattle.view_precision.specs.Bounds.{larger}
-use Rattle.view_precision.specs.Places.{nodeFrom, asBound, total, mostTotal}
+use Rattle.view_precision.specs.Places.{nodeFrom, total, mostTotal}
+use Rattle.bounds_rule.specs.Carried.{asBound}
 use Rattle.view_precision.specs.PlaceLaws.{node-even, node-other}
 use Rattle.view_precision.specs.SizeLaws.{node-small}
 use Rattle.view_precision.proofs.node_at.Statement.{statement}

@@ -2,7 +2,8 @@ use Prim.Native.Nat.{_-_, _≤_}
 use mathlib.Core.Path.{_≡_, sym, subst}
 use native.Mathlib.Omega.{arith}
 use Rattle.view_precision.specs.Bounds.{inverseBound}
-use Rattle.view_precision.specs.Places.{stages, nodeAfter, asBound, AllSmall}
+use Rattle.view_precision.specs.Places.{stages, nodeAfter, AllSmall}
+use Rattle.bounds_rule.specs.Carried.{asBound}
 use Rattle.view_precision.specs.PlaceLaws.{node-bound, RightBelow, right-next, wrong-here, all-right, one-wrong}
 use Rattle.view_precision.specs.SizeLaws.{owns-small}
 use Rattle.view_precision.proofs.nodes_right.Statement.{statement}

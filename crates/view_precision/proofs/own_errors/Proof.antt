@@ -1,7 +1,8 @@
 use Prim.Native.Nat.{_+_, _-_, _≤_}
 use mathlib.Core.Path.{_≡_, refl, sym, _∙_, ap, subst}
 use native.Mathlib.Omega.{arith}
-use Rattle.view_precision.specs.Places.{stages, ownAt, ownsBelow, asBound, AllSmall}
+use Rattle.view_precision.specs.Places.{stages, ownAt, ownsBelow, AllSmall}
+use Rattle.bounds_rule.specs.Carried.{asBound}
 use Rattle.view_precision.specs.PlaceLaws.{owns-step}
 use Rattle.view_precision.specs.SizeLaws.{owns-small}
 use Rattle.view_precision.proofs.own_errors.Statement.{statement}

@@ -1,7 +1,8 @@
 use Prim.Native.Nat.{ℕ, _≤_}
 use mathlib.Core.Path.{_≡_, sym, _∙_, ap, subst}
 use native.Mathlib.Omega.{arith}
-use Rattle.view_precision.specs.Places.{asBound, total, totalFrom, mostTotal}
+use Rattle.bounds_rule.specs.Carried.{asBound}
+use Rattle.view_precision.specs.Places.{total, totalFrom, mostTotal}
 use Rattle.view_precision.specs.PlaceLaws.{total-later}
 use Rattle.view_precision.specs.SizeLaws.{total-small}
 use Rattle.view_precision.proofs.total_before.Statement.{statement}

@@ -4,7 +4,8 @@ use native.Mathlib.Omega.{arith}
 use lib.Dec.{lit≤}
 use Rattle.precision.specs.JudgeLaws.{at-pass}
 use Rattle.view_precision.specs.Bounds.{fromLow, fromHigh}
-use Rattle.view_precision.specs.Places.{asBound, SmallFed, mostEntering}
+use Rattle.bounds_rule.specs.Carried.{asBound}
+use Rattle.view_precision.specs.Places.{SmallFed, mostEntering}
 use Rattle.view_precision.specs.LevelLaws.{within-small, low-within, high-within, low-is, high-is, gives-is, right-is}
 use Rattle.view_precision.proofs.work_level.Statement.{statement}
 use Rattle.view_precision.proofs.work_level.Tie as tie

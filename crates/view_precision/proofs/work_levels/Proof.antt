@@ -3,7 +3,7 @@ use mathlib.Core.Path.{_∙_, ap}
 use native.Mathlib.Omega.{arith}
 use lib.Dec.{lit≤}
 use Rattle.width_table.specs.Limits.{form-levels}
-use Rattle.view_precision.specs.Places.{asBound}
+use Rattle.bounds_rule.specs.Carried.{asBound}
 use Rattle.view_precision.specs.LevelLaws.{Reached, reached-first, reached-next, reached-small, reached-last}
 use Rattle.view_precision.proofs.work_levels.Statement.{statement}
 use Rattle.view_precision.proofs.work_levels.Tie as tie

@@ -2,7 +2,8 @@ use mathlib.Core.Path.{sym, _∙_, ap₂, subst}
 use native.Mathlib.Omega.{arith}
 use lib.Dec.{lit<}
 use Rattle.view_precision.specs.Bounds.{larger, inverseBound, passGives}
-use Rattle.view_precision.specs.Places.{stages, asBound, AllSmall}
+use Rattle.view_precision.specs.Places.{stages, AllSmall}
+use Rattle.bounds_rule.specs.Carried.{asBound}
 use Rattle.view_precision.specs.PlaceLaws.{node-bound}
 use Rattle.view_precision.specs.SizeLaws.{owns-small}
 use Rattle.view_precision.proofs.work_pass.Statement.{statement}

@@ -1,8 +1,8 @@
 use mathlib.Core.Path.{_∙_, sym}
 use native.Mathlib.Omega.{arith}
 use Rattle.stages.specs.ProductLaws.{loss-narrow, loss-wide}
-use Rattle.precision.proofs.product_loss.Statement.{statement}
-use Rattle.precision.proofs.product_loss.Tie as tie
+use Rattle.bounds_rule.proofs.product_loss.Statement.{statement}
+use Rattle.bounds_rule.proofs.product_loss.Tie as tie
 
 returns : tie.Need-returns
 returns c =

@@ -1,7 +1,7 @@
 use native.Mathlib.Omega.{arith}
 use Rattle.stages.specs.Rule.{ownLift}
-use Rattle.precision.proofs.own_lift.Statement.{statement}
-use Rattle.precision.proofs.own_lift.Tie as tie
+use Rattle.bounds_rule.proofs.own_lift.Statement.{statement}
+use Rattle.bounds_rule.proofs.own_lift.Tie as tie
 
 returns : tie.Need-returns
 unfolding ownLift

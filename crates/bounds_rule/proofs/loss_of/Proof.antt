@@ -1,9 +1,9 @@
 use mathlib.Core.Path.{_∙_, sym}
 use native.Mathlib.Omega.{arith}
 use Rattle.stages.specs.RuleLaws.{loss-below, loss-none}
-use Rattle.precision.specs.PlaceLaws.{loss-most}
-use Rattle.precision.proofs.loss_of.Statement.{statement}
-use Rattle.precision.proofs.loss_of.Tie as tie
+use Rattle.bounds_rule.specs.CarriedLaws.{loss-most}
+use Rattle.bounds_rule.proofs.loss_of.Statement.{statement}
+use Rattle.bounds_rule.proofs.loss_of.Tie as tie
 
 returns : tie.Need-returns
 returns c =
@@ -15,4 +15,4 @@ returns-2 : tie.Need-returns-2
 returns-2 c = (sym (loss-none (c .before .args .f) (c .before .args .full) (c .if1 .left)), omega arith)
 
 pub loss-of-spec : {M : Type 1} → statement M
-loss-of-spec = tie.close (tie.spec (λ c. omega arith) (λ c κs. omega arith) returns returns-2)
+loss-of-spec = tie.close (tie.spec (λ c. omega arith) (λ c. omega arith) (λ c κs. omega arith) returns returns-2)

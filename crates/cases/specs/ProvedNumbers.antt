@@ -15,7 +15,7 @@ use Rattle.stages.specs.Gains.{samples, node, valuesAfter, sumTo, inputAnswer, 
 use Rattle.reversible.specs.Reversible.{predict, update, high, low, reversibleLong, reversiblePass}
 use Rattle.stages.specs.Fixed.{step, cut, cutProduct, nearest}
 use Rattle.width_table.specs.Nodes.{P1}
-use Rattle.irreversible.specs.Fixed.{valueAt, atP1}
+use Rattle.fixed_stages.specs.Fixed.{valueAt, atP1}
 use Rattle.listing.specs.Listing.{copyText}
 use Rattle.listing.specs.WorkedListings.{document}
 

@@ -23,7 +23,8 @@ use Rattle.pictures.specs.Pictures.{planeOf}
 use Rattle.pictures.specs.PictureLaws.{Room, roomAnswer, sized-then, sized-right, pixels-right}
 use Rattle.precision.specs.Verdict.{verdict, Accepted}
 use Rattle.irreversible.specs.Transforms.{fixedAfter, fixedPlane}
-use Rattle.irreversible.specs.Claims.{Picture, bitsPlane, Near, LevelInWidth}
+use Rattle.irreversible.specs.Claims.{Picture, Near, LevelInWidth}
+use Rattle.table_meaning.specs.Subbands.{bitsPlane}
 use Rattle.irreversible.specs.Calls.{fixedAnswerOf, fixedAnswer, fixedPlaneAfter}
 use Rattle.irreversible.specs.CallLaws.{room, call-near, call-widths}
 use Rattle.irreversible.specs.Demand3.{two-steps, widths}

@@ -19,7 +19,8 @@ use Rattle.table_bytes.specs.Bytes.{announced, headed, field, formBy, levelsIn,
 use Rattle.pictures.specs.Pictures.{sideRight, sideAnswer, lengthAnswer, pixelAnswer, planeOf}
 use Rattle.stages.specs.Rule.{Bound}
 use Rattle.precision.specs.Bounds.{boundOf}
-use Rattle.precision.specs.Verdict.{fits, belowTwoSteps, keptAt, placeNumbers, judgedBy, judged, firstRefusal, verdict}
+use Rattle.precision.specs.Verdict.{fits, belowTwoSteps, placeNumbers, judgedBy, judged, firstRefusal, verdict}
+use Rattle.table_meaning.specs.Subbands.{keptAt}
 use Rattle.reversible.specs.Reversible.{Order}
 use Rattle.reversible.specs.Calls.{limitAnswer, forwardAnswer, hasPicture, backAllowed, backAnswer}
 use Rattle.irreversible.specs.Calls.{fixedAnswerOf, fixedAnswer}

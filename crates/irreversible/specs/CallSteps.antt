@@ -1,4 +1,4 @@
--- What the steps of the 9/7 call ask of each other.
+-- The steps of the 9/7 call have what they ask for, and what they leave is the call's.
 use Prim.Native.Nat.{ℕ, suc, _+_, _*_, _-_, _<_, _≤_, _^_}
 use mathlib.Core.List.{List}
 use mathlib.Core.Path.{_≡_, refl, sym}
@@ -8,7 +8,7 @@ use lib.ListN.{length, take}
 use lib.Seq.{length-take-le}
 use lib.IntN.{ℤ}
 use Rattle.numbers.specs.Lists.{over}
-use Rattle.lines.specs.Lines.{lows, highs}
+use Rattle.lines.specs.Lines.{lows}
 use Rattle.lines.specs.Planes.{side, rowByRow}
 use Rattle.lines.specs.PlaneLaws.{side-le}
 use Rattle.refusals.specs.Answers.{Reason, refused, passed}
@@ -22,44 +22,22 @@ use Rattle.slices.specs.Parts.{Part, rowOf, columnOf, columnsBy}
 use Rattle.slices.specs.Fronts.{zeroed}
 use Rattle.slices.specs.Pixels.{pixelLine, loaded}
 use Rattle.precision.specs.Verdict.{Accepted}
+use Rattle.width_table.specs.Nodes.{LowColumns, HighColumns}
+use Rattle.lifting.specs.Patch.{at}
+use Rattle.lifting.specs.Runs.{as-type}
+use Rattle.lifting.specs.Kernels.{Part, columnOf, columnsBy}
+use Rattle.pictures.specs.Pictures.{zeroed}
+use Rattle.pictures.specs.MemoryLaws.{loaded}
+use Rattle.precision.specs.Verdict.{IsLevel}
 use Rattle.precision.specs.Promise.{promise}
-use Rattle.irreversible.specs.Transforms.{fixedLine, fixedPlane}
-use Rattle.irreversible.specs.Claims.{Picture}
+use Rattle.fixed_stages.specs.Fixed.{fixedLine}
+use Rattle.irreversible.specs.Transforms.{fixedPlane}
 use Rattle.irreversible.specs.Calls.{fixedAnswer, fixedPlaneAfter, fixedWork}
 use Rattle.irreversible.specs.CallLaws.{accepted, room, picture}
-use Rattle.irreversible.specs.LevelLaws.{LineSafe, SafeLevel, rowed}
-use Rattle.irreversible.specs.LevelBits.{IsLevel}
-use Rattle.irreversible.specs.LevelsLaws.{After, after-none, safe-next, pixels-safe}
-
--- the first w values of h rows can be worked by the row pass of level l, in a plane whose rows are W long
-pub record RowsReady (t : WidthTable) (l : ℕ) (plane buffer : List ℤ) (W w h : ℕ) : Type 0 where
-  pub is-level : IsLevel t l
-  pub part : Part plane W 0 w h
-  pub across : w ≤ length buffer
-  pub safe : (r : ℕ) → r < h → LineSafe t l Rows w (rowOf W 0 (at plane) r)
-
--- w columns of h rows, from column `from` on, can be worked by a pass
-pub record ColumnsReady (t : WidthTable) (l : ℕ) (p : Pass) (plane buffer : List ℤ) (W from w h : ℕ) : Type 0 where
-  pub is-level : IsLevel t l
-  pub part : Part plane W from w h
-  pub down : h ≤ length buffer
-  pub safe : (j : ℕ) → j < w → LineSafe t l p h (columnOf W from (at plane) j)
-
--- the columns of row-low, and then those of row-high
-pub record BothReady (t : WidthTable) (l : ℕ) (plane buffer : List ℤ) (W w h : ℕ) : Type 0 where
-  pub is-level : IsLevel t l
-  pub part : Part plane W 0 w h
-  pub down : h ≤ length buffer
-  pub low : (j : ℕ) → j < lows w → LineSafe t l LowColumns h (columnOf W 0 (at plane) j)
-  pub high : (j : ℕ) → j < highs w → LineSafe t l HighColumns h (columnOf W (lows w) (columnsBy (fixedLine t l LowColumns) W 0 (lows w) h (at plane)) j)
-
--- a level can be worked: w columns and h rows at the front of a plane whose rows are W long
-pub record LevelReady (t : WidthTable) (l : ℕ) (plane buffer : List ℤ) (W w h : ℕ) : Type 0 where
-  pub is-level : IsLevel t l
-  pub part : Part plane W 0 w h
-  pub across : w ≤ length buffer
-  pub down : h ≤ length buffer
-  pub safe : SafeLevel t l W w h (at plane)
+use Rattle.fixed_stages.specs.Safe.{LineSafe}
+use Rattle.irreversible.specs.Memory.{SafeLevel, rowed, After}
+use Rattle.irreversible.specs.Ready.{BothReady, LevelReady, Ready, FirstReady}
+use Rattle.irreversible.specs.LevelsLaws.{after-none, safe-next, pixels-safe}
 
 -- some of its columns
 pub part-of : {plane : List ℤ} {W w h : ℕ} → Part plane W 0 w h → (p : List ℤ) → length p ≡ length plane → (from k : ℕ) → from + k ≤ w → Part p W from k h
@@ -74,14 +52,6 @@ both-ready t l W w h x plane p q is-level part down safe e is = record {
   low = λ j i. as-type (λ u. LineSafe t l LowColumns h (columnOf W 0 (sym is u) j)) (safe .onLowColumns j i);
   high = λ j i. as-type (λ u. LineSafe t l HighColumns h (columnOf W (lows w) (columnsBy (fixedLine t l LowColumns) W 0 (lows w) h (sym is u)) j)) (safe .onHighColumns j i);
 }
-
--- a picture can be transformed
-pub record Ready (t : WidthTable) (pixels : List ℕ) (plane buffer : List ℤ) (w h : ℕ) : Type 0 where
-  pub accepted : Accepted t
-  pub picture : Picture t pixels w h
-  pub first : w * h ≤ length pixels
-  pub second : w * h ≤ length plane
-  pub third : w * h ≤ length buffer
 
 -- a side is at most the area, and a row lies in the plane
 in-buffer : (a b c : ℕ) → 1 ≤ b → a * b ≤ c → a ≤ c
@@ -126,15 +96,7 @@ module _ (t : WidthTable) (pixels : List ℕ) (plane₀ buffer₀ plane buffer :
     safe = as-type (λ u. SafeLevel t (suc k) w (side k w) (side k h) (e u)) level-safe-next;
   }
 
--- the first level can be worked from the pixels
-pub record FirstReady (t : WidthTable) (pixels : List ℕ) (plane buffer : List ℤ) (w h : ℕ) : Type 0 where
-  pub is-level : IsLevel t 1
-  pub part : Part plane w 0 w h
-  pub across : w ≤ length buffer
-  pub down : h ≤ length buffer
-  pub on-pixels : (r : ℕ) → r < h → LineSafe t 1 Rows w (pixelLine pixels (2 ^ (t .depth - 1)) (r * w))
-  pub safe : SafeLevel t 1 w w h (loaded pixels (2 ^ (t .depth - 1)) w h (at plane))
-
+-- the first level of a picture that can be transformed can be worked
 pub first-ready : {t : WidthTable} {pixels : List ℕ} {plane buffer : List ℤ} {w h : ℕ} → Ready t pixels plane buffer w h → FirstReady t pixels plane buffer w h
 unfolding side
 first-ready {t} {pixels} {plane} {buffer} {w} {h} ready =

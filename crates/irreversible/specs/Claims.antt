@@ -1,25 +1,25 @@
 -- Demand 3: what holds of every accepted table and every admitted picture. Proved in Demand3.
-use Prim.Native.Nat.{ℕ, zero, suc, _+_, _*_, _-_, _^_, _<_, _≤_}
-use mathlib.Core.Bool.{true, false, _&&_}
+use Prim.Native.Nat.{ℕ, suc, _*_, _^_, _<_, _≤_}
 use mathlib.Core.List.{List}
 use mathlib.Core.Path.{_≡_}
 use lib.Dec.{ltb}
-use lib.IntN.{ℤ, pos, negℤ}
-use lib.Signed.{_≤ℤ_, _<ℤ_}
+use lib.IntN.{ℤ, pos}
 use lib.ListN.{getD}
 use Rattle.exact.specs.Fractions.{Frac, _⊖_, neg, _<F_}
-use Rattle.width_table.specs.Nodes.{Node, G1, Pass, Rows, LowColumns, TableNode, nodeAt, columnPass, lastNode}
+use Rattle.width_table.specs.Nodes.{Node, G1, Pass, Rows, columnPass}
 use Rattle.lines.specs.Lines.{lows, Liftable}
 use Rattle.stages.specs.Fixed.{fixedValue}
-use Rattle.irreversible.specs.Fixed.{valueAt, countAt}
+use Rattle.fixed_stages.specs.Fixed.{valueAt, countAt, fixedLine}
 use Rattle.lines.specs.Planes.{Plane, side, rows}
 use Rattle.width_table.specs.declared.WidthTable.{WidthTable}
 use Rattle.width_table.specs.Table.{constantBits, integerBits, fractionBits, inputBits}
 use Rattle.pictures.specs.Pictures.{Admitted}
 use Rattle.table_meaning.specs.Products.{productOf}
+use Rattle.table_meaning.specs.Subbands.{bitsPlane}
+use Rattle.table_meaning.specs.NodeWidths.{InNodeWidth}
 use Rattle.precision.specs.Verdict.{Accepted}
 use Rattle.exact.specs.Picture.{exactPlane}
-use Rattle.irreversible.specs.Transforms.{fixedLine, fixedAfter, fixedPlane}
+use Rattle.irreversible.specs.Transforms.{fixedAfter, fixedPlane}
 
 -- A picture of the table's depth and of admitted size.
 pub record Picture (t : WidthTable) (pixels : List ℕ) (w h : ℕ) : Type 0 where
@@ -35,22 +35,6 @@ pub record Strip (t : WidthTable) (pixels : List ℕ) (w h : ℕ) : Type 0 where
 
 -- ---- first half: less than two steps
 
--- The kept node that gave the coefficient at row r, column c of a plane of L levels: at the last level whose part holds the
--- place, the columns of row-low give LL above LH and the columns of row-high HL above HH. (With no level there is none.)
-unfoldable pub keptNode : ℕ → ℕ → ℕ → ℕ → ℕ → TableNode
-keptNode zero w h r c = nodeAt 0 LowColumns G1
-keptNode (suc k) w h r c =
-    elim (ltb r (side k h) && ltb c (side k w)) [
-      | true ↦ nodeAt (suc k) (columnPass (ltb c (side (suc k) w))) (lastNode (ltb r (side (suc k) h)))
-      | false ↦ keptNode k w h r c
-    ]
-
--- the f of a coefficient: its own step is 2^-f
-unfoldable pub bitsPlane : WidthTable → ℕ → ℕ → Plane ℕ
-bitsPlane t w h r c =
-    let p = keptNode (t .levels) w h r c in
-    fractionBits t (p .level) (p .pass) (p .node)
-
 -- v / 2^f less the exact value lies above -2 times 2^-f and below 2 times 2^-f
 unfoldable pub Near : ℤ → ℕ → Frac → Type 0
 Near v f x = (neg (fixedValue (pos 2) f) <F fixedValue v f ⊖ x) × (fixedValue v f ⊖ x <F fixedValue (pos 2) f)
@@ -62,10 +46,6 @@ TwoSteps =
     → Near (fixedPlane t pixels w h r c) (bitsPlane t w h r c) (exactPlane pixels (t .depth) (t .levels) w h r c)
 
 -- ---- second half: no value on the way leaves its width
-
--- v from -2^(IB+f-1) to 2^(IB+f-1) - 1
-unfoldable pub InNodeWidth : ℕ → ℕ → ℤ → Type 0
-InNodeWidth IB f v = (negℤ (pos (2 ^ (IB + f - 1))) ≤ℤ v) × (v <ℤ pos (2 ^ (IB + f - 1)))
 
 -- each value that a pass of level l over n samples v leaves: two samples or more in every node, a single one in G1 alone (document 02, job 6)
 pub record InWidth (t : WidthTable) (l : ℕ) (p : Pass) (n : ℕ) (v : ℕ → ℤ) : Type 0 where

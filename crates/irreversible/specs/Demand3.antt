@@ -26,14 +26,17 @@ use Rattle.precision.specs.Bounds.{entering, boundOf}
 use Rattle.precision.specs.Verdict.{Accepted, AcceptPromise}
 use Rattle.exact.specs.Picture.{exactSample, exactLevel, exactPlane}
 use Rattle.pictures.specs.Pictures.{sample}
-use Rattle.irreversible.specs.Transforms.{fixedLine, fixedAfter, fixedPlane}
-use Rattle.irreversible.specs.Claims.{Picture, Strip, keptNode, bitsPlane, Near, TwoSteps, InNodeWidth, LevelInWidth, Widths}
+use Rattle.fixed_stages.specs.Fixed.{fixedLine}
+use Rattle.irreversible.specs.Transforms.{fixedAfter, fixedPlane}
+use Rattle.irreversible.specs.Claims.{Picture, Strip, Near, TwoSteps, LevelInWidth, Widths}
+use Rattle.table_meaning.specs.Subbands.{keptNode, bitsPlane, InPart}
+use Rattle.table_meaning.specs.NodeWidths.{InNodeWidth}
 use Rattle.precision.specs.Promise.{promise}
 use Rattle.exact.specs.FracLaws.{⊕-neg, ≈-sym, within-≈, within-zero}
 use Rattle.stages.specs.Sound.{Q, Good}
 use Rattle.irreversible.specs.Pass.{near, holds}
 use Rattle.irreversible.specs.Level.{rowV, rowX, newV, newX, level-good, level-in-width}
-use Rattle.irreversible.specs.Subbands.{InPart, part-before, kept-in, kept-out, kept-LL, kept-everywhere}
+use Rattle.table_meaning.specs.SubbandLaws.{part-before, kept-in, kept-out, kept-LL, kept-everywhere}
 
 -- ---- a level changes its part and nothing else
 

@@ -15,7 +15,7 @@ use Rattle.width_table.specs.Table.{maxFractionBits, constantBits, integerBits,
 use Rattle.stages.specs.Rule.{Bound}
 use Rattle.table_meaning.specs.Products.{productOf}
 use Rattle.precision.specs.Bounds.{nodeBound, rowBound, passBound}
-use Rattle.irreversible.specs.Transforms.{fixedLine}
+use Rattle.fixed_stages.specs.Fixed.{fixedLine}
 use Rattle.irreversible.specs.Claims.{InWidth, LevelInWidth}
 use Rattle.irreversible.specs.Pass.{AtMost32, pass-good, long-in-width, single-in-width}
 use Rattle.stages.specs.Sound.{Good}

@@ -10,29 +10,21 @@ use Rattle.lines.specs.Planes.{side, levels, rowByRow}
 use Rattle.lines.specs.PlaneLaws.{side-le}
 use Rattle.lines.specs.RowLaws.{place-in}
 use Rattle.width_table.specs.Nodes.{Rows}
-use Rattle.width_table.specs.Limits.{form-levels, form-constants, form-widths, form-input}
+use Rattle.width_table.specs.Limits.{form-levels}
 use Rattle.width_table.specs.declared.WidthTable.{WidthTable}
 use Rattle.slices.specs.Patch.{at, patch, patch-in, patch-above}
 use Rattle.slices.specs.Pixels.{pixelLine}
 use Rattle.pictures.specs.Pictures.{sample}
-use Rattle.pictures.specs.MemoryLaws.{Stands, stands-over}
-use Rattle.precision.specs.Verdict.{Accepted, AcceptPromise}
+use Rattle.pictures.specs.MemoryLaws.{stands-over}
+use Rattle.precision.specs.Verdict.{Accepted}
 use Rattle.precision.specs.Promise.{promise}
 use Rattle.irreversible.specs.Transforms.{fixedAfter, fixedPlane}
 use Rattle.irreversible.specs.Claims.{Picture}
 use Rattle.irreversible.specs.MagnitudeLaws.{below-power-10}
-use Rattle.irreversible.specs.LevelLaws.{BitsRight, LineSafe, levelWorked, SafeLevel, level-stands, level-beyond, line-safe, level-safe}
-
--- the limits of a level of an accepted table
-module _ (t : WidthTable) (ok : AcceptPromise t) where
-  -- all bits of a level
-  pub bits-right : (l : ℕ) → 1 ≤ l → l ≤ t .levels → BitsRight t l
-  bits-right l a b p = record { constants = form-constants t (ok .form); fractions = λ i. form-widths t (ok .form) l a b p i .2; enters = form-input t (ok .form) l a b p }
-
--- after k levels: the plane stands at the front, and what lies past it is as it was
-pub record After (t : WidthTable) (pixels : List ℕ) (w h k : ℕ) (x₀ x : ℕ → ℤ) : Type 0 where
-  pub stands : Stands w h x (fixedAfter t k pixels w h)
-  pub beyond : (q : ℕ) → w * h ≤ q → x q ≡ x₀ q
+use Rattle.fixed_stages.specs.LineLaws.{bits-right, line-safe}
+use Rattle.irreversible.specs.Memory.{After, levelWorked, SafeLevel}
+use Rattle.fixed_stages.specs.Safe.{LineSafe}
+use Rattle.irreversible.specs.LevelLaws.{level-stands, level-beyond, level-safe}
 
 -- what was there before
 pub after-since : {t : WidthTable} {pixels : List ℕ} {w h k : ℕ} {x₀ x₁ x : ℕ → ℤ} → After t pixels w h k x₁ x → ((q : ℕ) → w * h ≤ q → x₁ q ≡ x₀ q) → After t pixels w h k x₀ x

@@ -24,9 +24,11 @@ use Rattle.table_meaning.specs.Products.{productOf}
 use Rattle.precision.specs.Bounds.{nodeBound, rowBound, passBound, entering, boundOf}
 use Rattle.precision.specs.Verdict.{AcceptPromise}
 use Rattle.precision.specs.Promise.{promise}
-use Rattle.irreversible.specs.Transforms.{fixedLine, fixedAfter}
+use Rattle.fixed_stages.specs.Fixed.{fixedLine}
+use Rattle.irreversible.specs.Transforms.{fixedAfter}
 use Rattle.irreversible.specs.Claims.{Strip}
-use Rattle.irreversible.specs.Magnitudes.{BelowPower, LineBelowPower, LevelBelowPower, AllBelowPower10, FirstBelowPower4}
+use Rattle.fixed_stages.specs.Safe.{BelowPower, LineBelowPower}
+use Rattle.irreversible.specs.Magnitudes.{LevelBelowPower, AllBelowPower10, FirstBelowPower4}
 use Rattle.irreversible.specs.Pass.{AtMost32, node-good, first-good}
 use Rattle.irreversible.specs.Level.{rowV, rowX, row-good}
 use Rattle.irreversible.specs.Demand3.{exactAfter, after, strip-of}

@@ -30,7 +30,8 @@ use Rattle.width_table.specs.declared.WidthTable.{WidthTable}
 use Rattle.width_table.specs.Table.{maxLevels, constantBits, integerBits, fractionBits, inputBits}
 use Rattle.table_meaning.specs.Products.{productOf}
 use Rattle.precision.specs.Bounds.{boundAfter, nodeBound, rowBound, passBound, entering, boundOf}
-use Rattle.precision.specs.Verdict.{keptAt, AcceptPromise}
+use Rattle.table_meaning.specs.Subbands.{keptAt}
+use Rattle.precision.specs.Verdict.{AcceptPromise}
 
 -- ---- products by gains
 

@@ -15,7 +15,7 @@ use Rattle.lines.specs.Lines.{lows, Liftable, lowsFirst, onHighs, onLows}
 use Rattle.lines.specs.OneLaws.{one-single, one-long, by-one}
 use Rattle.exact.specs.Exact.{exactLong, exactPass, low₀, high₀, p1, u1, p2, u2, g1, g2}
 use Rattle.stages.specs.Fixed.{fixedValue, cut}
-use Rattle.irreversible.specs.Fixed.{fixedLong, fixedPass, valueAt, countAt, atP1, atU1, atP2, atU2, atG1, atG2}
+use Rattle.fixed_stages.specs.Fixed.{fixedLong, fixedPass, valueAt, countAt, atP1, atU1, atP2, atU2, atG1, atG2}
 use Rattle.width_table.specs.Nodes.{Node, P1, U1, P2, U2, G1, G2, lastNode}
 use Rattle.stages.specs.Rule as Rule
 use Rattle.stages.specs.Rule.{Bound, together}
@@ -28,7 +28,8 @@ use Rattle.stages.specs.Single.{single-good, good-most}
 use Rattle.stages.specs.ForwardLaws.{range-least}
 use Rattle.width_table.specs.Numbered.{nodeOf}
 use Rattle.stages.specs.Own.{pow-split}
-use Rattle.irreversible.specs.Claims.{Near, InNodeWidth}
+use Rattle.irreversible.specs.Claims.{Near}
+use Rattle.table_meaning.specs.NodeWidths.{InNodeWidth}
 use Rattle.numbers.specs.Tests.{by-ltb, ltb-true}
 
 -- the nodes' bits are at most 32 (a table's are at most 20)

@@ -3,17 +3,11 @@
 use Prim.Native.Nat.{ℕ}
 use mathlib.Core.List.{List}
 use lib.IntN.{ℤ}
-use Rattle.lines.specs.Planes.{Plane, OnLine, OnPart, levelRowsFirst, levels}
-use Rattle.width_table.specs.Nodes.{Pass, Rows, columnPass}
+use Rattle.lines.specs.Planes.{Plane, OnPart, levelRowsFirst, levels}
+use Rattle.width_table.specs.Nodes.{Rows, columnPass}
 use Rattle.width_table.specs.declared.WidthTable.{WidthTable}
-use Rattle.width_table.specs.Table.{constantBits, fractionBits, inputBits}
-use Rattle.table_meaning.specs.Products.{productOf}
 use Rattle.pictures.specs.Pictures.{sample}
-use Rattle.irreversible.specs.Fixed.{fixedPass}
-
--- a pass of level l
-unfoldable pub fixedLine : WidthTable → ℕ → Pass → OnLine ℤ
-fixedLine t l p = fixedPass (constantBits t) (productOf t l p) (inputBits t l p) (fractionBits t l p)
+use Rattle.fixed_stages.specs.Fixed.{fixedLine}
 
 -- a level: the rows, then the columns, those of row-low and of row-high by passes of their own
 abbrev pub fixedLevel : WidthTable → ℕ → OnPart ℤ

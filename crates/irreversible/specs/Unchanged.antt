@@ -11,8 +11,8 @@ use Rattle.width_table.specs.Table.{constantBits, fractionBits, inputBits}
 use Rattle.pictures.specs.Pictures.{sample}
 use Rattle.stages.specs.Fixed.{cut}
 use Rattle.table_meaning.specs.Products.{productOf}
-use Rattle.irreversible.specs.Fixed.{fixedLong, fixedPass}
-use Rattle.irreversible.specs.Transforms.{fixedLine, fixedAfter, fixedPlane}
+use Rattle.fixed_stages.specs.Fixed.{fixedLong, fixedPass, fixedLine}
+use Rattle.irreversible.specs.Transforms.{fixedAfter, fixedPlane}
 
 -- a pass of level l over two samples or more
 abbrev pub longLine : WidthTable → ℕ → Pass → OnLine ℤ

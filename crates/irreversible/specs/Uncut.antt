@@ -16,8 +16,8 @@ use Rattle.pictures.specs.Pictures.{sample}
 use Rattle.stages.specs.Stages.{Product, uncut}
 use Rattle.stages.specs.Fixed.{nearest, cut, cutProduct, step, scale}
 use Rattle.table_meaning.specs.ProductLaws.{none-cut}
-use Rattle.irreversible.specs.Fixed.{atP1, atU1, atP2, atU2, atG1, atG2, fixedLong, fixedPass}
-use Rattle.irreversible.specs.Transforms.{fixedLine, fixedAfter, fixedPlane}
+use Rattle.fixed_stages.specs.Fixed.{atP1, atU1, atP2, atU2, atG1, atG2, fixedLong, fixedPass, fixedLine}
+use Rattle.irreversible.specs.Transforms.{fixedAfter, fixedPlane}
 
 -- sum and product are formed without loss, at the larger of fo and F + fm bits, and cut once to f bits
 unfoldable pub uncutStep : Frac → ℕ → ℕ → ℕ → ℕ → ℤ → ℤ → ℤ → ℤ

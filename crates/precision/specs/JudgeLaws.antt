@@ -23,7 +23,8 @@ use Rattle.bounds_rule.specs.Carried.{asHeld, carriedTo}
 use Rattle.stages.specs.GainTable.{forwardGains}
 use Rattle.table_meaning.specs.Products.{productOf}
 use Rattle.precision.specs.Bounds.{nodeBound, rowBound, passBound, boundOf}
-use Rattle.precision.specs.Verdict.{fits, keptColumn, keptAt, judged, firstRefusal}
+use Rattle.precision.specs.Verdict.{fits, judged, firstRefusal}
+use Rattle.table_meaning.specs.Subbands.{keptColumn, keptAt}
 use Rattle.precision.specs.Promise.{each-accepts}
 use Rattle.precision.specs.Places.{places, mostFitting, largest, gainAt, multiplied, other, fed, bitsOf, ownErrorAt, ownErrorOf, ownHere, ownsOf, ownBy, judgedAs, boundOfNode, At, Limited, Read, Enters, BoundsOf}
 use Rattle.precision.specs.ProductReads.{own-number}

@@ -13,7 +13,8 @@ use Rattle.refusals.specs.AnswerLaws.{asks-done, asks-right, then-done, then-as
 use Rattle.width_table.specs.Table.{integerBits, fractionBits, formRight}
 use Rattle.width_table.specs.Limits.{in-order}
 use Rattle.precision.specs.Bounds.{boundOf}
-use Rattle.precision.specs.Verdict.{fits, belowTwoSteps, keptAt, judged, firstRefusal, verdict, Accepted, AcceptPromise}
+use Rattle.precision.specs.Verdict.{fits, belowTwoSteps, judged, firstRefusal, verdict, Accepted, AcceptPromise}
+use Rattle.table_meaning.specs.Subbands.{keptAt}
 
 -- ---- the verdict
 

@@ -1,14 +1,15 @@
 -- The verdict on a width table (document 01: the judge, and why a book comes back).
 use Prim.Native.Nat.{ℕ, _+_, _*_, _-_, _^_, _<_, _≤_}
-use mathlib.Core.Bool.{Bool, true, false, _||_, not}
+use mathlib.Core.Bool.{Bool, _||_, not}
 use mathlib.Core.List.{List, [], _∷_}
 use mathlib.Core.Path.{_≡_}
-use lib.Dec.{T, leb, ltb, eqb}
+use lib.Dec.{T, leb, ltb}
 use Rattle.refusals.specs.Answers.{Answer, passed, asks, asksGiving, _then_}
 use Rattle.width_table.specs.declared.WidthTable.{WidthTable}
-use Rattle.width_table.specs.Nodes.{Node, P1, U1, P2, U2, G1, G2, Pass, Rows, LowColumns, HighColumns, TableNode, nodeAt, passNumber, nodeNumber, tableOrder}
+use Rattle.width_table.specs.Nodes.{Node, Pass, TableNode, nodeAt, passNumber, nodeNumber, tableOrder}
 use Rattle.width_table.specs.Table.{integerBits, fractionBits, formRight}
 use Rattle.stages.specs.Rule.{Bound}
+use Rattle.table_meaning.specs.Subbands.{keptAt}
 use Rattle.precision.specs.Bounds.{boundOf}
 
 -- A node fits if range plus error is at most 2^(IB-1) - 2^-f.
@@ -18,20 +19,6 @@ fits b IB f = leb (b .range + b .error + 2 ^ (32 - f)) (2 ^ (IB - 1) * 2 ^ 32)
 -- The error is below 2 times 2^-f.
 abbrev pub belowTwoSteps : Bound → ℕ → Bool
 belowTwoSteps b f = ltb (b .error) (2 * 2 ^ (32 - f))
-
--- Kept nodes are G1 and G2 of the columns, but G1 of the columns of row-low at level L only.
-abbrev pub keptColumn : Bool → Node → Bool
-keptColumn lowLow P1 = false
-keptColumn lowLow U1 = false
-keptColumn lowLow P2 = false
-keptColumn lowLow U2 = false
-keptColumn lowLow G1 = lowLow
-keptColumn lowLow G2 = true
-
-abbrev pub keptAt : ℕ → ℕ → Pass → Node → Bool
-keptAt L l Rows n = false
-keptAt L l LowColumns n = keptColumn (eqb l L) n
-keptAt L l HighColumns n = keptColumn true n
 
 -- the level, pass (1 to 3) and node (1 to 6) that a refusal gives
 abbrev pub placeNumbers : TableNode → List ℕ
@@ -72,6 +59,12 @@ verdict t = verdictWith t (boundOf t)
 
 abbrev pub Accepted : WidthTable → Type 0
 Accepted t = verdict t ≡ passed
+
+-- a level of an accepted table
+pub record IsLevel (t : WidthTable) (l : ℕ) : Type 0 where
+  pub accepted : Accepted t
+  pub least : 1 ≤ l
+  pub most : l ≤ t .levels
 
 -- What acceptance promises, and all that it asks (Promise): the form is right, every node fits, every kept node's error is below two
 -- steps.

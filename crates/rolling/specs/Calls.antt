@@ -14,8 +14,8 @@ use Rattle.width_table.specs.declared.WidthTable.{WidthTable}
 use Rattle.width_table.specs.Table.{fractionBits, inputBits}
 use Rattle.pictures.specs.Pictures.{sideRight, lengthAnswer, pixelAnswer, sample, planeOf}
 use Rattle.precision.specs.Verdict.{verdict}
-use Rattle.irreversible.specs.Claims.{InNodeWidth}
-use Rattle.irreversible.specs.Transforms.{fixedLine}
+use Rattle.table_meaning.specs.NodeWidths.{InNodeWidth}
+use Rattle.fixed_stages.specs.Fixed.{fixedLine}
 use Rattle.rolling.specs.declared.Taken.{Taken}
 use Rattle.rolling.specs.declared.Taken.the-variants.{Zero}
 use Rattle.rolling.specs.declared.Scan.{Scan}

@@ -22,13 +22,13 @@ use Rattle.pictures.specs.Pictures.{Admitted, sample}
 use Rattle.precision.specs.Verdict.{Accepted}
 use Rattle.precision.specs.Promise.{promise}
 use Rattle.table_meaning.specs.Products.{productOf}
-use Rattle.irreversible.specs.Fixed.{valueAt, countAt}
-use Rattle.irreversible.specs.Transforms.{fixedLine}
-use Rattle.irreversible.specs.Claims.{Strip, InNodeWidth}
-use Rattle.irreversible.specs.Magnitudes.{BelowPower, BelowPower10, LevelBelowPower}
+use Rattle.fixed_stages.specs.Fixed.{valueAt, countAt, fixedLine}
+use Rattle.irreversible.specs.Claims.{Strip}
+use Rattle.table_meaning.specs.NodeWidths.{InNodeWidth}
+use Rattle.fixed_stages.specs.Safe.{BelowPower, BelowPower10, LineSafe}
+use Rattle.irreversible.specs.Magnitudes.{LevelBelowPower}
 use Rattle.irreversible.specs.MagnitudeLaws.{first-below-power-4}
-use Rattle.irreversible.specs.LevelLaws.{LineSafe, line-safe, line-sized}
-use Rattle.irreversible.specs.LevelsLaws.{bits-right}
+use Rattle.fixed_stages.specs.LineLaws.{line-safe, line-sized, bits-right}
 use Rattle.rolling.specs.Schedule.{columnPassAt}
 use Rattle.rolling.specs.Calls.{FiveBits}
 

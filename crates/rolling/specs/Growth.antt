@@ -16,12 +16,12 @@ use Rattle.width_table.specs.Table.{maxConstantBits}
 use Rattle.lifting.specs.Steps.{Safe, FactorSafe}
 use Rattle.stages.specs.Stages.{Product, productBits}
 use Rattle.stages.specs.Fixed.{nearest, cut, cutProduct, step, scale}
-use Rattle.irreversible.specs.Constants.{constantOf}
-use Rattle.irreversible.specs.Magnitudes.{BelowPower10}
-use Rattle.irreversible.specs.Sizes.{floor-size, product-cut}
-use Rattle.irreversible.specs.StepLaws.{singleOf}
-use Rattle.irreversible.specs.KernelLaws.{sP1, sU1, sP2, sU2, sG1, sG2}
-use Rattle.irreversible.specs.SafeLaws.{ConstantBits, Limits, step-safe, scale-safe, single-safe}
+use Rattle.fixed_stages.specs.Constants.{constantOf, ConstantBits}
+use Rattle.fixed_stages.specs.Safe.{BelowPower10, Limits}
+use Rattle.fixed_stages.specs.Sizes.{floor-size, product-cut}
+use Rattle.fixed_stages.specs.Steps.{singleOf}
+use Rattle.fixed_stages.specs.Kernels.{sP1, sU1, sP2, sU2, sG1, sG2}
+use Rattle.fixed_stages.specs.SafeLaws.{step-safe, scale-safe, single-safe}
 
 -- v at f fractional bits is at most b in magnitude
 abbrev pub Within : ℕ → ℕ → ℤ → Type 0

@@ -15,12 +15,11 @@ use Rattle.lifting.specs.declared.Factor.{Factor}
 use Rattle.lifting.specs.Steps.{SameStep, SameFactor}
 use Rattle.precision.specs.Promise.{promise}
 use Rattle.table_meaning.specs.Products.{productOf}
-use Rattle.irreversible.specs.StepLaws.{step-applied, scale-applied, single-applied}
-use Rattle.irreversible.specs.KernelLaws.{sP1, sU1, sP2, sU2, sG1, sG2, singleFor}
-use Rattle.irreversible.specs.SafeLaws.{Limits}
-use Rattle.irreversible.specs.StagesLaws.{AsStages}
-use Rattle.irreversible.specs.LevelBits.{IsLevel}
-use Rattle.irreversible.specs.LevelsLaws.{bits-right}
+use Rattle.fixed_stages.specs.StepLaws.{step-applied, scale-applied, single-applied}
+use Rattle.fixed_stages.specs.Kernels.{sP1, sU1, sP2, sU2, sG1, sG2, singleFor, AsStages}
+use Rattle.fixed_stages.specs.Safe.{Limits}
+use Rattle.precision.specs.Verdict.{IsLevel}
+use Rattle.fixed_stages.specs.LineLaws.{bits-right}
 use Rattle.rolling.specs.declared.Columns.{Columns}
 use Rattle.rolling.specs.Calls.{heldLines}
 use Rattle.rolling.specs.Schedule.{Line, columnPassAt, lineP1, lineU1, lineP2, lineU2, lineG1, lineG2, lineSingle}

@@ -10,7 +10,7 @@ use Rattle.width_table.specs.Nodes.{Rows}
 use Rattle.width_table.specs.declared.WidthTable.{WidthTable}
 use Rattle.pictures.specs.Pictures.{Admitted, sample}
 use Rattle.precision.specs.Verdict.{Accepted}
-use Rattle.irreversible.specs.Transforms.{fixedLine}
+use Rattle.fixed_stages.specs.Fixed.{fixedLine}
 use Rattle.rolling.specs.Schedule.{Line}
 
 -- a line of admitted width and of the table's depth, under an accepted table of one level

@@ -20,7 +20,7 @@ use Rattle.width_table.specs.declared.WidthTable.{WidthTable}
 use Rattle.width_table.specs.Table.{fractionBits, inputBits}
 use Rattle.slices.specs.Fronts.{zeroed}
 use Rattle.pictures.specs.RangeChecks.{Tells, OfBits}
-use Rattle.irreversible.specs.Claims.{InNodeWidth}
+use Rattle.table_meaning.specs.NodeWidths.{InNodeWidth}
 use Rattle.rolling.specs.Schedule.{columnPassAt}
 use Rattle.rolling.specs.Calls.{heldLines, heldIn, FiveBits, Sound, KeptFrom}
 use Rattle.rolling.specs.Memory.{Lent, in-lent}

@@ -16,7 +16,7 @@ use Rattle.width_table.specs.declared.WidthTable.{WidthTable}
 use Rattle.width_table.specs.Table.{fractionBits, inputBits}
 use Rattle.slices.specs.Patch.{at, patch-above}
 use Rattle.pictures.specs.MemoryLaws.{stands-over}
-use Rattle.irreversible.specs.Claims.{InNodeWidth}
+use Rattle.table_meaning.specs.NodeWidths.{InNodeWidth}
 use Rattle.rolling.specs.declared.Taken.the-variants.{Zero, One, Two, Three, Four, OddMany, EvenMany}
 use Rattle.rolling.specs.declared.Taken.{Taken}
 use Rattle.rolling.specs.Schedule.{Line, stacked, lineP1, lineU1, lineP2, lineU2, lineG1, lineG2, lineSingle, newP1, newU1, newP2, newU2, heldAfter, lineGives, lastP2, lastU2, oddU1, oddP2, oddU2, endGives}

@@ -9,7 +9,7 @@ ghost use Rattle.slices.specs.PatchLines.{lineAt};
 ghost use Rattle.width_table.specs.Numbered.{passOf, IsPass};
 ghost use Rattle.width_table.specs.Table.{maxFractionBits};
 ghost use Rattle.pictures.specs.RangeChecks.{Tells};
-ghost use Rattle.irreversible.specs.LevelBits.{IsLevel};
+ghost use Rattle.precision.specs.Verdict.{IsLevel};
 ghost use Rattle.rolling.specs.SoundLaws.{ColumnsSound};
 ghost use Rattle.rolling.specs.Program.{AsColumns, FirstFits, SecondFits, GiveFits, firstDone, secondDone, twoGiven, firstKept, LaterFits, laterDone, laterKept, HeldFits, LastFits, setU2, lastGiven, Enters, oneEnded, twoEnded, evenEnded, oddEnded, PastSame};
 ghost use Rattle.rolling.specs.Calls.{heldLines, outLines, heldIn, FiveBits, Sound, KeptFrom, beginAnswer, scanOf, lineWidthRight, goesOn, lineAnswerOf, LineCall, endAnswerOf, EndCall};
@@ -19,7 +19,7 @@ ghost use Rattle.rolling.specs.Rows.{LineRight, rowOf};
 ghost use Rattle.rolling.specs.Worked.{HeldWorked, LineWorked, Later, LowReady, EndWorked};
 ghost use Rattle.rolling.specs.Schedule.{next, anyTaken, lineGives, endGives};
 ghost use Rattle.pictures.specs.Pictures.{Admitted};
-use irreversible::Stages;
+use fixed_stages::Stages;
 use lifting::Factor;
 use lifting::Step;
 use refusals::Outcome;
@@ -124,7 +124,7 @@ fn single_row(table: WidthTable, pixels: &[u16], held: &mut [i32], line: usize)
     ensures { λ _. ⌜ at (now (held .exit)) ≡ setLine 1 line (rowOf table (now (pixels .entry)) 1) (at (now (held .entry))) ⌝ }
 {
     let middle = pictures::middle(table.depth);
-    let single = irreversible::single_of(table, 1, WidthTable::ROWS);
+    let single = fixed_stages::single_of(table, 1, WidthTable::ROWS);
     held[line] = lifting::centred(pixels[0], middle);
     lifting::scale_here(held, line, 1, single);
 }
@@ -139,7 +139,7 @@ fn row_to(table: WidthTable, pixels: &[u16], w: usize, held: &mut [i32], line: u
         return;
     }
     let middle = pictures::middle(table.depth);
-    let stages = irreversible::stages_of(table, 1, WidthTable::ROWS);
+    let stages = fixed_stages::stages_of(table, 1, WidthTable::ROWS);
     let first = stages.first;
     let second = stages.second;
     let low = stages.low;
@@ -210,8 +210,8 @@ fn columns_of(table: WidthTable) -> Columns
 {
     Columns {
         table,
-        low: irreversible::stages_of(table, 1, WidthTable::LOW_COLUMNS),
-        high: irreversible::stages_of(table, 1, WidthTable::HIGH_COLUMNS),
+        low: fixed_stages::stages_of(table, 1, WidthTable::LOW_COLUMNS),
+        high: fixed_stages::stages_of(table, 1, WidthTable::HIGH_COLUMNS),
     }
 }
 
@@ -325,8 +325,8 @@ fn end_one(table: WidthTable, held: &[i32], out: &mut [i32], w: usize)
     requires { ⌜ IsLevel table 1 × Lent (now held) w × Enters table w (lineIn w (at (now held)) 0) × (outLines * w ≤ length (now out)) ⌝ }
     ensures { λ _. ⌜ at (now (out .exit)) ≡ oneEnded table w (at (now (held .entry))) (at (now (out .entry))) ⌝ }
 {
-    let low = irreversible::single_of(table, 1, WidthTable::LOW_COLUMNS);
-    let high = irreversible::single_of(table, 1, WidthTable::HIGH_COLUMNS);
+    let low = fixed_stages::single_of(table, 1, WidthTable::LOW_COLUMNS);
+    let high = fixed_stages::single_of(table, 1, WidthTable::HIGH_COLUMNS);
     scale_line(held, w, 0, out, 0, low, high);
 }
 

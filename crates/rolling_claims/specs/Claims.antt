@@ -15,7 +15,9 @@ use Rattle.width_table.specs.Table.{integerBits, fractionBits}
 use Rattle.pictures.specs.Pictures.{sample}
 use Rattle.irreversible.specs.Transforms.{fixedPlane}
 use Rattle.exact.specs.Picture.{exactPlane}
-use Rattle.irreversible.specs.Claims.{keptNode, bitsPlane, Near, InNodeWidth, LevelInWidth}
+use Rattle.table_meaning.specs.Subbands.{keptNode, bitsPlane}
+use Rattle.irreversible.specs.Claims.{Near, LevelInWidth}
+use Rattle.table_meaning.specs.NodeWidths.{InNodeWidth}
 use Rattle.rolling.specs.declared.Scan.{Scan}
 use Rattle.rolling.specs.Calls.{beginAnswer, scanOf, heldLines, heldIn, Sound, lineAnswer, LineCall, endAnswer, EndCall}
 

@@ -14,8 +14,9 @@ use Rattle.width_table.specs.declared.WidthTable.{WidthTable}
 use Rattle.pictures.specs.Pictures.{sample}
 use Rattle.stages.specs.Fixed as F
 use Rattle.table_meaning.specs.Products.{productOf}
-use Rattle.irreversible.specs.Fixed as X
-use Rattle.irreversible.specs.Transforms.{fixedLine, fixedAfter, fixedPlane}
+use Rattle.fixed_stages.specs.Fixed as X
+use Rattle.fixed_stages.specs.Fixed.{fixedLine}
+use Rattle.irreversible.specs.Transforms.{fixedAfter, fixedPlane}
 use Rattle.rolling.specs.declared.Taken.{Taken}
 use Rattle.rolling.specs.declared.Taken.the-variants.{Zero}
 use Rattle.rolling.specs.Schedule as S

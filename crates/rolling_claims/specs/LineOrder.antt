@@ -15,7 +15,8 @@ use Rattle.lines.specs.RowLaws.{tabulate-same, rows-same}
 use Rattle.width_table.specs.Nodes.{Rows, columnPass}
 use Rattle.width_table.specs.declared.WidthTable.{WidthTable}
 use Rattle.pictures.specs.Pictures.{sample}
-use Rattle.irreversible.specs.Transforms.{fixedLine, fixedAfter, fixedPlane}
+use Rattle.fixed_stages.specs.Fixed.{fixedLine}
+use Rattle.irreversible.specs.Transforms.{fixedAfter, fixedPlane}
 use Rattle.irreversible.specs.LevelLaws.{line-same}
 use Rattle.rolling.specs.Schedule.{columnPassAt}
 use Rattle.rolling_claims.specs.Claims.{inTurn}

@@ -20,8 +20,10 @@ use Rattle.width_table.specs.declared.WidthTable.{WidthTable}
 use Rattle.width_table.specs.Table.{integerBits, fractionBits}
 use Rattle.precision.specs.Verdict.{Accepted}
 use Rattle.irreversible.specs.Transforms.{fixedAfter, fixedPlane}
-use Rattle.irreversible.specs.Claims.{Strip, keptNode, bitsPlane, Near, InNodeWidth, InWidth}
-use Rattle.irreversible.specs.Subbands.{kept-in}
+use Rattle.irreversible.specs.Claims.{Strip, Near, InWidth}
+use Rattle.table_meaning.specs.Subbands.{keptNode, bitsPlane}
+use Rattle.table_meaning.specs.NodeWidths.{InNodeWidth}
+use Rattle.table_meaning.specs.SubbandLaws.{kept-in}
 use Rattle.irreversible.specs.Demand3.{two-steps-strip, widths-strip}
 use Rattle.rolling.specs.Schedule.{columnPassAt}
 use Rattle.rolling_claims.specs.Claims.{inTurn, firstLines, LinesNear}

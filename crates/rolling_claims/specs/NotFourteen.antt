@@ -14,7 +14,8 @@ use Rattle.width_table.specs.Table.{integerBits, fractionBits, formRight}
 use Rattle.pictures.specs.Pictures.{lengthAnswer, pixelAnswer}
 use Rattle.stages.specs.Rule.{Bound}
 use Rattle.precision.specs.Bounds.{boundOf}
-use Rattle.precision.specs.Verdict.{fits, belowTwoSteps, keptAt, placeNumbers, judgedBy, judged, firstRefusal, verdict}
+use Rattle.precision.specs.Verdict.{fits, belowTwoSteps, placeNumbers, judgedBy, judged, firstRefusal, verdict}
+use Rattle.table_meaning.specs.Subbands.{keptAt}
 
 -- an answer that is not 14, as one number
 abbrev pub Other : Answer Unit → Type 0

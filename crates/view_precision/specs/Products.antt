@@ -13,7 +13,8 @@ use Rattle.stages.specs.Rule.{Bound}
 use Rattle.width_table.specs.Nodes.{Node, G1, G2, Pass, LowColumns, HighColumns, passNumber, nodeNumber}
 use Rattle.width_table.specs.declared.WidthTable.{WidthTable}
 use Rattle.width_table.specs.Table.{nodePlace, integerBits, fractionBits}
-use Rattle.precision.specs.Verdict.{keptAt, verdict}
+use Rattle.table_meaning.specs.Subbands.{keptAt}
+use Rattle.precision.specs.Verdict.{verdict}
 use Rattle.view_precision.specs.Bounds.{inverseBound, passGives, stored, fromLow, fromHigh, passBound, levelGives, givesFrom, startBound, pixelBound, stepsAllowed, viewDistance, passRight, nodesRight, viewable, viewVerdict}
 
 -- the same depth, the same levels, the same widths of kept nodes

@@ -19,7 +19,7 @@ use Rattle.width_table.specs.declared.WidthTable.{WidthTable}
 use Rattle.pictures.specs.Pictures.{Admitted, planeOf}
 use Rattle.pictures.specs.PictureLaws.{Room, roomAnswer, sized-then, sized-done, sized-right}
 use Rattle.view_precision.specs.Bounds.{viewVerdict, pixelBound}
-use Rattle.irreversible.specs.Claims.{InNodeWidth}
+use Rattle.table_meaning.specs.NodeWidths.{InNodeWidth}
 use Rattle.viewing.specs.View.{viewPlane, viewPicture, exactView}
 use Rattle.viewing.specs.Calls.{fitsWidth, inWidth, coefficientsRight, viewAnswerOf, viewAnswer, viewPixels}
 use Rattle.viewing.specs.Claims.{Viewable, Stored, Close, EachSmall, exactGreys, clamped, LessThanOne}

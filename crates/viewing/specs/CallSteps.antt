@@ -25,7 +25,7 @@ use Rattle.slices.specs.Parts.{Part, rowOf}
 use Rattle.pictures.specs.Pictures.{maxSide, planeOf}
 use Rattle.slices.specs.Fronts.{zeroed}
 use Rattle.pictures.specs.PictureLaws.{roomAnswer, sized-done}
-use Rattle.irreversible.specs.LevelBits.{IsLevel}
+use Rattle.precision.specs.Verdict.{IsLevel}
 use Rattle.inverse_lifting.specs.Fixed.{nodeBits, fixedInverse}
 use Rattle.inverse_lifting.specs.Planes.{Safe}
 use Rattle.view_precision.specs.Bounds.{viewVerdict}

@@ -18,7 +18,9 @@ use Rattle.width_table.specs.Table.{integerBits, fractionBits}
 use Rattle.pictures.specs.Pictures.{Admitted}
 use Rattle.stages.specs.Fixed.{fixedValue}
 use Rattle.inverse_lifting.specs.Fixed.{nodeBits, Small}
-use Rattle.irreversible.specs.Claims.{Picture, keptNode, InNodeWidth}
+use Rattle.irreversible.specs.Claims.{Picture}
+use Rattle.table_meaning.specs.Subbands.{keptNode}
+use Rattle.table_meaning.specs.NodeWidths.{InNodeWidth}
 use Rattle.irreversible.specs.Transforms.{fixedPlane}
 use Rattle.view_precision.specs.Bounds.{viewVerdict, pixelBound, viewDistance}
 use Rattle.viewing.specs.View.{enteringBits, viewLine, viewLevel, viewPlane, viewPicture, exactView}

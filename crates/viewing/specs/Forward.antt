@@ -12,7 +12,8 @@ use Rattle.width_table.specs.declared.WidthTable.{WidthTable}
 use Rattle.pictures.specs.Pictures.{planeOf}
 use Rattle.precision.specs.Verdict.{Accepted}
 use Rattle.irreversible.specs.Transforms.{fixedPlane}
-use Rattle.irreversible.specs.Claims.{Picture, keptNode}
+use Rattle.irreversible.specs.Claims.{Picture}
+use Rattle.table_meaning.specs.Subbands.{keptNode}
 use Rattle.irreversible.specs.Demand3.{kept-widths}
 use Rattle.irreversible.specs.Calls.{fixedAnswer, fixedPlaneAfter}
 use Rattle.irreversible.specs.CallLaws.{accepted, picture, stands}

@@ -33,7 +33,7 @@ use Rattle.width_table.specs.Nodes.{Node, P1, U1, P2, U2, G1, G2}
 use Rattle.inverse_lifting.specs.Fixed.{nodeBits, inverseBits, inverseStep, atG1, atG2, atU2, atP2, atU1, atP1, fixedInverseLong, fixedInverse, Small, limit}
 use Rattle.view_precision.specs.Bounds.{larger, boundAfter, even, odd, inverseBound, passGives, withinMax, passRight}
 use Rattle.view_precision.specs.Odd.{odd-range, odd-error}
-use Rattle.irreversible.specs.Fixed.{countAt}
+use Rattle.fixed_stages.specs.Fixed.{countAt}
 
 -- ---- a stage inverted is a stage with the constant negated
 

@@ -19,10 +19,12 @@ use Rattle.width_table.specs.Table.{integerBits, fractionBits}
 use Rattle.pictures.specs.Pictures.{sideAnswer, lengthAnswer, planeOf}
 use Rattle.slices.specs.Fronts.{zeroed}
 use Rattle.precision.specs.Verdict.{keptAt, verdict}
+use Rattle.pictures.specs.Pictures.{sideAnswer, lengthAnswer, planeOf, zeroed}
+use Rattle.table_meaning.specs.Subbands.{keptAt, keptNode}
+use Rattle.precision.specs.Verdict.{verdict}
 use Rattle.view_precision.specs.Products.{SeenAlike, seen-verdict, same-nodes}
 use Rattle.inverse_lifting.specs.Fixed.{nodeBits, fixedInverse}
-use Rattle.irreversible.specs.Claims.{keptNode}
-use Rattle.irreversible.specs.Subbands.{kept-everywhere}
+use Rattle.table_meaning.specs.SubbandLaws.{kept-everywhere}
 use Rattle.viewing.specs.View.{enteringBits, viewLine, viewLevel, viewFrom, viewPlane, pixel, viewPicture}
 use Rattle.viewing.specs.Calls.{fitsWidth, inWidth, coefficientsRight, viewAnswerOf, viewAnswer, viewPixels, viewWork}
 

@@ -26,8 +26,9 @@ use Rattle.width_table.specs.Limits.{form-levels}
 use Rattle.inverse_lifting.specs.Fixed.{nodeBits}
 use Rattle.view_precision.specs.Bounds.{stored, stepsAllowed, viewDistance}
 use Rattle.irreversible.specs.Transforms.{fixedPlane}
-use Rattle.irreversible.specs.Claims.{Picture, keptNode, bitsPlane}
-use Rattle.irreversible.specs.Subbands.{kept-everywhere}
+use Rattle.irreversible.specs.Claims.{Picture}
+use Rattle.table_meaning.specs.Subbands.{keptNode, bitsPlane}
+use Rattle.table_meaning.specs.SubbandLaws.{kept-everywhere}
 use Rattle.irreversible.specs.Demand3.{plane-good}
 use Rattle.viewing.specs.View.{grey, pixel, viewPlane, viewPicture}
 use Rattle.viewing.specs.Claims.{Viewable, Close, ScanToView, greysApart, GreysApart}

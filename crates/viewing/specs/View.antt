@@ -10,10 +10,9 @@ use Rattle.exact.specs.Inverse.{exactInverse}
 use Rattle.width_table.specs.Nodes.{Node, G1, G2, Pass, Rows, columnPass}
 use Rattle.width_table.specs.declared.WidthTable.{WidthTable}
 use Rattle.width_table.specs.Table.{fractionBits}
-use Rattle.precision.specs.Verdict.{keptAt}
+use Rattle.table_meaning.specs.Subbands.{keptAt, bitsPlane}
 use Rattle.stages.specs.Fixed.{fixedValue}
 use Rattle.inverse_lifting.specs.Fixed.{nodeBits, fixedInverse}
-use Rattle.irreversible.specs.Claims.{bitsPlane}
 
 -- The fractional bits of what enters a pass of level l as its lows (G1) or its highs (G2): a stored coefficient has those of its kept
 -- node; the low-low of a coarser level and what the columns left have 20.

@@ -26,12 +26,13 @@ use Rattle.width_table.specs.Nodes.{G1, Pass, Rows, LowColumns, HighColumns, Ta
 use Rattle.width_table.specs.declared.WidthTable.{WidthTable}
 use Rattle.width_table.specs.Table.{integerBits, fractionBits, formRight}
 use Rattle.width_table.specs.Limits.{form-levels, form-widths}
-use Rattle.precision.specs.Verdict.{verdict, keptAt, Accepted, AcceptPromise}
+use Rattle.precision.specs.Verdict.{verdict, Accepted, AcceptPromise}
+use Rattle.table_meaning.specs.Subbands.{keptAt, keptNode, bitsPlane, InPart}
 use Rattle.precision.specs.Promise.{promise}
 use Rattle.inverse_lifting.specs.Fixed.{nodeBits}
 use Rattle.view_precision.specs.Bounds.{stored, startBound, passBound, passRight, levelGives, givesFrom, pixelBound, nodesRight, viewable, viewVerdict}
-use Rattle.irreversible.specs.Claims.{keptNode, bitsPlane, InNodeWidth}
-use Rattle.irreversible.specs.Subbands.{InPart, part-before, kept-LL, kept-HL, kept-LH, kept-HH, kept-everywhere}
+use Rattle.table_meaning.specs.NodeWidths.{InNodeWidth}
+use Rattle.table_meaning.specs.SubbandLaws.{part-before, kept-LL, kept-HL, kept-LH, kept-HH, kept-everywhere}
 use Rattle.viewing.specs.View.{enteringBits, viewLine, viewLevel, viewFrom, viewPlane, storedPlane, exactView}
 use Rattle.viewing.specs.Claims.{Viewable, Stored, Close, WithinBound, EachSmall, Sizes}
 use Rattle.viewing.specs.Level.{Takes, level-good, level-small}

@@ -25,13 +25,12 @@ use Rattle.slices.specs.Runs.{as-type}
 use Rattle.slices.specs.PatchLines.{lineAt}
 use Rattle.slices.specs.Parts.{Part, rowOf}
 use Rattle.width_table.specs.Limits.{form-levels}
-use Rattle.precision.specs.Verdict.{Accepted}
+use Rattle.precision.specs.Verdict.{Accepted, IsLevel}
 use Rattle.precision.specs.Promise.{promise}
 use Rattle.pictures.specs.Pictures.{planeOf, Admitted}
 use Rattle.pictures.specs.RangeChecks.{Tells, OfBits}
-use Rattle.irreversible.specs.Claims.{keptNode}
-use Rattle.irreversible.specs.LevelBits.{IsLevel}
-use Rattle.irreversible.specs.Subbands.{InPart, in-part?, kept-LL, kept-HL, kept-LH, kept-HH}
+use Rattle.table_meaning.specs.Subbands.{keptNode, InPart}
+use Rattle.table_meaning.specs.SubbandLaws.{in-part?, kept-LL, kept-HL, kept-LH, kept-HH}
 use Rattle.viewing.specs.Calls.{fitsWidth, inWidth, coefficientsRight}
 
 -- ---- one coefficient

@@ -18,8 +18,9 @@ use Rattle.width_table.specs.Table.{maxIntegerBits, maxFractionBits}
 use Rattle.width_table.specs.Limits.{form-levels, form-widths}
 use Rattle.stages.specs.Fixed.{cut}
 use Rattle.inverse_lifting.specs.Fixed.{nodeBits, atU1, atP1, fixedInverseLong, fixedInverse, Small, limit}
-use Rattle.irreversible.specs.Claims.{keptNode, InNodeWidth}
-use Rattle.irreversible.specs.Subbands.{kept-everywhere}
+use Rattle.table_meaning.specs.Subbands.{keptNode}
+use Rattle.table_meaning.specs.NodeWidths.{InNodeWidth}
+use Rattle.table_meaning.specs.SubbandLaws.{kept-everywhere}
 use Rattle.viewing.specs.View.{viewLine, viewLevel}
 use Rattle.viewing.specs.Claims.{Viewable, Stored, LevelSmall}
 use Rattle.viewing.specs.Viewing.{view-promise}

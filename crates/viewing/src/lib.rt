@@ -14,6 +14,8 @@ ghost use Rattle.width_table.specs.Numbered.{nodeOf, passOf, IsNode, IsPass};
 ghost use Rattle.irreversible.specs.LevelBits.{IsLevel};
 ghost use Rattle.pictures.specs.Pictures.{maxSide, planeOf};
 ghost use Rattle.slices.specs.Fronts.{zeroed};
+ghost use Rattle.precision.specs.Verdict.{IsLevel};
+ghost use Rattle.pictures.specs.Pictures.{maxSide, planeOf, zeroed};
 ghost use Rattle.pictures.specs.RangeChecks.{Tells};
 ghost use Rattle.inverse_lifting.specs.Fixed.{nodeBits, limit};
 ghost use Rattle.viewing.specs.View.{enteringBits, viewPicture, grey, pixel};
@@ -150,9 +152,9 @@ fn greys(v: i64, depth: u8) -> i64
     ensures { λ r. ⌜ r ≡ grey depth v ⌝ }
 {
     let cut = VALUE_BITS - depth;
-    let half = irreversible::power(cut - 1);
-    let whole = irreversible::floor_shifted(v + half, cut);
-    whole + irreversible::power(depth - 1)
+    let half = fixed_stages::signed_power(cut - 1);
+    let whole = fixed_stages::floor_shifted(v + half, cut);
+    whole + fixed_stages::signed_power(depth - 1)
 }
 
 // A value as a pixel, limited to the depth.
@@ -161,7 +163,7 @@ fn shown(v: i64, depth: u8) -> u16
     ensures { λ r. ⌜ r ≡ pixel depth v ⌝ }
 {
     let g = greys(v, depth);
-    let most = irreversible::power(depth) - 1;
+    let most = fixed_stages::signed_power(depth) - 1;
     if g < 0 {
         return 0;
     }

@@ -15,6 +15,9 @@ use Rattle.pictures.specs.Pictures.{planeOf}
 use Rattle.pictures.specs.PictureLaws.{pixel-below}
 use Rattle.inverse_lifting.specs.Fixed.{inverseStep, atG1, atG2, atU2, atP2, atU1, atP1, fixedInverseLong, fixedInverse}
 use Rattle.irreversible.specs.Claims.{Picture, keptNode}
+use Rattle.view_precision.specs.Examples.{withKept, uniform, level-1, fine-distance}
+use Rattle.irreversible.specs.Claims.{Picture}
+use Rattle.table_meaning.specs.Subbands.{keptNode}
 use Rattle.irreversible.specs.Transforms.{fixedPlane}
 use Rattle.viewing.specs.View.{grey, pixel, viewLine, viewFrom, viewPlane, viewPicture}
 use Rattle.viewing.specs.Calls.{inWidth, coefficientsRight, viewAnswer}

@@ -14,8 +14,10 @@ use Rattle.slices.specs.Pixels.{pixelLine, loaded}
 use Rattle.lifting.specs.PixelLaws.{put-loaded, pixel-rows-worked}
 use Rattle.width_table.specs.Limits.{form-depth}
 use Rattle.precision.specs.Promise.{promise}
-use Rattle.irreversible.specs.KernelLaws.{kernelOf, kernel-line}
-use Rattle.irreversible.specs.LevelLaws.{LineSafe, rowed}
+use Rattle.fixed_stages.specs.Kernels.{kernelOf}
+use Rattle.fixed_stages.specs.KernelLaws.{kernel-line}
+use Rattle.fixed_stages.specs.Safe.{LineSafe}
+use Rattle.irreversible.specs.Memory.{rowed}
 use Rattle.irreversible.specs.CallSteps.{first-ready, part-of}
 use Rattle.irreversible.proofs.pixel_rows.Statement.{statement}
 use Rattle.irreversible.proofs.pixel_rows.Tie as tie

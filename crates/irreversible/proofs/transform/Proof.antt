@@ -12,9 +12,10 @@ use Rattle.slices.specs.Runs.{as-type}
 use Rattle.slices.specs.Pixels.{loaded}
 use Rattle.width_table.specs.Limits.{form-levels}
 use Rattle.precision.specs.Promise.{promise}
-use Rattle.irreversible.specs.LevelLaws.{levelWorked}
-use Rattle.irreversible.specs.LevelsLaws.{After, after-none, after-since, after-more, after-all}
-use Rattle.irreversible.specs.CallSteps.{LevelReady, level-ready}
+use Rattle.irreversible.specs.Memory.{levelWorked, After}
+use Rattle.irreversible.specs.LevelsLaws.{after-none, after-since, after-more, after-all}
+use Rattle.irreversible.specs.Ready.{LevelReady}
+use Rattle.irreversible.specs.CallSteps.{level-ready}
 use Rattle.irreversible.proofs.transform.Statement.{statement}
 use Rattle.irreversible.proofs.transform.Tie as tie
 

@@ -6,6 +6,10 @@ use Rattle.slices.specs.Runs.{as-type}
 use Rattle.slices.specs.Parts.{columnOf, columnsBy}
 use Rattle.irreversible.specs.Transforms.{fixedLine}
 use Rattle.irreversible.specs.LevelLaws.{LineSafe}
+use Rattle.lifting.specs.Runs.{as-type}
+use Rattle.lifting.specs.Kernels.{columnOf, columnsBy}
+use Rattle.fixed_stages.specs.Fixed.{fixedLine}
+use Rattle.fixed_stages.specs.Safe.{LineSafe}
 use Rattle.irreversible.specs.CallSteps.{part-of}
 use Rattle.irreversible.proofs.work_columns.Statement.{statement}
 use Rattle.irreversible.proofs.work_columns.Tie as tie

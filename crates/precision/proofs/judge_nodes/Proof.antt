@@ -10,7 +10,8 @@ use Rattle.width_table.specs.declared.WidthTable.{WidthTable}
 use Rattle.width_table.specs.Nodes.{passNodes}
 use Rattle.width_table.specs.Numbered.{nodeOf, passOf}
 use Rattle.precision.specs.Places.{judgedAs, BoundsOf}
-use Rattle.precision.specs.Verdict.{keptAt, firstRefusal}
+use Rattle.table_meaning.specs.Subbands.{keptAt}
+use Rattle.precision.specs.Verdict.{firstRefusal}
 use Rattle.precision.specs.JudgeLaws.{limited, judged-is}
 use Rattle.precision.specs.OrderLaws.{node-next, stays}
 use Rattle.precision.proofs.judge_nodes.Statement.{statement}

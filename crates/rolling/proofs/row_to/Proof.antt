@@ -14,8 +14,8 @@ use Rattle.lifting.specs.Kernels.{worked, SameKernel}
 use Rattle.slices.specs.Pixels.{pixelLine}
 use Rattle.pictures.specs.Pictures.{sample}
 use Rattle.precision.specs.Promise.{promise}
-use Rattle.irreversible.specs.KernelLaws.{kernelOf, kernel-line}
-use Rattle.irreversible.specs.StagesLaws.{stages-kernel}
+use Rattle.fixed_stages.specs.Kernels.{kernelOf}
+use Rattle.fixed_stages.specs.KernelLaws.{kernel-line, stages-kernel}
 use Rattle.rolling.specs.Memory.{setLine, Lent, in-lent}
 use Rattle.rolling.specs.Rows.{LineRight, rowOf, pixels-sampled}
 use Rattle.rolling.specs.FiveBits.{row-safe}

@@ -13,7 +13,7 @@ use Rattle.slices.specs.Patch.{at, patch, patch-in, patch-one}
 use Rattle.lifting.specs.Steps.{FactorSafe, scaledBy}
 use Rattle.slices.specs.Pixels.{pixelLine}
 use Rattle.precision.specs.Promise.{promise}
-use Rattle.irreversible.specs.KernelLaws.{factor-line}
+use Rattle.fixed_stages.specs.KernelLaws.{factor-line}
 use Rattle.rolling.specs.Memory.{setLine, changed-there}
 use Rattle.rolling.specs.Rows.{pixels-sampled}
 use Rattle.rolling.specs.FiveBits.{row-safe}

@@ -16,13 +16,13 @@ use Rattle.viewing.proofs.greys.Statement.{statement}
 use Rattle.viewing.proofs.greys.Tie as tie
 
 -- half a grey
-half-size : (c : tie.After-power) → natAbs (c .power .result) ≤ 2 ^ 19
-half-size c = subst (λ (z : ℤ). natAbs z ≤ 2 ^ 19) (sym (c .power .ensures)) (pow-mono {i = nodeBits - c .before .args .depth - 1} {j = 19} (omega arith))
+half-size : (c : tie.After-signed-power) → natAbs (c .signed-power .result) ≤ 2 ^ 19
+half-size c = subst (λ (z : ℤ). natAbs z ≤ 2 ^ 19) (sym (c .signed-power .ensures)) (pow-mono {i = nodeBits - c .before .args .depth - 1} {j = 19} (omega arith))
 
-sum-is : (c : tie.After-power) → rd w64 (rd w64 (c .before .args .v) +ℤ rd w64 (c .power .result)) ≡ c .before .args .v +ℤ pos (2 ^ (nodeBits - c .before .args .depth - 1))
+sum-is : (c : tie.After-signed-power) → rd w64 (rd w64 (c .before .args .v) +ℤ rd w64 (c .signed-power .result)) ≡ c .before .args .v +ℤ pos (2 ^ (nodeBits - c .before .args .depth - 1))
 sum-is c =
-    auto-exact (search (values, v-arg (c .before .args .v) 34359738368 (c .before .pre .2), v-arg (c .power .result) 524288 (half-size c)) depth 40) tt
-    ∙ ap (λ (z : ℤ). c .before .args .v +ℤ z) (c .power .ensures)
+    auto-exact (search (values, v-arg (c .before .args .v) 34359738368 (c .before .pre .2), v-arg (c .signed-power .result) 524288 (half-size c)) depth 40) tt
+    ∙ ap (λ (z : ℤ). c .before .args .v +ℤ z) (c .signed-power .ensures)
 
 -- the wholes
 whole-is : (c : tie.After-floor-shifted) → c .floor-shifted .result ≡ floorDiv (c .before .before .args .v +ℤ pos (2 ^ (nodeBits - c .before .before .args .depth - 1))) (2 ^ (nodeBits - c .before .before .args .depth))
@@ -38,14 +38,14 @@ whole-size c =
     (le-trans (floor-abs (a .v +ℤ pos half) (2 ^ (nodeBits - a .depth)) (2 ^ 36) (pow-pos (nodeBits - a .depth)) size) (omega (arith, div-le-self (2 ^ 36) (2 ^ (nodeBits - a .depth)))))
 
 -- the middle
-middle-size : (c : tie.After-power2) → natAbs (c .power2 .result) ≤ 4096
-middle-size c = subst (λ (z : ℤ). natAbs z ≤ 4096) (sym (c .power2 .ensures)) (power-small (c .before .before .before .args .depth - 1) (omega arith))
+middle-size : (c : tie.After-power2) → natAbs (c .signed-power2 .result) ≤ 4096
+middle-size c = subst (λ (z : ℤ). natAbs z ≤ 4096) (sym (c .signed-power2 .ensures)) (power-small (c .before .before .before .args .depth - 1) (omega arith))
 
 returns : tie.Need-returns
 returns c =
     let a = c .before .before .before .args in
-    auto-exact (search (values, v-arg (c .before .floor-shifted .result) 137438953472 (whole-size (c .before)), v-arg (c .power2 .result) 4096 (middle-size c)) depth 40) tt
-    ∙ (λ u. whole-is (c .before) u +ℤ c .power2 .ensures u)
+    auto-exact (search (values, v-arg (c .before .floor-shifted .result) 137438953472 (whole-size (c .before)), v-arg (c .signed-power2 .result) 4096 (middle-size c)) depth 40) tt
+    ∙ (λ u. whole-is (c .before) u +ℤ c .signed-power2 .ensures u)
     ∙ grey-cut (a .depth) (a .v) (omega arith) (omega arith)
 
 pub greys-spec : {M : Type 1} → statement M
@@ -55,9 +55,9 @@ greys-spec =
     (λ c. search needs)
     (λ c. search needs)
     (λ c κs. search needs)
-    (λ c. auto-fits (search (values, v-arg (c .before .args .v) 34359738368 (c .before .pre .2), v-arg (c .power .result) 524288 (half-size c)) depth 40) tt)
+    (λ c. auto-fits (search (values, v-arg (c .before .args .v) 34359738368 (c .before .pre .2), v-arg (c .signed-power .result) 524288 (half-size c)) depth 40) tt)
     (λ c κs. search needs)
     (λ c. search needs)
     (λ c κs. search needs)
-    (λ c. auto-fits (search (values, v-arg (c .before .floor-shifted .result) 137438953472 (whole-size (c .before)), v-arg (c .power2 .result) 4096 (middle-size c)) depth 40) tt)
+    (λ c. auto-fits (search (values, v-arg (c .before .floor-shifted .result) 137438953472 (whole-size (c .before)), v-arg (c .signed-power2 .result) 4096 (middle-size c)) depth 40) tt)
     returns)

@@ -16,24 +16,24 @@ use Rattle.viewing.specs.PixelSteps.{largest-some, power-small, pixel-be
 use Rattle.viewing.proofs.shown.Statement.{statement}
 use Rattle.viewing.proofs.shown.Tie as tie
 
-power-size : (c : tie.After-power) → natAbs (c .power .result) ≤ 4096
-power-size c = subst (λ (z : ℤ). natAbs z ≤ 4096) (sym (c .power .ensures)) (power-small (c .before .before .args .depth) (omega arith))
+power-size : (c : tie.After-signed-power) → natAbs (c .signed-power .result) ≤ 4096
+power-size c = subst (λ (z : ℤ). natAbs z ≤ 4096) (sym (c .signed-power .ensures)) (power-small (c .before .before .args .depth) (omega arith))
 
 -- the greatest pixel
-less : (c : tie.After-power) → rd w64 (c .power .result) -ℤ pos 1 ≡ pos (2 ^ c .before .before .args .depth) -ℤ pos 1
-less c = auto-exact (search (values, v-arg (c .power .result) 4096 (power-size c)) depth 40) tt ∙ ap (λ (z : ℤ). z -ℤ pos 1) (c .power .ensures)
+less : (c : tie.After-signed-power) → rd w64 (c .signed-power .result) -ℤ pos 1 ≡ pos (2 ^ c .before .before .args .depth) -ℤ pos 1
+less c = auto-exact (search (values, v-arg (c .signed-power .result) 4096 (power-size c)) depth 40) tt ∙ ap (λ (z : ℤ). z -ℤ pos 1) (c .signed-power .ensures)
 
-less-fits : (c : tie.After-power) → SFits w64 (rd w64 (c .power .result) -ℤ pos 1)
-less-fits c = auto-fits (search (values, v-arg (c .power .result) 4096 (power-size c)) depth 40) tt
+less-fits : (c : tie.After-signed-power) → SFits w64 (rd w64 (c .signed-power .result) -ℤ pos 1)
+less-fits c = auto-fits (search (values, v-arg (c .signed-power .result) 4096 (power-size c)) depth 40) tt
 
-most : (c : tie.After-power) → rd w64 (rd w64 (c .power .result) -ℤ pos 1) ≡ pos (2 ^ c .before .before .args .depth - 1)
+most : (c : tie.After-signed-power) → rd w64 (rd w64 (c .signed-power .result) -ℤ pos 1) ≡ pos (2 ^ c .before .before .args .depth - 1)
 most c = toZ-ofZ (less-fits c) ∙ less c ∙ less-one _ (largest-some (c .before .before .args .depth))
 
 -- the grey
-fits : (c : tie.After-power) → SFits w64 (c .before .greys .result)
+fits : (c : tie.After-signed-power) → SFits w64 (c .before .greys .result)
 fits c = sfits-of (c .before .greys .ok)
 
-is : (c : tie.After-power) → c .before .greys .result ≡ grey (c .before .before .args .depth) (c .before .before .args .v)
+is : (c : tie.After-signed-power) → c .before .greys .result ≡ grey (c .before .before .args .depth) (c .before .before .args .v)
 is c = c .before .greys .ensures ∙ ap (grey (c .before .before .args .depth)) (toZ-ofZ (c .before .before .fits .v))
 
 -- not below 0, not above the greatest

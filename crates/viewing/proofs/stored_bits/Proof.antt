@@ -1,6 +1,6 @@
 -- `viewing::stored_bits` meets its contract: what is read of the table, in 32 bits.
 use borrow.Author.Needs.{needs}
-use Rattle.irreversible.specs.LevelBits.{fraction-is}
+use Rattle.fixed_stages.specs.LevelBits.{fraction-is}
 use Rattle.viewing.proofs.stored_bits.Statement.{statement}
 use Rattle.viewing.proofs.stored_bits.Tie as tie
 

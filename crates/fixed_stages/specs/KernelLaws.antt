@@ -35,23 +35,23 @@ scaled-is c F fm f = fun-ext λ x. scale-applied c F fm f x
 module _ (F : Node → ℕ) (fp : Node → Product) (fi : ℕ) (f : Node → ℕ) where
   -- what the kernel leaves on its way in the line, and at last
   module _ (n : ℕ) (x : ℕ → ℤ) where
-    pub first-highs : firstHighs firstPair secondPair n x ≡ atP1 F fp fi f n x
+    pub first-highs : firstHighs (firstPair F fp fi f) (secondPair F fp fi f) n x ≡ atP1 F fp fi f n x
     unfolding atP1
     first-highs = λ u. onHighs (applied-is (fp P1) alpha (F P1) fi fi (f P1) u) n (evens x) (odds x)
 
-    pub first-lows : firstLows firstPair secondPair n x ≡ atU1 F fp fi f n x
+    pub first-lows : firstLows (firstPair F fp fi f) (secondPair F fp fi f) n x ≡ atU1 F fp fi f n x
     unfolding atU1
     first-lows = λ u. onLows (applied-is (fp U1) beta (F U1) (f P1) fi (f U1) u) n (evens x) (first-highs u)
 
-    pub second-highs : secondHighs firstPair secondPair n x ≡ atP2 F fp fi f n x
+    pub second-highs : secondHighs (firstPair F fp fi f) (secondPair F fp fi f) n x ≡ atP2 F fp fi f n x
     unfolding atP2
     second-highs = λ u. onHighs (applied-is (fp P2) gamma (F P2) (f U1) (f P1) (f P2) u) n (first-lows u) (first-highs u)
 
-    pub second-lows : secondLows firstPair secondPair n x ≡ atU2 F fp fi f n x
+    pub second-lows : secondLows (firstPair F fp fi f) (secondPair F fp fi f) n x ≡ atU2 F fp fi f n x
     unfolding atU2
     second-lows = λ u. onLows (applied-is (fp U2) delta (F U2) (f P2) (f U1) (f U2) u) n (first-lows u) (second-highs u)
 
-    pub worked-pass : worked kernelFrom n x ≡ fixedLong F fp fi f n x
+    pub worked-pass : worked (kernelFrom F fp fi f) n x ≡ fixedLong F fp fi f n x
     unfolding worked fixedLong atG1 atG2
     worked-pass = λ u. lowsFirst n (λ i. scaled-is zeta (F G1) (f U2) (f G1) u (second-lows u i)) (λ i. scaled-is zetaInverse (F G2) (f P2) (f G2) u (second-highs u i))
 

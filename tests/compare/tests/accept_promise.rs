@@ -1,4 +1,4 @@
-//! The 9/7 crate takes of the crate of the judge what docs/DECISIONS.md says
+//! The 9/7 crates take of the crate of the judge what docs/DECISIONS.md says
 //! under "The accept promise", and nothing else. Read from the sources alone.
 
 use std::collections::BTreeSet;
@@ -90,10 +90,13 @@ fn sources(folder: &Path) -> Vec<PathBuf> {
 fn the_page_names_what_is_taken_of_the_judge() {
     let page = fs::read_to_string(root().join("docs/DECISIONS.md")).unwrap();
     let mut all = Names::new();
-    let files: Vec<PathBuf> = ["specs", "proofs", "src"]
-        .iter()
-        .flat_map(|part| sources(&root().join("crates/irreversible").join(part)))
-        .collect();
+    let mut files = Vec::new();
+    for name in ["fixed_stages", "irreversible"] {
+        for part in ["specs", "proofs", "src"] {
+            let folder = root().join("crates").join(name).join(part);
+            files.extend(sources(&folder));
+        }
+    }
     assert!(files.len() > 50, "{}", files.len());
     for file in files {
         let text = fs::read_to_string(&file).unwrap();

@@ -267,7 +267,7 @@ pub extern "C" fn suz_inverse53(
     ensures pixels { λ _. ⌜ now (pixels .exit) ≡ backPixels columnsFirst depth levels width height (now (plane .entry)) (now (pixels .entry)) (now (work .entry)) ⌝ }
     ensures work { λ _. ⌜ now (work .exit) ≡ backWork depth levels width height (now (plane .entry)) (now (pixels .entry)) (now (work .entry)) ⌝ }
 {
-    refusals::code(reversible::back(depth, levels, plane, width, height, pixels, work))
+    refusals::code(reversible_back::back(depth, levels, plane, width, height, pixels, work))
 }
 
 // 5/3 back, of copies made earlier, rows before columns: columns inverted before rows. 4, 8, 9, 11.
@@ -285,7 +285,7 @@ pub extern "C" fn suz_inverse53_rows_first(
     ensures pixels { λ _. ⌜ now (pixels .exit) ≡ backPixels rowsFirst depth levels width height (now (plane .entry)) (now (pixels .entry)) (now (work .entry)) ⌝ }
     ensures work { λ _. ⌜ now (work .exit) ≡ backWork depth levels width height (now (plane .entry)) (now (pixels .entry)) (now (work .entry)) ⌝ }
 {
-    refusals::code(reversible::back_rows_first(depth, levels, plane, width, height, pixels, work))
+    refusals::code(reversible_back::back_rows_first(depth, levels, plane, width, height, pixels, work))
 }
 
 // 9/7 forward: 1 to 5 of the bytes, then 6, 7, 8, 9, 10.

@@ -1,13 +1,13 @@
--- The order of refusals in the two calls, step by step.
+-- The order of refusals in the forward call, step by step, and when a call is allowed.
 use mathlib.Core.List.{List, []}
 use lib.IntN.{ℤ}
 use lib.ListN.{length}
 use Prim.Native.Nat.{ℕ, _*_}
-use mathlib.Core.Bool.{Bool, true, false, not, _&&_}
+use mathlib.Core.Bool.{true, false, _&&_}
 use mathlib.Core.Path.{_≡_, sym, _∙_, ap, subst}
 use lib.Dec.{T}
 use Rattle.numbers.specs.Tests.{both, between-≤}
-use Rattle.refusals.specs.Answers.{Reason, Answer, refused, passed, asks, _then_}
+use Rattle.refusals.specs.Answers.{Reason, Answer, refused, passed, _then_}
 use Rattle.width_table.specs.Table.{depthRight, levelsRight, maxDepth, maxLevels}
 use Rattle.numbers.specs.Lists.{over}
 use Rattle.refusals.specs.AnswerLaws.{asks-done, asks-right, asks-wrong, then-done, then-assoc, then-right, then-refused, answered-done, answered-refused}
@@ -15,9 +15,8 @@ use Rattle.lines.specs.Planes.{rowByRow}
 use Rattle.pictures.specs.Pictures.{pixelAnswer, sample}
 use Rattle.slices.specs.Fronts.{zeroed}
 use Rattle.pictures.specs.PictureLaws.{roomAnswer, sized-then, sized-done, pixels-done}
-use Rattle.reversible.specs.Reversible.{Order, columnsFirst, forward}
-use Rattle.reversible.specs.Calls.{limitAnswer, forwardAnswer, forwardPlane, forwardWork, hasPicture, backAllowed, backAnswer, backPixels, backWork}
-use Rattle.reversible.specs.FoundLaws.{TakenBack}
+use Rattle.reversible.specs.Reversible.{columnsFirst, forward}
+use Rattle.reversible.specs.Calls.{limitAnswer, forwardAnswer, forwardPlane, forwardWork}
 use Rattle.reversible.specs.Preconditions.{CallRoom, ForwardRoom}
 
 -- depth and levels are within their limits, or 4 is the answer
@@ -68,40 +67,3 @@ module _ (B L w h : ℕ) (pixels : List ℕ) (plane work : List ℤ) where
 
   pub forward-room : allowed ≡ passed → pixelAnswer B w h pixels ≡ passed → ForwardRoom B L w h pixels (length plane) (length work)
   forward-room e f = record { call = allowed-room B L w h _ _ _ e; right = pixels-done B w h pixels f }
-
--- ---- back
-
-module _ (order : Order) (B L w h : ℕ) (plane : List ℤ) (pixels : List ℕ) (work : List ℤ) where
-  abbrev may : Answer Unit
-  may = limitAnswer B L then roomAnswer w h (length pixels) (length plane) (length work)
-
-  -- the call's answer, and what it leaves in the pixels and in the work area
-  abbrev pub Backed : Answer Unit → List ℕ → List ℤ → Type 0
-  Backed o p q = (o ≡ backAnswer order B L w h plane pixels work) × ((p ≡ backPixels order B L w h plane pixels work) × (q ≡ backWork B L w h plane pixels work))
-
-  pub back-not-allowed : (r : Reason) → may ≡ refused r → Backed (refused r) pixels work
-  unfolding backAnswer backPixels backWork backAllowed
-  back-not-allowed r e =
-      let d : backAnswer order B L w h plane pixels work ≡ refused r = then-refused may _ r e in
-      (sym d, (sym (answered-refused _ pixels d), sym (answered-refused _ work e)))
-
-  module _ (e : may ≡ passed) (p : List ℕ) (q : List ℤ) (cleared : q ≡ zeroed (w * h) work) where
-    last : backAnswer order B L w h plane pixels work ≡ asks (hasPicture order B L w h plane) 11 passed
-    unfolding backAnswer backAllowed
-    last = then-right may _ e
-
-    zero-work : q ≡ backWork B L w h plane pixels work
-    unfolding backWork backAllowed
-    zero-work = cleared ∙ sym (answered-done _ work e)
-
-    pub back-done : (r : Bool) → TakenBack order B L w h plane pixels p r → r ≡ true → Backed passed p q
-    unfolding backPixels
-    back-done r b t =
-        let d = last ∙ ap (λ (t : Bool). asks t 11 passed) (sym (b .answer) ∙ t) in
-        (sym d, (b .written (subst T (sym t) tt) ∙ sym (answered-done _ pixels d), zero-work))
-
-    pub back-none : (r : Bool) → TakenBack order B L w h plane pixels p r → r ≡ false → Backed (refused (11, [])) p q
-    unfolding backPixels
-    back-none r b t =
-        let d = last ∙ ap (λ (t : Bool). asks t 11 passed) (sym (b .answer) ∙ t) in
-        (sym d, (b .kept (subst (λ (t : Bool). T (not t)) (sym t) tt) ∙ sym (answered-refused _ pixels d), zero-work))

@@ -1,12 +1,12 @@
--- A level of the 5/3 transform in memory, forward and back: what the kernels over rows and columns leave in either order, and that their
--- steps fit.
+-- A level of the 5/3 transform in memory: what a kernel over rows and columns leaves, and that its steps fit; forward, and how large a
+-- transform's values become.
 use Prim.Native.Nat.{ℕ, zero, suc, _+_, _*_, _<_, _≤_, _^_}
 use mathlib.Core.Bool.{Bool}
 use mathlib.Core.Path.{_≡_, refl, sym, _∙_, ap, subst}
 use native.Mathlib.Omega.{arith}
 use lib.IntN.{ℤ, natAbs}
 use Rattle.lines.specs.Lines.{Liftable}
-use Rattle.lines.specs.Planes.{Plane, OnLine, rows, within, levelRowsFirst, levelColumnsFirst, levels, side}
+use Rattle.lines.specs.Planes.{Plane, OnLine, rows, within, levelColumnsFirst, levels, side}
 use Rattle.lines.specs.PlaneLaws.{within-in, within-below, within-beyond, Keeps, rows-first-in, rows-first-keeps, columns-first-in, columns-first-keeps, by-part, side-le}
 use Rattle.lines.specs.OneLaws.{one-single, long-line}
 use Rattle.lifting.specs.declared.Kernel.{Kernel}
@@ -17,6 +17,11 @@ use Rattle.pictures.specs.MemoryLaws.{Stands, Reads, one-reads, rows-stand, col
 use Rattle.lifting.specs.PixelLaws.{worked-same}
 use Rattle.reversible.specs.Reversible.{Order, columnsFirst, rowsFirst, reversiblePass, forwardLevel, forward, inverseLevel}
 use Rattle.reversible.specs.Sizes.{workedFrom, forwardKernel, inverseKernel, forward-kernel, back-kernel, Grows, forward-grows, forward-safe, back-safe}
+use Rattle.lifting.specs.PatchLines.{lineAt, patchLines, lines-apart, lines-is}
+use Rattle.lifting.specs.Kernels.{worked, SafeKernel, rowOf, columnOf, rowsBy, columnsBy, rowsWorked, columnsWorked}
+use Rattle.pictures.specs.MemoryLaws.{Stands, Reads, one-reads, worked-same, rows-stand, columns-stand, rows-beyond, columns-beyond, columnsPlane, columns-in, columns-below, columns-right}
+use Rattle.reversible.specs.Reversible.{Order, columnsFirst, rowsFirst, reversiblePass, forwardLevel, forward}
+use Rattle.reversible.specs.Sizes.{workedFrom, forwardKernel, forward-kernel, Grows, forward-grows, forward-safe}
 
 -- values of size b at most within w columns and h rows
 abbrev pub BoundedPart : ℕ → ℕ → ℕ → Plane ℤ → Type 0
@@ -57,7 +62,7 @@ module _ (k : Kernel) (W w h : ℕ) (x : ℕ → ℤ) where
   columns-more works = λ u. patchLines (lineAt 0 W) w h (λ r c. sym (long-line (λ v. v) (worked k) h works) u (columnOf W 0 x c) r) x
 
 -- a line is made of its own values only
-from-reads : (k : Kernel) → Reads (workedFrom k)
+pub from-reads : (k : Kernel) → Reads (workedFrom k)
 from-reads k = one-reads (λ v. v) (worked k) (worked-same k)
 
 -- ---- a part of w columns and h rows worked in memory by a pass, in a plane of W columns and H rows
@@ -66,19 +71,7 @@ module _ (pass : OnLine ℤ) (reads : Reads pass) (W H w h : ℕ) (in-w : w ≤ 
   abbrev columnPass : Bool → OnLine ℤ
   columnPass low = pass
 
-  rows-then-columns : Stands W H (columnsBy pass W 0 w h (rowsBy pass W w h x)) (levelRowsFirst pass columnPass w h p)
-  unfolding rows
-  rows-then-columns r c i j =
-      let q : Plane ℤ = within w h (rows pass w p) p in
-      columns-stand pass reads W H 0 w h (rowsBy pass W w h x) q (omega arith) in-h (rows-stand pass reads W H w h x p in-w in-h stands) r c i j
-      ∙ by-part (λ r c. columnsPlane pass 0 w h q r c ≡ levelRowsFirst pass columnPass w h p r c) w h
-      (λ r c i j. columns-in pass 0 w h q r c i (omega arith) (omega arith)
-      ∙ reads h (λ m. q m c) (λ m. pass w (p m) c) (λ m a. within-in w h _ p m c a j) r i
-      ∙ sym (rows-first-in pass columnPass w h p r c i j))
-      (λ r c i. columns-below pass 0 w h q r c i ∙ within-below w h _ p r c i ∙ sym (rows-first-keeps pass columnPass .below w h p r c i))
-      (λ r c j. columns-right pass 0 w h q r c (omega arith) ∙ within-beyond w h _ p r c j ∙ sym (rows-first-keeps pass columnPass .beyond w h p r c j)) r c
-
-  columns-then-rows : Stands W H (rowsBy pass W w h (columnsBy pass W 0 w h x)) (levelColumnsFirst pass columnPass w h p)
+  pub columns-then-rows : Stands W H (rowsBy pass W w h (columnsBy pass W 0 w h x)) (levelColumnsFirst pass columnPass w h p)
   unfolding rows
   columns-then-rows r c i j =
       let q : Plane ℤ = columnsPlane pass 0 w h p in
@@ -94,11 +87,6 @@ module _ (pass : OnLine ℤ) (reads : Reads pass) (W H w h : ℕ) (in-w : w ≤ 
 abbrev pub levelForward : ℕ → ℕ → ℕ → (ℕ → ℤ) → ℕ → ℤ
 levelForward W w h x = rowsFrom forwardKernel W w h (columnsFrom forwardKernel W w h x)
 
--- a level back, of a copy of either order
-abbrev pub levelInverse : Order → ℕ → ℕ → ℕ → (ℕ → ℤ) → ℕ → ℤ
-levelInverse columnsFirst W w h x = columnsFrom inverseKernel W w h (rowsFrom inverseKernel W w h x)
-levelInverse rowsFirst W w h x = rowsFrom inverseKernel W w h (columnsFrom inverseKernel W w h x)
-
 module _ (W H w h : ℕ) (in-w : w ≤ W) (in-h : h ≤ H) (x : ℕ → ℤ) where
   pub forward-beyond : (q : ℕ) → W * H ≤ q → levelForward W w h x q ≡ x q
   forward-beyond q i = rows-beyond (workedFrom forwardKernel) W H w h (columnsFrom forwardKernel W w h x) in-w in-h q i ∙ columns-beyond (workedFrom forwardKernel) W H 0 w h x (omega arith) in-h q i
@@ -108,19 +96,13 @@ module _ (W H w h : ℕ) (in-w : w ≤ W) (in-h : h ≤ H) (x : ℕ → ℤ) whe
     forward-stands = subst (λ (pass : OnLine ℤ). Stands W H (levelForward W w h x) (levelColumnsFirst pass (λ low. pass) w h p)) forward-kernel
         (columns-then-rows (workedFrom forwardKernel) (from-reads forwardKernel) W H w h in-w in-h x p stands)
 
-    pub back-stands : (order : Order) → Stands W H (levelInverse order W w h x) (inverseLevel order w h p)
-    back-stands columnsFirst = subst (λ (pass : OnLine ℤ). Stands W H (levelInverse columnsFirst W w h x) (levelRowsFirst pass (λ low. pass) w h p)) back-kernel
-        (rows-then-columns (workedFrom inverseKernel) (from-reads inverseKernel) W H w h in-w in-h x p stands)
-    back-stands rowsFirst = subst (λ (pass : OnLine ℤ). Stands W H (levelInverse rowsFirst W w h x) (levelColumnsFirst pass (λ low. pass) w h p)) back-kernel
-        (columns-then-rows (workedFrom inverseKernel) (from-reads inverseKernel) W H w h in-w in-h x p stands)
-
 -- ---- the steps fit
 
 module _ (W w h b : ℕ) (in-w : w ≤ W) (x : ℕ → ℤ) (small : BoundedPart b w h (planeAt W x)) where
-  row-small : (r : ℕ) → r < h → (c : ℕ) → c < w → natAbs (rowOf W 0 x r c) ≤ b
+  pub row-small : (r : ℕ) → r < h → (c : ℕ) → c < w → natAbs (rowOf W 0 x r c) ≤ b
   row-small r i c j = sized-as b _ _ (ap x (omega arith)) (small r c i j)
 
-  column-small : (c : ℕ) → c < w → (r : ℕ) → r < h → natAbs (columnOf W 0 x c r) ≤ b
+  pub column-small : (c : ℕ) → c < w → (r : ℕ) → r < h → natAbs (columnOf W 0 x c r) ≤ b
   column-small c j r i = row-small r i c j
 
   module _ (fits : 5 * b + 2 < 2 ^ 31) where
@@ -129,12 +111,6 @@ module _ (W w h b : ℕ) (in-w : w ≤ W) (x : ℕ → ℤ) (small : BoundedPart
 
     pub forward-columns-safe : Liftable h → (c : ℕ) → c < w → SafeKernel forwardKernel h (columnOf W 0 x c)
     forward-columns-safe tall c j = forward-safe h b (columnOf W 0 x c) tall (column-small c j) fits
-
-    pub back-rows-safe : Liftable w → (r : ℕ) → r < h → SafeKernel inverseKernel w (rowOf W 0 x r)
-    back-rows-safe wide r i = back-safe w b _ wide (row-small r i) fits
-
-    pub back-columns-safe : Liftable h → (c : ℕ) → c < w → SafeKernel inverseKernel h (columnOf W 0 x c)
-    back-columns-safe tall c j = back-safe h b _ tall (column-small c j) fits
 
   -- values after the first of a level's two passes, by a kernel that makes them at most m times as large
   module _ (k : Kernel) (m : ℕ) (grows : Grows m (workedFrom k)) where

@@ -11,22 +11,18 @@
 --   OneToOne         the claim one-picture: two pictures with one transform are equal
 --   TwoOrders        worked copies: the two orders are two
 --   Unchanged        sides that were admitted before job 6
--- For the proofs of the code:
---   Orders           the order as the code names it
---   Sizes            the kernels of the code are the passes; how large their values become
+-- For the proofs of the code, which is that of the forward call; the way back is the crate reversible_back:
+--   Sizes            the kernel of the code is the pass; how large its values become
 --   Columns          the columns of a picture, line by line into the plane
---   LevelLaws        a level in memory, forward and back, in either order
+--   LevelLaws        a level in memory
 --   LoopLaws         levels one after another in memory
 --   Preconditions    what the functions ask of their callers
 --   StepLaws         samples in, levels, the work area cleared
---   BackLaws         what the looks of the way back tell
---   FoundLaws        its end: whether pixels came out, and what is written
---   AnswerLaws       the order of refusals, step by step
+--   AnswerLaws       the order of refusals, step by step, and when a call is allowed
 pub mod Reversible
 pub mod Cases
 pub mod Calls
 pub mod Claims
-pub mod Orders
 pub mod CaseLaws
 pub mod ReversibleLaws
 pub mod PictureLaws
@@ -37,8 +33,6 @@ pub mod Columns
 pub mod LoopLaws
 pub mod Preconditions
 pub mod StepLaws
-pub mod BackLaws
-pub mod FoundLaws
 pub mod AnswerLaws
 pub mod OneToOne
 pub mod TwoOrders

@@ -11,9 +11,8 @@ use Rattle.lines.specs.RowLaws.{rows-length}
 use Rattle.pictures.specs.Pictures.{sample, planeOf}
 use Rattle.reversible.specs.Reversible.{Order, forward, inverse}
 use Rattle.reversible.specs.Claims.{PixelsOf, copyOf, OnePicture}
-use Rattle.reversible.specs.PictureLaws.{goes-back}
+use Rattle.reversible.specs.PictureLaws.{by-place, goes-back}
 use Rattle.reversible.specs.ReversibleLaws.{take-add}
-use Rattle.reversible.specs.FoundLaws.{by-place}
 
 module _ (order : Order) (B L w h : ℕ) (some : 1 ≤ w) (p q : List ℕ) (same : copyOf order B L w h p ≡ copyOf order B L w h q) where
   long : length (copyOf order B L w h q) ≡ w * h

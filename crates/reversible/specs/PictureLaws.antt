@@ -1,9 +1,10 @@
 -- Refusal 11: the way back leaves the pixels' range exactly where no picture of that depth and size has the plane in that order.
-use Prim.Native.Nat.{ℕ, _+_, _*_, _-_, _^_, _<_, _≤_}
+use Prim.Native.Nat.{ℕ, _+_, _*_, _-_, _/_, _%_, _^_, _<_, _≤_}
 use mathlib.Core.Bool.{Bool}
 use mathlib.Core.List.{List, [], _∷_, map}
 use mathlib.Core.Logic.{_↔_}
 use mathlib.Core.Path.{_≡_, refl, sym, _∙_, ap, subst}
+use native.Mathlib.Nat.{mul-comm, mod-lt, div-add-mod', div-lt-iff-lt-mul}
 use native.Mathlib.Omega.{arith}
 use lib.Dec.{T, ltb, le→leb, lt→ltb, ltb→lt}
 use lib.ListN.{length, getD, take, length-map, List·getD-map}
@@ -19,6 +20,10 @@ use Rattle.reversible.specs.ReversibleLaws.{take-add, add-take, forward-
 use Rattle.lines.specs.RowLaws.{place-in, rows-length, rows-at, rows-same, rows-take, every-at, every-row, every-row-at}
 use Rattle.reversible.specs.Calls.{pixelsBack, isPixel, hasPicture}
 use Rattle.reversible.specs.Claims.{PixelsOf, copyOf, Copied}
+
+-- what holds at each row and column holds at each place
+pub by-place : (P : ℕ → Type 0) (w h : ℕ) → 1 ≤ w → ((r c : ℕ) → r < h → c < w → P (r * w + c)) → (k : ℕ) → k < w * h → P k
+by-place P w h some f k i = subst P (div-add-mod' k w) (f (k / w) (k % w) (div-lt-iff-lt-mul some .1 (subst (λ (n : ℕ). k < n) (mul-comm w h) i)) (mod-lt k some))
 
 every-map : {A C : Type 0} (k : A → C) (f : A → Bool) (g : C → Bool) → ((a : A) → T (f a) → T (g (k a))) → (l : List A) → T (every f l) → T (every g (map k l))
 unfolding every

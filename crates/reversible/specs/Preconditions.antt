@@ -19,8 +19,8 @@ use Rattle.lines.specs.Lines.{Liftable}
 use Rattle.lines.specs.Planes.{Plane, side}
 use Rattle.lines.specs.PlaneLaws.{side-le}
 use Rattle.lines.specs.RowLaws.{place-in}
-use Rattle.reversible.specs.LevelLaws.{BoundedPart, planeAt, rowsFrom, columnsFrom, forward-rows-safe, forward-columns-safe, rows-sized, back-rows-safe, back-columns-safe, columns-sized}
-use Rattle.reversible.specs.Sizes.{forwardKernel, inverseKernel, forward-grows, back-grows, forward-safe}
+use Rattle.reversible.specs.LevelLaws.{BoundedPart, planeAt, columnsFrom, forward-rows-safe, forward-columns-safe, columns-sized}
+use Rattle.reversible.specs.Sizes.{forwardKernel, forward-grows, forward-safe}
 use Rattle.reversible.specs.Columns.{sampleColumn, PixelRoom}
 use Rattle.width_table.specs.Table.{maxLevels, maxDepth}
 
@@ -166,12 +166,6 @@ module _ {plane : List ℤ} {buffer W w h : ℕ} where
   pub forward-rows : LevelRoom (2 ^ 22) plane buffer W w h → RowsRoom forwardKernel plane buffer W w h
   forward-rows p = record { part = p .part; row = p .row; safe = forward-rows-safe W w h (2 ^ 22) (omega (arith, p .part .narrow)) (at plane) (p .small) (omega arith) }
 
-  pub back-columns : LevelRoom (2 ^ 24) plane buffer W w h → ColumnsRoom inverseKernel plane buffer W w h
-  back-columns p = record { part = p .part; column = p .column; safe = back-columns-safe W w h (2 ^ 24) (omega (arith, p .part .narrow)) (at plane) (p .small) (omega arith) }
-
-  pub back-rows : LevelRoom (2 ^ 24) plane buffer W w h → RowsRoom inverseKernel plane buffer W w h
-  back-rows p = record { part = p .part; row = p .row; safe = back-rows-safe W w h (2 ^ 24) (omega (arith, p .part .narrow)) (at plane) (p .small) (omega arith) }
-
   -- a level's first pass has room, and after it the second
   pub first-forward : LevelRoom (2 ^ 21) plane buffer W w h → LevelRoom (2 ^ 22) plane buffer W w h
   first-forward p = room-again p (2 ^ 22) plane buffer refl refl (sized-less (2 ^ 21) (2 ^ 22) w h (planeAt W (at plane)) (omega arith) (p .small))
@@ -179,16 +173,3 @@ module _ {plane : List ℤ} {buffer W w h : ℕ} where
   pub then-forward-rows : LevelRoom (2 ^ 21) plane buffer W w h → (new : List ℤ) (buffer′ : ℕ) → length new ≡ length plane → buffer′ ≡ buffer → at new ≡ columnsFrom forwardKernel W w h (at plane) → LevelRoom (2 ^ 22) new buffer′ W w h
   then-forward-rows p new buffer′ e f is = room-again p (2 ^ 22) new buffer′ e f (subst (λ (x : ℕ → ℤ). BoundedPart (2 ^ 22) w h (planeAt W x)) (sym is)
       (columns-sized W w h (2 ^ 21) (omega (arith, p .part .narrow)) (at plane) (p .small) forwardKernel 2 forward-grows))
-
-  pub first-back : LevelRoom (2 ^ 22) plane buffer W w h → LevelRoom (2 ^ 24) plane buffer W w h
-  first-back p = room-again p (2 ^ 24) plane buffer refl refl (sized-less (2 ^ 22) (2 ^ 24) w h (planeAt W (at plane)) (omega arith) (p .small))
-
-  module _ (p : LevelRoom (2 ^ 22) plane buffer W w h) (new : List ℤ) (buffer′ : ℕ) (e : length new ≡ length plane) (f : buffer′ ≡ buffer) where
-    after : (x : ℕ → ℤ) → at new ≡ x → BoundedPart (3 * 2 ^ 22) w h (planeAt W x) → LevelRoom (2 ^ 24) new buffer′ W w h
-    after x is small = room-again p (2 ^ 24) new buffer′ e f (subst (λ (x : ℕ → ℤ). BoundedPart (2 ^ 24) w h (planeAt W x)) (sym is) (sized-less (3 * 2 ^ 22) (2 ^ 24) w h (planeAt W x) (omega arith) small))
-
-    pub then-back-columns : at new ≡ rowsFrom inverseKernel W w h (at plane) → LevelRoom (2 ^ 24) new buffer′ W w h
-    then-back-columns is = after _ is (rows-sized W w h (2 ^ 22) (omega (arith, p .part .narrow)) (at plane) (p .small) inverseKernel 3 back-grows)
-
-    pub then-back-rows : at new ≡ columnsFrom inverseKernel W w h (at plane) → LevelRoom (2 ^ 24) new buffer′ W w h
-    then-back-rows is = after _ is (columns-sized W w h (2 ^ 22) (omega (arith, p .part .narrow)) (at plane) (p .small) inverseKernel 3 back-grows)

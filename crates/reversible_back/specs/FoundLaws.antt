@@ -1,13 +1,15 @@
 -- The way back ends: whether what came out are pixels (refusal 11), and what is written.
-use Prim.Native.Nat.{ℕ, _+_, _*_, _-_, _/_, _%_, _<_, _≤_, _^_}
+use Prim.Native.Nat.{ℕ, _+_, _*_, _-_, _<_, _≤_, _^_}
 use mathlib.Core.Bool.{Bool, true, false, not}
 use mathlib.Core.List.{List, map, _++_}
 use mathlib.Core.Path.{_≡_, refl, sym, _∙_, ap, subst}
-use native.Mathlib.Nat.{mul-comm, mod-lt, div-add-mod', div-lt-iff-lt-mul}
 use native.Mathlib.Omega.{arith}
 use lib.Dec.{T}
 use lib.IntN.{ℤ, pos, natAbs, negℤ, _+ℤ_, _-ℤ_}
 use lib.ListN.{length, getD, length-map, List·getD-map, List·getD-append}
+use mir.Syntax.{w32}
+use mir.Val.{toZ}
+use mir.Facts.{toZ-pos}
 use lib.Signed.{leZ, ltZ, _≤ℤ_, _<ℤ_}
 use Rattle.numbers.specs.Dif.{by-dif, difs}
 use Rattle.numbers.specs.Lists.{over}
@@ -26,6 +28,15 @@ use Rattle.reversible.specs.LevelLaws.{planeAt}
 use Rattle.reversible.specs.StepLaws.{middle}
 use Rattle.reversible.specs.Preconditions.{CallRoom}
 use Rattle.reversible.specs.BackLaws.{BackDone}
+use Rattle.pictures.specs.MemoryLaws.{over-is}
+use Rattle.reversible.specs.Reversible.{Order, inverse}
+use Rattle.reversible.specs.ReversibleLaws.{back-agrees}
+use Rattle.reversible.specs.Calls.{pixelsBack, isPixel, hasPicture}
+use Rattle.reversible.specs.LevelLaws.{planeAt}
+use Rattle.reversible.specs.PictureLaws.{by-place}
+use Rattle.reversible.specs.StepLaws.{middle}
+use Rattle.reversible.specs.Preconditions.{CallRoom}
+use Rattle.reversible_back.specs.BackLaws.{BackDone}
 use Rattle.width_table.specs.Table.{maxDepth}
 
 -- the values of samples of depth B
@@ -59,9 +70,9 @@ module _ (B : ℕ) (some : 1 ≤ B) (few : B ≤ maxDepth) where
       let h = below (pos (2 ^ (B - 1))) z s in
       and-intro (leZ (pos 0) y) (ltZ y (pos (2 ^ B))) (h .0 .le) (subst (λ (n : ℕ). y <ℤ pos n) (sym doubled) (h .1) .lt)
 
--- what holds at each row and column holds at each place
-pub by-place : (P : ℕ → Type 0) (w h : ℕ) → 1 ≤ w → ((r c : ℕ) → r < h → c < w → P (r * w + c)) → (k : ℕ) → k < w * h → P k
-by-place P w h some f k i = subst P (div-add-mod' k w) (f (k / w) (k % w) (div-lt-iff-lt-mul some .1 (subst (λ (n : ℕ). k < n) (mul-comm w h) i)) (mod-lt k some))
+-- the middle of the pixels' range as the code has it, a signed number
+pub signed-middle : (B m : ℕ) → 1 ≤ B → B ≤ maxDepth → m ≡ 2 ^ (B - 1) → toZ w32 m ≡ pos (2 ^ (B - 1))
+signed-middle B m some few e = ap (toZ w32) e ∙ toZ-pos w32 (omega (arith, middle B some few .1))
 
 -- ---- the plane is inverted in values y: whether it has a picture, and what its pixels are
 

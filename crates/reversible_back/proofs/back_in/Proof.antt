@@ -1,12 +1,13 @@
--- `reversible::back_in` meets its contract: the refusals in their order, then the way back.
+-- `reversible_back::back_in` meets its contract: the refusals in their order, then the way back.
 use mathlib.Core.Path.{sym, _∙_, ap}
 use Rattle.refusals.specs.Told.{told}
 use borrow.Author.Needs.{needs}
 use lib.ListN.{length}
-use Rattle.reversible.specs.Orders.{orderOf}
-use Rattle.reversible.specs.AnswerLaws.{allowed-room, back-not-allowed, back-done, back-none}
-use Rattle.reversible.proofs.back_in.Statement.{statement}
-use Rattle.reversible.proofs.back_in.Tie as tie
+use Rattle.reversible_back.specs.Orders.{orderOf}
+use Rattle.reversible.specs.AnswerLaws.{allowed-room}
+use Rattle.reversible_back.specs.AnswerLaws.{back-not-allowed, back-done, back-none}
+use Rattle.reversible_back.proofs.back_in.Statement.{statement}
+use Rattle.reversible_back.proofs.back_in.Tie as tie
 
 take-back-requires : tie.Need-take-back-requires
 take-back-requires c κs =

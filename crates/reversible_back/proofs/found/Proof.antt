@@ -1,4 +1,4 @@
--- `reversible::found` meets its contract: the plane is copied, inverted, and what came out is looked at.
+-- `reversible_back::found` meets its contract: the plane is copied, inverted, and what came out is looked at.
 use mathlib.Core.Path.{sym, subst}
 use borrow.Author.Needs.{needs}
 use lib.Dec.{T}
@@ -7,6 +7,11 @@ use Rattle.reversible.specs.Orders.{orderOf}
 use Rattle.reversible.specs.FoundLaws.{found-all, found-none}
 use Rattle.reversible.proofs.found.Statement.{statement}
 use Rattle.reversible.proofs.found.Tie as tie
+use Rattle.lifting.specs.Patch.{at}
+use Rattle.reversible_back.specs.Orders.{orderOf}
+use Rattle.reversible_back.specs.FoundLaws.{found-all, found-none}
+use Rattle.reversible_back.proofs.found.Statement.{statement}
+use Rattle.reversible_back.proofs.found.Tie as tie
 
 returns : tie.Need-returns
 returns c =

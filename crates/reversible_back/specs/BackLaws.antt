@@ -10,10 +10,10 @@ use Rattle.lines.specs.Planes.{side, inverseLevels}
 use Rattle.lines.specs.PlaneLaws.{side-le, Agree}
 use Rattle.slices.specs.Parts.{rowOf}
 use Rattle.pictures.specs.RangeChecks.{Tells, Between}
 use Rattle.reversible.specs.Reversible.{Order, inverse}
 use Rattle.reversible.specs.LevelLaws.{BoundedPart, planeAt}
-use Rattle.reversible.specs.LoopLaws.{BackLeft, back-part}
+use Rattle.reversible_back.specs.LoopLaws.{BackLeft, back-part}
 use Rattle.reversible.specs.Preconditions.{LevelsRoom}
 
 -- ---- the answer of all levels back
 

@@ -1,4 +1,4 @@
--- `reversible::write_pixels` meets its contract: the places passed hold their pixels, and 0 in place of their samples.
+-- `reversible_back::write_pixels` meets its contract: the places passed hold their pixels, and 0 in place of their samples.
 use mathlib.Core.Path.{_≡_, refl, sym, ap, _∙_}
 use Prim.Native.Nat.{ℕ, _+_, _-_, _≤_, _^_}
 use native.Mathlib.Omega.{arith}
@@ -12,9 +12,13 @@ use Rattle.slices.specs.Patch.{at, patch, patch-none, patch-above, patch-to}
 use Rattle.slices.specs.Runs.{as-type}
 use Rattle.slices.specs.FrontLaws.{patch-next, patch-zeroed}
 use Rattle.numbers.specs.Auto.{rd}
+use Rattle.lifting.specs.Patch.{at, patch, patch-none, patch-above, patch-to}
+use Rattle.lifting.specs.Runs.{as-type}
+use Rattle.pictures.specs.MemoryLaws.{patch-next, patch-zeroed}
+use Rattle.reversible_back.specs.FoundLaws.{signed-middle}
 use Rattle.pictures.specs.RangeChecks.{Between}
-use Rattle.reversible.proofs.write_pixels.Statement.{statement}
-use Rattle.reversible.proofs.write_pixels.Tie as tie
+use Rattle.reversible_back.proofs.write_pixels.Statement.{statement}
+use Rattle.reversible_back.proofs.write_pixels.Tie as tie
 
 abbrev Inv-loop : tie.InvT-loop
 Inv-loop values₀ pixels₀ n depth half i₀ values pixels i =
@@ -32,7 +36,7 @@ pixel-of-requires : tie.Need-pixel-of-requires Inv-loop μ-loop
 pixel-of-requires c κs =
     let s = c .before .before .before .before .before in
     let m = c .before .before .before .middle in
-    let half : rd w32 (m .result) ≡ pos (2 ^ (s .args .depth - 1)) = toZ-ofZ (sfits-of (m .ok)) ∙ m .ensures in
+    let half = signed-middle (s .args .depth) (m .result) (s .pre .0 .0) (s .pre .0 .1) (m .ensures) in
     let v = toZ-ofZ (sfits-of (c .pixel-of-arg .given)) ∙ sample c in
     as-type (λ u. (natAbs (sym half u) ≤ 2 ^ 11) × Between (negℤ (sym half u)) (sym half u -ℤ pos 1) (sym v u))
     (pow-mono {i = s .args .depth - 1} {j = 11} (omega (arith, s .pre .0)), s .pre .1 (c .before .before .loop .i) (c .before .loop-test .taken))
@@ -42,7 +46,7 @@ loop-again c =
     let t = c .before .before .before .loop in
     let s = c .before .before .before .before .before .before in
     let m = c .before .before .before .before .middle in
-    let half : rd w32 (m .result) ≡ pos (2 ^ (s .args .depth - 1)) = toZ-ofZ (sfits-of (m .ok)) ∙ m .ensures in
+    let half = signed-middle (s .args .depth) (m .result) (s .pre .0 .0) (s .pre .0 .1) (m .ensures) in
     let v = toZ-ofZ {w = w32} {z = at (t .values) (t .i)} (sfits-of (c .before .pixel-of-arg .given)) ∙ sample (c .before) in (
       omega arith,
       simp length-set (t .inv .1),
@@ -64,6 +68,7 @@ write-pixels-spec =
     Inv-loop
     μ-loop
     (λ c κs. search needs)
+    (λ c. search needs)
     (λ c. (omega arith, refl, refl, patch-none 0 _ _ _ refl, patch-none 0 _ _ _ refl))
     (λ c. omega arith)
     (λ c. omega arith)

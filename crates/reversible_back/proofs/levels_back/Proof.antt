@@ -1,4 +1,4 @@
--- `reversible::levels_back` meets its contract. The loop's invariant: so many levels are left, and what they will give is what was asked.
+-- `reversible_back::levels_back` meets its contract. The loop's invariant: so many levels are left, and what they will give is what was asked.
 use mathlib.Core.Path.{_≡_, refl, sym, _∙_, subst}
 use Prim.Native.Nat.{ℕ, _-_, _≤_}
 use native.Mathlib.Omega.{arith}
@@ -12,6 +12,14 @@ use Rattle.reversible.specs.Orders.{orderOf}
 use Rattle.reversible.specs.BackLaws.{look-small, look-large, back-all, largest}
 use Rattle.reversible.proofs.levels_back.Statement.{statement}
 use Rattle.reversible.proofs.levels_back.Tie as tie
+use Rattle.lifting.specs.Patch.{at}
+use Rattle.reversible_back.specs.LevelLaws.{levelInverse}
+use Rattle.reversible_back.specs.LoopLaws.{BackLeft, one-more, back-none, back-more}
+use Rattle.reversible.specs.Preconditions.{level-room, part-here}
+use Rattle.reversible_back.specs.Orders.{orderOf}
+use Rattle.reversible_back.specs.BackLaws.{look-small, look-large, back-all, largest}
+use Rattle.reversible_back.proofs.levels_back.Statement.{statement}
+use Rattle.reversible_back.proofs.levels_back.Tie as tie
 
 abbrev Inv-loop : tie.InvT-loop
 Inv-loop values₀ buffer₀ w h levels first k₀ values buffer k =

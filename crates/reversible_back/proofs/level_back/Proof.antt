@@ -1,4 +1,4 @@
--- `reversible::level_back` meets its contract: in each arm the passes are those of the arm's order, and values of the size asked give both room.
+-- `reversible_back::level_back` meets its contract: in each arm the passes are those of the arm's order, and values of the size asked give both room.
 use mathlib.Core.Path.{_≡_, sym, ap, _∙_}
 use native.Mathlib.Omega.{arith}
 use borrow.Author.Needs.{needs}
@@ -12,6 +12,15 @@ use Rattle.reversible.specs.LevelLaws.{rowsFrom, columnsFrom, levelInver
 use Rattle.reversible.specs.Preconditions.{back-columns, back-rows, first-back, then-back-columns, then-back-rows}
 use Rattle.reversible.proofs.level_back.Statement.{statement}
 use Rattle.reversible.proofs.level_back.Tie as tie
+use Rattle.lifting.specs.Patch.{at}
+use Rattle.reversible_back.specs.declared.CopyOrder.{CopyOrder}
+use Rattle.reversible_back.specs.Orders.{orderOf}
+use Rattle.reversible_back.specs.Sizes.{inverseKernel}
+use Rattle.reversible.specs.LevelLaws.{rowsFrom, columnsFrom}
+use Rattle.reversible_back.specs.LevelLaws.{levelInverse}
+use Rattle.reversible_back.specs.Preconditions.{back-columns, back-rows, first-back, then-back-columns, then-back-rows}
+use Rattle.reversible_back.proofs.level_back.Statement.{statement}
+use Rattle.reversible_back.proofs.level_back.Tie as tie
 
 gives : (a : tie.Start) (f : CopyOrder) (y : ℕ → ℤ) → a .args .first ≡ f → y ≡ levelInverse (orderOf f) (a .args .stride) (a .args .w) (a .args .h) (at (a .args .values .now))
     → y ≡ levelInverse (orderOf (a .args .first)) (a .args .stride) (a .args .w) (a .args .h) (at (a .args .values .now))

@@ -1,4 +1,4 @@
--- `reversible::take_back` meets its contract: where a picture is found its pixels are written, and the work area is cleared either way.
+-- `reversible_back::take_back` meets its contract: where a picture is found its pixels are written, and the work area is cleared either way.
 use mathlib.Core.List.{List, _++_}
 use mathlib.Core.Path.{_≡_, sym, _∙_, subst}
 use Prim.Native.Nat.{_*_}
@@ -15,6 +15,13 @@ use Rattle.slices.specs.FrontLaws.{zeroed-part}
 use Rattle.reversible.specs.Preconditions.{other-slices}
 use Rattle.reversible.proofs.take_back.Statement.{statement}
 use Rattle.reversible.proofs.take_back.Tie as tie
+use Rattle.lifting.specs.Patch.{at}
+use Rattle.reversible_back.specs.Orders.{orderOf}
+use Rattle.reversible_back.specs.FoundLaws.{Found, found-front, taken, taken-none}
+use Rattle.pictures.specs.MemoryLaws.{zeroed-part}
+use Rattle.reversible.specs.Preconditions.{other-slices}
+use Rattle.reversible_back.proofs.take_back.Statement.{statement}
+use Rattle.reversible_back.proofs.take_back.Tie as tie
 
 -- the part of the work area that was lent
 abbrev part : tie.After-work → List ℤ

@@ -1,4 +1,4 @@
--- `reversible::copy_front` meets its contract: the places passed hold what the other slice has there.
+-- `reversible_back::copy_front` meets its contract: the places passed hold what the other slice has there.
 use mathlib.Core.Path.{_≡_, refl}
 use Prim.Native.Nat.{_-_, _≤_}
 use native.Mathlib.Omega.{arith}
@@ -11,6 +11,10 @@ use Rattle.slices.specs.Patch.{at, patch, patch-none, patch-to}
 use Rattle.slices.specs.FrontLaws.{patch-next}
 use Rattle.reversible.proofs.copy_front.Statement.{statement}
 use Rattle.reversible.proofs.copy_front.Tie as tie
+use Rattle.lifting.specs.Patch.{at, patch, patch-none, patch-to}
+use Rattle.pictures.specs.MemoryLaws.{patch-next}
+use Rattle.reversible_back.proofs.copy_front.Statement.{statement}
+use Rattle.reversible_back.proofs.copy_front.Tie as tie
 
 abbrev Inv-loop : tie.InvT-loop
 Inv-loop from to₀ n i₀ to i = (i ≤ n) × (length to ≡ length to₀) × (at to ≡ patch 0 i (at from) (at to₀))

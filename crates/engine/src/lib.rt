@@ -285,7 +285,15 @@ pub extern "C" fn suz_inverse53_rows_first(
     ensures pixels { λ _. ⌜ now (pixels .exit) ≡ backPixels rowsFirst depth levels width height (now (plane .entry)) (now (pixels .entry)) (now (work .entry)) ⌝ }
     ensures work { λ _. ⌜ now (work .exit) ≡ backWork depth levels width height (now (plane .entry)) (now (pixels .entry)) (now (work .entry)) ⌝ }
 {
-    refusals::code(reversible_back::back_rows_first(depth, levels, plane, width, height, pixels, work))
+    refusals::code(reversible_back::back_rows_first(
+        depth,
+        levels,
+        plane,
+        width,
+        height,
+        pixels,
+        work,
+    ))
 }
 
 // 9/7 forward: 1 to 5 of the bytes, then 6, 7, 8, 9, 10.

@@ -51,6 +51,10 @@ line-in w h r i = omega (arith, mul-le-mul-right {m = suc r} {n = h} w i, mul-co
 pub lines-few : (w h : ℕ) → 1 ≤ w → h ≤ w * h
 lines-few w h some = omega (arith, mul-le-mul-right {m = 1} {n = w} h some)
 
+-- what a loop reads past the places that it has written
+pub read-past : (to j q : ℕ) (new x y : ℕ → ℤ) → y ≡ patch to j new x → to + j ≤ q → y q ≡ x q
+read-past to j q new x y is far = ap (λ (f : ℕ → ℤ). f q) is ∙ patch-above to j new x q far
+
 -- ---- what a line's step takes, in the middle and at the ends; for values and for what keeps them inside their types
 
 module _ {ℓ} {B : Type ℓ} (f : ℤ → ℤ → ℤ → B) (pixels : List ℕ) (middle w h c : ℕ) where

@@ -26,9 +26,10 @@ use Rattle.width_table.specs.Table.{maxDepth}
 sample-small : (p q : ℕ) → p ≤ 2 * q → natAbs (pos p -ℤ pos q) ≤ q
 sample-small p q = simp difs (omega arith)
 
-pub middle : (B : ℕ) → 1 ≤ B → B ≤ maxDepth → (2 ^ B ≡ 2 * 2 ^ (B - 1)) × (2 ^ (B - 1) ≤ 2 ^ 11)
-middle zero h k = absurd (omega arith)
-middle (suc B) h k = let e : suc B - 1 ≡ B = omega arith in (omega (arith, ap (λ (t : ℕ). 2 ^ t) e), subst (λ (t : ℕ). 2 ^ t ≤ 2 ^ 11) (sym e) (pow-mono {i = B} {j = 11} (omega arith)))
+-- a depth has twice as many values as their middle, which is at most 2^11
+pub twice-middle : (B : ℕ) → 1 ≤ B → B ≤ maxDepth → (2 ^ B ≡ 2 * 2 ^ (B - 1)) × (2 ^ (B - 1) ≤ 2 ^ 11)
+twice-middle zero h k = absurd (omega arith)
+twice-middle (suc B) h k = let e : suc B - 1 ≡ B = omega arith in (omega (arith, ap (λ (t : ℕ). 2 ^ t) e), subst (λ (t : ℕ). 2 ^ t ≤ 2 ^ 11) (sym e) (pow-mono {i = B} {j = 11} (omega arith)))
 
 module _ {B L w h : ℕ} {pixels : List ℕ} {plane work : ℕ} (room : ForwardRoom B L w h pixels plane work) where
   some-w : 1 ≤ w
@@ -36,7 +37,7 @@ module _ {B L w h : ℕ} {pixels : List ℕ} {plane work : ℕ} (room : ForwardR
 
   sample-fits : (k : ℕ) → k < w * h → natAbs (pos (getD pixels k 0) -ℤ pos (2 ^ (B - 1))) ≤ 2 ^ 11
   sample-fits k i =
-      let m = middle B (room .call .depth .0) (room .call .depth .1) in
+      let m = twice-middle B (room .call .depth .0) (room .call .depth .1) in
       let p : getD pixels k 0 < 2 ^ B = pixel-below B w h pixels (room .call .room .first) (room .right) k i in
       omega (arith, sample-small (getD pixels k 0) (2 ^ (B - 1)) (omega arith))
 

@@ -34,7 +34,7 @@ use Rattle.reversible.specs.ReversibleLaws.{back-agrees}
 use Rattle.reversible.specs.Calls.{pixelsBack, isPixel, hasPicture}
 use Rattle.reversible.specs.LevelLaws.{planeAt}
 use Rattle.reversible.specs.PictureLaws.{by-place}
-use Rattle.reversible.specs.StepLaws.{middle}
+use Rattle.reversible.specs.StepLaws.{twice-middle}
 use Rattle.reversible.specs.Preconditions.{CallRoom}
 use Rattle.reversible_back.specs.BackLaws.{BackDone}
 use Rattle.width_table.specs.Table.{maxDepth}
@@ -56,7 +56,7 @@ sample-size n = by-dif _ λ a b. by-dif _ λ c d. simp difs (omega arith)
 
 module _ (B : ℕ) (some : 1 ≤ B) (few : B ≤ maxDepth) where
   doubled : 2 ^ B ≡ 2 ^ (B - 1) + 2 ^ (B - 1)
-  doubled = omega (arith, middle B some few .0)
+  doubled = omega (arith, twice-middle B some few .0)
 
   pixel-sample : (z : ℤ) → T (isPixel B (z +ℤ pos (2 ^ (B - 1)))) → IsSample B z
   pixel-sample z t =
@@ -72,7 +72,7 @@ module _ (B : ℕ) (some : 1 ≤ B) (few : B ≤ maxDepth) where
 
 -- the middle of the pixels' range as the code has it, a signed number
 pub signed-middle : (B m : ℕ) → 1 ≤ B → B ≤ maxDepth → m ≡ 2 ^ (B - 1) → toZ w32 m ≡ pos (2 ^ (B - 1))
-signed-middle B m some few e = ap (toZ w32) e ∙ toZ-pos w32 (omega (arith, middle B some few .1))
+signed-middle B m some few e = ap (toZ w32) e ∙ toZ-pos w32 (omega (arith, twice-middle B some few .1))
 
 -- ---- the plane is inverted in values y: whether it has a picture, and what its pixels are
 
@@ -112,7 +112,7 @@ module _ (order : Order) {B L w h a b c : ℕ} (room : CallRoom B L w h a b c) (
     where
       none : T (hasPicture order B L w h plane) → ⊥
       none t = subst T e (done .none (λ r c i j. subst (λ (z : ℤ). natAbs z ≤ 2 ^ 11) (sym (same r c i j))
-          (sample-size (2 ^ 11) (pos (2 ^ (B - 1))) (sampleAt r c) (middle B (room .depth .0) (room .depth .1) .1) (from-picture t r c i j))))
+          (sample-size (2 ^ 11) (pos (2 ^ (B - 1))) (sampleAt r c) (twice-middle B (room .depth .0) (room .depth .1) .1) (from-picture t r c i j))))
 
   pub found-all : (r s : Bool) → BackDone order L w h mid y r → T r → Tells ((j : ℕ) → j < w * h → IsSample B (y j)) s → Found order B L w h plane y s
   unfolding pixelsBack

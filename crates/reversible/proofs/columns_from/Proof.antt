@@ -7,18 +7,12 @@ use Rattle.reversible.specs.LevelLaws.{columns-one, columns-more}
 use Rattle.reversible.proofs.columns_from.Statement.{statement}
 use Rattle.reversible.proofs.columns_from.Tie as tie
 
-returns : tie.Need-returns
-returns c = let s = c .before in columns-one (s .args .kernel) (s .args .stride) (s .args .w) (s .args .h) (at (s .args .plane .now)) (omega (arith, s .pre .part .narrow)) (omega arith)
-
-columns-requires : tie.Need-columns-requires
-columns-requires c κs =
-    let p = c .before .before .before .pre in
-    ((p .part, record { least = omega arith }, p .column), p .safe (record { least = omega arith }))
-
-returns-2 : tie.Need-returns-2
-returns-2 c =
-    let a = c .before .before .before .before .before .before .args in
-    c .before .before .columns .ensures .0 ∙ columns-more (a .kernel) (a .stride) (a .w) (a .h) (at (a .plane .now)) (record { least = omega arith })
-
 pub columns-from-spec : {M : Type 1} → statement M
-columns-from-spec = tie.close (tie.spec returns columns-requires (λ c. search needs) (λ c. search needs) returns-2)
+columns-from-spec =
+    tie.close
+    (tie.spec
+    (λ c. let s = c .before in columns-one (s .args .kernel) (s .args .stride) (s .args .w) (s .args .h) (at (s .args .plane .now)) (omega (arith, s .pre .part .narrow)) (omega arith))
+    (λ c κs. let p = c .before .before .before .pre in ((p .part, record { least = omega arith }, p .column), p .safe (record { least = omega arith })))
+    (λ c. search needs) (λ c. search needs)
+    (λ c. let a = c .before .before .before .before .before .before .args in
+    c .before .before .columns .ensures .0 ∙ columns-more (a .kernel) (a .stride) (a .w) (a .h) (at (a .plane .now)) (record { least = omega arith })))

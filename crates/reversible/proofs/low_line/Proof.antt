@@ -1,9 +1,9 @@
 -- `reversible::low_line` meets its contract. The loop's invariant: the first j places of the line are there.
-use mathlib.Core.Path.{_≡_, refl, sym, ap, _∙_}
-use Prim.Native.Nat.{ℕ, _+_, _-_, _≤_}
+use mathlib.Core.Path.{_≡_, refl, sym, _∙_}
+use Prim.Native.Nat.{_+_, _-_, _≤_}
 use native.Mathlib.Omega.{arith}
 use borrow.Author.Needs.{needs, sfits-of}
-use lib.IntN.{ℤ, pos}
+use lib.IntN.{pos}
 use lib.ListN.{length, length-set}
 use mir.Syntax.{w32}
 use mir.Facts.{toZ-ofZ}
@@ -12,6 +12,10 @@ use Rattle.lifting.specs.Steps.{applied, Safe}
 use Rattle.slices.specs.Runs.{as-type}
 use Rattle.slices.specs.Patch.{at, patch, patch-none, patch-above, patch-set, patch-to}
 use Rattle.slices.specs.Pixels.{pixelLine}
+use Rattle.lifting.specs.Runs.{as-type}
+use Rattle.lifting.specs.Patch.{at, patch, patch-none, patch-set, patch-to}
+use Rattle.lifting.specs.Strips.{pixelLine}
+use Rattle.reversible.specs.Columns.{read-past}
 use Rattle.reversible.proofs.low_line.Statement.{statement}
 use Rattle.reversible.proofs.low_line.Tie as tie
 
@@ -27,8 +31,8 @@ updated-requires c κs =
     let s = c .before .before .before .before .before .before .before in
     let t = c .before .before .before .before .before .loop in
     let a = toZ-ofZ {w = w32} (sfits-of (c .before .before .centred .ok)) ∙ c .before .before .centred .ensures in
-    let x = toZ-ofZ {w = w32} (sfits-of (c .before .updated-arg .given)) ∙ ap (λ (f : ℕ → ℤ). f (s .args .before + t .j)) (t .inv .2) ∙ patch-above (s .args .to) (t .j) _ (at (s .args .plane .now)) (s .args .before + t .j) (omega arith) in
-    let y = toZ-ofZ {w = w32} (sfits-of (c .updated-arg2 .given)) ∙ ap (λ (f : ℕ → ℤ). f (s .args .after + t .j)) (t .inv .2) ∙ patch-above (s .args .to) (t .j) _ (at (s .args .plane .now)) (s .args .after + t .j) (omega arith) in
+    let x = toZ-ofZ {w = w32} (sfits-of (c .before .updated-arg .given)) ∙ read-past _ _ _ _ _ _ (t .inv .2) (omega arith) in
+    let y = toZ-ofZ {w = w32} (sfits-of (c .updated-arg2 .given)) ∙ read-past _ _ _ _ _ _ (t .inv .2) (omega arith) in
     as-type (λ u. Safe Update (sym a u) (sym x u) (sym y u)) (s .pre .1 (t .j) (c .before .before .before .before .loop-test .taken))
 
 loop-again : tie.Need-loop-again Inv-loop μ-loop
@@ -37,8 +41,8 @@ loop-again c =
     let s = b .before .before .before .before .before .before .before in
     let t = b .before .before .before .before .before .loop in
     let a = toZ-ofZ {w = w32} (sfits-of (b .before .before .centred .ok)) ∙ b .before .before .centred .ensures in
-    let x = toZ-ofZ {w = w32} (sfits-of (b .before .updated-arg .given)) ∙ ap (λ (f : ℕ → ℤ). f (s .args .before + t .j)) (t .inv .2) ∙ patch-above (s .args .to) (t .j) _ (at (s .args .plane .now)) (s .args .before + t .j) (omega arith) in
-    let y = toZ-ofZ {w = w32} (sfits-of (b .updated-arg2 .given)) ∙ ap (λ (f : ℕ → ℤ). f (s .args .after + t .j)) (t .inv .2) ∙ patch-above (s .args .to) (t .j) _ (at (s .args .plane .now)) (s .args .after + t .j) (omega arith) in
+    let x = toZ-ofZ {w = w32} (sfits-of (b .before .updated-arg .given)) ∙ read-past _ _ _ _ _ _ (t .inv .2) (omega arith) in
+    let y = toZ-ofZ {w = w32} (sfits-of (b .updated-arg2 .given)) ∙ read-past _ _ _ _ _ _ (t .inv .2) (omega arith) in
     let v = toZ-ofZ {w = w32} (sfits-of (c .updated .ok)) ∙ c .updated .ensures ∙ (λ u. applied Update (a u) (x u) (y u)) in
     (omega arith, simp length-set (t .inv .1), patch-set _ (t .j) _ _ (t .plane) (pos 0) (t .inv .2) (omega arith) _ v)
 
@@ -49,22 +53,11 @@ low-line-spec =
     Inv-loop
     μ-loop
     (λ c. (omega arith, refl, patch-none _ 0 _ _ refl))
-    (λ c. omega arith)
-    (λ c. omega arith)
-    (λ c. omega arith)
-    (λ c κs. search needs)
-    (λ c. omega arith)
-    (λ c. omega arith)
-    (λ c. omega arith)
-    (λ c. omega arith)
-    (λ c. omega arith)
-    (λ c. omega arith)
+    (λ c. omega arith) (λ c. omega arith) (λ c. omega arith) (λ c κs. search needs)
+    (λ c. omega arith) (λ c. omega arith) (λ c. omega arith)
+    (λ c. omega arith) (λ c. omega arith) (λ c. omega arith)
     updated-requires
-    (λ c. omega arith)
-    (λ c. omega arith)
-    (λ c. omega arith)
-    (λ c. omega arith)
-    (λ c. omega arith)
+    (λ c. omega arith) (λ c. omega arith) (λ c. omega arith) (λ c. omega arith) (λ c. omega arith)
     loop-again
     (λ c. omega arith)
     (λ c. patch-to _ _ _ _ _ _ (c .before .loop .inv .2) (omega arith)))

@@ -61,7 +61,10 @@ pub fn own_lift(width: u8, constant: u8, multiplied: u8, other: u8, f: u8, total
     let full = constant + multiplied;
     numbers::up_div(total, constant as u32)
         + product_loss(width, full)
-        + loss_of(f, numbers::larger_bits(other, numbers::smaller_bits(width, full)))
+        + loss_of(
+            f,
+            numbers::larger_bits(other, numbers::smaller_bits(width, full)),
+        )
 }
 
 // Own error of a stage that scales.

@@ -18,8 +18,6 @@ pub mod Zero
 pub mod Promises
 pub mod ReversiblePromises
 pub mod AnswerLaws
-pub mod EarlierOrder
-pub mod WithoutProducts
 pub mod ScanAnswers
 pub mod ScanLaws
 pub mod ScanHistory

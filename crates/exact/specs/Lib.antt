@@ -17,4 +17,3 @@ pub mod Cases
 pub mod FracLaws
 pub mod InverseLaws
 pub mod CaseLaws
-pub mod Unchanged

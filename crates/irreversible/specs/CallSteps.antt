@@ -15,19 +15,12 @@ use Rattle.refusals.specs.Answers.{Reason, refused, passed}
 use Rattle.refusals.specs.AnswerLaws.{answered-done, answered-refused}
 use Rattle.width_table.specs.declared.WidthTable.{WidthTable}
 use Rattle.width_table.specs.Limits.{form-levels}
-use Rattle.width_table.specs.Nodes.{Pass, Rows, LowColumns, HighColumns}
+use Rattle.width_table.specs.Nodes.{LowColumns, HighColumns}
 use Rattle.slices.specs.Patch.{at}
 use Rattle.slices.specs.Runs.{as-type}
-use Rattle.slices.specs.Parts.{Part, rowOf, columnOf, columnsBy}
+use Rattle.slices.specs.Parts.{Part, columnOf, columnsBy}
 use Rattle.slices.specs.Fronts.{zeroed}
-use Rattle.slices.specs.Pixels.{pixelLine, loaded}
-use Rattle.precision.specs.Verdict.{Accepted}
-use Rattle.width_table.specs.Nodes.{LowColumns, HighColumns}
-use Rattle.lifting.specs.Patch.{at}
-use Rattle.lifting.specs.Runs.{as-type}
-use Rattle.lifting.specs.Kernels.{Part, columnOf, columnsBy}
-use Rattle.pictures.specs.Pictures.{zeroed}
-use Rattle.pictures.specs.MemoryLaws.{loaded}
+use Rattle.slices.specs.Pixels.{loaded}
 use Rattle.precision.specs.Verdict.{IsLevel}
 use Rattle.precision.specs.Promise.{promise}
 use Rattle.fixed_stages.specs.Fixed.{fixedLine}

@@ -14,9 +14,6 @@ use Rattle.lines.specs.PlaneLaws.{by-part, within-in, within-below, within-beyo
 use Rattle.width_table.specs.Nodes.{G1, G2, Pass, Rows, LowColumns, HighColumns, columnPass, lastNode}
 use Rattle.width_table.specs.declared.WidthTable.{WidthTable}
 use Rattle.width_table.specs.Table.{constantBits, fractionBits, inputBits}
-use Rattle.lifting.specs.Steps.{FactorSafe}
-use Rattle.lifting.specs.Kernels.{SafeKernel}
-use Rattle.slices.specs.Parts.{rowOf, columnOf, rowsBy, columnsBy}
 use Rattle.pictures.specs.MemoryLaws.{Reads, Stands, columnsPlane, columns-in, columns-below, columns-left, columns-right, one-reads, rows-stand, rows-beyond, columns-stand, columns-beyond}
 use Rattle.stages.specs.Fixed.{cut}
 use Rattle.table_meaning.specs.Products.{productOf}

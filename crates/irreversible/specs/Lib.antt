@@ -33,8 +33,6 @@ pub mod Demand3
 pub mod Narrow
 pub mod MagnitudeLaws
 pub mod CallLaws
-pub mod Unchanged
-pub mod Uncut
 pub mod Examples
 pub mod ProductExamples
 pub mod Memory

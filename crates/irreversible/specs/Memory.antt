@@ -6,7 +6,7 @@ use lib.IntN.{ℤ}
 use Rattle.lines.specs.Lines.{lows, highs}
 use Rattle.width_table.specs.Nodes.{Rows, LowColumns, HighColumns}
 use Rattle.width_table.specs.declared.WidthTable.{WidthTable}
-use Rattle.lifting.specs.Kernels.{rowOf, columnOf, rowsBy, columnsBy}
+use Rattle.slices.specs.Parts.{rowOf, columnOf, rowsBy, columnsBy}
 use Rattle.pictures.specs.MemoryLaws.{Stands}
 use Rattle.fixed_stages.specs.Fixed.{fixedLine}
 use Rattle.fixed_stages.specs.Safe.{LineSafe}

@@ -6,10 +6,9 @@ use lib.IntN.{ℤ}
 use Rattle.lines.specs.Lines.{lows, highs}
 use Rattle.width_table.specs.declared.WidthTable.{WidthTable}
 use Rattle.width_table.specs.Nodes.{Pass, Rows, LowColumns, HighColumns}
-use Rattle.lifting.specs.Patch.{at}
-use Rattle.lifting.specs.Kernels.{Part, rowOf, columnOf, columnsBy}
-use Rattle.lifting.specs.Strips.{pixelLine}
-use Rattle.pictures.specs.MemoryLaws.{loaded}
+use Rattle.slices.specs.Patch.{at}
+use Rattle.slices.specs.Parts.{Part, rowOf, columnOf, columnsBy}
+use Rattle.slices.specs.Pixels.{pixelLine, loaded}
 use Rattle.precision.specs.Verdict.{Accepted, IsLevel}
 use Rattle.fixed_stages.specs.Fixed.{fixedLine}
 use Rattle.fixed_stages.specs.Safe.{LineSafe}

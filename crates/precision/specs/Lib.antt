@@ -21,7 +21,5 @@ pub mod FirstNode
 pub mod Places
 pub mod PlaceLaws
 pub mod ProductReads
-pub mod Before
-pub mod Uncut
 pub mod JudgeLaws
 pub mod OrderLaws

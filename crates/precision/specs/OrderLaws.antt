@@ -12,7 +12,7 @@ use lib.Seq.{take-suc, take-all, take-add, take-take, take-append-le, take-appen
 use Rattle.refusals.specs.Answers.{Reason, Answer, done, refused, passed, _then_, answered}
 use Rattle.refusals.specs.AnswerLaws.{asks-wrong, asks-right, then-done, then-right, then-refused}
 use Rattle.width_table.specs.declared.WidthTable.{WidthTable}
-use Rattle.width_table.specs.Nodes.{Node, P1, G1, G2, nodesPerPass, nodesPerLevel, Pass, Rows, LowColumns, HighColumns, TableNode, nodeAt, passNodes, levelNodes, tableOrder}
+use Rattle.width_table.specs.Nodes.{Node, P1, G1, nodesPerPass, nodesPerLevel, Pass, Rows, LowColumns, HighColumns, TableNode, nodeAt, passNodes, levelNodes, tableOrder}
 use Rattle.width_table.specs.Numbered.{nodeOf, passOf, IsNode, IsPass}
 use Rattle.width_table.specs.Table.{formRight}
 use Rattle.width_table.specs.Changes.{hasNode}
@@ -24,7 +24,7 @@ use Rattle.precision.specs.Promise.{refusal-++}
 use Rattle.precision.specs.Places.{mostFitting, fed, fedAfter, At, Enters, Reached, Goes, After}
 use Rattle.bounds_rule.specs.Carried.{asHeld}
 use Rattle.precision.specs.PlaceLaws.{by-place}
-use Rattle.precision.specs.JudgeLaws.{by-pass, at-pass, accepted-small}
+use Rattle.precision.specs.JudgeLaws.{by-pass, accepted-small}
 use Rattle.bounds_rule.specs.declared.Bound as Code
 
 -- ---- the first part of a list

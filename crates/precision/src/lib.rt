@@ -11,15 +11,12 @@ ghost use mathlib.Core.List.{[], _∷_};
 ghost use lib.Dec.{T};
 ghost use lib.ListN.{getD, take};
 ghost use Rattle.stages.specs.GainTable.{forwardGains};
-ghost use Rattle.stages.specs.Rule.{timesGain};
-ghost use Rattle.precision.specs.Verdict.{keptAt, firstRefusal, verdict};
-ghost use Rattle.precision.specs.Places.{places, mostTotal, largest, gainAt, multiplied, other, ownBy, heldAt, judgedAs, fedAfter, At, Limited, Read, Enters, BoundsOf, Reached, After};
-ghost use Rattle.bounds_rule.specs.Carried.{asHeld};
-ghost use Rattle.stages.specs.Stages.{cutTo};
 ghost use Rattle.stages.specs.Rule.{timesGain, loss, productLoss, ownLift, ownScale};
 ghost use Rattle.table_meaning.specs.Subbands.{keptAt};
 ghost use Rattle.precision.specs.Verdict.{firstRefusal, verdict};
-ghost use Rattle.precision.specs.Places.{places, mostTotal, asHeld, gainAt, multiplied, other, ownBy, heldAt, judgedAs, fedAfter, At, Limited, Read, Enters, BoundsOf, Reached};
+ghost use Rattle.precision.specs.Places.{places, mostTotal, largest, gainAt, multiplied, other, ownBy, heldAt, judgedAs, fedAfter, At, Limited, Read, Enters, BoundsOf, Reached, After};
+ghost use Rattle.bounds_rule.specs.Carried.{asHeld};
+ghost use Rattle.stages.specs.Stages.{cutTo};
 ghost use Rattle.width_table.specs.Numbered.{nodeOf, passOf, IsNode, IsPass, IsProduct};
 ghost use Rattle.width_table.specs.Readers.{cutAt};
 ghost use Rattle.precision.specs.Bounds.{entering, boundOf};
@@ -224,7 +221,9 @@ fn judge_bound(bound: Bound, integer: u8, fraction: u8, kept: bool, place: NodeP
     ensures { λ r. ⌜ told r ≡ judgedAs bound integer fraction kept (place .level ∷ place .pass ∷ place .node ∷ []) ⌝ }
 {
     let step = numbers::power((32 - fraction) as u32);
-    if bound.range + bound.error + step <= numbers::power((integer - 1) as u32) * Bound::ONE {} else {
+    if bound.range + bound.error + step
+        <= numbers::power((integer - 1) as u32) * Bound::ONE
+    {} else {
         return Outcome::Refused(Refusal::DoesNotFit(place));
     }
     if kept {} else {

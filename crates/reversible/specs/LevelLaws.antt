@@ -15,11 +15,6 @@ use Rattle.lifting.specs.Kernels.{worked, SafeKernel, rowsWorked, columnsWorked
 use Rattle.slices.specs.Parts.{rowOf, columnOf, rowsBy, columnsBy}
 use Rattle.pictures.specs.MemoryLaws.{Stands, Reads, one-reads, rows-stand, columns-stand, rows-beyond, columns-beyond, columnsPlane, columns-in, columns-below, columns-right}
 use Rattle.lifting.specs.PixelLaws.{worked-same}
-use Rattle.reversible.specs.Reversible.{Order, columnsFirst, rowsFirst, reversiblePass, forwardLevel, forward, inverseLevel}
-use Rattle.reversible.specs.Sizes.{workedFrom, forwardKernel, inverseKernel, forward-kernel, back-kernel, Grows, forward-grows, forward-safe, back-safe}
-use Rattle.lifting.specs.PatchLines.{lineAt, patchLines, lines-apart, lines-is}
-use Rattle.lifting.specs.Kernels.{worked, SafeKernel, rowOf, columnOf, rowsBy, columnsBy, rowsWorked, columnsWorked}
-use Rattle.pictures.specs.MemoryLaws.{Stands, Reads, one-reads, worked-same, rows-stand, columns-stand, rows-beyond, columns-beyond, columnsPlane, columns-in, columns-below, columns-right}
 use Rattle.reversible.specs.Reversible.{Order, columnsFirst, rowsFirst, reversiblePass, forwardLevel, forward}
 use Rattle.reversible.specs.Sizes.{workedFrom, forwardKernel, forward-kernel, Grows, forward-grows, forward-safe}
 

@@ -36,4 +36,3 @@ pub mod StepLaws
 pub mod AnswerLaws
 pub mod OneToOne
 pub mod TwoOrders
-pub mod Unchanged

@@ -8,7 +8,7 @@ use mathlib.Core.Path.{_≡_, sym, _∙_, ap, subst}
 use lib.Dec.{T}
 use Rattle.refusals.specs.Answers.{Reason, Answer, refused, passed, asks, _then_}
 use Rattle.refusals.specs.AnswerLaws.{then-right, then-refused, answered-done, answered-refused}
-use Rattle.pictures.specs.Pictures.{zeroed}
+use Rattle.slices.specs.Fronts.{zeroed}
 use Rattle.pictures.specs.PictureLaws.{roomAnswer}
 use Rattle.reversible.specs.Reversible.{Order}
 use Rattle.reversible.specs.Calls.{limitAnswer, hasPicture, backAllowed, backAnswer, backPixels, backWork}

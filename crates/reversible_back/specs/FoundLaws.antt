@@ -21,22 +21,14 @@ use Rattle.slices.specs.Patch.{at, patch, patch-in, patch-above}
 use Rattle.pictures.specs.Pictures.{planeOf}
 use Rattle.pictures.specs.RangeChecks.{Tells, Between, tells-same}
 use Rattle.slices.specs.FrontLaws.{over-is}
-use Rattle.reversible.specs.Reversible.{Order, inverse}
-use Rattle.reversible.specs.ReversibleLaws.{back-agrees}
-use Rattle.reversible.specs.Calls.{pixelsBack, isPixel, hasPicture}
-use Rattle.reversible.specs.LevelLaws.{planeAt}
-use Rattle.reversible.specs.StepLaws.{middle}
-use Rattle.reversible.specs.Preconditions.{CallRoom}
-use Rattle.reversible.specs.BackLaws.{BackDone}
-use Rattle.pictures.specs.MemoryLaws.{over-is}
 use Rattle.reversible.specs.Reversible.{Order, inverse}
 use Rattle.reversible.specs.ReversibleLaws.{back-agrees}
 use Rattle.reversible.specs.Calls.{pixelsBack, isPixel, hasPicture}
 use Rattle.reversible.specs.LevelLaws.{planeAt}
-use Rattle.reversible.specs.PictureLaws.{by-place}
 use Rattle.reversible.specs.StepLaws.{twice-middle}
 use Rattle.reversible.specs.Preconditions.{CallRoom}
 use Rattle.reversible_back.specs.BackLaws.{BackDone}
+use Rattle.reversible.specs.PictureLaws.{by-place}
 use Rattle.width_table.specs.Table.{maxDepth}
 
 -- the values of samples of depth B

@@ -7,7 +7,8 @@ use lib.IntN.{ℤ}
 use Rattle.lines.specs.Lines.{Liftable}
 use Rattle.lines.specs.Planes.{Plane, OnLine, rows, within, levelRowsFirst, levelColumnsFirst}
 use Rattle.lines.specs.PlaneLaws.{within-in, within-below, within-beyond, rows-first-in, rows-first-keeps, by-part}
-use Rattle.lifting.specs.Kernels.{SafeKernel, rowOf, columnOf, rowsBy, columnsBy}
+use Rattle.lifting.specs.Kernels.{SafeKernel}
+use Rattle.slices.specs.Parts.{rowOf, columnOf, rowsBy, columnsBy}
 use Rattle.pictures.specs.MemoryLaws.{Stands, Reads, rows-stand, columns-stand, columnsPlane, columns-in, columns-below, columns-right}
 use Rattle.reversible.specs.Reversible.{Order, columnsFirst, rowsFirst, inverseLevel}
 use Rattle.reversible.specs.Sizes.{workedFrom}

@@ -5,7 +5,7 @@ use mathlib.Core.Path.{_≡_, refl, sym, subst}
 use native.Mathlib.Omega.{arith}
 use lib.IntN.{ℤ}
 use lib.ListN.{length}
-use Rattle.lifting.specs.Patch.{at}
+use Rattle.slices.specs.Patch.{at}
 use Rattle.reversible.specs.LevelLaws.{BoundedPart, planeAt, rowsFrom, columnsFrom, rows-sized, columns-sized}
 use Rattle.reversible.specs.Preconditions.{RowsRoom, ColumnsRoom, LevelRoom, room-again, sized-less}
 use Rattle.reversible_back.specs.LevelLaws.{back-rows-safe, back-columns-safe}

@@ -38,4 +38,3 @@ pub mod Sound
 pub mod Single
 pub mod ForwardLaws
 pub mod ProductLaws
-pub mod UncutRule

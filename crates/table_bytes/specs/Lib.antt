@@ -17,11 +17,8 @@ pub mod Fields
 pub mod Bytes
 pub mod Names
 pub mod Told
-pub mod EarlierForms
 pub mod BytesLaws
 pub mod ReadLaws
 pub mod NameLaws
 pub mod WriteLaws
 pub mod RoundTrip
-pub mod WithoutProducts
-pub mod EarlierOrder

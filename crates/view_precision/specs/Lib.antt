@@ -16,8 +16,6 @@ pub mod Bounds
 pub mod Odd
 pub mod LongLines
 pub mod LongLaws
-pub mod Before
-pub mod BeforeLaws
 pub mod Products
 pub mod Places
 pub mod PlaceLaws

@@ -13,8 +13,6 @@ use Rattle.width_table.specs.declared.WidthTable.{WidthTable}
 use Rattle.width_table.specs.Table.{integerBits, fractionBits}
 use Rattle.pictures.specs.Pictures.{sideAnswer, lengthAnswer, planeOf}
 use Rattle.slices.specs.Fronts.{zeroed}
-use Rattle.irreversible.specs.Claims.{keptNode}
-use Rattle.pictures.specs.Pictures.{sideAnswer, lengthAnswer, planeOf, zeroed}
 use Rattle.table_meaning.specs.Subbands.{keptNode}
 use Rattle.view_precision.specs.Bounds.{viewVerdict}
 use Rattle.viewing.specs.View.{viewPicture}

@@ -33,7 +33,6 @@ pub mod Scan
 pub mod CallLaws
 pub mod Forward
 pub mod Words
-pub mod Unchanged
 pub mod Products
 pub mod WidthLaws
 pub mod PixelSteps

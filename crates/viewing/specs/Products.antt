@@ -18,8 +18,6 @@ use Rattle.width_table.specs.declared.WidthTable.{WidthTable}
 use Rattle.width_table.specs.Table.{integerBits, fractionBits}
 use Rattle.pictures.specs.Pictures.{sideAnswer, lengthAnswer, planeOf}
 use Rattle.slices.specs.Fronts.{zeroed}
-use Rattle.precision.specs.Verdict.{keptAt, verdict}
-use Rattle.pictures.specs.Pictures.{sideAnswer, lengthAnswer, planeOf, zeroed}
 use Rattle.table_meaning.specs.Subbands.{keptAt, keptNode}
 use Rattle.precision.specs.Verdict.{verdict}
 use Rattle.view_precision.specs.Products.{SeenAlike, seen-verdict, same-nodes}

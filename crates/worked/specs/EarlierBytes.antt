@@ -8,7 +8,7 @@ use Rattle.numbers.specs.Tests.{every}
 use Rattle.refusals.specs.Answers.{code}
 use Rattle.width_table.specs.Lists.{widthsRight}
 use Rattle.table_bytes.specs.Bytes.{tableBytes, headed, field, formBy}
-use Rattle.table_bytes.specs.EarlierForms.{formWithout, earlierHeaded, earlierField, earlierFormBy, earlierForm, wrongTagCut, wrongLengthCut, comesTo, happens}
+use Rattle.history.specs.EarlierForms.{formWithout, earlierHeaded, earlierField, earlierFormBy, earlierForm, wrongTagCut, wrongLengthCut, comesTo, happens}
 use Rattle.worked.specs.TableBytes.{good, tagged, someHeads, headAnswers}
 
 -- before job 7, what follows the fourth field was 5

@@ -23,8 +23,8 @@ use Rattle.precision.specs.Verdict.{judged, firstRefusal, verdict}
 use Rattle.view_precision.specs.Bounds
 use Rattle.view_precision.specs.Bounds.{startBound, pixelBound, viewDistance, nodesRight, viewable, viewVerdict}
 use Rattle.view_precision.specs.LongLines.{longBound, longGives}
-use Rattle.view_precision.specs.Before
-use Rattle.view_precision.specs.Before.{pixelBoundBefore, viewDistanceBefore, nodesRightBefore, viewVerdictBefore}
+use Rattle.history.specs.EarlierView
+use Rattle.history.specs.EarlierView.{pixelBoundBefore, viewDistanceBefore, nodesRightBefore, viewVerdictBefore}
 use Rattle.worked.specs.ViewTables.{lifted, pass, Figures, figures, are}
 
 -- One level, depth 8: low-low is (12, 2), the other kept nodes are (6, 2), all others (12, 20).

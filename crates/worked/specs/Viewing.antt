@@ -14,10 +14,10 @@ use Rattle.stages.specs.Fixed.{nearest, cut, scale}
 use Rattle.pictures.specs.Pictures.{planeOf}
 use Rattle.pictures.specs.PictureLaws.{pixel-below}
 use Rattle.inverse_lifting.specs.Fixed.{inverseStep, atG1, atG2, atU2, atP2, atU1, atP1, fixedInverseLong, fixedInverse}
-use Rattle.irreversible.specs.Claims.{Picture, keptNode}
-use Rattle.view_precision.specs.Examples.{withKept, uniform, level-1, fine-distance}
 use Rattle.irreversible.specs.Claims.{Picture}
 use Rattle.table_meaning.specs.Subbands.{keptNode}
+use Rattle.worked.specs.ViewTables.{withKept, uniform}
+use Rattle.worked.specs.ViewPrecision.{level-1, fine-distance}
 use Rattle.irreversible.specs.Transforms.{fixedPlane}
 use Rattle.viewing.specs.View.{grey, pixel, viewLine, viewFrom, viewPlane, viewPicture}
 use Rattle.viewing.specs.Calls.{inWidth, coefficientsRight, viewAnswer}
@@ -25,8 +25,6 @@ use Rattle.viewing.specs.Claims.{Stored, greysApart}
 use Rattle.viewing.specs.Viewing.{view-accepted}
 use Rattle.viewing.specs.CallLaws.{held-done, call-done}
 use Rattle.viewing.specs.Forward.{forward-stored}
-use Rattle.worked.specs.ViewTables.{withKept, uniform}
-use Rattle.worked.specs.ViewPrecision.{level-1, fine-distance}
 
 -- ---- a line of three: lows 3, -2 at 2 bits, high 5 at 3 bits; a line of two
 

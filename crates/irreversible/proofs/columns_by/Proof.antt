@@ -5,10 +5,6 @@ use Rattle.width_table.specs.Numbered.{passOf}
 use Rattle.slices.specs.Patch.{at}
 use Rattle.slices.specs.PatchLines.{lineAt, patchLines}
 use Rattle.slices.specs.Parts.{columnOf}
-use Rattle.irreversible.specs.KernelLaws.{kernel-line, factor-line}
-use Rattle.lifting.specs.Patch.{at}
-use Rattle.lifting.specs.PatchLines.{lineAt, patchLines}
-use Rattle.lifting.specs.Kernels.{columnOf}
 use Rattle.fixed_stages.specs.KernelLaws.{kernel-line, factor-line}
 use Rattle.irreversible.proofs.columns_by.Statement.{statement}
 use Rattle.irreversible.proofs.columns_by.Tie as tie

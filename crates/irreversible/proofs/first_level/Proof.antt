@@ -4,9 +4,6 @@ use Prim.Native.Nat.{_-_, _^_}
 use native.Mathlib.Omega.{arith}
 use Rattle.slices.specs.Patch.{at}
 use Rattle.slices.specs.Pixels.{loaded}
-use Rattle.irreversible.specs.LevelLaws.{columned}
-use Rattle.lifting.specs.Patch.{at}
-use Rattle.pictures.specs.MemoryLaws.{loaded}
 use Rattle.irreversible.specs.Memory.{columned}
 use Rattle.irreversible.specs.CallSteps.{first-ready, both-ready}
 use Rattle.irreversible.proofs.first_level.Statement.{statement}

@@ -4,10 +4,6 @@ use Rattle.lines.specs.Lines.{lows, highs}
 use Rattle.width_table.specs.Nodes.{HighColumns}
 use Rattle.slices.specs.Runs.{as-type}
 use Rattle.slices.specs.Parts.{columnOf, columnsBy}
-use Rattle.irreversible.specs.Transforms.{fixedLine}
-use Rattle.irreversible.specs.LevelLaws.{LineSafe}
-use Rattle.lifting.specs.Runs.{as-type}
-use Rattle.lifting.specs.Kernels.{columnOf, columnsBy}
 use Rattle.fixed_stages.specs.Fixed.{fixedLine}
 use Rattle.fixed_stages.specs.Safe.{LineSafe}
 use Rattle.irreversible.specs.CallSteps.{part-of}

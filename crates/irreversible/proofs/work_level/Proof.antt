@@ -1,8 +1,6 @@
 use mathlib.Core.Path.{ap, _∙_}
 use native.Mathlib.Omega.{arith}
 use Rattle.slices.specs.Patch.{at}
-use Rattle.irreversible.specs.LevelLaws.{columned}
-use Rattle.lifting.specs.Patch.{at}
 use Rattle.irreversible.specs.Memory.{columned}
 use Rattle.irreversible.specs.CallSteps.{both-ready}
 use Rattle.irreversible.proofs.work_level.Statement.{statement}

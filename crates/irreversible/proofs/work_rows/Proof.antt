@@ -5,10 +5,6 @@ use Rattle.width_table.specs.Nodes.{Rows}
 use Rattle.slices.specs.Patch.{at}
 use Rattle.slices.specs.PatchLines.{lineAt, patchLines}
 use Rattle.slices.specs.Parts.{rowOf}
-use Rattle.irreversible.specs.KernelLaws.{kernel-line, factor-line}
-use Rattle.lifting.specs.Patch.{at}
-use Rattle.lifting.specs.PatchLines.{lineAt, patchLines}
-use Rattle.lifting.specs.Kernels.{rowOf}
 use Rattle.fixed_stages.specs.KernelLaws.{kernel-line, factor-line}
 use Rattle.irreversible.proofs.work_rows.Statement.{statement}
 use Rattle.irreversible.proofs.work_rows.Tie as tie

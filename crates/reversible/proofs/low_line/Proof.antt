@@ -10,11 +10,8 @@ use mir.Facts.{toZ-ofZ}
 use Rattle.lifting.specs.declared.Step.the-variants.{Update}
 use Rattle.lifting.specs.Steps.{applied, Safe}
 use Rattle.slices.specs.Runs.{as-type}
-use Rattle.slices.specs.Patch.{at, patch, patch-none, patch-above, patch-set, patch-to}
+use Rattle.slices.specs.Patch.{at, patch, patch-none, patch-set, patch-to}
 use Rattle.slices.specs.Pixels.{pixelLine}
-use Rattle.lifting.specs.Runs.{as-type}
-use Rattle.lifting.specs.Patch.{at, patch, patch-none, patch-set, patch-to}
-use Rattle.lifting.specs.Strips.{pixelLine}
 use Rattle.reversible.specs.Columns.{read-past}
 use Rattle.reversible.proofs.low_line.Statement.{statement}
 use Rattle.reversible.proofs.low_line.Tie as tie

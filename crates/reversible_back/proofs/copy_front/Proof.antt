@@ -9,11 +9,8 @@ use mir.Syntax.{w32}
 use mir.Facts.{toZ-ofZ}
 use Rattle.slices.specs.Patch.{at, patch, patch-none, patch-to}
 use Rattle.slices.specs.FrontLaws.{patch-next}
-use Rattle.reversible.proofs.copy_front.Statement.{statement}
-use Rattle.reversible.proofs.copy_front.Tie as tie
-use Rattle.lifting.specs.Patch.{at, patch, patch-none, patch-to}
-use Rattle.pictures.specs.MemoryLaws.{patch-next}
 use Rattle.reversible_back.proofs.copy_front.Statement.{statement}
+use Rattle.reversible_back.proofs.copy_front.Tie as tie
 use Rattle.reversible_back.proofs.copy_front.Tie as tie
 
 abbrev Inv-loop : tie.InvT-loop

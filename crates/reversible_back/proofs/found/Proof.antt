@@ -3,14 +3,10 @@ use mathlib.Core.Path.{sym, subst}
 use borrow.Author.Needs.{needs}
 use lib.Dec.{T}
 use Rattle.slices.specs.Patch.{at}
-use Rattle.reversible.specs.Orders.{orderOf}
-use Rattle.reversible.specs.FoundLaws.{found-all, found-none}
-use Rattle.reversible.proofs.found.Statement.{statement}
-use Rattle.reversible.proofs.found.Tie as tie
-use Rattle.lifting.specs.Patch.{at}
 use Rattle.reversible_back.specs.Orders.{orderOf}
 use Rattle.reversible_back.specs.FoundLaws.{found-all, found-none}
 use Rattle.reversible_back.proofs.found.Statement.{statement}
+use Rattle.reversible_back.proofs.found.Tie as tie
 use Rattle.reversible_back.proofs.found.Tie as tie
 
 returns : tie.Need-returns

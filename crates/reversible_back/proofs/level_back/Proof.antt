@@ -5,14 +5,6 @@ use borrow.Author.Needs.{needs}
 use Prim.Native.Nat.{ℕ}
 use lib.IntN.{ℤ}
 use Rattle.slices.specs.Patch.{at}
-use Rattle.reversible.specs.declared.CopyOrder.{CopyOrder}
-use Rattle.reversible.specs.Orders.{orderOf}
-use Rattle.reversible.specs.Sizes.{inverseKernel}
-use Rattle.reversible.specs.LevelLaws.{rowsFrom, columnsFrom, levelInverse}
-use Rattle.reversible.specs.Preconditions.{back-columns, back-rows, first-back, then-back-columns, then-back-rows}
-use Rattle.reversible.proofs.level_back.Statement.{statement}
-use Rattle.reversible.proofs.level_back.Tie as tie
-use Rattle.lifting.specs.Patch.{at}
 use Rattle.reversible_back.specs.declared.CopyOrder.{CopyOrder}
 use Rattle.reversible_back.specs.Orders.{orderOf}
 use Rattle.reversible_back.specs.Sizes.{inverseKernel}
@@ -20,6 +12,7 @@ use Rattle.reversible.specs.LevelLaws.{rowsFrom, columnsFrom}
 use Rattle.reversible_back.specs.LevelLaws.{levelInverse}
 use Rattle.reversible_back.specs.Preconditions.{back-columns, back-rows, first-back, then-back-columns, then-back-rows}
 use Rattle.reversible_back.proofs.level_back.Statement.{statement}
+use Rattle.reversible_back.proofs.level_back.Tie as tie
 use Rattle.reversible_back.proofs.level_back.Tie as tie
 
 gives : (a : tie.Start) (f : CopyOrder) (y : ℕ → ℤ) → a .args .first ≡ f → y ≡ levelInverse (orderOf f) (a .args .stride) (a .args .w) (a .args .h) (at (a .args .values .now))

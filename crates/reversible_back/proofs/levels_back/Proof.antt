@@ -5,20 +5,13 @@ use native.Mathlib.Omega.{arith}
 use lib.Dec.{T}
 use lib.ListN.{length}
 use Rattle.slices.specs.Patch.{at}
-use Rattle.reversible.specs.LevelLaws.{levelInverse}
-use Rattle.reversible.specs.LoopLaws.{BackLeft, one-more, back-none, back-more}
-use Rattle.reversible.specs.Preconditions.{level-room, part-here}
-use Rattle.reversible.specs.Orders.{orderOf}
-use Rattle.reversible.specs.BackLaws.{look-small, look-large, back-all, largest}
-use Rattle.reversible.proofs.levels_back.Statement.{statement}
-use Rattle.reversible.proofs.levels_back.Tie as tie
-use Rattle.lifting.specs.Patch.{at}
 use Rattle.reversible_back.specs.LevelLaws.{levelInverse}
 use Rattle.reversible_back.specs.LoopLaws.{BackLeft, one-more, back-none, back-more}
 use Rattle.reversible.specs.Preconditions.{level-room, part-here}
 use Rattle.reversible_back.specs.Orders.{orderOf}
 use Rattle.reversible_back.specs.BackLaws.{look-small, look-large, back-all, largest}
 use Rattle.reversible_back.proofs.levels_back.Statement.{statement}
+use Rattle.reversible_back.proofs.levels_back.Tie as tie
 use Rattle.reversible_back.proofs.levels_back.Tie as tie
 
 abbrev Inv-loop : tie.InvT-loop

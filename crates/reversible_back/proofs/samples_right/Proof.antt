@@ -8,8 +8,8 @@ use lib.Pow.{pow-mono}
 use mir.Syntax.{w32}
 use mir.Val.{toZ}
 use Rattle.numbers.specs.Auto.{values, v-nat, auto-fits, auto-exact, rd}
-use Rattle.lifting.specs.Patch.{at}
-use Rattle.lifting.specs.Runs.{as-type}
+use Rattle.slices.specs.Patch.{at}
+use Rattle.slices.specs.Runs.{as-type}
 use Rattle.numbers.specs.Laws.{zero-less}
 use Rattle.pictures.specs.RangeChecks.{Tells, Between}
 use Rattle.reversible_back.proofs.samples_right.Statement.{statement}

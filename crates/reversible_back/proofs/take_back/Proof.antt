@@ -9,18 +9,12 @@ use lib.IntN.{ℤ}
 use lib.ListN.{length, drop}
 use lib.Seq.{length-take-le, length-front}
 use Rattle.slices.specs.Patch.{at}
-use Rattle.reversible.specs.Orders.{orderOf}
-use Rattle.reversible.specs.FoundLaws.{Found, found-front, taken, taken-none}
-use Rattle.slices.specs.FrontLaws.{zeroed-part}
-use Rattle.reversible.specs.Preconditions.{other-slices}
-use Rattle.reversible.proofs.take_back.Statement.{statement}
-use Rattle.reversible.proofs.take_back.Tie as tie
-use Rattle.lifting.specs.Patch.{at}
 use Rattle.reversible_back.specs.Orders.{orderOf}
 use Rattle.reversible_back.specs.FoundLaws.{Found, found-front, taken, taken-none}
-use Rattle.pictures.specs.MemoryLaws.{zeroed-part}
+use Rattle.slices.specs.FrontLaws.{zeroed-part}
 use Rattle.reversible.specs.Preconditions.{other-slices}
 use Rattle.reversible_back.proofs.take_back.Statement.{statement}
+use Rattle.reversible_back.proofs.take_back.Tie as tie
 use Rattle.reversible_back.proofs.take_back.Tie as tie
 
 -- the part of the work area that was lent

@@ -11,10 +11,6 @@ use mir.Facts.{toZ-ofZ}
 use Rattle.slices.specs.Patch.{at, patch, patch-none, patch-above, patch-to}
 use Rattle.slices.specs.Runs.{as-type}
 use Rattle.slices.specs.FrontLaws.{patch-next, patch-zeroed}
-use Rattle.numbers.specs.Auto.{rd}
-use Rattle.lifting.specs.Patch.{at, patch, patch-none, patch-above, patch-to}
-use Rattle.lifting.specs.Runs.{as-type}
-use Rattle.pictures.specs.MemoryLaws.{patch-next, patch-zeroed}
 use Rattle.reversible_back.specs.FoundLaws.{signed-middle}
 use Rattle.pictures.specs.RangeChecks.{Between}
 use Rattle.reversible_back.proofs.write_pixels.Statement.{statement}

@@ -6,8 +6,6 @@ use Rattle.width_table.specs.Nodes.{P1, U1, P2}
 use Rattle.width_table.specs.Table.{maxFractionBits, fractionBits, inputBits}
 use Rattle.width_table.specs.Numbered.{passOf}
 use Rattle.slices.specs.Patch.{at}
-use Rattle.irreversible.specs.LevelBits.{fraction-is, input-is}
-use Rattle.lifting.specs.Patch.{at}
 use Rattle.fixed_stages.specs.LevelBits.{fraction-is, input-is}
 use Rattle.rolling.specs.SoundLaws.{look-in, no-entering, no-p1, no-u1, last-tells}
 use Rattle.rolling.proofs.columns_sound.Statement.{statement}

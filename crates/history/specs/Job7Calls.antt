@@ -23,17 +23,16 @@ use Rattle.table_bytes.specs.Fields.{fields, tableSize, valueStart, valueLength
 use Rattle.table_bytes.specs.Bytes.{levelsIn, hasFifth, form, tableIn, tableBytes}
 use Rattle.width_table.specs.Changes.{widthAnswer, withWidth, constantAnswer, withConstant, withProduct}
 use Rattle.width_table.specs.FormLaws.{no-products}
-use Rattle.width_table.specs.EarlierForms.{formWithout, nameAnswerWithout}
-use Rattle.width_table.specs.WithoutProducts.{then-answered, reads-as-before, named-as-before, writes-as-before}
+use Rattle.history.specs.EarlierForms.{formWithout, nameAnswerWithout}
+use Rattle.history.specs.Job7Forms.{then-answered, reads-as-before, named-as-before, writes-as-before}
 use Rattle.pictures.specs.Pictures.{sideAnswer, lengthAnswer, pixelAnswer, planeOf}
 use Rattle.slices.specs.Fronts.{zeroed}
-use Rattle.table_bytes.specs.EarlierForms.{formWithout, nameAnswerWithout}
-use Rattle.table_bytes.specs.WithoutProducts.{then-answered, reads-as-before, named-as-before, writes-as-before}
-use Rattle.pictures.specs.Pictures.{sideAnswer, lengthAnswer, pixelAnswer, planeOf, zeroed}
 use Rattle.stages.specs.Rule.{Bound}
-use Rattle.precision.specs.Uncut.{oldBoundOf, oldVerdict, oldBoundAnswer, old-bounds, old-verdict, old-bound-told}
+use Rattle.history.specs.EarlierAnalysis.{oldBoundOf, oldVerdict, oldBoundAnswer}
+use Rattle.history.specs.Job7Analysis.{old-bounds, old-verdict, old-bound-told}
 use Rattle.irreversible.specs.Calls.{fixedAnswerOf, fixedAnswer, fixedPlaneAfter, fixedWork}
-use Rattle.irreversible.specs.Uncut.{uncutPlane, old-coefficients}
+use Rattle.history.specs.EarlierLifting.{uncutPlane}
+use Rattle.history.specs.Job7Lifting.{old-coefficients}
 use Rattle.view_precision.specs.Bounds.{viewDistance, viewable, viewVerdict}
 use Rattle.viewing.specs.View.{viewPicture}
 use Rattle.viewing.specs.Calls.{coefficientsRight, viewAnswerOf, viewAnswer, viewPixels, viewWork}

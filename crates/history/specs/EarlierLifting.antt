@@ -1,23 +1,42 @@
--- The lifting of document 01, in which no product is cut, kept as it was (with the single samples of document 02, job 6); a table without tag 5
--- cuts no product and gives its coefficients (`old-coefficients`; document 02, job 7).
+-- The transforms before document 02: of lines of two samples or more alone (job 6), and with no product cut (job 7; single samples as in job 6).
 use Prim.Native.Nat.{ℕ, _+_, _*_, _-_, _^_, max}
-use mathlib.Core.Path.{_≡_, refl, _∙_, ap, fun-ext}
-use mathlib.Core.Bool.{false}
 use mathlib.Core.List.{List}
 use lib.IntN.{ℤ, pos, _+ℤ_, _*ℤ_}
 use Rattle.exact.specs.Fractions.{Frac}
 use Rattle.exact.specs.Exact.{alpha, beta, gamma, delta, zeta, zetaInverse}
 use Rattle.lines.specs.Lines.{onHighs, onLows, lowsFirst}
-use Rattle.lines.specs.Planes.{Plane, OnLine, fromOne, levelRowsFirst, levels}
+use Rattle.lines.specs.Planes.{Plane, OnLine, fromOne, levelRowsFirst, levels, OnPart, levelColumnsFirst}
 use Rattle.width_table.specs.Nodes.{Node, P1, U1, P2, U2, G1, G2, Pass, Rows, columnPass}
 use Rattle.width_table.specs.declared.WidthTable.{WidthTable}
 use Rattle.width_table.specs.Table.{constantBits, fractionBits, inputBits}
 use Rattle.pictures.specs.Pictures.{sample}
-use Rattle.stages.specs.Stages.{Product, uncut}
-use Rattle.stages.specs.Fixed.{nearest, cut, cutProduct, step, scale}
-use Rattle.table_meaning.specs.ProductLaws.{none-cut}
-use Rattle.fixed_stages.specs.Fixed.{atP1, atU1, atP2, atU2, atG1, atG2, fixedLong, fixedPass, fixedLine}
-use Rattle.irreversible.specs.Transforms.{fixedAfter, fixedPlane}
+use Rattle.stages.specs.Fixed.{nearest, cut, scale}
+use Rattle.fixed_stages.specs.Fixed.{fixedLong}
+use Rattle.table_meaning.specs.Products.{productOf}
+use Rattle.reversible.specs.Reversible.{Order, columnsFirst, rowsFirst, reversibleLong, inverseLong}
+use Rattle.inverse_lifting.specs.Fixed.{fixedInverseLong}
+use Rattle.viewing.specs.View.{enteringBits}
+
+-- ---- before job 6
+
+-- a pass of level l over two samples or more
+abbrev pub longLine : WidthTable → ℕ → Pass → OnLine ℤ
+longLine t l p = fixedLong (constantBits t) (productOf t l p) (inputBits t l p) (fractionBits t l p)
+
+-- a level by the equations alone
+abbrev pub longLevel : Order → OnPart ℤ
+longLevel columnsFirst = levelColumnsFirst reversibleLong (λ low. reversibleLong)
+longLevel rowsFirst = levelRowsFirst reversibleLong (λ low. reversibleLong)
+
+abbrev pub longInverseLevel : Order → OnPart ℤ
+longInverseLevel columnsFirst = levelRowsFirst inverseLong (λ low. inverseLong)
+longInverseLevel rowsFirst = levelColumnsFirst inverseLong (λ low. inverseLong)
+
+-- a pass of level l over two values or more inverted
+abbrev pub viewLong : WidthTable → ℕ → Pass → OnLine ℤ
+viewLong t l p = fixedInverseLong (enteringBits t l p G1) (enteringBits t l p G2)
+
+-- ---- before job 7
 
 -- sum and product are formed without loss, at the larger of fo and F + fm bits, and cut once to f bits
 unfoldable pub uncutStep : Frac → ℕ → ℕ → ℕ → ℕ → ℤ → ℤ → ℤ → ℤ
@@ -53,19 +72,3 @@ uncutAfter t k pixels w h = levels (λ l. levelRowsFirst (uncutLine t l Rows) (�
 
 unfoldable pub uncutPlane : WidthTable → List ℕ → ℕ → ℕ → Plane ℤ
 uncutPlane t pixels w h = uncutAfter t (t .levels) pixels w h
-
--- ---- a table without tag 5
-
--- a pass that cuts none
-uncut-pass : (F : Node → ℕ) (fi : ℕ) (f : Node → ℕ) → fixedPass F (λ n. uncut) fi f ≡ uncutPass F fi f
-unfolding fixedPass fixedLong atP1 atU1 atP2 atU2 atG1 atG2 step cutProduct uncutPass uncutLong uncutP1 uncutU1 uncutP2 uncutU2 uncutStep
-uncut-pass F fi f = refl
-
-line-uncut : (t : WidthTable) → t .«has_products» ≡ false → fixedLine t ≡ uncutLine t
-unfolding fixedLine uncutLine
-line-uncut t e = fun-ext λ l. fun-ext λ p. ap (λ (fp : Node → Product). fixedPass (constantBits t) fp (inputBits t l p) (fractionBits t l p)) (none-cut t l p e) ∙ uncut-pass (constantBits t) (inputBits t l p) (fractionBits t l p)
-
--- Without tag 5 a table gives its old coefficients.
-pub old-coefficients : (t : WidthTable) (pixels : List ℕ) (w h : ℕ) → t .«has_products» ≡ false → fixedPlane t pixels w h ≡ uncutPlane t pixels w h
-unfolding fixedPlane fixedAfter uncutPlane uncutAfter
-old-coefficients t pixels w h e = ap (λ (line : ℕ → Pass → OnLine ℤ). levels (λ l. levelRowsFirst (line l Rows) (λ low. line l (columnPass low))) (t .levels) w h (sample pixels (t .depth) w)) (line-uncut t e)

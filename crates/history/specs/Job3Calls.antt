@@ -15,8 +15,8 @@ use Rattle.refusals.specs.AnswerLaws.{then-assoc}
 use Rattle.width_table.specs.declared.WidthTable.{WidthTable}
 use Rattle.table_bytes.specs.Fields.{tableSize, valueStart, valueLength}
 use Rattle.table_bytes.specs.Bytes.{levelsIn, hasFifth, form, tableIn, tableBytes}
-use Rattle.table_bytes.specs.EarlierForms.{earlierForm, earlierNameAnswer, NotFive, PresentChanges}
-use Rattle.table_bytes.specs.EarlierOrder.{earlier-four, call-changes, same-after, same-lent, same-named}
+use Rattle.history.specs.EarlierForms.{earlierForm, earlierNameAnswer, NotFive, PresentChanges}
+use Rattle.history.specs.Job3Forms.{earlier-four, call-changes, same-after, same-lent, same-named}
 use Rattle.precision.specs.Verdict.{verdict}
 use Rattle.precision.specs.BoundCalls.{boundAnswer}
 use Rattle.irreversible.specs.Calls.{fixedAnswer, fixedPlaneAfter, fixedWork}

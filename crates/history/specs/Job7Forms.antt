@@ -14,12 +14,12 @@ use Rattle.refusals.specs.AnswerLaws.{asks-done, asks-right, then-done, then-ri
 use Rattle.width_table.specs.declared.WidthTable.{WidthTable}
 use Rattle.width_table.specs.Table.{maxLevels, formRight}
 use Rattle.width_table.specs.Lists.{productBytes, FullLists}
 use Rattle.table_bytes.specs.Fields.{depthTag, levelsTag, nodesTag, productsTag, tagRight, headBytes, Field, fixedFields, lastFields, fields, startOf, tableSize, bytesOf}
 use Rattle.table_bytes.specs.Bytes.{headed, field, formBy, levelsIn, hasFifth, form, productsIn, tableIn, tableBytes}
 use Rattle.table_bytes.specs.Names.{nameAnswer}
-use Rattle.table_bytes.specs.EarlierForms.{formWithout, nameAnswerWithout}
+use Rattle.history.specs.EarlierForms.{formWithout, nameAnswerWithout}
 use Rattle.table_bytes.specs.BytesLaws.{FieldAt, field-done, field-right, right-from, right-long, right-form, bytes-length}
 use Rattle.table_bytes.specs.ReadLaws.{more-follows}
 
 -- what stands where one answer is passed, and then another
 pub then-answered : {A B : Type 0} (o : Answer Unit) (p : Answer A) (x y : B) → answered o (answered p x y) y ≡ answered (o then p) x y

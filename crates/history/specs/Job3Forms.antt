@@ -12,11 +12,11 @@ use lib.ListN.{length, getD, take, drop}
 use Rattle.numbers.specs.Tests.{between, by-leb, right-false}
 use Rattle.refusals.specs.Answers.{Answer, done, refused, passed, asks, _then_, answered, code}
 use Rattle.refusals.specs.AnswerLaws.{asks-right, asks-wrong, then-right, then-refused, answered-refused}
 use Rattle.table_bytes.specs.Fields.{depthTag, nodesTag, productsTag, tagRight, headBytes, Field, fields, valueStart, valueLength}
 use Rattle.table_bytes.specs.Bytes.{announced, headed, field, formBy, levelsIn, hasFifth, form, valueIn, tableIn, emptyTable, tableRead}
 use Rattle.table_bytes.specs.Names.{nameAnswer, naming, partAt}
-use Rattle.table_bytes.specs.EarlierForms.{formWithout, nameAnswerWithout, earlierHeaded, earlierField, earlierFormBy, earlierForm, earlierTableRead, earlierNameAnswer, wrongTagCut, wrongLengthCut, comesTo, happens, inEither, Changes, NotFive, PresentChanges}
-use Rattle.table_bytes.specs.WithoutProducts.{then-answered, none-after, only-five, four-names, named-as-before}
+use Rattle.history.specs.EarlierForms.{formWithout, nameAnswerWithout, earlierHeaded, earlierField, earlierFormBy, earlierForm, earlierTableRead, earlierNameAnswer, wrongTagCut, wrongLengthCut, comesTo, happens, inEither, Changes, NotFive, PresentChanges}
+use Rattle.history.specs.Job7Forms.{then-answered, none-after, only-five, four-names, named-as-before}
 
 -- ---- one field
 

@@ -14,9 +14,9 @@ use Rattle.inverse_lifting.specs.Fixed.{maxValue}
 use Rattle.width_table.specs.Nodes.{Node, Pass, Rows, LowColumns, HighColumns}
 use Rattle.width_table.specs.declared.WidthTable.{WidthTable}
 use Rattle.precision.specs.Verdict.{verdict}
 use Rattle.view_precision.specs.Bounds.{fromLow, fromHigh, passBound, levelGives, givesFrom, startBound, pixelBound, withinMax, passRight, nodesRight, viewable, viewVerdict}
 use Rattle.view_precision.specs.LongLaws.{node-more, gives-more}
-use Rattle.view_precision.specs.Before.{fromLowBefore, fromHighBefore, passBoundBefore, levelGivesBefore, givesFromBefore, pixelBoundBefore, nodesRightBefore, viewableBefore, viewVerdictBefore}
+use Rattle.history.specs.EarlierView.{fromLowBefore, fromHighBefore, passBoundBefore, levelGivesBefore, givesFromBefore, pixelBoundBefore, nodesRightBefore, viewableBefore, viewVerdictBefore}
 
 -- ---- no table is newly viewable
 

@@ -6,24 +6,23 @@ use refusals::Outcome;
 use refusals::Refusal;
 use width_table::WidthTable;
 ghost use mathlib.Core.Path.{_≡_};
-ghost use Prim.Native.Nat.{ℕ, _+_, _*_, _-_, _^_, _<_, _≤_};
+ghost use Prim.Native.Nat.{ℕ, _+_, _*_, _-_, _<_, _≤_};
 ghost use mathlib.Core.List.{[], _∷_};
 ghost use lib.Dec.{T};
 ghost use lib.ListN.{getD, take};
 ghost use Rattle.stages.specs.GainTable.{forwardGains};
-ghost use Rattle.stages.specs.Rule.{timesGain, loss, productLoss, ownLift, ownScale};
+ghost use Rattle.stages.specs.Rule.{timesGain};
 ghost use Rattle.table_meaning.specs.Subbands.{keptAt};
 ghost use Rattle.precision.specs.Verdict.{firstRefusal, verdict};
 ghost use Rattle.precision.specs.Places.{places, mostTotal, largest, gainAt, multiplied, other, ownBy, heldAt, judgedAs, fedAfter, At, Limited, Read, Enters, BoundsOf, Reached, After};
 ghost use Rattle.bounds_rule.specs.Carried.{asHeld};
-ghost use Rattle.stages.specs.Stages.{cutTo};
 ghost use Rattle.width_table.specs.Numbered.{nodeOf, passOf, IsNode, IsPass, IsProduct};
 ghost use Rattle.width_table.specs.Readers.{cutAt};
 ghost use Rattle.precision.specs.Bounds.{entering, boundOf};
 ghost use Rattle.precision.specs.BoundCalls.{nodesBefore, boundAnswer, boundNumbered, rangeTold, errorTold};
 ghost use Rattle.refusals.specs.Answers.{passed, refused, answered};
 ghost use Rattle.refusals.specs.Told.{toldRefusal, told};
-ghost use Rattle.width_table.specs.Table.{maxConstantBits, maxIntegerBits, maxFractionBits, maxProductBits, formRight};
+ghost use Rattle.width_table.specs.Table.{maxIntegerBits, maxFractionBits, formRight};
 ghost use Rattle.width_table.specs.Nodes.{G1, G2, nodesPerPass, passNumber, passesPerLevel, Rows, nodeAt, passNodes, levelNodes, tableOrder};
 
 // The places of a pass: 0 the input, 1 to 6 the nodes.

@@ -1,6 +1,6 @@
 // Values of slices copied, cleared and biased.
 ghost use mathlib.Core.Path.{_≡_};
-ghost use Prim.Native.Nat.{ℕ, _+_, _≤_};
+ghost use Prim.Native.Nat.{_+_, _≤_};
 ghost use lib.ListN.{length};
 ghost use Rattle.slices.specs.Patch.{at, patch};
 ghost use Rattle.slices.specs.Fronts.{zeroed};

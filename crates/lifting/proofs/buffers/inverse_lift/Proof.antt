@@ -6,21 +6,9 @@ use Rattle.lifting.specs.Buffers.{AtHighs, highsDone, buffer-as}
 use Rattle.lifting.proofs.buffers.inverse_lift.Statement.{statement}
 use Rattle.lifting.proofs.buffers.inverse_lift.Tie as tie
 
-on-lows-requires : tie.Need-on-lows-requires
-on-lows-requires c κs = (c .before .pre .0, c .before .pre .1 .on-lows)
-
-on-highs-requires : tie.Need-on-highs-requires
-on-highs-requires c κs =
-    let f = c .before .before in
-    let a = f .before .before in
-    (buffer-as (a .pre .0) _ (omega arith), subst (AtHighs (Safe (a .args .pair .highs)) (a .args .s) (a .args .n)) (sym (f .on-lows .ensures)) (a .pre .1 .on-highs))
-
-returns : tie.Need-returns
-returns c =
-    let g = c .before in
-    let f = g .before .before .before in
-    let a = f .before .before in
-    g .on-highs .ensures ∙ ap (highsDone (applied (a .args .pair .highs)) (a .args .s) (a .args .n)) (f .on-lows .ensures)
-
 pub inverse-lift-spec : {M : Type 1} → statement M
-inverse-lift-spec = tie.close (tie.spec on-lows-requires on-highs-requires (λ c. omega arith) returns)
+inverse-lift-spec = tie.close (tie.spec
+    (λ c κs. (c .before .pre .0, c .before .pre .1 .on-lows))
+    (λ c κs. let f = c .before .before in let a = f .before .before in (buffer-as (a .pre .0) _ (omega arith), subst (AtHighs (Safe (a .args .pair .highs)) (a .args .s) (a .args .n)) (sym (f .on-lows .ensures)) (a .pre .1 .on-highs)))
+    (λ c. omega arith)
+    (λ c. let g = c .before in let f = g .before .before .before in let a = f .before .before in g .on-highs .ensures ∙ ap (highsDone (applied (a .args .pair .highs)) (a .args .s) (a .args .n)) (f .on-lows .ensures)))

@@ -6,21 +6,9 @@ use Rattle.lifting.specs.Buffers.{AtLows, lowsDone, buffer-as}
 use Rattle.lifting.proofs.buffers.lift.Statement.{statement}
 use Rattle.lifting.proofs.buffers.lift.Tie as tie
 
-on-highs-requires : tie.Need-on-highs-requires
-on-highs-requires c κs = (c .before .pre .0, c .before .pre .1 .on-highs)
-
-on-lows-requires : tie.Need-on-lows-requires
-on-lows-requires c κs =
-    let f = c .before .before in
-    let a = f .before .before in
-    (buffer-as (a .pre .0) _ (omega arith), subst (AtLows (Safe (a .args .pair .lows)) (a .args .s) (a .args .n)) (sym (f .on-highs .ensures)) (a .pre .1 .on-lows))
-
-returns : tie.Need-returns
-returns c =
-    let g = c .before in
-    let f = g .before .before .before in
-    let a = f .before .before in
-    g .on-lows .ensures ∙ ap (lowsDone (applied (a .args .pair .lows)) (a .args .s) (a .args .n)) (f .on-highs .ensures)
-
 pub lift-spec : {M : Type 1} → statement M
-lift-spec = tie.close (tie.spec on-highs-requires on-lows-requires (λ c. omega arith) returns)
+lift-spec = tie.close (tie.spec
+    (λ c κs. (c .before .pre .0, c .before .pre .1 .on-highs))
+    (λ c κs. let f = c .before .before in let a = f .before .before in (buffer-as (a .pre .0) _ (omega arith), subst (AtLows (Safe (a .args .pair .lows)) (a .args .s) (a .args .n)) (sym (f .on-highs .ensures)) (a .pre .1 .on-lows)))
+    (λ c. omega arith)
+    (λ c. let g = c .before in let f = g .before .before .before in let a = f .before .before in g .on-lows .ensures ∙ ap (lowsDone (applied (a .args .pair .lows)) (a .args .s) (a .args .n)) (f .on-highs .ensures)))

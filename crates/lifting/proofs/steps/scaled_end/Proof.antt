@@ -1,10 +1,8 @@
 -- `lifting::steps::scaled_end` meets its contract: each call's result is the number that `scaledEnd` has at its place.
 use mathlib.Core.Path.{_≡_, ap, ap₂, _∙_}
-use Prim.Native.Nat.{_^_, _<_, _≤_}
-use native.Mathlib.Omega.{arith}
+use Prim.Native.Nat.{_^_, _<_}
 use borrow.Author.Needs.{needs}
 use lib.IntN.{ℤ, pos, _+ℤ_, _*ℤ_}
-use lib.Pow.{pow-mono}
 use lib.Signed.{shrZ}
 use mir.Syntax.{w32, w64}
 use mir.Val.{toZ}
@@ -14,13 +12,12 @@ use Rattle.lifting.specs.Steps.{scaledEnd}
 use Rattle.slices.specs.SignedRuns.{back, got, fits-at}
 use Rattle.numbers.specs.Laws.{twice-times}
 use Rattle.lifting.specs.Ends.{ended-fits}
+use Rattle.lifting.proofs.Signed.{power-small}
 use Rattle.lifting.proofs.steps.scaled_end.Statement.{statement}
 use Rattle.lifting.proofs.steps.scaled_end.Tie as tie
 
 small : (c : tie.After-power) → c .power .result < 9223372036854775808
-small c =
-    let l : 2 ^ c .before .args .k ≤ 4611686018427387904 = pow-mono {i = c .before .args .k} {j = 62} (c .before .pre .few) in
-    omega (arith, c .power .ensures)
+small c = power-small (c .before .pre .few) (c .power .ensures)
 
 left : (c : tie.After-wide) → let a = c .before .before .args in toZ w64 (c .before .power .result) *ℤ back w64 (c .wide .result) ≡ pos (2 ^ a .k) *ℤ a .own
 left c = ap₂ _*ℤ_ (toZ-pos w64 (small (c .before)) ∙ ap pos (c .before .power .ensures)) (got w64 (c .wide .ok) (c .wide .ensures ∙ toZ-ofZ (c .before .before .fits .own)))
@@ -69,16 +66,4 @@ returns : tie.Need-returns
 returns c = got w32 (c .narrowed .ok) (c .narrowed .ensures ∙ shifted (c .before))
 
 pub scaled-end-spec : {M : Type 1} → statement M
-scaled-end-spec =
-    tie.close
-    (tie.spec
-    (λ c κs. search needs)
-    (λ c. record { sfits = small c })
-    (λ c κs. search needs)
-    times-requires
-    times-requires-2
-    (λ c κs. search needs)
-    times-requires-3
-    plus-requires
-    narrowed-requires
-    returns)
+scaled-end-spec = tie.close (tie.spec (λ c κs. search needs) (λ c. record { sfits = small c }) (λ c κs. search needs) times-requires times-requires-2 (λ c κs. search needs) times-requires-3 plus-requires narrowed-requires returns)

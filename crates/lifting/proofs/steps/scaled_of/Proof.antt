@@ -1,24 +1,20 @@
 -- `lifting::steps::scaled_of` meets its contract: each call's result is the number that `scaled` has at its place.
 use mathlib.Core.Path.{_≡_, ap, ap₂, _∙_}
-use Prim.Native.Nat.{_^_, _<_, _≤_}
-use native.Mathlib.Omega.{arith}
+use Prim.Native.Nat.{_^_, _<_}
 use borrow.Author.Needs.{needs}
 use lib.IntN.{ℤ, pos, _+ℤ_, _*ℤ_}
-use lib.Pow.{pow-mono}
 use lib.Signed.{shrZ}
 use mir.Syntax.{w32, w64}
 use mir.Val.{toZ}
 use mir.Facts.{toZ-ofZ, toZ-pos}
 use Rattle.lifting.specs.Steps.{scaled}
-use Rattle.lifting.proofs.Signed.{sfits-wide}
+use Rattle.lifting.proofs.Signed.{power-small, sfits-wide}
 use Rattle.slices.specs.SignedRuns.{back, got, fits-at}
 use Rattle.lifting.proofs.steps.scaled_of.Statement.{statement}
 use Rattle.lifting.proofs.steps.scaled_of.Tie as tie
 
 small : (c : tie.After-power) → c .power .result < 9223372036854775808
-small c =
-    let l : 2 ^ c .before .args .k ≤ 4611686018427387904 = pow-mono {i = c .before .args .k} {j = 62} (c .before .pre .few) in
-    omega (arith, c .power .ensures)
+small c = power-small (c .before .pre .few) (c .power .ensures)
 
 left : (c : tie.After-wide) → let a = c .before .before .args in toZ w64 (c .before .power .result) *ℤ back w64 (c .wide .result) ≡ pos (2 ^ a .k) *ℤ a .own
 left c = ap₂ _*ℤ_ (toZ-pos w64 (small (c .before)) ∙ ap pos (c .before .power .ensures)) (got w64 (c .wide .ok) (c .wide .ensures ∙ toZ-ofZ (c .before .before .fits .own)))
@@ -61,17 +57,4 @@ returns : tie.Need-returns
 returns c = got w32 (c .narrowed .ok) (c .narrowed .ensures ∙ shifted (c .before))
 
 pub scaled-of-spec : {M : Type 1} → statement M
-scaled-of-spec =
-    tie.close
-    (tie.spec
-    (λ c κs. search needs)
-    (λ c. record { sfits = small c })
-    (λ c κs. search needs)
-    times-requires
-    (λ c κs. search needs)
-    (λ c κs. search needs)
-    plus-requires
-    times-requires-2
-    plus-requires-2
-    narrowed-requires
-    returns)
+scaled-of-spec = tie.close (tie.spec (λ c κs. search needs) (λ c. record { sfits = small c }) (λ c κs. search needs) times-requires (λ c κs. search needs) (λ c κs. search needs) plus-requires times-requires-2 plus-requires-2 narrowed-requires returns)

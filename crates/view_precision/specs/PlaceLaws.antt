@@ -5,19 +5,19 @@ use mathlib.Core.List.{List}
 use mathlib.Core.Path.{_≡_, refl, sym, _∙_, ap, ap₂, subst}
 use native.Mathlib.Omega.{arith}
 use native.Mathlib.Decide.{decLt}
-use lib.Dec.{lit<}
+use lib.Dec.{lit≤, lit<}
 use borrow.Author.Tests.{le-leb, lt-leb, eq-eqb, ne-eqb}
 use lib.ListN.{set}
 use Rattle.numbers.specs.Tests.{every, ltb-true, ltb-false, left-false, right-false}
-use Rattle.numbers.specs.Ceiling.{upDiv}
 use Rattle.inverse_lifting.specs.Fixed.{nodeBits, inverseBits, maxValue}
 use Rattle.width_table.specs.Nodes.{Node, P1, U1, P2, U2, G1, G2}
-use Rattle.stages.specs.Stages.{Side, low, high, stage, inverse, uncut, bits}
+use Rattle.width_table.specs.Table.{maxProductBits}
+use Rattle.stages.specs.Stages.{Side, low, high, stage, inverse, uncut, cutTo, bits}
 use Rattle.stages.specs.Gains.{lows, highs, node, gain}
-use Rattle.stages.specs.GainTable.{inverse-gain}
+use Rattle.stages.specs.GainTable.{inverseGains, inverse-gain}
 use Rattle.stages.specs.Rule as Rule
-use Rattle.stages.specs.Rule.{Bound, apart, timesGain, loss, ownLift, ownScale, inputPart}
-use Rattle.stages.specs.ProductLaws.{own-uncut}
+use Rattle.stages.specs.Rule.{Bound, apart, timesGain, ownLift, ownScale, inputPart}
+use Rattle.stages.specs.ProductLaws.{own-wide}
 use Rattle.stages.specs.ValueLaws.{weighed}
 use Rattle.stages.specs.RuleLaws as RuleLaws
 use Rattle.stages.specs.RuleLaws.{timesGain-zero, timesGain-none, weighed-ext, error-sum, bound-start, bound-kept}
@@ -38,11 +38,6 @@ by-stage P a b c d e f (suc (suc (suc (suc (suc zero))))) i = f
 by-stage P a b c d e f (suc (suc (suc (suc (suc (suc j)))))) i = absurd (omega arith)
 
 -- ---- one pass
-
--- the own error of a stage that lifts: its product is not cut
-lifted : (r : ℕ) → ownLift uncut inverseBits nodeBits nodeBits nodeBits r ≡ upDiv r (2 ^ inverseBits) + 2 ^ (32 - nodeBits)
-unfolding loss
-lifted r = own-uncut inverseBits nodeBits nodeBits nodeBits r
 
 module _ (a b : Bound) where
   abbrev own : ℕ → ℕ
@@ -72,12 +67,12 @@ module _ (a b : Bound) where
 
   -- the first two multiply what enters
   pub own-is : (j : ℕ) → j < stages → ownAt a b (j + 2) ≡ inverseOwnError j (totalBefore j)
-  unfolding ownAt inverseOwnError totalBefore inverseBound bits RuleLaws.ownAt Rule.ownErrorOf Rule.sideBound ownScale loss
+  unfolding ownAt inverseOwnError totalBefore inverseBound bits RuleLaws.ownAt Rule.ownErrorOf Rule.sideBound
   own-is =
       by-stage _
       (ap (λ (x : Bound). ownScale inverseBits 0 nodeBits (total x)) (bound-start inverse (apart a b) (λ i. inverseBits) (λ i. uncut) (λ s. 0) (λ i. nodeBits) low))
       (ap (λ (x : Bound). ownScale inverseBits 0 nodeBits (total x)) (bound-kept inverse (apart a b) (λ i. inverseBits) (λ i. uncut) (λ s. 0) (λ i. nodeBits) 0 high refl ∙ bound-start inverse (apart a b) (λ i. inverseBits) (λ i. uncut) (λ s. 0) (λ i. nodeBits) high))
-      (lifted _) (lifted _) (lifted _) (lifted _)
+      refl refl refl refl
 
   range-is : (j : ℕ) → j < stages → timesGain (a .range) (gainAt 0 j) + timesGain (b .range) (gainAt 1 j) ≡ long (nodeAfter j) .range
   unfolding inverseBound odd Rule.sideBound Rule.rangeAt inputPart
@@ -98,7 +93,7 @@ module _ (a b : Bound) where
         weighed-ext (λ i. gain inverse (stage inverse j .side) (suc j) (node i)) (λ i. gainAt (suc (suc i)) j) own (suc j) (λ i l. inverse-gain (suc (suc i)) j (omega arith) h),
       )
 
-  error-is : (j : ℕ) → j < stages → carriedTo (ownsBelow a b sources) j sources ≡ long (nodeAfter j) .error
+  error-is : (j : ℕ) → j < stages → carriedTo inverseGains (ownsBelow a b sources) j sources ≡ long (nodeAfter j) .error
   unfolding carriedTo ownsBelow ownAt inverseBound Rule.sideBound weighed
   error-is =
       by-stage _
@@ -160,21 +155,21 @@ module _ (a b : Bound) (own : List ℕ) (j : ℕ) where
   pub node-other : (j ≡ evenStage → ⊥) → boundFrom (a .range) (b .range) own j ≡ nodeFrom a b own j
   node-other h = sym (ap picked (ne-eqb j evenStage h))
 
--- the own error of a stage by its kind
+-- the own error of a stage by its kind; a product of the inverse has at most as many bits as a table's, so the limit cuts none
 module _ (j r : ℕ) where
   abbrev chosen : Bool → ℕ
   chosen t = elim t [
-    | true ↦ upDiv r (2 ^ (inverseBits + 1)) + 2 ^ (32 - nodeBits)
-    | false ↦ upDiv r (2 ^ inverseBits) + 2 ^ (32 - nodeBits)
+    | true ↦ ownScale inverseBits 0 nodeBits r
+    | false ↦ ownLift uncut inverseBits nodeBits nodeBits nodeBits r
   ]
 
-  pub own-scales : j < scalings → upDiv r (2 ^ (inverseBits + 1)) + 2 ^ (32 - nodeBits) ≡ inverseOwnError j r
+  pub own-scales : j < scalings → ownScale inverseBits 0 nodeBits r ≡ inverseOwnError j r
   unfolding inverseOwnError
   own-scales h = sym (ap chosen (ltb-true j scalings h))
 
-  pub own-lifts : scalings ≤ j → upDiv r (2 ^ inverseBits) + 2 ^ (32 - nodeBits) ≡ inverseOwnError j r
+  pub own-lifts : scalings ≤ j → ownLift (cutTo maxProductBits) inverseBits nodeBits nodeBits nodeBits r ≡ inverseOwnError j r
   unfolding inverseOwnError
-  own-lifts h = sym (ap chosen (ltb-false j scalings h))
+  own-lifts h = own-wide maxProductBits inverseBits nodeBits nodeBits nodeBits r (lit≤ tt) ∙ sym (ap chosen (ltb-false j scalings h))
 
 -- ---- the nodes of a pass
 

@@ -4,18 +4,17 @@ use mathlib.Core.Bool.{Bool, true, false, _&&_}
 use mathlib.Core.List.{List, [], _∷_}
 use lib.Dec.{eqb, ltb}
 use lib.ListN.{getD}
-use Rattle.numbers.specs.Ceiling.{upDiv}
 use Rattle.inverse_lifting.specs.Fixed.{nodeBits, inverseBits}
 use Rattle.width_table.specs.Nodes.{Node, P1, U1, P2, U2, G1, G2, nodesPerPass, Rows, LowColumns, HighColumns}
 use Rattle.width_table.specs.declared.WidthTable.{WidthTable}
 use Rattle.width_table.specs.Table.{maxLevels, maxIntegerBits}
 use Rattle.stages.specs.Stages.{inverse, uncut}
 use Rattle.stages.specs.GainTable.{inverseGains}
-use Rattle.stages.specs.Rule.{Bound, apart, timesGain}
+use Rattle.stages.specs.Rule.{Bound, apart, timesGain, ownLift, ownScale}
 use Rattle.stages.specs.RuleLaws as RuleLaws
 use Rattle.view_precision.specs.Bounds.{larger, passBound, passRight, levelGives}
 use Rattle.view_precision.specs.Odd.{ownOdd}
-use Rattle.bounds_rule.specs.declared.Bound as Code
+use Rattle.bounds_rule.specs.Carried.{gainIn, carriedTo}
 
 -- stages from 0; sources: 0 the lows, 1 the highs, from 2 on the stages
 abbrev pub stages : ℕ
@@ -43,17 +42,12 @@ nodeAfter (suc (suc (suc (suc (suc j))))) = P1
 
 -- the gain from source i to what stage j leaves, in whole numbers of 2^-16
 abbrev pub gainAt : ℕ → ℕ → ℕ
-gainAt i j = getD (getD inverseGains i []) j 0
-
--- what the first n sources carry to stage j, where x has what each has of its own
-unfoldable pub carriedTo : List ℕ → ℕ → ℕ → ℕ
-carriedTo x j zero = 0
-carriedTo x j (suc n) = carriedTo x j n + timesGain (getD x n 0) (gainAt n j)
+gainAt = gainIn inverseGains
 
 -- the bound of what stage j leaves on lines of two values or more, from the ranges of the lows and the highs and from what each source
 -- has of its own
 abbrev pub boundFrom : ℕ → ℕ → List ℕ → ℕ → Bound
-boundFrom low high own j = record { range = timesGain low (gainAt 0 j) + timesGain high (gainAt 1 j); error = carriedTo own j sources }
+boundFrom low high own j = record { range = timesGain low (gainAt 0 j) + timesGain high (gainAt 1 j); error = carriedTo inverseGains own j sources }
 
 -- on lines from one value: that of the even output is the larger of that and the lows
 abbrev pub nodeFrom : Bound → Bound → List ℕ → ℕ → Bound
@@ -71,12 +65,11 @@ totalFrom a b own zero = total a
 totalFrom a b own (suc zero) = total b
 totalFrom a b own (suc (suc j)) = total (nodeFrom a b own (suc j))
 
--- the own error of stage j, where r is the range plus error of the value that it multiplies; some of it is always cut off, since the bits
--- of a node are fewer than those of a constant
+-- the own error of stage j, where r is the range plus error of the value that it multiplies
 unfoldable pub inverseOwnError : ℕ → ℕ → ℕ
 inverseOwnError j r = elim (ltb j scalings) [
-  | true ↦ upDiv r (2 ^ (inverseBits + 1)) + 2 ^ (32 - nodeBits)
-  | false ↦ upDiv r (2 ^ inverseBits) + 2 ^ (32 - nodeBits)
+  | true ↦ ownScale inverseBits 0 nodeBits r
+  | false ↦ ownLift uncut inverseBits nodeBits nodeBits nodeBits r
 ]
 
 -- One pass, as in Bounds.
@@ -135,10 +128,6 @@ abbrev pub mostTotal : ℕ
 mostTotal = 64 * largest
 
 -- ---- levels
-
--- a bound that the program holds
-abbrev pub asBound : Code.Bound → Bound
-asBound b = record { range = b .range; error = b .error }
 
 -- `nodesRight` of Bounds, whatever error the stored coefficients start at
 abbrev pub levelRight : WidthTable → ℕ → ℕ → Bound → Bool

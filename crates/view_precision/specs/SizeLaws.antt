@@ -1,66 +1,43 @@
 -- What the program computes of a pass fits in 64 bits, and what a pass gives on grows by no more than what is stored (`gives-most`).
-use Prim.Native.Nat.{ℕ, zero, suc, _+_, _*_, _-_, _/_, _%_, _^_, _<_, _≤_}
+use Prim.Native.Nat.{ℕ, zero, suc, _+_, _*_, _-_, _^_, _<_, _≤_}
 use mathlib.Core.Bool.{Bool, true, false}
 use mathlib.Core.List.{List, [], _∷_}
 use mathlib.Core.Path.{_≡_, sym, _∙_, ap, subst}
 use native.Mathlib.Omega.{arith}
-use native.Mathlib.Nat.{mul-le-mul-left, mul-le-mul-right, le-trans}
-use lib.Dec.{T, eqb, ltb, leb, leb→le, lit≤, lit<}
+use native.Mathlib.Nat.{mul-le-mul-right, le-trans}
+use lib.Dec.{eqb, ltb, lit≤, lit<}
 use lib.ListN.{getD, set, replicate}
-use Rattle.numbers.specs.Tests.{every, both}
+use Rattle.numbers.specs.Tests.{every}
 use Rattle.numbers.specs.Ceiling.{upDiv}
 use Rattle.inverse_lifting.specs.Fixed.{nodeBits, inverseBits}
 use Rattle.stages.specs.GainTable.{inverseGains}
-use Rattle.stages.specs.Rule.{Bound, timesGain}
+use Rattle.stages.specs.Rule.{Bound, timesGain, loss, productLoss, ownLift, ownScale}
+use Rattle.stages.specs.Stages.{uncut}
+use Rattle.bounds_rule.specs.Carried.{mostGain, carriedTo}
+use Rattle.bounds_rule.specs.CarriedLaws.{times-most, product-most, gain-within, carried-within}
 use Rattle.view_precision.specs.Bounds.{larger, odd, inverseBound, passGives}
 use Rattle.view_precision.specs.Odd.{odd-larger}
 use Rattle.view_precision.specs.Places.{stages, sources, scalings, evenStage, gainAt, boundFrom, nodeFrom, total, totalFrom, inverseOwnError, ownAt, ownsBelow, AtMostStored, mostFed, largest, SmallFed, AllSmall, mostTotal}
-use Rattle.bounds_rule.specs.Carried.{carriedTo}
 use Rattle.view_precision.specs.PlaceLaws.{own-is, total-is, owns-again, node-is}
 
 -- ---- products by a gain
 
-times-most : (x g : ℕ) → timesGain x g * 65536 ≤ x * g + 65535
-unfolding timesGain upDiv
-times-most x g = omega arith
-
--- the wholes of 2^16 and the rest apart
-pub times-split : (x g : ℕ) → x / 65536 * g + (x % 65536 * g + 65535) / 65536 ≡ timesGain x g
-unfolding timesGain upDiv
-times-split x g = omega (arith, ap (λ (y : ℕ). y * g) e)
-  where
-    e : x ≡ 65536 * (x / 65536) + x % 65536
-    e = omega arith
-
--- what holds of each entry and of what stands for a missing one
-at-any : {A : Type 0} (test : A → Bool) (d : A) → T (test d) → (l : List A) → T (every test l) → (k : ℕ) → T (test (getD l k d))
+-- the largest gain of the inverse
+gain-most : (i j : ℕ) → gainAt i j ≤ 207898
 unfolding every
-at-any test d h [] e k = h
-at-any test d h (x ∷ xs) e zero = both (test x) (every test xs) e .0
-at-any test d h (x ∷ xs) e (suc k) = at-any test d h xs (both (test x) (every test xs) e .1) k
-
--- the largest gain
-abbrev pub mostGain : ℕ
-mostGain = 207898
-
-pub gain-most : (i j : ℕ) → gainAt i j ≤ mostGain
-unfolding every
-gain-most i j =
-    let small : ℕ → Bool = λ g. leb g mostGain in
-    leb→le _ _ (at-any small 0 tt (getD inverseGains i []) (at-any (every small) [] tt inverseGains tt i) j)
-
-pub product-most : (m x g : ℕ) → x ≤ m → g ≤ mostGain → x * g ≤ m * mostGain
-product-most m x g h k = le-trans (mul-le-mul-right g h) (mul-le-mul-left m k)
+gain-most = gain-within 207898 inverseGains tt
 
 pub times-small : (x i j : ℕ) → x ≤ largest → timesGain x (gainAt i j) ≤ 4 * largest
-times-small x i j h = omega (arith, times-most x (gainAt i j), product-most largest x (gainAt i j) h (gain-most i j))
+times-small x i j h = omega (arith, times-most x (gainAt i j), product-most largest 207898 x (gainAt i j) h (gain-most i j))
+
+-- the program's multiplication takes such gains
+pub gain-taken : (i j : ℕ) → gainAt i j ≤ mostGain
+gain-taken i j = le-trans (gain-most i j) (lit≤ tt)
 
 -- ---- a pass, where what enters is small
 
-pub carried-small : (own : List ℕ) (j : ℕ) → AllSmall own → (n : ℕ) → carriedTo own j n ≤ n * (4 * largest)
-unfolding carriedTo
-carried-small own j h zero = lit≤ tt
-carried-small own j h (suc n) = omega (arith, carried-small own j h n, times-small (getD own n 0) n j (h n))
+pub carried-small : (own : List ℕ) (j : ℕ) → AllSmall own → (n : ℕ) → carriedTo inverseGains own j n ≤ n * (4 * largest)
+carried-small own j h = carried-within inverseGains own j (4 * largest) (λ i. times-small (getD own i 0) i j (h i))
 
 pub node-small : (a b : Bound) → SmallFed a → SmallFed b → (own : List ℕ) → AllSmall own → (j : ℕ) → total (nodeFrom a b own j) ≤ mostTotal
 unfolding larger
@@ -74,10 +51,10 @@ node-small a b sa sb own s j = go (eqb j evenStage)
     go false = omega (arith, range, carried-small own j s sources)
 
 own-small : (j r : ℕ) → r ≤ mostTotal → inverseOwnError j r ≤ 2 ^ 32
-unfolding inverseOwnError upDiv
+unfolding inverseOwnError ownLift ownScale productLoss loss upDiv
 own-small j r h = go (ltb j scalings)
   where
-    go : (t : Bool) → elim t [ true ↦ upDiv r (2 ^ (inverseBits + 1)) + 2 ^ (32 - nodeBits) | false ↦ upDiv r (2 ^ inverseBits) + 2 ^ (32 - nodeBits) ] ≤ 2 ^ 32
+    go : (t : Bool) → elim t [ true ↦ ownScale inverseBits 0 nodeBits r | false ↦ ownLift uncut inverseBits nodeBits nodeBits nodeBits r ] ≤ 2 ^ 32
     go true = omega arith
     go false = omega arith
 

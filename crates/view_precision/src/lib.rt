@@ -1,5 +1,6 @@
 // The precision analysis of viewing (document 02, jobs 1 and 6). Every definition that the contracts cite is in specs/.
 // All bounds are whole numbers of 2^-32.
+use bounds_rule::Bound;
 use refusals::Outcome;
 use refusals::Refusal;
 use width_table::WidthTable;
@@ -9,6 +10,7 @@ ghost use mathlib.Core.Bool.{_&&_};
 ghost use lib.Dec.{T};
 ghost use Rattle.refusals.specs.Answers.{answered};
 ghost use Rattle.refusals.specs.Told.{told};
+ghost use Rattle.stages.specs.GainTable.{inverseGains};
 ghost use Rattle.stages.specs.Rule.{timesGain};
 ghost use Rattle.width_table.specs.Nodes.{Rows, passNumber};
 ghost use Rattle.width_table.specs.Numbered.{nodeOf, passOf, IsNode};
@@ -18,50 +20,37 @@ ghost use Rattle.view_precision.specs.Bounds.{larger, inverseBound, pass
 ghost use Rattle.view_precision.specs.Places.{stages, sources, mostEntering, largest, mostTotal, gainAt, boundFrom, nodeFrom, totalFrom, inverseOwnError, ownsBelow, SmallFed, AllSmall, AtMostStored, levelRight, levelsRight};
 ghost use Rattle.bounds_rule.specs.Carried.{carriedTo, asBound};
 
-// Range and error.
-struct Bound {
-    range: u64,
-    error: u64,
-}
+// What no node may exceed: 2^15.
+const MOST: u64 = Bound::ONE << 15;
 
-impl Bound {
-    // 1, and what no node may exceed.
-    const ONE: u64 = 1 << 32;
+// The stages of a pass inverted, from 0: G1 and G2, which scale, then U2, P2, U1, P1.
+const STAGES: u8 = WidthTable::NODES;
 
-    const MOST: u64 = Bound::ONE << 15;
+const SCALING_STAGES: u8 = 2;
 
-    // The stages of a pass inverted, from 0: G1 and G2, which scale, then U2, P2, U1, P1.
-    const STAGES: u8 = WidthTable::NODES;
+// Those that leave the even and the odd output: U1 and P1.
+const EVEN: u8 = 4;
 
-    const SCALING_STAGES: u8 = 2;
+const ODD: u8 = 5;
 
-    // Those that leave the even and the odd output: U1 and P1.
-    const EVEN: u8 = 4;
+// What errors come from: the lows (0) and the highs (1), which are the inputs, then the stages.
+const LOWS: u8 = 0;
 
-    const ODD: u8 = 5;
+const HIGHS: u8 = 1;
 
-    // What errors come from: the lows (0) and the highs (1), which are the inputs, then the stages.
-    const LOWS: u8 = 0;
+const INPUTS: u8 = 2;
 
-    const HIGHS: u8 = 1;
+const SOURCES: u8 = INPUTS + STAGES;
 
-    const INPUTS: u8 = 2;
+// The bits of a node, and of a constant.
+const NODE_BITS: u8 = inverse_lifting::NODE_BITS as u8;
 
-    const SOURCES: u8 = Bound::INPUTS + Bound::STAGES;
+const CONSTANT_BITS: u8 = inverse_lifting::CONSTANT_BITS as u8;
 
-    // A gain of 1: gains are whole numbers of 2^-16.
-    const GAIN_ONE: u64 = 1 << 16;
+// The error of a stored coefficient, in its steps: none in viewing, and what demand 3 of document 01 allows it.
+const NO_STEPS: u64 = 0;
 
-    // A step of a node, and the bits of a constant.
-    const STEP: u64 = Bound::ONE >> inverse_lifting::NODE_BITS;
-
-    const CONSTANT_BITS: u8 = inverse_lifting::CONSTANT_BITS as u8;
-
-    // The error of a stored coefficient, in its steps: none in viewing, and what demand 3 of document 01 allows it.
-    const NO_STEPS: u64 = 0;
-
-    const ALLOWED_STEPS: u64 = 2;
-}
+const ALLOWED_STEPS: u64 = 2;
 
 // The larger of two.
 fn larger_of(x: u64, y: u64) -> u64
@@ -71,7 +60,7 @@ fn larger_of(x: u64, y: u64) -> u64
 }
 
 // The larger of two bounds, range and error each by itself.
-fn larger(x: Bound, y: Bound) -> Bound
+fn larger_bound(x: Bound, y: Bound) -> Bound
     ensures { λ r. ⌜ asBound r ≡ larger (asBound x) (asBound y) ⌝ }
 {
     Bound {
@@ -92,7 +81,7 @@ fn gain(from: u8, to: u8) -> u64
     requires { ⌜ (from < sources) × (to < stages) ⌝ }
     ensures { λ r. ⌜ r ≡ gainAt from to ⌝ }
 {
-    let gains: [[u64; Bound::STAGES as usize]; Bound::SOURCES as usize] = [
+    let gains: [[u64; STAGES as usize]; SOURCES as usize] = [
         [57008, 0, 57008, 100665, 57008, 63260],
         [0, 75341, 66829, 193347, 52593, 75341],
         [65536, 0, 65536, 115725, 65536, 72724],
@@ -105,55 +94,53 @@ fn gain(from: u8, to: u8) -> u64
     gains[from as usize][to as usize]
 }
 
-// A product by a gain, rounded up by itself. The wholes and the rest of 2^16 are multiplied apart, since the product may leave 64 bits.
-fn times_gain(x: u64, from: u8, to: u8) -> u64
+// What a source has, carried to what a stage leaves.
+fn carried(x: u64, from: u8, to: u8) -> u64
     requires { ⌜ (x ≤ largest) × (from < sources) × (to < stages) ⌝ }
     ensures { λ r. ⌜ (r ≡ timesGain x (gainAt from to)) × (r ≤ 4 * largest) ⌝ }
 {
-    let gain = gain(from, to);
-    x / Bound::GAIN_ONE * gain
-        + (x % Bound::GAIN_ONE * gain + (Bound::GAIN_ONE - 1)) / Bound::GAIN_ONE
+    bounds_rule::times_gain(x, gain(from, to))
 }
 
 // The error of what a stage leaves: what each source has of its own, carried to it.
-fn error_at(own: [u64; Bound::SOURCES as usize], stage: u8) -> u64
+fn error_at(own: [u64; SOURCES as usize], stage: u8) -> u64
     requires { ⌜ (stage < stages) × AllSmall own ⌝ }
-    ensures { λ r. ⌜ r ≡ carriedTo own stage sources ⌝ }
+    ensures { λ r. ⌜ r ≡ carriedTo inverseGains own stage sources ⌝ }
 {
     let mut error = 0;
-    for from in 0..Bound::SOURCES {
-        error += times_gain(own[from as usize], from, stage);
+    for from in 0..SOURCES {
+        error += carried(own[from as usize], from, stage);
     }
     error
 }
 
 // Range and error of what a stage leaves on lines of two values or more, from the ranges of the lows and the highs and from what each
 // source has of its own.
-fn bound_at(low: u64, high: u64, own: [u64; Bound::SOURCES as usize], stage: u8) -> Bound
+fn bound_at(low: u64, high: u64, own: [u64; SOURCES as usize], stage: u8) -> Bound
     requires { ⌜ (low ≤ largest) × (high ≤ largest) × (stage < stages) × AllSmall own ⌝ }
     ensures { λ r. ⌜ asBound r ≡ boundFrom low high own stage ⌝ }
 {
     Bound {
-        range: times_gain(low, Bound::LOWS, stage) + times_gain(high, Bound::HIGHS, stage),
+        range: carried(low, LOWS, stage) + carried(high, HIGHS, stage),
         error: error_at(own, stage),
     }
 }
 
 // The same on lines from one value: a single low is the even output, whose bound is the larger of that and the lows'.
-fn node_at(low: Bound, high: Bound, own: [u64; Bound::SOURCES as usize], stage: u8) -> Bound
+fn node_at(low: Bound, high: Bound, own: [u64; SOURCES as usize], stage: u8) -> Bound
     requires { ⌜ (stage < stages) × AllSmall own × SmallFed (asBound low) × SmallFed (asBound high) ⌝ }
     ensures { λ r. ⌜ (asBound r ≡ nodeFrom (asBound low) (asBound high) own stage) × (r .range + r .error ≤ mostTotal) ⌝ }
 {
     let bound = bound_at(low.range, high.range, own, stage);
-    if stage == Bound::EVEN {
-        larger(bound, low)
+    if stage == EVEN {
+        larger_bound(bound, low)
     } else {
         bound
     }
 }
 
 // Range plus error of the value that a stage multiplies: G1 the lows, G2 the highs, any other what the stage before left.
-fn total_before(low: Bound, high: Bound, own: [u64; Bound::SOURCES as usize], stage: u8) -> u64
+fn total_before(low: Bound, high: Bound, own: [u64; SOURCES as usize], stage: u8) -> u64
     requires { ⌜ (stage < stages) × AllSmall own × SmallFed (asBound low) × SmallFed (asBound high) ⌝ }
     ensures { λ r. ⌜ (r ≡ totalFrom (asBound low) (asBound high) own stage) × (r ≤ mostTotal) ⌝ }
 {
@@ -172,36 +159,43 @@ fn own_error(stage: u8, total: u64) -> u64
     requires { ⌜ total ≤ mostTotal ⌝ }
     ensures { λ r. ⌜ r ≡ inverseOwnError stage total ⌝ }
 {
-    if stage < Bound::SCALING_STAGES {
-        return precision::up_div(total, Bound::CONSTANT_BITS + 1) + Bound::STEP;
+    if stage < SCALING_STAGES {
+        return bounds_rule::own_scale(CONSTANT_BITS, 0, NODE_BITS, total);
     }
-    precision::up_div(total, Bound::CONSTANT_BITS) + Bound::STEP
+    bounds_rule::own_lift(
+        WidthTable::MAX_PRODUCT_BITS,
+        CONSTANT_BITS,
+        NODE_BITS,
+        NODE_BITS,
+        NODE_BITS,
+        total,
+    )
 }
 
 // What each source has of its own: the lows and the highs their errors, a stage its own error.
-fn own_errors(low: Bound, high: Bound) -> [u64; Bound::SOURCES as usize]
+fn own_errors(low: Bound, high: Bound) -> [u64; SOURCES as usize]
     requires { ⌜ SmallFed (asBound low) × SmallFed (asBound high) ⌝ }
     ensures { λ r. ⌜ r ≡ ownsBelow (asBound low) (asBound high) sources ⌝ }
 {
-    let mut own = [0u64; Bound::SOURCES as usize];
+    let mut own = [0u64; SOURCES as usize];
     own[0] = low.error;
     own[1] = high.error;
-    for stage in 0..Bound::STAGES {
+    for stage in 0..STAGES {
         let total = total_before(low, high, own, stage);
-        own[(stage + Bound::INPUTS) as usize] = own_error(stage, total);
+        own[(stage + INPUTS) as usize] = own_error(stage, total);
     }
     own
 }
 
 // Range plus error of no node of a pass is above 2^15.
-fn nodes_right(low: Bound, high: Bound, own: [u64; Bound::SOURCES as usize]) -> bool
+fn nodes_right(low: Bound, high: Bound, own: [u64; SOURCES as usize]) -> bool
     requires { ⌜ SmallFed (asBound low) × SmallFed (asBound high) ⌝ }
     requires { ⌜ own ≡ ownsBelow (asBound low) (asBound high) sources ⌝ }
     ensures { λ r. ⌜ r ≡ passRight (inverseBound (asBound low) (asBound high)) ⌝ }
 {
-    for stage in 0..Bound::STAGES {
+    for stage in 0..STAGES {
         let bound = node_at(low, high, own, stage);
-        if bound.range + bound.error <= Bound::MOST {} else {
+        if bound.range + bound.error <= MOST {} else {
             return false;
         }
     }
@@ -221,11 +215,11 @@ fn work_pass(low: Bound, high: Bound) -> Given
     ensures bound { λ r. ⌜ asBound (r .bound) ≡ passGives (asBound low) (asBound high) ⌝ }
 {
     let own = own_errors(low, high);
-    let even = node_at(low, high, own, Bound::EVEN);
-    let odd = node_at(low, high, own, Bound::ODD);
+    let even = node_at(low, high, own, EVEN);
+    let odd = node_at(low, high, own, ODD);
     Given {
         right: nodes_right(low, high, own),
-        bound: larger(even, odd),
+        bound: larger_bound(even, odd),
     }
 }
 
@@ -239,8 +233,8 @@ fn stored_bound(table: WidthTable, steps: u64, level: u8, pass: u8, node: u8) ->
     let integer = table.integer_bits(level, pass, node);
     let fraction = table.fraction_bits(level, pass, node);
     Bound {
-        range: precision::power(integer - 1) * Bound::ONE,
-        error: steps * precision::power(32 - fraction),
+        range: numbers::power((integer - 1) as u32) * Bound::ONE,
+        error: steps * numbers::power((32 - fraction) as u32),
     }
 }
 
@@ -305,12 +299,12 @@ pub fn judge(table: WidthTable) -> Outcome
         Outcome::Refused(why) => return Outcome::Refused(why),
         Outcome::Done => {}
     }
-    let pixels = work_levels(table, Bound::NO_STEPS);
+    let pixels = work_levels(table, NO_STEPS);
     if pixels.right {} else {
         return Outcome::Refused(Refusal::NotViewable);
     }
     let bound = pixels.bound;
-    if bound.error < precision::power(32 - (table.depth + 1)) {
+    if bound.error < numbers::power((32 - (table.depth + 1)) as u32) {
         Outcome::Done
     } else {
         Outcome::Refused(Refusal::NotViewable)
@@ -336,7 +330,7 @@ pub fn distance(table: WidthTable) -> DistanceAnswer
         },
         Outcome::Done => {}
     }
-    let pixels = work_levels(table, Bound::ALLOWED_STEPS);
+    let pixels = work_levels(table, ALLOWED_STEPS);
     let bound = pixels.bound;
     DistanceAnswer {
         outcome: Outcome::Done,

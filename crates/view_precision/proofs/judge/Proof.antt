@@ -58,6 +58,7 @@ judge-spec =
     returns-2
     (λ c. omega (arith, depth (c .before .before .before .before)))
     (λ c. omega (arith, depth (c .before .before .before .before)))
+    (λ c. omega arith)
     (λ c κs. omega arith)
     returns-3
     returns-4)

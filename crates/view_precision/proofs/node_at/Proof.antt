@@ -20,7 +20,7 @@ returns c =
     let i = c .before in
     let s = i .before .before in
     let a = s .args in
-    is-node s _ (c .larger .ensures ∙ ap (λ (x : Bound). larger x (asBound (a .low))) (i .before .bound-at .ensures) ∙ node-even (asBound (a .low)) (asBound (a .high)) (a .own) (a .stage) (i .if1 .taken))
+    is-node s _ (c .larger-bound .ensures ∙ ap (λ (x : Bound). larger x (asBound (a .low))) (i .before .bound-at .ensures) ∙ node-even (asBound (a .low)) (asBound (a .high)) (a .own) (a .stage) (i .if1 .taken))
 
 returns-2 : tie.Need-returns-2
 returns-2 c =

@@ -26,7 +26,7 @@ returns c =
     let b = asBound (own .before .args .high) in
     let u = node-bound a b 4 (lit< tt) (own .own-errors .ensures) (even .node-at .ensures .0) in
     let p = node-bound a b 5 (lit< tt) (own .own-errors .ensures) (odd .node-at2 .ensures .0) in
-    (n .nodes-right .ensures, c .larger .ensures ∙ ap₂ larger u p)
+    (n .nodes-right .ensures, c .larger-bound .ensures ∙ ap₂ larger u p)
 
 pub work-pass-spec : {M : Type 1} → statement M
 work-pass-spec =

@@ -35,7 +35,8 @@ use Rattle.precision.specs.Promise.{promise}
 use Rattle.exact.specs.FracLaws.{⊕-neg, ≈-sym, within-≈, within-zero}
 use Rattle.stages.specs.Sound.{Q, Good}
 use Rattle.irreversible.specs.Pass.{near, holds}
-use Rattle.irreversible.specs.Level.{rowV, rowX, newV, newX, level-good, level-in-width}
+use Rattle.irreversible.specs.LevelPlanes.{rowV, rowX, newV, newX}
+use Rattle.irreversible.specs.Level.{level-good, level-in-width}
 use Rattle.table_meaning.specs.SubbandLaws.{part-before, kept-in, kept-out, kept-LL, kept-everywhere}
 
 -- ---- a level changes its part and nothing else

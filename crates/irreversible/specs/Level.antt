@@ -17,23 +17,9 @@ use Rattle.table_meaning.specs.Products.{productOf}
 use Rattle.precision.specs.Bounds.{nodeBound, rowBound, passBound}
 use Rattle.fixed_stages.specs.Fixed.{fixedLine}
 use Rattle.irreversible.specs.Claims.{InWidth, LevelInWidth}
-use Rattle.irreversible.specs.Pass.{AtMost32, pass-good, long-in-width, single-in-width}
+use Rattle.irreversible.specs.LevelPlanes.{rowV, rowX, newV, newX, AtMost32}
+use Rattle.irreversible.specs.Pass.{pass-good, long-in-width, single-in-width}
 use Rattle.stages.specs.Sound.{Good}
-
--- after the rows, and after the columns
-unfoldable pub rowV : WidthTable → ℕ → ℕ → Plane ℤ → Plane ℤ
-rowV t l w v = rows (fixedLine t l Rows) w v
-
-unfoldable pub rowX : ℕ → Plane Frac → Plane Frac
-rowX w x = rows exactPass w x
-
-unfoldable pub newV : WidthTable → ℕ → ℕ → ℕ → Plane ℤ → Plane ℤ
-unfolding rowV
-newV t l w h v = columns (λ c. fixedLine t l (columnPass (ltb c (lows w)))) h (rowV t l w v)
-
-unfoldable pub newX : ℕ → ℕ → Plane Frac → Plane Frac
-unfolding rowX
-newX w h x = columns (λ c. exactPass) h (rowX w x)
 
 module _ (t : WidthTable) (l : ℕ) (bits : (p : Pass) (n : Node) → fractionBits t l p n ≤ maxFractionBits) (w h : ℕ) (b : Bound) (v : Plane ℤ) (x : Plane Frac) (given : (r c : ℕ) → r < h → c < w → Good b (inputBits t l Rows) (v r c) (x r c)) where
   small : (p : Pass) → AtMost32 (fractionBits t l p)

@@ -11,12 +11,11 @@
 --   CallLaws     call-near, call-widths: demand 3 of every call that is not refused
 --   Unchanged    fixed-unchanged: sides that were admitted before job 6 give what they gave
 --   Uncut        old-coefficients: a table without tag 5 cuts no product and gives what it gave
---   Examples, ProductExamples   strips one sample wide, and widths of products, worked
 --   Narrow       eleven-bits: range and error of every node of an accepted table leave room in eleven integer bits
 --                five-bits: those of level 1 in five
 --                least-bits: what the columns of its level l leave has at least 2 l integer bits
 --   MagnitudeLaws  below-power-10, first-below-power-4: so each value on the way is below 2^10 in magnitude, and each one of level 1 below 2^4
--- Proofs: Pass (by the rule of the crate stages, which is sound), Level lead to Demand3, in this order.
+-- Proofs: LevelPlanes (definitions for them), Pass (by the rule of the crate stages, which is sound), Level lead to Demand3, in this order.
 -- For the code, which works lines by the kernels of the lifting crate:
 --   Memory       the levels in memory: what a level leaves, when it is safe, and what stands after some of them
 --   Ready        what the steps of the call ask of each other
@@ -27,14 +26,13 @@ pub mod Transforms
 pub mod Claims
 pub mod Calls
 pub mod Magnitudes
+pub mod LevelPlanes
 pub mod Pass
 pub mod Level
 pub mod Demand3
 pub mod Narrow
 pub mod MagnitudeLaws
 pub mod CallLaws
-pub mod Examples
-pub mod ProductExamples
 pub mod Memory
 pub mod Ready
 pub mod LevelLaws

@@ -29,8 +29,9 @@ use Rattle.irreversible.specs.Transforms.{fixedAfter}
 use Rattle.irreversible.specs.Claims.{Strip}
 use Rattle.fixed_stages.specs.Safe.{BelowPower, LineBelowPower}
 use Rattle.irreversible.specs.Magnitudes.{LevelBelowPower, AllBelowPower10, FirstBelowPower4}
-use Rattle.irreversible.specs.Pass.{AtMost32, node-good, first-good}
-use Rattle.irreversible.specs.Level.{rowV, rowX, row-good}
+use Rattle.irreversible.specs.LevelPlanes.{AtMost32, rowV, rowX}
+use Rattle.irreversible.specs.Pass.{node-good, first-good}
+use Rattle.irreversible.specs.Level.{row-good}
 use Rattle.irreversible.specs.Demand3.{exactAfter, after, strip-of}
 use Rattle.irreversible.specs.Narrow.{eleven-bits, enters-eleven, five-bits, enters-five}
 

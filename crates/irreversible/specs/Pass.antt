@@ -31,10 +31,7 @@ use Rattle.stages.specs.Own.{pow-split}
 use Rattle.irreversible.specs.Claims.{Near}
 use Rattle.table_meaning.specs.NodeWidths.{InNodeWidth}
 use Rattle.numbers.specs.Tests.{by-ltb, ltb-true}
-
--- the nodes' bits are at most 32 (a table's are at most 20)
-abbrev pub AtMost32 : (Node → ℕ) → Type 0
-AtMost32 f = (i : Node) → f i ≤ 32
+use Rattle.irreversible.specs.LevelPlanes.{AtMost32}
 
 -- ---- all six nodes of a pass over a line of n
 

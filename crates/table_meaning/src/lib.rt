@@ -1,1 +1,1 @@
-// What a width table gives the stages, in specs/; no code.
+// The meaning of a width table, in specs/; no code.

@@ -38,7 +38,7 @@ whole-size c =
     (le-trans (floor-abs (a .v +ℤ pos half) (2 ^ (nodeBits - a .depth)) (2 ^ 36) (pow-pos (nodeBits - a .depth)) size) (omega (arith, div-le-self (2 ^ 36) (2 ^ (nodeBits - a .depth)))))
 
 -- the middle
-middle-size : (c : tie.After-power2) → natAbs (c .signed-power2 .result) ≤ 4096
+middle-size : (c : tie.After-signed-power2) → natAbs (c .signed-power2 .result) ≤ 4096
 middle-size c = subst (λ (z : ℤ). natAbs z ≤ 4096) (sym (c .signed-power2 .ensures)) (power-small (c .before .before .before .args .depth - 1) (omega arith))
 
 returns : tie.Need-returns

@@ -29,7 +29,8 @@ use Rattle.precision.specs.Promise.{promise}
 use Rattle.worked_precision.specs.Verdicts.{usual-accepted}
 use Rattle.irreversible.specs.Claims.{LevelInWidth}
 use Rattle.rolling.specs.declared.Scan.{Scan}
-use Rattle.rolling.specs.Calls.{beginAnswer, scanOf, heldLines, outLines, lineAnswer, givenByLine, scanAfter, LineLeft, LineCall, endAnswer, givenByEnd, scanEnded, EndLeft, EndCall}
+use Rattle.rolling.specs.Calls.{beginAnswer, scanOf, lineAnswer, givenByLine, scanAfter, LineLeft, LineCall, endAnswer, givenByEnd, scanEnded, EndLeft, EndCall}
+use Rattle.rolling_lines.specs.LentLines.{heldLines, outLines}
 use Rattle.rolling.specs.AnswerLaws.{other-levels, one-level}
 use Rattle.rolling_claims.specs.Claims.{HandedOn, Calls, begun, line, line-refused, end, end-refused, LeftByCalls, ready, firstLines, LinesNear}
 use Rattle.rolling_claims.specs.History.{facts, table-kept}

@@ -14,7 +14,8 @@ use Rattle.refusals.specs.AnswerLaws.{asks-right, asks-wrong, gives-done, then-
 use Rattle.table_bytes.specs.Bytes.{form, tableIn}
 use Rattle.precision.specs.Promise.{promise}
 use Rattle.rolling.specs.declared.Scan.{Scan}
-use Rattle.rolling.specs.Calls.{beginAnswer, scanOf, outLines, lineAnswer, givenByLine, scanAfter, LineLeft, LineCall, endAnswer, givenByEnd, scanEnded, EndLeft, EndCall}
+use Rattle.rolling.specs.Calls.{beginAnswer, scanOf, lineAnswer, givenByLine, scanAfter, LineLeft, LineCall, endAnswer, givenByEnd, scanEnded, EndLeft, EndCall}
+use Rattle.rolling_lines.specs.LentLines.{outLines}
 use Rattle.rolling.specs.AnswerLaws.{begun-one, begun-accepted, on-side, line-stays, end-stays}
 use Rattle.rolling_claims.specs.History.{line-right, end-right}
 use Rattle.rolling_claims.specs.Satisfiable.{line-few, end-few}

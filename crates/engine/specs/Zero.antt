@@ -28,8 +28,9 @@ use Rattle.lines.specs.Planes.{rowByRow}
 use Rattle.view_precision.specs.Bounds.{viewable, viewVerdict}
 use Rattle.viewing.specs.Calls.{inWidth, coefficientsRight, viewAnswerOf, viewAnswer}
 use Rattle.rolling.specs.declared.Scan.{Scan}
-use Rattle.rolling.specs.Schedule.{anyTaken}
-use Rattle.rolling.specs.Calls.{beginAnswer, goesOn, heldLines, outLines, lineAnswerOf, lineAnswer, endAnswerOf, endAnswer}
+use Rattle.rolling_lines.specs.Schedule.{anyTaken}
+use Rattle.rolling.specs.Calls.{beginAnswer, goesOn, lineAnswerOf, lineAnswer, endAnswerOf, endAnswer}
+use Rattle.rolling_lines.specs.LentLines.{heldLines, outLines}
 use Rattle.scan_bytes.specs.ScanBytes.{scanLength, scanHeld, scanRight, scanIn}
 use Rattle.engine.specs.Answers.{checkAnswer, answer97, viewCheckAnswer, viewAnswer97}
 use Rattle.engine.specs.ScanAnswers.{begins, scanBeginAnswer, scanLineAnswer, scanEndAnswer}

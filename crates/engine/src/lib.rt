@@ -10,7 +10,7 @@ ghost use Rattle.table_bytes.specs.Names.{nameAnswer};
 ghost use Rattle.reversible.specs.Reversible.{columnsFirst, rowsFirst};
 ghost use Rattle.reversible.specs.Calls.{forwardAnswer, forwardPlane, forwardWork, backAnswer, backPixels, backWork};
 ghost use Rattle.engine.specs.Answers.{checkAnswer, tableBoundAnswer, rangeAfter, errorAfter, startAfter, lengthAfter, changeAnswer, changeOut, constantChangeAnswer, constantChangeOut, productChangeAnswer, productChangeOut, tableWith, tableFrom, answer97, plane97, work97, viewCheckAnswer, distanceAfter, viewAnswer97, viewPixels97, viewWork97};
-ghost use Rattle.rolling.specs.Calls.{outLines};
+ghost use Rattle.rolling_lines.specs.LentLines.{outLines};
 ghost use Rattle.rolling.specs.Told.{toldGiven};
 ghost use Rattle.scan_bytes.specs.ScanBytes.{scanLength, stateAfter, numbersAfter};
 ghost use Rattle.engine.specs.ScanAnswers.{scanBeginAnswer, scanBeginState, scanLineAnswer, scanLineState, scanLineGiven, ScanLineLeft, scanEndAnswer, scanEndState, scanEndGiven, ScanEndLeft, givenAfter};

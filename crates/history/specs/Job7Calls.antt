@@ -36,7 +36,7 @@ use Rattle.history.specs.Job7Lifting.{old-coefficients}
 use Rattle.view_precision.specs.Bounds.{viewDistance, viewable, viewVerdict}
 use Rattle.viewing.specs.View.{viewPicture}
 use Rattle.viewing.specs.Calls.{coefficientsRight, viewAnswerOf, viewAnswer, viewPixels, viewWork}
-use Rattle.rolling.specs.declared.Taken.the-variants.{Zero}
+use Rattle.rolling_lines.specs.declared.Taken.the-variants.{Zero}
 use Rattle.rolling.specs.declared.Scan.{Scan}
 use Rattle.rolling.specs.Calls.{beginAnswer, scanOf}
 use Rattle.scan_bytes.specs.ScanBytes.{scanLength, stateBytes}

@@ -17,12 +17,17 @@ use Rattle.pictures.specs.PixelLaws.{slice-short}
 use Rattle.precision.specs.Verdict.{verdict, Accepted, IsLevel}
 use Rattle.rolling.specs.declared.Taken.{Taken}
 use Rattle.rolling.specs.declared.Taken.the-variants.{Zero}
+use Rattle.precision.specs.Verdict.{verdict, Accepted}
+use Rattle.irreversible.specs.LevelBits.{IsLevel}
+use Rattle.rolling_lines.specs.declared.Taken.{Taken}
+use Rattle.rolling_lines.specs.declared.Taken.the-variants.{Zero}
 use Rattle.rolling.specs.declared.Scan.{Scan}
-use Rattle.rolling.specs.Schedule.{next, anyTaken, lineGives, endGives}
-use Rattle.rolling.specs.Calls.{beginAnswer, scanOf, lineWidthRight, goesOn, heldLines, outLines, heldIn, lineAnswerOf, lineAnswer, workedRow, givenByLine, scanAfter, LineLeft, LineCall, endAnswerOf, endAnswer, givenByEnd, scanEnded, EndLeft, EndCall}
-use Rattle.rolling.specs.Memory.{Lent}
-use Rattle.rolling.specs.Rows.{LineRight, rowOf}
-use Rattle.rolling.specs.Worked.{LineWorked, EndWorked}
+use Rattle.rolling_lines.specs.Schedule.{next, anyTaken, lineGives, endGives}
+use Rattle.rolling.specs.Calls.{beginAnswer, scanOf, lineWidthRight, goesOn, lineAnswerOf, lineAnswer, workedRow, givenByLine, scanAfter, LineLeft, LineCall, endAnswerOf, endAnswer, givenByEnd, scanEnded, EndLeft, EndCall}
+use Rattle.rolling_lines.specs.LentLines.{heldLines, outLines, heldIn}
+use Rattle.rolling_lines.specs.Memory.{Lent}
+use Rattle.rolling_lines.specs.Rows.{LineRight, rowOf}
+use Rattle.rolling_lines.specs.Worked.{LineWorked, EndWorked}
 
 -- ---- tests
 

@@ -1,25 +1,26 @@
 -- The calls of a rolling scan (document 02, job 5): the answer, the scan and each lent slice afterwards.
-use Prim.Native.Nat.{ℕ, _*_, _<_}
+use Prim.Native.Nat.{ℕ, _*_}
 use mathlib.Core.Bool.{Bool, true, false, not, _&&_, _||_, cond}
 use mathlib.Core.List.{List}
 use mathlib.Core.Path.{_≡_}
 use lib.Dec.{T, eqb}
-use lib.ListN.{length, drop}
+use lib.ListN.{length}
 use lib.IntN.{ℤ}
-use Rattle.numbers.specs.Lists.{over}
 use Rattle.refusals.specs.Answers.{Reason, Answer, done, refused, passed, asks, _then_, answered}
-use Rattle.lines.specs.Planes.{rowByRow}
-use Rattle.width_table.specs.Nodes.{P1, U1, P2, Rows}
+use Rattle.width_table.specs.Nodes.{Rows}
 use Rattle.width_table.specs.declared.WidthTable.{WidthTable}
-use Rattle.width_table.specs.Table.{fractionBits, inputBits}
-use Rattle.pictures.specs.Pictures.{sideRight, lengthAnswer, pixelAnswer, sample, planeOf}
+use Rattle.pictures.specs.Pictures.{sideRight, lengthAnswer, pixelAnswer, sample}
 use Rattle.precision.specs.Verdict.{verdict}
 use Rattle.table_meaning.specs.NodeWidths.{InNodeWidth}
 use Rattle.fixed_stages.specs.Fixed.{fixedLine}
 use Rattle.rolling.specs.declared.Taken.{Taken}
 use Rattle.rolling.specs.declared.Taken.the-variants.{Zero}
+use Rattle.irreversible.specs.Transforms.{fixedLine}
+use Rattle.rolling_lines.specs.declared.Taken.{Taken}
+use Rattle.rolling_lines.specs.declared.Taken.the-variants.{Zero}
 use Rattle.rolling.specs.declared.Scan.{Scan}
-use Rattle.rolling.specs.Schedule.{Line, Held, next, anyTaken, evenTaken, columnPassAt, stacked, heldAfter, lineGives, endGives}
+use Rattle.rolling_lines.specs.LentLines.{heldLines, outLines, heldIn, Sound, SameHeld, KeptFrom, outAfter}
+use Rattle.rolling_lines.specs.Schedule.{Line, next, anyTaken, evenTaken, heldAfter, lineGives, endGives}
 
 -- ---- begin
 
@@ -39,52 +40,6 @@ lineWidthRight k w = cond (anyTaken k) (sideRight w) (eqb w 0)
 -- width that no scan has after so many lines.)
 unfoldable pub goesOn : Scan → Bool
 goesOn s = answered (beginAnswer (s .table)) true false && not (s .ended) && lineWidthRight (s .taken) (s .width)
-
--- ---- lent memory
-
--- lines lent to hold, and lines lent for output
-abbrev pub heldLines : ℕ
-heldLines = 7
-
-abbrev pub outLines : ℕ
-outLines = 4
-
--- What the seven lines hold is the library's own: the first five are what is held; the other two are free.
-unfoldable pub heldIn : ℕ → List ℤ → Held
-heldIn w held = record { low = planeOf w held 0; high = planeOf w held 1; p1 = planeOf w held 2; u1 = planeOf w held 3; p2 = planeOf w held 4 }
-
--- Five integer bits hold each value on the way of a one-level transform under every accepted table (`small` of Small). Held memory
--- is sound where each value in its lines is one of five integer bits; what a scan left is (`sound-left` of Theorems).
-unfoldable pub FiveBits : ℕ → ℤ → Type 0
-FiveBits f v = InNodeWidth 5 f v
-
-pub record Sound (t : WidthTable) (w : ℕ) (h : Held) : Type 0 where
-  pub low : (c : ℕ) → c < w → FiveBits (inputBits t 1 (columnPassAt w c)) (h .low c)
-  pub high : (c : ℕ) → c < w → FiveBits (inputBits t 1 (columnPassAt w c)) (h .high c)
-  pub p1 : (c : ℕ) → c < w → FiveBits (fractionBits t 1 (columnPassAt w c) P1) (h .p1 c)
-  pub u1 : (c : ℕ) → c < w → FiveBits (fractionBits t 1 (columnPassAt w c) U1) (h .u1 c)
-  pub p2 : (c : ℕ) → c < w → FiveBits (fractionBits t 1 (columnPassAt w c) P2) (h .p2 c)
-
--- equal in w columns
-abbrev pub SameLine : ℕ → Line → Line → Type 0
-SameLine w a b = (c : ℕ) → c < w → a c ≡ b c
-
--- equal in each line that is held
-pub record SameHeld (w : ℕ) (a b : Held) : Type 0 where
-  pub low : SameLine w (a .low) (b .low)
-  pub high : SameLine w (a .high) (b .high)
-  pub p1 : SameLine w (a .p1) (b .p1)
-  pub u1 : SameLine w (a .u1) (b .u1)
-  pub p2 : SameLine w (a .p2) (b .p2)
-
--- nothing from place n on changes
-pub record KeptFrom (n : ℕ) (old new : List ℤ) : Type 0 where
-  pub length-kept : length new ≡ length old
-  pub past-kept : drop n new ≡ drop n old
-
--- lines given stand first in the output, and the rest of it stays
-abbrev pub outAfter : ℕ → List Line → List ℤ → List ℤ
-outAfter w lines out = over (rowByRow w (length lines) (stacked lines)) out
 
 -- ---- a line
 

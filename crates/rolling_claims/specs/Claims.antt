@@ -19,7 +19,8 @@ use Rattle.table_meaning.specs.Subbands.{keptNode, bitsPlane}
 use Rattle.irreversible.specs.Claims.{Near, LevelInWidth}
 use Rattle.table_meaning.specs.NodeWidths.{InNodeWidth}
 use Rattle.rolling.specs.declared.Scan.{Scan}
-use Rattle.rolling.specs.Calls.{beginAnswer, scanOf, heldLines, heldIn, Sound, lineAnswer, LineCall, endAnswer, EndCall}
+use Rattle.rolling.specs.Calls.{beginAnswer, scanOf, lineAnswer, LineCall, endAnswer, EndCall}
+use Rattle.rolling_lines.specs.LentLines.{heldLines, heldIn, Sound}
 
 -- ---- histories
 

@@ -20,6 +20,13 @@ use Rattle.rolling.specs.declared.Taken.the-variants.{Zero, One, Two, Three, Fo
 use Rattle.rolling.specs.Schedule.{Line, Held, next, holdsP2, columnPassAt, before, stacked, lineP1, lineU1, lineP2, lineU2, lineG1, lineG2, lineSingle, newP1, newU1, newP2, newU2, heldAfter, lineGives, lastP2, lastU2, oddU1, oddP2, oddU2, endOdd, endGives}
 use Rattle.rolling.specs.Calls.{FiveBits, SameHeld}
 use Rattle.rolling.specs.FiveBits.{zero-five}
+use Rattle.irreversible.specs.Fixed.{atP1, atU1, atP2, atU2, atG1, atG2, valueAt, countAt, fixedLong, fixedPass}
+use Rattle.irreversible.specs.Transforms.{fixedLine}
+use Rattle.rolling_lines.specs.declared.Taken.{Taken}
+use Rattle.rolling_lines.specs.declared.Taken.the-variants.{Zero, One, Two, Three, Four, OddMany, EvenMany}
+use Rattle.rolling_lines.specs.Schedule.{Line, Held, next, holdsP2, columnPassAt, before, stacked, lineP1, lineU1, lineP2, lineU2, lineG1, lineG2, lineSingle, newP1, newU1, newP2, newU2, heldAfter, lineGives, lastP2, lastU2, oddU1, oddP2, oddU2, endOdd, endGives}
+use Rattle.rolling_lines.specs.LentLines.{FiveBits, SameHeld}
+use Rattle.rolling_lines.specs.FiveBits.{zero-five}
 use Rattle.rolling_claims.specs.Claims.{ready}
 
 -- ---- the five lines at one column

@@ -21,13 +21,14 @@ use Rattle.pictures.specs.Pictures.{sideRight, Admitted, lengthAnswer, planeOf}
 use Rattle.pictures.specs.PictureLaws.{side-is, side-right, holds-done, holds-right, pixels-done, pixels-right, pixel-below, over-take}
 use Rattle.irreversible.specs.Claims.{Strip}
 use Rattle.irreversible.specs.Transforms.{fixedPlane}
-use Rattle.rolling.specs.declared.Taken.{Taken}
-use Rattle.rolling.specs.declared.Taken.the-variants.{Zero, One, Two, Three, Four, OddMany, EvenMany}
+use Rattle.rolling_lines.specs.declared.Taken.{Taken}
+use Rattle.rolling_lines.specs.declared.Taken.the-variants.{Zero, One, Two, Three, Four, OddMany, EvenMany}
 use Rattle.rolling.specs.declared.Scan.{Scan}
-use Rattle.rolling.specs.Schedule.{Line, Held, next, anyTaken, evenTaken, stacked, heldAfter, lineGives, endGives}
-use Rattle.rolling.specs.Calls.{SameHeld, Sound, beginAnswer, scanOf, goesOn, heldLines, outLines, heldIn, outAfter, lineAnswerOf, lineAnswer, workedRow, givenByLine, scanAfter, LineCall, endAnswerOf, endAnswer, givenByEnd, scanEnded, EndCall}
+use Rattle.rolling_lines.specs.Schedule.{Line, Held, next, anyTaken, evenTaken, stacked, heldAfter, lineGives, endGives}
+use Rattle.rolling_lines.specs.LentLines.{SameHeld, Sound, heldLines, outLines, heldIn, outAfter}
+use Rattle.rolling.specs.Calls.{beginAnswer, scanOf, goesOn, lineAnswerOf, lineAnswer, workedRow, givenByLine, scanAfter, LineCall, endAnswerOf, endAnswer, givenByEnd, scanEnded, EndCall}
 use Rattle.rolling.specs.AnswerLaws.{of-unless, as-test, begun-one, begun-accepted, width-is, goes, on-running}
-use Rattle.rolling.specs.FiveBits.{row-five, column-five}
+use Rattle.rolling_lines.specs.FiveBits.{row-five, column-five}
 use Rattle.rolling_claims.specs.Claims.{HandedOn, Calls, begun, line, line-refused, end, end-refused, ready, inTurn, firstLines}
 use Rattle.rolling_claims.specs.Column.{Holding, zero-lines, holding-same, holding-next, line-due, end-due, SoundAt, holding-sound}
 use Rattle.rolling_claims.specs.LineOrder.{no-rows, rows-join, rowsOf, row-is, turn-is}

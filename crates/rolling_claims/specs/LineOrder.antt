@@ -18,7 +18,7 @@ use Rattle.pictures.specs.Pictures.{sample}
 use Rattle.fixed_stages.specs.Fixed.{fixedLine}
 use Rattle.irreversible.specs.Transforms.{fixedAfter, fixedPlane}
 use Rattle.irreversible.specs.LevelLaws.{line-same}
-use Rattle.rolling.specs.Schedule.{columnPassAt}
+use Rattle.rolling_lines.specs.Schedule.{columnPassAt}
 use Rattle.rolling_claims.specs.Claims.{inTurn}
 use Rattle.rolling_claims.specs.Column.{valPass, lineValue}
 

@@ -25,7 +25,7 @@ use Rattle.table_meaning.specs.Subbands.{keptNode, bitsPlane}
 use Rattle.table_meaning.specs.NodeWidths.{InNodeWidth}
 use Rattle.table_meaning.specs.SubbandLaws.{kept-in}
 use Rattle.irreversible.specs.Demand3.{two-steps-strip, widths-strip}
-use Rattle.rolling.specs.Schedule.{columnPassAt}
+use Rattle.rolling_lines.specs.Schedule.{columnPassAt}
 use Rattle.rolling_claims.specs.Claims.{inTurn, firstLines, LinesNear}
 use Rattle.rolling_claims.specs.Column.{lineValue, low-turn, high-turn}
 use Rattle.rolling_claims.specs.LineOrder.{rowsOf, turn-is}

@@ -23,9 +23,13 @@ use Rattle.width_table.specs.WorkedTables.{usual, cut}
 use Rattle.worked_precision.specs.Verdicts.{usual-accepted, cut-accepted}
 use Rattle.rolling.specs.declared.Taken.{Taken}
 use Rattle.rolling.specs.declared.Taken.the-variants.{Zero, One, Two, Three, Four, OddMany, EvenMany}
+use Rattle.precision.specs.Examples.{usual-accepted, cut-accepted}
+use Rattle.rolling_lines.specs.declared.Taken.{Taken}
+use Rattle.rolling_lines.specs.declared.Taken.the-variants.{Zero, One, Two, Three, Four, OddMany, EvenMany}
 use Rattle.rolling.specs.declared.Scan.{Scan}
-use Rattle.rolling.specs.Schedule.{Line, Held, next, anyTaken, stacked, heldAfter, lineGives, endGives}
-use Rattle.rolling.specs.Calls.{beginAnswer, scanOf, goesOn, heldLines, outLines, heldIn, outAfter, SameHeld, KeptFrom, lineAnswer, workedRow, givenByLine, scanAfter, LineCall, endAnswer, givenByEnd, scanEnded, EndCall}
+use Rattle.rolling_lines.specs.Schedule.{Line, Held, next, anyTaken, stacked, heldAfter, lineGives, endGives}
+use Rattle.rolling.specs.Calls.{beginAnswer, scanOf, goesOn, lineAnswer, workedRow, givenByLine, scanAfter, LineCall, endAnswer, givenByEnd, scanEnded, EndCall}
+use Rattle.rolling_lines.specs.LentLines.{heldLines, outLines, heldIn, outAfter, SameHeld, KeptFrom}
 use Rattle.rolling.specs.AnswerLaws.{on-begun, on-running, on-side, on-unset, line-ended, end-ended}
 use Rattle.rolling_claims.specs.Claims.{Calls, begun, line, end, LeftByCalls, ForeignRefused}
 use Rattle.rolling_claims.specs.History.{facts, table-kept, count-some, some-count, none-count, goes-on, line-right, right-line, end-right, right-end}

@@ -21,8 +21,9 @@ use Rattle.irreversible.specs.Transforms.{fixedAfter, fixedPlane}
 use Rattle.irreversible.specs.Claims.{LevelInWidth}
 use Rattle.irreversible.specs.Demand3.{widths-strip}
 use Rattle.rolling.specs.declared.Scan.{Scan}
-use Rattle.rolling.specs.Schedule.{anyTaken}
-use Rattle.rolling.specs.Calls.{Sound, goesOn, heldLines, outLines, heldIn, lineAnswerOf, lineAnswer, workedRow, givenByLine, scanAfter, endAnswerOf, endAnswer, givenByEnd, scanEnded}
+use Rattle.rolling_lines.specs.Schedule.{anyTaken}
+use Rattle.rolling_lines.specs.LentLines.{Sound, heldLines, outLines, heldIn}
+use Rattle.rolling.specs.Calls.{goesOn, lineAnswerOf, lineAnswer, workedRow, givenByLine, scanAfter, endAnswerOf, endAnswer, givenByEnd, scanEnded}
 use Rattle.rolling_claims.specs.Claims.{readyP1, readyU1, readyP2, readyU2, lineReady, ready, ReadyLines, inTurn, firstLines, BeforeEnd, AfterEnd, Counts, OneWidth, BeginFourteen, Fourteen, RefusedKeeps, SoundLeft, InWidths, LinesNear, NearBeforeEnd, NearAfterEnd}
 use Rattle.rolling.specs.AnswerLaws.{other-levels, one-level, begun-one, begun-accepted, on-running}
 use Rattle.rolling_claims.specs.LineOrder.{no-rows}

@@ -12,7 +12,7 @@ ghost use Rattle.scan_bytes.specs.Told.{toldRead};
 use refusals::Outcome;
 use refusals::Refusal;
 use rolling::Scan;
-use rolling::Taken;
+use rolling_lines::Taken;
 use width_table::WidthTable;
 
 // The answer of reading a scan, with the scan.

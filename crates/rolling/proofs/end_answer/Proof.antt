@@ -4,7 +4,7 @@ use mathlib.Core.Path.{_≡_, sym, _∙_}
 use native.Mathlib.Omega.{arith}
 use borrow.Author.Needs.{needs}
 use Rattle.rolling.specs.Calls.{goesOn}
-use Rattle.rolling.specs.Schedule.{anyTaken}
+use Rattle.rolling_lines.specs.Schedule.{anyTaken}
 use Rattle.rolling.specs.AnswerLaws.{as-test, on-side, end-ended, end-none, end-held, end-out, end-done}
 use Rattle.rolling.proofs.end_answer.Statement.{statement}
 use Rattle.rolling.proofs.end_answer.Tie as tie

@@ -10,7 +10,7 @@ use Rattle.pictures.specs.Pictures.{sideRight}
 use Rattle.pictures.specs.PictureLaws.{side-is}
 use Rattle.precision.specs.Promise.{promise}
 use Rattle.rolling.specs.Calls.{goesOn}
-use Rattle.rolling.specs.Schedule.{anyTaken}
+use Rattle.rolling_lines.specs.Schedule.{anyTaken}
 use Rattle.rolling.specs.AnswerLaws.{unasked, asked-right, eqb-true, as-test, begun-accepted, on-begun, line-ended, line-other, line-side, line-short, line-held, line-out, line-pixels}
 use Rattle.rolling.proofs.line_answer.Statement.{statement}
 use Rattle.rolling.proofs.line_answer.Tie as tie

@@ -1,7 +1,7 @@
 use mathlib.Core.Bool.{true}
 use mathlib.Core.Path.{refl, ap}
 use Rattle.width_table.specs.declared.WidthTable.{WidthTable}
-use Rattle.rolling.specs.declared.Taken.the-variants.{Zero}
+use Rattle.rolling_lines.specs.declared.Taken.the-variants.{Zero}
 use borrow.Author.Needs.{needs}
 use Rattle.scan_bytes.proofs.not_read.Statement.{statement}
 use Rattle.scan_bytes.proofs.not_read.Tie as tie

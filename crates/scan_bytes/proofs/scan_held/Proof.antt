@@ -2,7 +2,7 @@ use Prim.Native.Nat.{ℕ, _+_}
 use mathlib.Core.Path.{ap₂}
 use lib.Dec.{eqb}
 use lib.ListN.{getD}
-use Rattle.rolling.specs.declared.Taken.{Taken}
+use Rattle.rolling_lines.specs.declared.Taken.{Taken}
 use Rattle.scan_bytes.specs.ScanBytes.{tableRoom}
 use borrow.Author.Needs.{needs}
 use Rattle.scan_bytes.proofs.scan_held.Statement.{statement}

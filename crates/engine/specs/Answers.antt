@@ -1,4 +1,5 @@
--- The C interface's calls: answers as numbers, and each lent slice afterwards. A width table comes as its bytes (refusals 1 to 5 first).
+-- The C interface's calls: answers as numbers, and each lent slice afterwards. A width table comes as its bytes (refusals 1 to 5 first:
+-- `formThen`, `afterForm`); the judge and 9/7 forward are those of table_calls.
 use Prim.Native.Nat.{ℕ}
 use mathlib.Core.Bool.{not}
 use mathlib.Core.List.{List}
@@ -15,17 +16,12 @@ use Rattle.table_bytes.specs.Bytes.{levelsIn, hasFifth, form, tableIn, tableByt
 use Rattle.width_table.specs.Changes.{widthAnswer, withWidth, constantAnswer, withConstant, productAnswer, withProduct}
 use Rattle.table_bytes.specs.Names.{nameAnswer}
 use Rattle.stages.specs.Rule.{Bound}
-use Rattle.precision.specs.Verdict.{verdict}
 use Rattle.precision.specs.BoundCalls.{boundAnswer, boundNumbered}
-use Rattle.irreversible.specs.Calls.{fixedAnswer, fixedPlaneAfter, fixedWork}
 use Rattle.view_precision.specs.Bounds.{viewVerdict, viewDistance}
 use Rattle.viewing.specs.Calls.{viewAnswer, viewPixels, viewWork}
+use Rattle.table_calls.specs.Calls.{formThen, afterForm}
 
 -- ---- tables
-
--- 1 to 5 by fields, then 6 and 7 in node order
-unfoldable pub checkAnswer : List ℕ → Answer Unit
-checkAnswer bytes = form bytes then verdict (tableIn bytes)
 
 -- where a tag's value starts and how long it is, written where the answer is 0
 unfoldable pub startAfter : List ℕ → ℕ → ℕ → ℕ
@@ -37,7 +33,7 @@ lengthAfter bytes tag len = answered (nameAnswer bytes tag) (valueLength (levels
 -- range and error of a node: 1 to 5 of the bytes, 4 where the table lacks the node, then 6 or 7 of the nodes before it
 module _ (bytes : List ℕ) (level pass node : ℕ) where
   unfoldable pub tableBoundAnswer : Answer Unit
-  tableBoundAnswer = form bytes then boundAnswer (tableIn bytes) level pass node
+  tableBoundAnswer = formThen bytes (λ t. boundAnswer t level pass node)
 
   abbrev pub boundIn : Bound
   boundIn = boundNumbered (tableIn bytes) level pass node
@@ -99,23 +95,11 @@ tableWith B L constants widths hasProducts products = record {
 abbrev pub tableFrom : ℕ → ℕ → List ℕ → List ℕ → WidthTable
 tableFrom B L constants widths = tableWith B L constants widths 0 (replicate (productBytes maxLevels) 0)
 
--- ---- 9/7 forward: 1 to 5 of the bytes, then the call's own
-
-module _ (bytes : List ℕ) (w h : ℕ) (pixels : List ℕ) (plane work : List ℤ) where
-  unfoldable pub answer97 : Answer Unit
-  answer97 = form bytes then fixedAnswer (tableIn bytes) w h pixels plane work
-
-  unfoldable pub plane97 : List ℤ
-  plane97 = answered (form bytes) (fixedPlaneAfter (tableIn bytes) w h pixels plane work) plane
-
-  unfoldable pub work97 : List ℤ
-  work97 = answered (form bytes) (fixedWork (tableIn bytes) w h pixels plane work) work
-
 -- ---- viewing (document 02, job 1): 1 to 5 of the bytes, then the call's own
 
 -- 1 to 5 by fields, 6 and 7 in node order, 13
 unfoldable pub viewCheckAnswer : List ℕ → Answer Unit
-viewCheckAnswer bytes = form bytes then viewVerdict (tableIn bytes)
+viewCheckAnswer bytes = formThen bytes viewVerdict
 
 -- the distance from scan to view, written where the answer is 0
 unfoldable pub distanceAfter : List ℕ → ℕ → ℕ
@@ -123,10 +107,10 @@ distanceAfter bytes distance = answered (viewCheckAnswer bytes) (viewDistance (t
 
 module _ (bytes : List ℕ) (w h : ℕ) (plane : List ℤ) (pixels : List ℕ) (work : List ℤ) where
   unfoldable pub viewAnswer97 : Answer Unit
-  viewAnswer97 = form bytes then viewAnswer (tableIn bytes) w h plane pixels work
+  viewAnswer97 = formThen bytes (λ t. viewAnswer t w h plane pixels work)
 
   unfoldable pub viewPixels97 : List ℕ
-  viewPixels97 = answered (form bytes) (viewPixels (tableIn bytes) w h plane pixels work) pixels
+  viewPixels97 = afterForm bytes (λ t. viewPixels t w h plane pixels work) pixels
 
   unfoldable pub viewWork97 : List ℤ
-  viewWork97 = answered (form bytes) (viewWork (tableIn bytes) w h plane pixels work) work
+  viewWork97 = afterForm bytes (λ t. viewWork t w h plane pixels work) work

@@ -35,7 +35,8 @@ use Rattle.viewing.specs.Claims.{Stored, Close, EachSmall, exactGreys, clamped,
 use Rattle.viewing.specs.Scan.{scan-to-view}
 use Rattle.viewing.specs.CallLaws as View
 use Rattle.viewing.specs.Forward.{call-forward, forward-shown}
-use Rattle.engine.specs.Answers.{checkAnswer, answer97, plane97, viewCheckAnswer, distanceAfter, viewAnswer97, viewPixels97}
+use Rattle.table_calls.specs.Calls.{checkAnswer, answer97, plane97}
+use Rattle.engine.specs.Answers.{viewCheckAnswer, distanceAfter, viewAnswer97, viewPixels97}
 use Rattle.engine.specs.Zero.{checked-zero, zero97, view-checked-zero, view-zero97}
 
 -- ---- where suz_forward97 answers 0

@@ -8,14 +8,16 @@ use lib.IntN.{ℤ}
 use Rattle.numbers.specs.Lists.{over}
 use Rattle.refusals.specs.Answers.{Answer, done, refused, passed, asks, _then_, answered}
 use Rattle.table_bytes.specs.Bytes.{form, tableIn}
+use Rattle.width_table.specs.Bytes.{tableIn}
 use Rattle.rolling.specs.Calls.{beginAnswer, scanOf, lineAnswer, givenByLine, scanAfter, LineLeft, endAnswer, givenByEnd, scanEnded, EndLeft}
 use Rattle.scan_bytes.specs.ScanBytes.{scanLength, stateBytes, scanHeld, scanIn}
+use Rattle.table_calls.specs.Calls.{formThen}
 
 -- ---- begin
 
 -- 1 to 5 of the table's bytes, 14, 6 and 7
 unfoldable pub begins : List ℕ → Answer Unit
-begins bytes = form bytes then beginAnswer (tableIn bytes)
+begins bytes = formThen bytes beginAnswer
 
 -- and 9 for the state
 unfoldable pub scanBeginAnswer : List ℕ → List ℕ → Answer Unit

@@ -39,7 +39,7 @@ use Rattle.rolling_claims.specs.Satisfiable.{scanned, foreign-refused}
 use Rattle.rolling_claims.specs.Theorems.{before-end, after-end, refused-keeps, in-widths, near-before-end, near-after-end}
 use Rattle.scan_bytes.specs.ScanBytes.{scanLength, stateBytes, tableEnd, scanHeld, scanIn}
 use Rattle.scan_bytes.specs.ByteLaws.{Keepable, kept-is, state-long, read-written, read-is, read-refused, read-formed, written-read, zeros-hold-none}
-use Rattle.engine.specs.Answers.{checkAnswer}
+use Rattle.table_calls.specs.Calls.{checkAnswer}
 use Rattle.engine.specs.ScanAnswers.{begins, scanBeginAnswer, scanBeginState, scanLineAnswer, scanLineState, scanLineGiven, ScanLineLeft, scanEndAnswer, scanEndState, scanEndGiven, ScanEndLeft}
 use Rattle.engine.specs.ScanHistory.{StateHandedOn, HeldHandedOn, ByteCalls, c-begun, c-line, c-line-refused, c-end, c-end-refused, LeftState, FinishedByteScan}
 use Rattle.engine.specs.ScanLaws.{begun-kept}

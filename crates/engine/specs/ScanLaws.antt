@@ -9,9 +9,15 @@ use lib.Dec.{leb, le→leb}
 use lib.ListN.{length}
 use lib.IntN.{ℤ}
 use Rattle.numbers.specs.Lists.{over}
+use Rattle.refusals.specs.declared.Refusal.{Refusal}
+use Rattle.refusals.specs.declared.Outcome.{Outcome}
+use Rattle.refusals.specs.declared.Outcome.the-variants.{Done, Refused}
 use Rattle.refusals.specs.Answers.{Reason, Answer, done, refused, passed, asks, _then_, answered, code}
 use Rattle.refusals.specs.AnswerLaws.{asks-right, asks-wrong, gives-done, then-right, then-refused, answered-done, answered-refused}
 use Rattle.table_bytes.specs.Bytes.{form, tableIn}
+use Rattle.refusals.specs.Told.{toldRefusal, told}
+use Rattle.width_table.specs.declared.WidthTable.{WidthTable}
+use Rattle.width_table.specs.Bytes.{form, tableRead, tableIn}
 use Rattle.precision.specs.Promise.{promise}
 use Rattle.rolling.specs.declared.Scan.{Scan}
 use Rattle.rolling.specs.Calls.{beginAnswer, scanOf, lineAnswer, givenByLine, scanAfter, LineLeft, LineCall, endAnswer, givenByEnd, scanEnded, EndLeft, EndCall}
@@ -21,6 +27,7 @@ use Rattle.rolling_claims.specs.History.{line-right, end-right}
 use Rattle.rolling_claims.specs.Satisfiable.{line-few, end-few}
 use Rattle.scan_bytes.specs.ScanBytes.{scanLength, stateBytes, keepable, scanHeld, scanIn, stateAfter, numbersAfter}
 use Rattle.scan_bytes.specs.ByteLaws.{can-keep, no-room, kept, read-is, renewed-written}
+use Rattle.table_calls.specs.CallLaws.{unread, read, table-held}
 use borrow.Author.Tests.{lt-leb}
 use Rattle.engine.specs.ScanAnswers.{begins, scanBeginAnswer, scanBeginState, scanLineAnswer, scanLineState, scanLineGiven, ScanLineLeft, scanEndAnswer, scanEndState, scanEndGiven, ScanEndLeft, givenAfter}
 
@@ -77,32 +84,37 @@ module _ (state : List ℕ) where
       go (no h) = let long : scanLength ≤ length state = omega arith in answered-done (over (stateBytes s) state) state (is-roomy long) ∙ kept s state can long
 
 module _ (bytes state : List ℕ) where
-  -- what the call gives
-  pub record GivesScan (o : Answer Unit) (l : List ℕ) : Type 0 where
-    pub answers : scanBeginAnswer bytes state ≡ o
-    pub leaves : l ≡ scanBeginState bytes state
+  -- what suz_scan_begin leaves
+  abbrev BeginLeaves : ℕ → List ℕ → Type 0
+  BeginLeaves r state′ = (r ≡ code (scanBeginAnswer bytes state)) × (state′ ≡ scanBeginState bytes state)
 
   abbrev left : Answer Unit → List ℕ
   left o = answered o (over (stateBytes (scanOf (tableIn bytes))) state) state
 
-  gives-scan : (o : Answer Unit) → begins bytes ≡ o → GivesScan (o then roomy state) (left (o then roomy state))
+  gives : (o : Answer Unit) → o ≡ begins bytes → {r : ℕ} {state′ : List ℕ} → r ≡ code (o then roomy state) → state′ ≡ left (o then roomy state) → BeginLeaves r state′
   unfolding scanBeginAnswer scanBeginState
-  gives-scan o e = record { answers = ap (λ (o : Answer Unit). o then roomy state) e; leaves = sym (ap (λ (o : Answer Unit). left (o then roomy state)) e) }
+  gives o e r-is state-is = (r-is ∙ ap (λ (o : Answer Unit). code (o then roomy state)) e, state-is ∙ ap (λ (o : Answer Unit). left (o then roomy state)) e)
 
-  pub begin-unread : (r : Reason) → form bytes ≡ refused r → GivesScan (refused r) state
-  unfolding begins
-  begin-unread r e = gives-scan (refused r) (then-refused (form bytes) (beginAnswer (tableIn bytes)) r e)
+  -- what reading promises of its outcome and of its table
+  module _ {o : Outcome} {held : WidthTable} (reads : (told o ≡ form bytes) × (held ≡ tableRead bytes)) where
+    pub begin-unread : {why : Refusal} → o ≡ Refused why → {r : ℕ} → r ≡ code {A = Unit} (refused (toldRefusal why)) → BeginLeaves r state
+    unfolding begins
+    begin-unread {why} e r-is = gives (refused (toldRefusal why)) (unread bytes reads e _) r-is refl
 
-  pub begin-read : form bytes ≡ passed → (o : Answer Unit) (s : Scan) → o ≡ beginAnswer (tableIn bytes) → s ≡ scanOf (tableIn bytes)
-      → GivesScan (o then roomy state) (answered o (stateAfter s state) state)
-  unfolding begins scanOf
-  begin-read e o s answer scan = go o answer (gives-scan o (then-right (form bytes) (beginAnswer (tableIn bytes)) e ∙ sym answer))
-    where
-      go : (o : Answer Unit) → o ≡ beginAnswer (tableIn bytes) → GivesScan (o then roomy state) (left (o then roomy state)) → GivesScan (o then roomy state) (answered o (stateAfter s state) state)
-      go (done tt) q g =
-          let can = begun-kept (scanOf (tableIn bytes)) (sym q) (omega arith) in
-          subst (λ (l : List ℕ). GivesScan (passed then roomy state) l) (roomy-put state (scanOf (tableIn bytes)) can ∙ ap (λ (s : Scan). stateAfter s state) (sym scan)) g
-      go (refused r) q g = g
+    pub begin-read : o ≡ Done → {answer : Answer Unit} {s : Scan} {r : ℕ} {state′ : List ℕ} → (answer ≡ beginAnswer held) × (s ≡ scanOf held)
+        → (r ≡ code (answer then roomy state)) × (state′ ≡ answered answer (stateAfter s state) state) → BeginLeaves r state′
+    unfolding begins scanOf
+    begin-read e {answer} {s} (answer-is, scan-is) (r-is, state-is) =
+        gives answer (read bytes reads e beginAnswer answer-is) r-is (state-is ∙ go answer (answer-is ∙ ap beginAnswer held-is))
+      where
+        held-is : held ≡ tableIn bytes
+        held-is = table-held bytes reads e
+
+        go : (o : Answer Unit) → o ≡ beginAnswer (tableIn bytes) → answered o (stateAfter s state) state ≡ left (o then roomy state)
+        go (done tt) q =
+            let new = scanOf (tableIn bytes) in
+            ap (λ (s : Scan). stateAfter s state) (scan-is ∙ ap scanOf held-is) ∙ sym (roomy-put state new (begun-kept new (sym q) (omega arith)))
+        go (refused r) q = refl
 
 -- ---- a line, and the end
 

@@ -32,7 +32,8 @@ use Rattle.rolling_lines.specs.Schedule.{anyTaken}
 use Rattle.rolling.specs.Calls.{beginAnswer, goesOn, lineAnswerOf, lineAnswer, endAnswerOf, endAnswer}
 use Rattle.rolling_lines.specs.LentLines.{heldLines, outLines}
 use Rattle.scan_bytes.specs.ScanBytes.{scanLength, scanHeld, scanRight, scanIn}
-use Rattle.engine.specs.Answers.{checkAnswer, answer97, viewCheckAnswer, viewAnswer97}
+use Rattle.table_calls.specs.Calls.{checkAnswer, answer97}
+use Rattle.engine.specs.Answers.{viewCheckAnswer, viewAnswer97}
 use Rattle.engine.specs.ScanAnswers.{begins, scanBeginAnswer, scanLineAnswer, scanEndAnswer}
 
 -- one rule and nothing after it

@@ -11,6 +11,9 @@ ghost use Rattle.reversible.specs.Reversible.{columnsFirst, rowsFirst};
 ghost use Rattle.reversible.specs.Calls.{forwardAnswer, forwardPlane, forwardWork, backAnswer, backPixels, backWork};
 ghost use Rattle.engine.specs.Answers.{checkAnswer, tableBoundAnswer, rangeAfter, errorAfter, startAfter, lengthAfter, changeAnswer, changeOut, constantChangeAnswer, constantChangeOut, productChangeAnswer, productChangeOut, tableWith, tableFrom, answer97, plane97, work97, viewCheckAnswer, distanceAfter, viewAnswer97, viewPixels97, viewWork97};
 ghost use Rattle.rolling_lines.specs.LentLines.{outLines};
+ghost use Rattle.table_calls.specs.Calls.{checkAnswer, answer97, plane97, work97};
+ghost use Rattle.engine.specs.Answers.{tableBoundAnswer, rangeAfter, errorAfter, startAfter, lengthAfter, changeAnswer, changeOut, constantChangeAnswer, constantChangeOut, productChangeAnswer, productChangeOut, tableWith, tableFrom, viewCheckAnswer, distanceAfter, viewAnswer97, viewPixels97, viewWork97};
+ghost use Rattle.rolling.specs.Calls.{outLines};
 ghost use Rattle.rolling.specs.Told.{toldGiven};
 ghost use Rattle.scan_bytes.specs.ScanBytes.{scanLength, stateAfter, numbersAfter};
 ghost use Rattle.engine.specs.ScanAnswers.{scanBeginAnswer, scanBeginState, scanLineAnswer, scanLineState, scanLineGiven, ScanLineLeft, scanEndAnswer, scanEndState, scanEndGiven, ScanEndLeft, givenAfter};
@@ -55,13 +58,19 @@ pub extern "C" fn suz_table_value(table: &[u8], tag: u8, start: &mut u32, length
 pub extern "C" fn suz_table_check(table: &[u8]) -> u32
     ensures { λ r. ⌜ r ≡ code (checkAnswer (now (table .entry))) ⌝ }
 {
-    let read = table_bytes::read(table);
-    let outcome = read.outcome;
+    refusals::code(table_calls::check(table))
+}
+
+// A number is written where the outcome is done; the outcome as a number.
+fn number_written(outcome: Outcome, number: u64, lent: &mut u64) -> u32
+    ensures answer { λ r. ⌜ r ≡ code (told outcome) ⌝ }
+    ensures lent { λ _. ⌜ now (lent .exit) ≡ answered (told outcome) number (now (lent .entry)) ⌝ }
+{
     match outcome {
         Outcome::Refused(why) => refusal_code(why),
         Outcome::Done => {
-            let held = read.table;
-            refusals::code(precision::judge(held))
+            *lent = number;
+            0
         }
     }
 }
@@ -88,14 +97,8 @@ pub extern "C" fn suz_table_bound(
             let held = read.table;
             let bound = precision::bound_of(held, level, pass, node);
             let answer = bound.outcome;
-            match answer {
-                Outcome::Refused(why) => refusal_code(why),
-                Outcome::Done => {
-                    *range = bound.range;
-                    *error = bound.error;
-                    0
-                }
-            }
+            number_written(answer, bound.range, range);
+            number_written(answer, bound.error, error)
         }
     }
 }
@@ -310,15 +313,7 @@ pub extern "C" fn suz_forward97(
     ensures plane { λ _. ⌜ now (plane .exit) ≡ plane97 (now (table .entry)) width height (now (pixels .entry)) (now (plane .entry)) (now (work .entry)) ⌝ }
     ensures work { λ _. ⌜ now (work .exit) ≡ work97 (now (table .entry)) width height (now (pixels .entry)) (now (plane .entry)) (now (work .entry)) ⌝ }
 {
-    let read = table_bytes::read(table);
-    let outcome = read.outcome;
-    match outcome {
-        Outcome::Refused(why) => refusal_code(why),
-        Outcome::Done => {
-            let held = read.table;
-            refusals::code(irreversible::forward(held, pixels, width, height, plane, work))
-        }
-    }
+    refusals::code(table_calls::forward(table, pixels, width, height, plane, work))
 }
 
 // Would viewing refuse this table? 1 to 5, 6 and 7, 13.
@@ -351,13 +346,7 @@ pub extern "C" fn suz_view_distance(table: &[u8], distance: &mut u64) -> u32
             let held = read.table;
             let found = view_precision::distance(held);
             let answer = found.outcome;
-            match answer {
-                Outcome::Refused(why) => refusal_code(why),
-                Outcome::Done => {
-                    *distance = found.distance;
-                    0
-                }
-            }
+            number_written(answer, found.distance, distance)
         }
     }
 }

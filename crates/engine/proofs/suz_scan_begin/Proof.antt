@@ -9,35 +9,13 @@ use Rattle.engine.proofs.suz_scan_begin.Statement.{statement}
 use Rattle.engine.proofs.suz_scan_begin.Tie as tie
 
 returns : tie.Need-returns
-returns c =
-    let t = c .before .before in
-    let v = t .before .before in
-    let a = v .before .before .before .args in
-    let g = begin-unread (a .table .now) (a .state .now) _ (sym (v .read .ensures .0) ∙ ap told (t .outcome .given .1)) in
-    (c .refusal-code .ensures ∙ sym (ap (λ (o : Answer Unit). code o) (g .answers)), g .leaves)
+returns c = let t = c .before .before in begin-unread _ _ (t .before .before .read .ensures) (t .outcome .given .1) (c .refusal-code .ensures)
 
 returns-2 : tie.Need-returns-2
 returns-2 c =
     let w = c .before .before in
-    let b = w .before .before in
-    let t = b .before .before in
-    let v = t .before .before in
-    let a = v .before .before .before .args in
-    let right = sym (v .read .ensures .0) ∙ ap told (t .enum-told .given .1) in
-    let n = v .read .ensures .1 ∙ table-read (a .table .now) right in
-    let g = begin-read (a .table .now) (a .state .now) right _ _ (b .begin .ensures .0 ∙ ap beginAnswer n) (b .begin .ensures .1 ∙ ap scanOf n) in
-    (w .scan-begun .ensures .0 ∙ sym (ap (λ (o : Answer Unit). code o) (g .answers)), w .scan-begun .ensures .1 ∙ g .leaves)
+    let t = w .before .before .before .before in
+    begin-read _ _ (t .before .before .read .ensures) (t .enum-told .given .1) (w .before .before .begin .ensures) (w .scan-begun .ensures)
 
 pub suz-scan-begin-spec : {M : Type 1} → statement M
-suz-scan-begin-spec =
-    tie.close
-    (tie.spec
-    (λ c κs. search needs)
-    (λ c. search needs)
-    (λ c κs. search needs)
-    (λ c. search needs)
-    (λ c κs. search needs)
-    (λ c κs. search needs)
-    returns
-    (λ c. search needs)
-    returns-2)
+suz-scan-begin-spec = tie.close (tie.spec (λ c κs. search needs) (λ c. search needs) (λ c κs. search needs) (λ c. search needs) (λ c κs. search needs) (λ c κs. search needs) returns (λ c. search needs) returns-2)

@@ -10,36 +10,13 @@ use Rattle.engine.proofs.suz_table_change_product.Statement.{statement}
 use Rattle.engine.proofs.suz_table_change_product.Tie as tie
 
 returns : tie.Need-returns
-returns c =
-    let v = c .before .before .before .before in
-    let a = v .before .before .before .args in
-    let b = a .table .now in
-    let g = change-unread b _ _ (a .out .now) _ (sym (v .read .ensures .0) ∙ ap told (c .before .before .outcome .given .1)) in
-    (c .refusal-code .ensures ∙ sym (ap code (g .answers)), g .leaves)
+returns c = let t = c .before .before in change-unread _ (t .before .before .read .ensures) (t .outcome .given .1) _ _ _ (c .refusal-code .ensures)
 
 returns-2 : tie.Need-returns-2
 returns-2 c =
     let x = c .before .before in
-    let w = x .before .before in
-    let t = w .before .before in
-    let v = t .before .before in
-    let a = v .before .before .before .args in
-    let b = a .table .now in
-    let right = sym (v .read .ensures .0) ∙ ap told (t .enum-told .given .1) in
-    let n = v .read .ensures .1 ∙ table-read b right in
-    let g = product-changed b (a .out .now) right _ _ (a .level) (a .pass) (a .product) (a .bits) (w .with-product .ensures .0 ∙ ap (λ (x : WidthTable). productAnswer x (a .level) (a .pass) (a .product) (a .bits)) n) (w .with-product .ensures .1 ∙ ap (λ (x : WidthTable). tableAfterProduct x (a .level) (a .pass) (a .product) (a .bits)) n) in
-    (x .change-written .ensures .0 ∙ sym (ap code (g .answers)), x .change-written .ensures .1 ∙ g .leaves)
+    let t = x .before .before .before .before in
+    product-changed _ (t .before .before .read .ensures) (t .enum-told .given .1) _ _ _ _ _ (x .before .before .with-product .ensures) (x .change-written .ensures)
 
 pub suz-table-change-product-spec : {M : Type 1} → statement M
-suz-table-change-product-spec =
-    tie.close
-    (tie.spec
-    (λ c κs. search needs)
-    (λ c. search needs)
-    (λ c κs. search needs)
-    (λ c. search needs)
-    (λ c κs. search needs)
-    (λ c κs. search needs)
-    returns
-    (λ c. search needs)
-    returns-2)
+suz-table-change-product-spec = tie.close (tie.spec (λ c κs. search needs) (λ c. search needs) (λ c κs. search needs) (λ c. search needs) (λ c κs. search needs) (λ c κs. search needs) returns (λ c. search needs) returns-2)

@@ -1,36 +1,23 @@
-use mathlib.Core.Path.{sym, _∙_, ap}
+use mathlib.Core.Path.{_∙_, ap}
 use Rattle.refusals.specs.Answers.{code}
 use Rattle.refusals.specs.Told.{told}
 use Rattle.table_bytes.specs.ReadLaws.{table-read}
 use Rattle.view_precision.specs.Bounds.{viewVerdict}
-use Rattle.engine.specs.AnswerLaws.{view-refused, view-judged}
+use Rattle.table_calls.specs.CallLaws.{unread, read}
+use Rattle.engine.specs.Answers.{viewCheckAnswer}
 use borrow.Author.Needs.{needs}
 use Rattle.engine.proofs.suz_table_view.Statement.{statement}
 use Rattle.engine.proofs.suz_table_view.Tie as tie
 
 returns : tie.Need-returns
-returns c =
-    let v = c .before .before .before .before in
-    let b = v .before .before .args .table .now in
-    c .refusal-code .ensures ∙ sym (ap code (view-refused b _ (sym (v .read .ensures .0) ∙ ap told (c .before .before .outcome .given .1))))
+unfolding viewCheckAnswer
+returns c = let t = c .before .before in c .refusal-code .ensures ∙ ap code (unread _ (t .before .before .read .ensures) (t .outcome .given .1) _)
 
 returns-2 : tie.Need-returns-2
+unfolding viewCheckAnswer
 returns-2 c =
     let t = c .before .before .before in
-    let v = t .before .before in
-    let b = v .before .before .args .table .now in
-    let right = sym (v .read .ensures .0) ∙ ap told (t .enum-told .given .1) in
-    c .code .ensures ∙ ap code (c .before .judge .ensures ∙ ap viewVerdict (v .read .ensures .1 ∙ table-read b right) ∙ sym (view-judged b right))
+    c .code .ensures ∙ ap code (read _ (t .before .before .read .ensures) (t .enum-told .given .1) viewVerdict (c .before .judge .ensures))
 
 pub suz-table-view-spec : {M : Type 1} → statement M
-suz-table-view-spec =
-    tie.close
-    (tie.spec
-    (λ c κs. search needs)
-    (λ c. search needs)
-    (λ c κs. search needs)
-    (λ c. search needs)
-    (λ c κs. search needs)
-    (λ c κs. search needs)
-    returns
-    returns-2)
+suz-table-view-spec = tie.close (tie.spec (λ c κs. search needs) (λ c. search needs) (λ c κs. search needs) (λ c. search needs) (λ c κs. search needs) (λ c κs. search needs) returns returns-2)

@@ -1,51 +1,35 @@
-use mathlib.Core.Path.{sym, _∙_, ap}
+use mathlib.Core.Path.{_∙_, ap}
 use Rattle.refusals.specs.Answers.{code}
-use Rattle.refusals.specs.Told.{told}
 use Rattle.width_table.specs.declared.WidthTable.{WidthTable}
 use Rattle.table_bytes.specs.ReadLaws.{table-read}
 use Rattle.viewing.specs.Calls.{viewAnswer, viewPixels, viewWork}
-use Rattle.engine.specs.AnswerLaws.{unread-view, read-view}
+use Rattle.table_calls.specs.CallLaws.{unread, unread-leaves, read, read-leaves}
+use Rattle.engine.specs.Answers.{viewAnswer97, viewPixels97, viewWork97}
 use borrow.Author.Needs.{needs}
 use Rattle.engine.proofs.suz_view97.Statement.{statement}
 use Rattle.engine.proofs.suz_view97.Tie as tie
 
 returns : tie.Need-returns
+unfolding viewAnswer97 viewPixels97 viewWork97
 returns c =
-    let v = c .before .before .before .before in
-    let a = v .before .before .before .args in
-    let b = a .table .now in
-    let g = unread-view b (a .width) (a .height) (a .plane .now) (a .pixels .now) (a .work .now) _ (sym (v .read .ensures .0) ∙ ap told (c .before .before .outcome .given .1)) in
-    (c .refusal-code .ensures ∙ sym (ap code (g .answers)), (g .leaves-pixels, g .leaves-work))
+    let v = c .before .before .before .before .read .ensures in
+    let e = c .before .before .outcome .given .1 in
+    (c .refusal-code .ensures ∙ ap code (unread _ v e _), (unread-leaves _ v e _ _, unread-leaves _ v e _ _))
 
 returns-2 : tie.Need-returns-2
+unfolding viewAnswer97 viewPixels97 viewWork97
 returns-2 c =
     let f = c .before .before .before .before in
     let t = f .before .before .before .before in
-    let v = t .before .before in
-    let a = v .before .before .before .args in
-    let b = a .table .now in
-    let right = sym (v .read .ensures .0) ∙ ap told (t .enum-told .given .1) in
-    let e = f .view .ensures in
-    let n = v .read .ensures .1 ∙ table-read b right in
-    let g = read-view b (a .width) (a .height) (a .plane .now) (a .pixels .now) (a .work .now) right in (
-      c .code .ensures ∙ ap code (e .0 ∙ ap (λ (x : WidthTable). viewAnswer x (a .width) (a .height) (a .plane .now) (a .pixels .now) (a .work .now)) n ∙ sym (g .answers)),
+    let a = t .before .before .before .before .before .args in
+    let v = t .before .before .read .ensures in
+    let e = t .enum-told .given .1 in (
+      c .code .ensures ∙ ap code (read _ v e (λ (t : WidthTable). viewAnswer t (a .width) (a .height) (a .plane .now) (a .pixels .now) (a .work .now)) (f .view .ensures .0)),
       (
-        e .1 .0 ∙ ap (λ (x : WidthTable). viewPixels x (a .width) (a .height) (a .plane .now) (a .pixels .now) (a .work .now)) n ∙ g .leaves-pixels,
-        e .1 .1 ∙ ap (λ (x : WidthTable). viewWork x (a .width) (a .height) (a .plane .now) (a .pixels .now) (a .work .now)) n ∙ g .leaves-work,
+        read-leaves _ v e (λ (t : WidthTable). viewPixels t (a .width) (a .height) (a .plane .now) (a .pixels .now) (a .work .now)) _ (f .view .ensures .1 .0),
+        read-leaves _ v e (λ (t : WidthTable). viewWork t (a .width) (a .height) (a .plane .now) (a .pixels .now) (a .work .now)) _ (f .view .ensures .1 .1),
       ),
     )
 
 pub suz-view97-spec : {M : Type 1} → statement M
-suz-view97-spec =
-    tie.close
-    (tie.spec
-    (λ c κs. search needs)
-    (λ c. search needs)
-    (λ c κs. search needs)
-    (λ c. search needs)
-    (λ c κs. search needs)
-    (λ c κs. search needs)
-    returns
-    (λ c. search needs)
-    (λ c. search needs)
-    returns-2)
+suz-view97-spec = tie.close (tie.spec (λ c κs. search needs) (λ c. search needs) (λ c κs. search needs) (λ c. search needs) (λ c κs. search needs) (λ c κs. search needs) returns (λ c. search needs) (λ c. search needs) returns-2)

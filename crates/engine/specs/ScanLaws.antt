@@ -144,6 +144,14 @@ module _ (state : List ℕ) where
       go (done tt) renews r-is state-is given-is = let k = renews refl in (r-is, state-is ∙ renewed-written state s e after (k .table) (k .narrow), given-is)
       go (refused why) renews r-is state-is given-is = (r-is, state-is, given-is)
 
+  -- what reading promises of its outcome and of its scan
+  module _ (s : Scan) {o : Outcome} (reads : told o then done s ≡ scanIn state) where
+    holds-none : {why : Refusal} → o ≡ Refused why → scanIn state ≡ refused (toldRefusal why)
+    holds-none e = sym reads ∙ ap (λ (o : Outcome). told o then done s) e
+
+    holds : o ≡ Done → scanIn state ≡ done s
+    holds e = sym reads ∙ ap (λ (o : Outcome). told o then done s) e
+
   -- the scan that is read is the one that the state holds
   is-held : {s : Scan} → scanIn state ≡ done s → scanIn state ≡ done (scanHeld state)
   is-held {s} e = e ∙ ap (λ (s : Scan). done s) (sym (read-is state s e))
@@ -155,19 +163,21 @@ module _ (state pixels : List ℕ) (w : ℕ) (held out : List ℤ) (given : ℕ)
       (r ≡ code (scanLineAnswer state pixels w held out))
       × ((state′ ≡ scanLineState state pixels w held out) × ((given′ ≡ scanLineGiven state pixels w held out given) × ScanLineLeft state pixels w held out held′ out′))
 
-  pub line-none : {r : ℕ} (why : Reason) → scanIn state ≡ refused why → r ≡ code {A = Unit} (refused why) → LineLeaves r state held out given
+  pub line-none : (s : Scan) {o : Outcome} {why : Refusal} {r : ℕ} → told o then done s ≡ scanIn state → o ≡ Refused why → r ≡ code {A = Unit} (refused (toldRefusal why)) → LineLeaves r state held out given
   unfolding scanLineAnswer scanLineState scanLineGiven
-  line-none why e r-is =
+  line-none read {why = why} reads is r-is =
+      let e = holds-none state read reads is in
       let s = scanHeld state in
       let own = lineAnswer s pixels w held out in
-      let (a, b, c) = none state own (scanAfter s pixels w held out) (length (givenByLine s pixels w held out)) given why e r-is in
-      (a, (b, (c, subst (λ (o : Answer Unit). LineLeft s pixels w held out o held out) (sym (then-refused (scanIn state) own why e)) (line-stays s pixels w held out why))))
+      let (a, b, c) = none state own (scanAfter s pixels w held out) (length (givenByLine s pixels w held out)) given (toldRefusal why) e r-is in
+      (a, (b, (c, subst (λ (o : Answer Unit). LineLeft s pixels w held out o held out) (sym (then-refused (scanIn state) own (toldRefusal why) e)) (line-stays s pixels w held out (toldRefusal why)))))
 
-  pub line-some : {s : Scan} → scanIn state ≡ done s → {answer : Answer ℕ} {after : Scan} {r : ℕ} {state′ : List ℕ} {held′ out′ : List ℤ} {given′ : ℕ} → LineCall s pixels w held out answer after held′ out′
-      → r ≡ code answer → state′ ≡ answered answer (numbersAfter (after .width) (after .taken) (after .ended) state) state → given′ ≡ givenAfter answer given
+  pub line-some : {s : Scan} {o : Outcome} {answer : Answer ℕ} {after : Scan} {r : ℕ} {state′ : List ℕ} {held′ out′ : List ℤ} {given′ : ℕ} → told o then done s ≡ scanIn state → o ≡ Done
+      → LineCall s pixels w held out answer after held′ out′ → (r ≡ code answer) × ((state′ ≡ answered answer (numbersAfter (after .width) (after .taken) (after .ended) state) state) × (given′ ≡ givenAfter answer given))
       → LineLeaves r state′ held′ out′ given′
   unfolding scanLineAnswer scanLineState scanLineGiven
-  line-some e {answer} {after} {held′ = held′} {out′ = out′} call r-is state-is given-is =
+  line-some {s = read} {answer = answer} {after} {held′ = held′} {out′ = out′} reads is call (r-is, (state-is, given-is)) =
+      let e = holds state read reads is in
       let s = scanHeld state in
       let own = lineAnswer s pixels w held out in
       let there = subst (λ (s : Scan). LineCall s pixels w held out answer after held′ out′) (sym (read-is state _ e)) call in
@@ -181,19 +191,21 @@ module _ (state : List ℕ) (held out : List ℤ) (given : ℕ) where
       (r ≡ code (scanEndAnswer state held out))
       × ((state′ ≡ scanEndState state held out) × ((given′ ≡ scanEndGiven state held out given) × ScanEndLeft state held out held′ out′))
 
-  pub end-none : {r : ℕ} (why : Reason) → scanIn state ≡ refused why → r ≡ code {A = Unit} (refused why) → EndLeaves r state held out given
+  pub end-none : (s : Scan) {o : Outcome} {why : Refusal} {r : ℕ} → told o then done s ≡ scanIn state → o ≡ Refused why → r ≡ code {A = Unit} (refused (toldRefusal why)) → EndLeaves r state held out given
   unfolding scanEndAnswer scanEndState scanEndGiven
-  end-none why e r-is =
+  end-none read {why = why} reads is r-is =
+      let e = holds-none state read reads is in
       let s = scanHeld state in
       let own = endAnswer s held out in
-      let (a, b, c) = none state own (scanEnded s held out) (length (givenByEnd s held out)) given why e r-is in
-      (a, (b, (c, subst (λ (o : Answer Unit). EndLeft s held out o held out) (sym (then-refused (scanIn state) own why e)) (end-stays s held out why))))
+      let (a, b, c) = none state own (scanEnded s held out) (length (givenByEnd s held out)) given (toldRefusal why) e r-is in
+      (a, (b, (c, subst (λ (o : Answer Unit). EndLeft s held out o held out) (sym (then-refused (scanIn state) own (toldRefusal why) e)) (end-stays s held out (toldRefusal why)))))
 
-  pub end-some : {s : Scan} → scanIn state ≡ done s → {answer : Answer ℕ} {after : Scan} {r : ℕ} {state′ : List ℕ} {held′ out′ : List ℤ} {given′ : ℕ} → EndCall s held out answer after held′ out′
-      → r ≡ code answer → state′ ≡ answered answer (numbersAfter (after .width) (after .taken) (after .ended) state) state → given′ ≡ givenAfter answer given
+  pub end-some : {s : Scan} {o : Outcome} {answer : Answer ℕ} {after : Scan} {r : ℕ} {state′ : List ℕ} {held′ out′ : List ℤ} {given′ : ℕ} → told o then done s ≡ scanIn state → o ≡ Done
+      → EndCall s held out answer after held′ out′ → (r ≡ code answer) × ((state′ ≡ answered answer (numbersAfter (after .width) (after .taken) (after .ended) state) state) × (given′ ≡ givenAfter answer given))
       → EndLeaves r state′ held′ out′ given′
   unfolding scanEndAnswer scanEndState scanEndGiven
-  end-some e {answer} {after} {held′ = held′} {out′ = out′} call r-is state-is given-is =
+  end-some {s = read} {answer = answer} {after} {held′ = held′} {out′ = out′} reads is call (r-is, (state-is, given-is)) =
+      let e = holds state read reads is in
       let s = scanHeld state in
       let own = endAnswer s held out in
       let there = subst (λ (s : Scan). EndCall s held out answer after held′ out′) (sym (read-is state _ e)) call in

@@ -15,15 +15,11 @@ use Rattle.refusals.specs.Told.{toldRefusal, told}
 use Rattle.width_table.specs.declared.WidthTable.{WidthTable}
 use Rattle.width_table.specs.Table.{formRight}
 use Rattle.table_bytes.specs.Fields.{tableSize, valueStart, valueLength}
-use Rattle.table_bytes.specs.Bytes.{levelsIn, hasFifth, form, tableIn, writeAnswer, writing, tableBytes, bytesAfter}
+use Rattle.table_bytes.specs.Bytes.{levelsIn, hasFifth, form, tableIn, writeAnswer, writing, tableBytes, bytesAfter, tableRead}
 use Rattle.table_bytes.specs.Names.{nameAnswer, naming}
-use Rattle.width_table.specs.Fields.{tableSize, valueStart, valueLength}
-use Rattle.width_table.specs.Bytes.{levelsIn, hasFifth, form, tableRead, tableIn, writeAnswer, writing, tableBytes, bytesAfter}
-use Rattle.width_table.specs.Names.{nameAnswer, naming}
 use Rattle.width_table.specs.Changes.{widthAnswer, withWidth, tableAfterWidth, constantAnswer, withConstant, tableAfterConstant, productAnswer, withProduct, tableAfterProduct}
 use Rattle.table_bytes.specs.RoundTrip.{read-sized}
-use Rattle.width_table.specs.FormLists.{FullLists}
-use Rattle.width_table.specs.RoundTrip.{read-sized}
+use Rattle.width_table.specs.Lists.{FullLists}
 use Rattle.width_table.specs.ChangeLaws.{width-form, constant-form, product-form}
 use Rattle.table_calls.specs.CallLaws.{unread, unread-if-done, form-right, table-held}
 use Rattle.engine.specs.Answers.{startAfter, lengthAfter, newTableAnswer, newTableOut}

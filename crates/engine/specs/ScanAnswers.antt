@@ -7,8 +7,7 @@ use lib.ListN.{length}
 use lib.IntN.{ℤ}
 use Rattle.numbers.specs.Lists.{over}
 use Rattle.refusals.specs.Answers.{Answer, done, refused, passed, asks, _then_, answered}
-use Rattle.table_bytes.specs.Bytes.{form, tableIn}
-use Rattle.width_table.specs.Bytes.{tableIn}
+use Rattle.table_bytes.specs.Bytes.{tableIn}
 use Rattle.rolling.specs.Calls.{beginAnswer, scanOf, lineAnswer, givenByLine, scanAfter, LineLeft, endAnswer, givenByEnd, scanEnded, EndLeft}
 use Rattle.scan_bytes.specs.ScanBytes.{scanLength, stateBytes, scanHeld, scanIn}
 use Rattle.table_calls.specs.Calls.{formThen}

@@ -24,11 +24,9 @@ use Rattle.view_precision.specs.Bounds.{viewVerdict, viewDistance}
 use Rattle.viewing.specs.Calls.{viewAnswer, viewPixels, viewWork}
 use Rattle.rolling.specs.Calls.{beginAnswer, scanOf}
 use Rattle.scan_bytes.specs.ScanBytes.{scanLength, stateBytes}
-use Rattle.engine.specs.Answers.{checkAnswer, startAfter, lengthAfter, tableBoundAnswer, boundIn, rangeAfter, errorAfter, newTableAnswer, newTableOut, answer97, plane97, work97, viewCheckAnswer, distanceAfter, viewAnswer97, viewPixels97, viewWork97}
-use Rattle.engine.specs.ScanAnswers.{begins, scanBeginAnswer, scanBeginState}
 use Rattle.table_calls.specs.Calls.{checkAnswer, answer97, plane97, work97}
 use Rattle.engine.specs.Answers.{startAfter, lengthAfter, tableBoundAnswer, boundIn, rangeAfter, errorAfter, newTableAnswer, newTableOut, viewCheckAnswer, distanceAfter, viewAnswer97, viewPixels97, viewWork97}
 use Rattle.engine.specs.ScanAnswers.{begins, scanBeginAnswer, scanBeginState}
 
 module _ (bytes : List ℕ) where
   -- suz_table_check

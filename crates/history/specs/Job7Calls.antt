@@ -40,11 +40,9 @@ use Rattle.rolling_lines.specs.declared.Taken.the-variants.{Zero}
 use Rattle.rolling.specs.declared.Scan.{Scan}
 use Rattle.rolling.specs.Calls.{beginAnswer, scanOf}
 use Rattle.scan_bytes.specs.ScanBytes.{scanLength, stateBytes}
-use Rattle.engine.specs.Answers.{checkAnswer, startAfter, lengthAfter, tableBoundAnswer, boundIn, rangeAfter, errorAfter, newTableAnswer, newTableOut, changeOut, constantChangeOut, productChangeAnswer, productChangeOut, answer97, plane97, work97, viewCheckAnswer, distanceAfter, viewAnswer97, viewPixels97, viewWork97}
-use Rattle.engine.specs.ScanAnswers.{begins, scanBeginAnswer, scanBeginState}
 use Rattle.table_calls.specs.Calls.{checkAnswer, answer97, plane97, work97}
 use Rattle.engine.specs.Answers.{startAfter, lengthAfter, tableBoundAnswer, boundIn, rangeAfter, errorAfter, newTableAnswer, newTableOut, changeOut, constantChangeOut, productChangeAnswer, productChangeOut, viewCheckAnswer, distanceAfter, viewAnswer97, viewPixels97, viewWork97}
 use Rattle.engine.specs.ScanAnswers.{begins, scanBeginAnswer, scanBeginState}
 
 answered-none : {B : Type 0} (o : Answer Unit) (old : B) → answered o old old ≡ old
 answered-none (done tt) old = refl

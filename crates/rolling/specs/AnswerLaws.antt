@@ -15,10 +15,6 @@ use Rattle.pictures.specs.Pictures.{sideRight, Admitted, lengthAnswer, pixelAns
 use Rattle.pictures.specs.PictureLaws.{side-is, side-right, holds-done, holds-right, pixels-done, pixel-below}
 use Rattle.pictures.specs.PixelLaws.{slice-short}
 use Rattle.precision.specs.Verdict.{verdict, Accepted, IsLevel}
-use Rattle.rolling.specs.declared.Taken.{Taken}
-use Rattle.rolling.specs.declared.Taken.the-variants.{Zero}
-use Rattle.precision.specs.Verdict.{verdict, Accepted}
-use Rattle.irreversible.specs.LevelBits.{IsLevel}
 use Rattle.rolling_lines.specs.declared.Taken.{Taken}
 use Rattle.rolling_lines.specs.declared.Taken.the-variants.{Zero}
 use Rattle.rolling.specs.declared.Scan.{Scan}

@@ -11,11 +11,7 @@ use Rattle.width_table.specs.Nodes.{Rows}
 use Rattle.width_table.specs.declared.WidthTable.{WidthTable}
 use Rattle.pictures.specs.Pictures.{sideRight, lengthAnswer, pixelAnswer, sample}
 use Rattle.precision.specs.Verdict.{verdict}
-use Rattle.table_meaning.specs.NodeWidths.{InNodeWidth}
 use Rattle.fixed_stages.specs.Fixed.{fixedLine}
-use Rattle.rolling.specs.declared.Taken.{Taken}
-use Rattle.rolling.specs.declared.Taken.the-variants.{Zero}
-use Rattle.irreversible.specs.Transforms.{fixedLine}
 use Rattle.rolling_lines.specs.declared.Taken.{Taken}
 use Rattle.rolling_lines.specs.declared.Taken.the-variants.{Zero}
 use Rattle.rolling.specs.declared.Scan.{Scan}

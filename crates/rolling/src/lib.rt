@@ -3,25 +3,8 @@
 ghost use mathlib.Core.Path.{_≡_};
 ghost use Prim.Native.Nat.{_*_};
 ghost use Rattle.refusals.specs.Told.{told};
-ghost use Rattle.slices.specs.Patch.{at};
-ghost use Rattle.slices.specs.PatchLines.{lineAt};
-ghost use Rattle.width_table.specs.Numbered.{passOf, IsPass};
-ghost use Rattle.width_table.specs.Table.{maxFractionBits};
-ghost use Rattle.pictures.specs.RangeChecks.{Tells};
-ghost use Rattle.precision.specs.Verdict.{IsLevel};
-ghost use Rattle.rolling.specs.SoundLaws.{ColumnsSound};
-ghost use Rattle.rolling.specs.Program.{AsColumns, FirstFits, SecondFits, GiveFits, firstDone, secondDone, twoGiven, firstKept, LaterFits, laterDone, laterKept, HeldFits, LastFits, setU2, lastGiven, Enters, oneEnded, twoEnded, evenEnded, oddEnded, PastSame};
-ghost use Rattle.rolling.specs.Calls.{heldLines, outLines, heldIn, FiveBits, Sound, KeptFrom, beginAnswer, scanOf, lineWidthRight, goesOn, lineAnswerOf, LineCall, endAnswerOf, EndCall};
 ghost use Rattle.rolling.specs.Calls.{beginAnswer, scanOf, lineWidthRight, goesOn, lineAnswerOf, LineCall, endAnswerOf, EndCall};
 ghost use Rattle.rolling.specs.Told.{toldGiven};
-ghost use Rattle.rolling.specs.Memory.{lineIn, setLine, moved, staged, SafeStage, scaledLine, SafeScaling, Lent, Apart};
-ghost use Rattle.rolling.specs.Rows.{LineRight, rowOf};
-ghost use Rattle.rolling.specs.Worked.{HeldWorked, LineWorked, Later, LowReady, EndWorked};
-ghost use Rattle.rolling.specs.Schedule.{next, anyTaken, lineGives, endGives};
-ghost use Rattle.pictures.specs.Pictures.{Admitted};
-
-
-
 ghost use Rattle.rolling_lines.specs.Schedule.{next, anyTaken};
 use refusals::Outcome;
 use refusals::Refusal;

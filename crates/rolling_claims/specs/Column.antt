@@ -15,13 +15,6 @@ use Rattle.width_table.specs.Table.{constantBits, fractionBits, inputBits}
 use Rattle.stages.specs.Fixed.{cut, step, scale}
 use Rattle.table_meaning.specs.Products.{productOf}
 use Rattle.fixed_stages.specs.Fixed.{atP1, atU1, atP2, atU2, atG1, atG2, valueAt, countAt, fixedLong, fixedPass, fixedLine}
-use Rattle.rolling.specs.declared.Taken.{Taken}
-use Rattle.rolling.specs.declared.Taken.the-variants.{Zero, One, Two, Three, Four, OddMany, EvenMany}
-use Rattle.rolling.specs.Schedule.{Line, Held, next, holdsP2, columnPassAt, before, stacked, lineP1, lineU1, lineP2, lineU2, lineG1, lineG2, lineSingle, newP1, newU1, newP2, newU2, heldAfter, lineGives, lastP2, lastU2, oddU1, oddP2, oddU2, endOdd, endGives}
-use Rattle.rolling.specs.Calls.{FiveBits, SameHeld}
-use Rattle.rolling.specs.FiveBits.{zero-five}
-use Rattle.irreversible.specs.Fixed.{atP1, atU1, atP2, atU2, atG1, atG2, valueAt, countAt, fixedLong, fixedPass}
-use Rattle.irreversible.specs.Transforms.{fixedLine}
 use Rattle.rolling_lines.specs.declared.Taken.{Taken}
 use Rattle.rolling_lines.specs.declared.Taken.the-variants.{Zero, One, Two, Three, Four, OddMany, EvenMany}
 use Rattle.rolling_lines.specs.Schedule.{Line, Held, next, holdsP2, columnPassAt, before, stacked, lineP1, lineU1, lineP2, lineU2, lineG1, lineG2, lineSingle, newP1, newU1, newP2, newU2, heldAfter, lineGives, lastP2, lastU2, oddU1, oddP2, oddU2, endOdd, endGives}

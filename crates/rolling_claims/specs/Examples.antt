@@ -17,16 +17,12 @@ use Rattle.table_meaning.specs.Products.{productOf}
 use Rattle.fixed_stages.specs.Fixed as X
 use Rattle.fixed_stages.specs.Fixed.{fixedLine}
 use Rattle.irreversible.specs.Transforms.{fixedAfter, fixedPlane}
-use Rattle.rolling.specs.declared.Taken.{Taken}
-use Rattle.rolling.specs.declared.Taken.the-variants.{Zero}
-use Rattle.rolling.specs.Schedule as S
-use Rattle.rolling.specs.Schedule.{Line, Held, blank, next, heldAfter, lineGives, endGives}
-use Rattle.irreversible.specs.Fixed as X
-use Rattle.irreversible.specs.Transforms.{fixedLine, fixedAfter, fixedPlane}
 use Rattle.rolling_lines.specs.declared.Taken.{Taken}
 use Rattle.rolling_lines.specs.declared.Taken.the-variants.{Zero}
 use Rattle.rolling_lines.specs.Schedule as S
 use Rattle.rolling_lines.specs.Schedule.{Line, Held, blank, next, heldAfter, lineGives, endGives}
+use Rattle.fixed_stages.specs.Fixed as X
+use Rattle.rolling_lines.specs.Schedule as S
 use Rattle.rolling_claims.specs.Claims.{inTurn, firstLines}
 
 abbrev table : Bool → List ℕ → WidthTable

@@ -21,9 +21,6 @@ use Rattle.width_table.specs.declared.WidthTable.{WidthTable}
 use Rattle.pictures.specs.Pictures.{Admitted, planeOf}
 use Rattle.width_table.specs.WorkedTables.{usual, cut}
 use Rattle.worked_precision.specs.Verdicts.{usual-accepted, cut-accepted}
-use Rattle.rolling.specs.declared.Taken.{Taken}
-use Rattle.rolling.specs.declared.Taken.the-variants.{Zero, One, Two, Three, Four, OddMany, EvenMany}
-use Rattle.precision.specs.Examples.{usual-accepted, cut-accepted}
 use Rattle.rolling_lines.specs.declared.Taken.{Taken}
 use Rattle.rolling_lines.specs.declared.Taken.the-variants.{Zero, One, Two, Three, Four, OddMany, EvenMany}
 use Rattle.rolling.specs.declared.Scan.{Scan}

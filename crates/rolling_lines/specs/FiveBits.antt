@@ -29,10 +29,6 @@ use Rattle.fixed_stages.specs.Safe.{BelowPower, BelowPower10, LineSafe}
 use Rattle.irreversible.specs.Magnitudes.{LevelBelowPower}
 use Rattle.irreversible.specs.MagnitudeLaws.{first-below-power-4}
 use Rattle.fixed_stages.specs.LineLaws.{line-safe, line-sized, bits-right}
-use Rattle.rolling.specs.Schedule.{columnPassAt}
-use Rattle.rolling.specs.Calls.{FiveBits}
-use Rattle.irreversible.specs.LevelLaws.{LineSafe, line-safe, line-sized}
-use Rattle.irreversible.specs.LevelsLaws.{bits-right}
 use Rattle.rolling_lines.specs.Schedule.{columnPassAt}
 use Rattle.rolling_lines.specs.LentLines.{FiveBits}
 

@@ -10,7 +10,7 @@ use Rattle.width_table.specs.Nodes.{P1, U1, P2}
 use Rattle.width_table.specs.declared.WidthTable.{WidthTable}
 use Rattle.width_table.specs.Table.{fractionBits, inputBits}
 use Rattle.pictures.specs.Pictures.{planeOf}
-use Rattle.irreversible.specs.Claims.{InNodeWidth}
+use Rattle.table_meaning.specs.NodeWidths.{InNodeWidth}
 use Rattle.rolling_lines.specs.Schedule.{Line, Held, columnPassAt, stacked}
 
 -- lines lent to hold, and lines lent for output

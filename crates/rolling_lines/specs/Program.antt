@@ -21,17 +21,6 @@ use Rattle.fixed_stages.specs.Kernels.{sP1, sU1, sP2, sU2, sG1, sG2, singleFor,
 use Rattle.fixed_stages.specs.Safe.{Limits}
 use Rattle.precision.specs.Verdict.{IsLevel}
 use Rattle.fixed_stages.specs.LineLaws.{bits-right}
-use Rattle.rolling.specs.declared.Columns.{Columns}
-use Rattle.rolling.specs.Calls.{heldLines}
-use Rattle.rolling.specs.Schedule.{Line, columnPassAt, lineP1, lineU1, lineP2, lineU2, lineG1, lineG2, lineSingle}
-use Rattle.rolling.specs.Growth.{Within, P1-grows, U1-grows, P2-grows, U2-grows, P1-safe, U1-safe, P2-safe, U2-safe, G1-safe, G2-safe, cut-safe}
-use Rattle.rolling.specs.Memory.{lineIn, setLine, moved, onLines, SafeLines, scaledLine, SafeScaling, line-own, line-other}
-use Rattle.irreversible.specs.StepLaws.{step-applied, scale-applied, single-applied}
-use Rattle.irreversible.specs.KernelLaws.{sP1, sU1, sP2, sU2, sG1, sG2, singleFor}
-use Rattle.irreversible.specs.SafeLaws.{Limits}
-use Rattle.irreversible.specs.StagesLaws.{AsStages}
-use Rattle.irreversible.specs.LevelBits.{IsLevel}
-use Rattle.irreversible.specs.LevelsLaws.{bits-right}
 use Rattle.rolling_lines.specs.declared.Columns.{Columns}
 use Rattle.rolling_lines.specs.LentLines.{heldLines}
 use Rattle.rolling_lines.specs.Schedule.{Line, columnPassAt, lineP1, lineU1, lineP2, lineU2, lineG1, lineG2, lineSingle}

@@ -11,8 +11,6 @@ use Rattle.width_table.specs.declared.WidthTable.{WidthTable}
 use Rattle.pictures.specs.Pictures.{Admitted, sample}
 use Rattle.precision.specs.Verdict.{Accepted}
 use Rattle.fixed_stages.specs.Fixed.{fixedLine}
-use Rattle.rolling.specs.Schedule.{Line}
-use Rattle.irreversible.specs.Transforms.{fixedLine}
 use Rattle.rolling_lines.specs.Schedule.{Line}
 
 -- a line of admitted width and of the table's depth, under an accepted table of one level

@@ -21,11 +21,6 @@ use Rattle.width_table.specs.Table.{fractionBits, inputBits}
 use Rattle.slices.specs.Fronts.{zeroed}
 use Rattle.pictures.specs.RangeChecks.{Tells, OfBits}
 use Rattle.table_meaning.specs.NodeWidths.{InNodeWidth}
-use Rattle.rolling.specs.Schedule.{columnPassAt}
-use Rattle.rolling.specs.Calls.{heldLines, heldIn, FiveBits, Sound, KeptFrom}
-use Rattle.rolling.specs.Memory.{Lent, in-lent}
-use Rattle.rolling.specs.FiveBits.{zero-five}
-use Rattle.irreversible.specs.Claims.{InNodeWidth}
 use Rattle.rolling_lines.specs.Schedule.{columnPassAt}
 use Rattle.rolling_lines.specs.LentLines.{heldLines, heldIn, FiveBits, Sound, KeptFrom}
 use Rattle.rolling_lines.specs.Memory.{Lent, in-lent}

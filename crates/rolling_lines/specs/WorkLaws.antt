@@ -17,18 +17,6 @@ use Rattle.width_table.specs.Table.{fractionBits, inputBits}
 use Rattle.slices.specs.Patch.{at, patch-above}
 use Rattle.pictures.specs.MemoryLaws.{stands-over}
 use Rattle.table_meaning.specs.NodeWidths.{InNodeWidth}
-use Rattle.rolling.specs.declared.Taken.the-variants.{Zero, One, Two, Three, Four, OddMany, EvenMany}
-use Rattle.rolling.specs.declared.Taken.{Taken}
-use Rattle.rolling.specs.Schedule.{Line, stacked, lineP1, lineU1, lineP2, lineU2, lineG1, lineG2, lineSingle, newP1, newU1, newP2, newU2, heldAfter, lineGives, lastP2, lastU2, oddU1, oddP2, oddU2, endGives}
-use Rattle.rolling.specs.Calls.{heldLines, outLines, heldIn, FiveBits, Sound, SameHeld, KeptFrom, outAfter}
-use Rattle.rolling.specs.Growth.{Within}
-use Rattle.rolling.specs.Memory.{lineIn, setLine, moved, column, put, column-set, line-own, line-other}
-use Rattle.rolling.specs.Rows.{LineRight, rowOf}
-use Rattle.rolling.specs.FiveBits.{line-five}
-use Rattle.rolling.specs.Program.{Enters, HeldFits, FirstFits, LaterFits, firstDone, secondDone, firstKept, laterDone, laterKept, twoGiven, oneEnded, twoEnded, evenEnded, oddDone, oddEnded, setU1, setU2, own-within, other-within}
-use Rattle.rolling.specs.ColumnLaws.{move, keepFirst, doFirst, doSecond, on, atU1, atU2, column-moved, column-U1, column-U2, column-first, column-second, column-kept}
-use Rattle.rolling.specs.Worked.{OutWorked, Later, fifth, later, EndWorked}
-use Rattle.irreversible.specs.Claims.{InNodeWidth}
 use Rattle.rolling_lines.specs.declared.Taken.the-variants.{Zero, One, Two, Three, Four, OddMany, EvenMany}
 use Rattle.rolling_lines.specs.declared.Taken.{Taken}
 use Rattle.rolling_lines.specs.Schedule.{Line, stacked, lineP1, lineU1, lineP2, lineU2, lineG1, lineG2, lineSingle, newP1, newU1, newP2, newU2, heldAfter, lineGives, lastP2, lastU2, oddU1, oddP2, oddU2, endGives}

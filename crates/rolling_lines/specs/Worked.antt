@@ -7,13 +7,6 @@ use lib.ListN.{length}
 use lib.IntN.{ℤ}
 use Rattle.width_table.specs.declared.WidthTable.{WidthTable}
 use Rattle.slices.specs.Patch.{at}
-use Rattle.rolling.specs.declared.Taken.{Taken}
-use Rattle.rolling.specs.declared.Taken.the-variants.{Four, EvenMany}
-use Rattle.rolling.specs.Schedule.{Line, evenTaken, heldAfter, lineGives, endGives}
-use Rattle.rolling.specs.Calls.{heldLines, heldIn, Sound, SameHeld, KeptFrom, outAfter}
-use Rattle.rolling.specs.Memory.{lineIn, setLine}
-use Rattle.rolling.specs.Program.{HeldFits, Enters}
-use Rattle.lifting.specs.Patch.{at}
 use Rattle.rolling_lines.specs.declared.Taken.{Taken}
 use Rattle.rolling_lines.specs.declared.Taken.the-variants.{Four, EvenMany}
 use Rattle.rolling_lines.specs.Schedule.{Line, evenTaken, heldAfter, lineGives, endGives}

@@ -22,15 +22,6 @@ use Rattle.table_bytes.specs.BytesLaws.{RightForm, right-form, form-long, fifth
 use Rattle.table_bytes.specs.ReadLaws.{table-read}
 use Rattle.table_bytes.specs.RoundTrip.{written-reads}
 use Rattle.table_bytes.specs.WriteLaws.{table-written}
-use Rattle.rolling.specs.declared.Taken.{Taken}
-use Rattle.rolling.specs.declared.Taken.the-variants.{Zero, One, Two, Three, Four, OddMany, EvenMany}
-use Rattle.width_table.specs.Fields.{productsTag, tableSize}
-use Rattle.width_table.specs.Bytes.{headed, field, formBy, levelsIn, hasFifth, form, tableIn, tableBytes, bytesAfter}
-use Rattle.width_table.specs.FormLists.{FullLists}
-use Rattle.width_table.specs.BytesLaws.{RightForm, right-form, form-long, fifth-written, bytes-length, written-read as tables-read, read-written as tables-back}
-use Rattle.width_table.specs.ReadLaws.{table-read}
-use Rattle.width_table.specs.RoundTrip.{written-reads}
-use Rattle.width_table.specs.WriteLaws.{table-written}
 use Rattle.rolling_lines.specs.declared.Taken.{Taken}
 use Rattle.rolling_lines.specs.declared.Taken.the-variants.{Zero, One, Two, Three, Four, OddMany, EvenMany}
 use Rattle.rolling.specs.declared.Scan.{Scan}

@@ -12,10 +12,6 @@ use Rattle.width_table.specs.declared.WidthTable.{WidthTable}
 use Rattle.width_table.specs.Table.{formRight}
 use Rattle.table_bytes.specs.Fields.{productsTag, tableSize}
 use Rattle.table_bytes.specs.Bytes.{form, tableIn, emptyTable, tableBytes}
-use Rattle.rolling.specs.declared.Taken.{Taken}
-use Rattle.rolling.specs.declared.Taken.the-variants.{Zero, One, Two, Three, Four, OddMany, EvenMany}
-use Rattle.width_table.specs.Fields.{productsTag, tableSize}
-use Rattle.width_table.specs.Bytes.{form, tableIn, emptyTable, tableBytes}
 use Rattle.rolling_lines.specs.declared.Taken.{Taken}
 use Rattle.rolling_lines.specs.declared.Taken.the-variants.{Zero, One, Two, Three, Four, OddMany, EvenMany}
 use Rattle.rolling.specs.declared.Scan.{Scan}

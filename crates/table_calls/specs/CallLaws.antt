@@ -9,8 +9,8 @@ use Rattle.refusals.specs.Answers.{Answer, done, refused, passed, _then_, answe
 use Rattle.refusals.specs.AnswerLaws.{then-right, then-refused, answered-done, answered-refused}
 use Rattle.refusals.specs.Told.{toldRefusal, told}
 use Rattle.width_table.specs.declared.WidthTable.{WidthTable}
-use Rattle.width_table.specs.Bytes.{form, tableRead, tableIn}
-use Rattle.width_table.specs.ReadLaws.{table-read}
+use Rattle.table_bytes.specs.Bytes.{form, tableRead, tableIn}
+use Rattle.table_bytes.specs.ReadLaws.{table-read}
 use Rattle.table_calls.specs.Calls.{formThen, afterForm}
 
 -- a lent thing that is written where an answer is done, and what is written stands beside that answer

@@ -5,7 +5,7 @@ use mathlib.Core.List.{List}
 use lib.IntN.{ℤ}
 use Rattle.refusals.specs.Answers.{Answer, _then_, answered}
 use Rattle.width_table.specs.declared.WidthTable.{WidthTable}
-use Rattle.width_table.specs.Bytes.{form, tableIn}
+use Rattle.table_bytes.specs.Bytes.{form, tableIn}
 use Rattle.precision.specs.Verdict.{verdict}
 use Rattle.irreversible.specs.Calls.{fixedAnswer, fixedPlaneAfter, fixedWork}
 

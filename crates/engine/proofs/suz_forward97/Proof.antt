@@ -1,10 +1,5 @@
 use mathlib.Core.Path.{_∙_, ap}
 use Rattle.refusals.specs.Answers.{code}
-use Rattle.refusals.specs.Told.{told}
-use Rattle.width_table.specs.declared.WidthTable.{WidthTable}
-use Rattle.table_bytes.specs.ReadLaws.{table-read}
-use Rattle.irreversible.specs.Calls.{fixedAnswer, fixedPlaneAfter, fixedWork}
-use Rattle.engine.specs.AnswerLaws.{unread97, read97}
 use borrow.Author.Needs.{needs}
 use Rattle.engine.proofs.suz_forward97.Statement.{statement}
 use Rattle.engine.proofs.suz_forward97.Tie as tie

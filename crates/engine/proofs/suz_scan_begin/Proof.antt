@@ -1,8 +1,3 @@
-use mathlib.Core.Path.{sym, _∙_, ap}
-use Rattle.refusals.specs.Answers.{Answer, code}
-use Rattle.refusals.specs.Told.{told}
-use Rattle.table_bytes.specs.ReadLaws.{table-read}
-use Rattle.rolling.specs.Calls.{beginAnswer, scanOf}
 use Rattle.engine.specs.ScanLaws.{begin-unread, begin-read}
 use borrow.Author.Needs.{needs}
 use Rattle.engine.proofs.suz_scan_begin.Statement.{statement}

@@ -1,9 +1,6 @@
 use mathlib.Core.Path.{_∙_, ap}
 use Rattle.refusals.specs.Answers.{Answer, code}
 use Rattle.width_table.specs.declared.WidthTable.{WidthTable}
-use Rattle.table_bytes.specs.ReadLaws.{table-read}
-use Rattle.precision.specs.BoundCalls.{boundAnswer, rangeTold, errorTold}
-use Rattle.engine.specs.AnswerLaws.{bound-unread, bound-read}
 use Rattle.precision.specs.BoundCalls.{boundAnswer, boundNumbered}
 use Rattle.table_calls.specs.CallLaws.{unread, unread-if-done, read, read-if-done}
 use Rattle.engine.specs.Answers.{tableBoundAnswer, rangeAfter, errorAfter}

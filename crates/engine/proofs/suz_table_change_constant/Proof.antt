@@ -1,9 +1,3 @@
-use mathlib.Core.Path.{sym, _∙_, ap}
-use Rattle.refusals.specs.Answers.{code}
-use Rattle.refusals.specs.Told.{told}
-use Rattle.width_table.specs.declared.WidthTable.{WidthTable}
-use Rattle.width_table.specs.Changes.{constantAnswer, tableAfterConstant}
-use Rattle.table_bytes.specs.ReadLaws.{table-read}
 use Rattle.engine.specs.AnswerLaws.{change-unread, constant-changed}
 use borrow.Author.Needs.{needs}
 use Rattle.engine.proofs.suz_table_change_constant.Statement.{statement}

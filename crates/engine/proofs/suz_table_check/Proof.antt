@@ -1,9 +1,5 @@
 use mathlib.Core.Path.{_∙_, ap}
 use Rattle.refusals.specs.Answers.{code}
-use Rattle.refusals.specs.Told.{told}
-use Rattle.table_bytes.specs.ReadLaws.{table-read}
-use Rattle.precision.specs.Verdict.{verdict}
-use Rattle.engine.specs.AnswerLaws.{check-refused, check-judged}
 use borrow.Author.Needs.{needs}
 use Rattle.engine.proofs.suz_table_check.Statement.{statement}
 use Rattle.engine.proofs.suz_table_check.Tie as tie

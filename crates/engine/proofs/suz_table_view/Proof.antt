@@ -1,7 +1,5 @@
 use mathlib.Core.Path.{_∙_, ap}
 use Rattle.refusals.specs.Answers.{code}
-use Rattle.refusals.specs.Told.{told}
-use Rattle.table_bytes.specs.ReadLaws.{table-read}
 use Rattle.view_precision.specs.Bounds.{viewVerdict}
 use Rattle.table_calls.specs.CallLaws.{unread, read}
 use Rattle.engine.specs.Answers.{viewCheckAnswer}

@@ -1,7 +1,6 @@
 use mathlib.Core.Path.{_∙_, ap}
 use Rattle.refusals.specs.Answers.{code}
 use Rattle.width_table.specs.declared.WidthTable.{WidthTable}
-use Rattle.table_bytes.specs.ReadLaws.{table-read}
 use Rattle.viewing.specs.Calls.{viewAnswer, viewPixels, viewWork}
 use Rattle.table_calls.specs.CallLaws.{unread, unread-leaves, read, read-leaves}
 use Rattle.engine.specs.Answers.{viewAnswer97, viewPixels97, viewWork97}

@@ -1,9 +1,3 @@
-use mathlib.Core.Path.{sym, _∙_, ap}
-use Rattle.refusals.specs.Answers.{code, answered}
-use Rattle.refusals.specs.Told.{told}
-use Rattle.refusals.specs.AnswerLaws.{answered-done}
-use Rattle.width_table.specs.declared.WidthTable.{WidthTable}
-use Rattle.table_bytes.specs.ReadLaws.{table-read}
 use mathlib.Core.Path.{_∙_, ap}
 use Rattle.refusals.specs.Answers.{code}
 use Rattle.view_precision.specs.Bounds.{viewVerdict, viewDistance}

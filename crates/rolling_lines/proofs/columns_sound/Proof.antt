@@ -7,13 +7,9 @@ use Rattle.width_table.specs.Table.{maxFractionBits, fractionBits, inputBits}
 use Rattle.width_table.specs.Numbered.{passOf}
 use Rattle.slices.specs.Patch.{at}
 use Rattle.fixed_stages.specs.LevelBits.{fraction-is, input-is}
-use Rattle.rolling.specs.SoundLaws.{look-in, no-entering, no-p1, no-u1, last-tells}
-use Rattle.rolling.proofs.columns_sound.Statement.{statement}
-use Rattle.rolling.proofs.columns_sound.Tie as tie
-use Rattle.lifting.specs.Patch.{at}
-use Rattle.irreversible.specs.LevelBits.{fraction-is, input-is}
 use Rattle.rolling_lines.specs.SoundLaws.{look-in, no-entering, no-p1, no-u1, last-tells}
 use Rattle.rolling_lines.proofs.columns_sound.Statement.{statement}
+use Rattle.rolling_lines.proofs.columns_sound.Tie as tie
 use Rattle.rolling_lines.proofs.columns_sound.Tie as tie
 
 -- the bits read, within their limits

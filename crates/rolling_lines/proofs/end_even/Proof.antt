@@ -5,16 +5,11 @@ use native.Mathlib.Omega.{arith}
 use borrow.Author.Needs.{needs}
 use lib.IntN.{ℤ}
 use Rattle.slices.specs.Patch.{at}
-use Rattle.rolling.specs.Memory.{moved}
-use Rattle.rolling.specs.Program.{SecondFits, LaterFits, secondDone, laterDone, laterKept, twoGiven, PastSame}
-use Rattle.rolling.specs.ProgramLaws.{even-later, later-last, past-then, past-one, past-second, past-later}
-use Rattle.rolling.proofs.end_even.Statement.{statement}
-use Rattle.rolling.proofs.end_even.Tie as tie
-use Rattle.lifting.specs.Patch.{at}
 use Rattle.rolling_lines.specs.Memory.{moved}
 use Rattle.rolling_lines.specs.Program.{SecondFits, LaterFits, secondDone, laterDone, laterKept, twoGiven, PastSame}
 use Rattle.rolling_lines.specs.ProgramLaws.{even-later, later-last, past-then, past-one, past-second, past-later}
 use Rattle.rolling_lines.proofs.end_even.Statement.{statement}
+use Rattle.rolling_lines.proofs.end_even.Tie as tie
 use Rattle.rolling_lines.proofs.end_even.Tie as tie
 
 -- the low line came once more

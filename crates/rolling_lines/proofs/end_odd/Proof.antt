@@ -5,14 +5,10 @@ use native.Mathlib.Omega.{arith}
 use borrow.Author.Needs.{needs}
 use lib.IntN.{ℤ}
 use Rattle.slices.specs.Patch.{at}
-use Rattle.rolling.specs.Program.{SecondFits, LastFits, secondDone, setU1, setU2, oddDone, lastGiven, twoGiven, PastSame}
-use Rattle.rolling.specs.ProgramLaws.{U1-done, odd-U1, odd-second, odd-last, past-then, past-one, past-second}
-use Rattle.rolling.proofs.end_odd.Statement.{statement}
-use Rattle.rolling.proofs.end_odd.Tie as tie
-use Rattle.lifting.specs.Patch.{at}
 use Rattle.rolling_lines.specs.Program.{SecondFits, LastFits, secondDone, setU1, setU2, oddDone, lastGiven, twoGiven, PastSame}
 use Rattle.rolling_lines.specs.ProgramLaws.{U1-done, odd-U1, odd-second, odd-last, past-then, past-one, past-second}
 use Rattle.rolling_lines.proofs.end_odd.Statement.{statement}
+use Rattle.rolling_lines.proofs.end_odd.Tie as tie
 use Rattle.rolling_lines.proofs.end_odd.Tie as tie
 
 -- U1 of the last low line

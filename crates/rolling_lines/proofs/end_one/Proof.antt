@@ -3,16 +3,11 @@ use mathlib.Core.Path.{_∙_, ap}
 use native.Mathlib.Omega.{arith}
 use borrow.Author.Needs.{needs}
 use Rattle.slices.specs.Patch.{at}
-use Rattle.rolling.specs.Schedule.{Line}
-use Rattle.rolling.specs.Memory.{setLine}
-use Rattle.rolling.specs.Program.{single-line, single-may}
-use Rattle.rolling.proofs.end_one.Statement.{statement}
-use Rattle.rolling.proofs.end_one.Tie as tie
-use Rattle.lifting.specs.Patch.{at}
 use Rattle.rolling_lines.specs.Schedule.{Line}
 use Rattle.rolling_lines.specs.Memory.{setLine}
 use Rattle.rolling_lines.specs.Program.{single-line, single-may}
 use Rattle.rolling_lines.proofs.end_one.Statement.{statement}
+use Rattle.rolling_lines.proofs.end_one.Tie as tie
 use Rattle.rolling_lines.proofs.end_one.Tie as tie
 
 scale-line-requires : tie.Need-scale-line-requires

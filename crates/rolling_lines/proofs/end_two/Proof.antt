@@ -5,16 +5,11 @@ use native.Mathlib.Omega.{arith}
 use borrow.Author.Needs.{needs}
 use lib.IntN.{ℤ}
 use Rattle.slices.specs.Patch.{at}
-use Rattle.rolling.specs.Memory.{moved}
-use Rattle.rolling.specs.Program.{FirstFits, SecondFits, firstDone, secondDone, firstKept, twoGiven, PastSame}
-use Rattle.rolling.specs.ProgramLaws.{two-first, two-last, past-then, past-one, past-first, past-second, past-kept}
-use Rattle.rolling.proofs.end_two.Statement.{statement}
-use Rattle.rolling.proofs.end_two.Tie as tie
-use Rattle.lifting.specs.Patch.{at}
 use Rattle.rolling_lines.specs.Memory.{moved}
 use Rattle.rolling_lines.specs.Program.{FirstFits, SecondFits, firstDone, secondDone, firstKept, twoGiven, PastSame}
 use Rattle.rolling_lines.specs.ProgramLaws.{two-first, two-last, past-then, past-one, past-first, past-second, past-kept}
 use Rattle.rolling_lines.proofs.end_two.Statement.{statement}
+use Rattle.rolling_lines.proofs.end_two.Tie as tie
 use Rattle.rolling_lines.proofs.end_two.Tie as tie
 
 -- the low line came once more

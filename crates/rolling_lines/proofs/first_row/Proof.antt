@@ -6,20 +6,13 @@ use native.Mathlib.Omega.{arith}
 use borrow.Author.Needs.{needs}
 use lib.IntN.{ℤ}
 use Rattle.slices.specs.Patch.{at}
-use Rattle.rolling.specs.Calls.{heldLines, KeptFrom}
-use Rattle.rolling.specs.Memory.{past-set}
-use Rattle.rolling.specs.Rows.{rowOf}
-use Rattle.rolling.specs.SoundLaws.{zero-at, past-zeros}
-use Rattle.rolling.specs.WorkLaws.{kept-from, kept-then, zero-same}
-use Rattle.rolling.proofs.first_row.Statement.{statement}
-use Rattle.rolling.proofs.first_row.Tie as tie
-use Rattle.lifting.specs.Patch.{at}
 use Rattle.rolling_lines.specs.LentLines.{heldLines, KeptFrom}
 use Rattle.rolling_lines.specs.Memory.{past-set}
 use Rattle.rolling_lines.specs.Rows.{rowOf}
 use Rattle.rolling_lines.specs.SoundLaws.{zero-at, past-zeros}
 use Rattle.rolling_lines.specs.WorkLaws.{kept-from, kept-then, zero-same}
 use Rattle.rolling_lines.proofs.first_row.Statement.{statement}
+use Rattle.rolling_lines.proofs.first_row.Tie as tie
 use Rattle.rolling_lines.proofs.first_row.Tie as tie
 
 returns : tie.Need-returns

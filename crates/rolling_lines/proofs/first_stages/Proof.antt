@@ -3,16 +3,11 @@ use mathlib.Core.Path.{_≡_, sym, subst}
 use native.Mathlib.Omega.{arith}
 use borrow.Author.Needs.{needs}
 use Rattle.slices.specs.Patch.{at}
-use Rattle.rolling.specs.Memory.{moved, SafeStage}
-use Rattle.rolling.specs.Program.{setP1}
-use Rattle.rolling.specs.ProgramLaws.{P1-done, U1-done, before-apart, first-P1, first-U1}
-use Rattle.rolling.proofs.first_stages.Statement.{statement}
-use Rattle.rolling.proofs.first_stages.Tie as tie
-use Rattle.lifting.specs.Patch.{at}
 use Rattle.rolling_lines.specs.Memory.{moved, SafeStage}
 use Rattle.rolling_lines.specs.Program.{setP1}
 use Rattle.rolling_lines.specs.ProgramLaws.{P1-done, U1-done, before-apart, first-P1, first-U1}
 use Rattle.rolling_lines.proofs.first_stages.Statement.{statement}
+use Rattle.rolling_lines.proofs.first_stages.Tie as tie
 use Rattle.rolling_lines.proofs.first_stages.Tie as tie
 
 -- with P1 in line 6

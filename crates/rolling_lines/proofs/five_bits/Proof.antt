@@ -1,12 +1,9 @@
 -- `rolling_lines::five_bits` meets its contract: a look over the values' bits.
 use native.Mathlib.Omega.{arith}
 use Rattle.slices.specs.Patch.{at}
-use Rattle.rolling.specs.SoundLaws.{tells-five}
-use Rattle.rolling.proofs.five_bits.Statement.{statement}
-use Rattle.rolling.proofs.five_bits.Tie as tie
-use Rattle.lifting.specs.Patch.{at}
 use Rattle.rolling_lines.specs.SoundLaws.{tells-five}
 use Rattle.rolling_lines.proofs.five_bits.Statement.{statement}
+use Rattle.rolling_lines.proofs.five_bits.Tie as tie
 use Rattle.rolling_lines.proofs.five_bits.Tie as tie
 
 returns : tie.Need-returns

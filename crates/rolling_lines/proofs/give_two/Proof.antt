@@ -4,16 +4,11 @@ use Prim.Native.Nat.{_+_}
 use native.Mathlib.Omega.{arith}
 use borrow.Author.Needs.{needs}
 use Rattle.slices.specs.Patch.{at}
-use Rattle.rolling.specs.Schedule.{Line}
-use Rattle.rolling.specs.Memory.{lineIn, setLine}
-use Rattle.rolling.specs.Program.{G1-line, G1-may, G2-line, G2-may}
-use Rattle.rolling.proofs.give_two.Statement.{statement}
-use Rattle.rolling.proofs.give_two.Tie as tie
-use Rattle.lifting.specs.Patch.{at}
 use Rattle.rolling_lines.specs.Schedule.{Line}
 use Rattle.rolling_lines.specs.Memory.{lineIn, setLine}
 use Rattle.rolling_lines.specs.Program.{G1-line, G1-may, G2-line, G2-may}
 use Rattle.rolling_lines.proofs.give_two.Statement.{statement}
+use Rattle.rolling_lines.proofs.give_two.Tie as tie
 use Rattle.rolling_lines.proofs.give_two.Tie as tie
 
 returns : tie.Need-returns

@@ -5,16 +5,11 @@ use native.Mathlib.Omega.{arith}
 use borrow.Author.Needs.{needs}
 use lib.IntN.{ℤ}
 use Rattle.slices.specs.Patch.{at}
-use Rattle.rolling.specs.Memory.{lineIn, setLine, SafeScaling}
-use Rattle.rolling.specs.Program.{setU2, G1-line}
-use Rattle.rolling.specs.ProgramLaws.{U2-done, last-U2, last-G1}
-use Rattle.rolling.proofs.last_given.Statement.{statement}
-use Rattle.rolling.proofs.last_given.Tie as tie
-use Rattle.lifting.specs.Patch.{at}
 use Rattle.rolling_lines.specs.Memory.{lineIn, setLine, SafeScaling}
 use Rattle.rolling_lines.specs.Program.{setU2, G1-line}
 use Rattle.rolling_lines.specs.ProgramLaws.{U2-done, last-U2, last-G1}
 use Rattle.rolling_lines.proofs.last_given.Statement.{statement}
+use Rattle.rolling_lines.proofs.last_given.Tie as tie
 use Rattle.rolling_lines.proofs.last_given.Tie as tie
 
 -- U2 in line 0

@@ -5,16 +5,11 @@ use native.Mathlib.Omega.{arith}
 use borrow.Author.Needs.{needs}
 use lib.IntN.{ℤ}
 use Rattle.slices.specs.Patch.{at}
-use Rattle.rolling.specs.Memory.{moved}
-use Rattle.rolling.specs.Program.{SecondFits, secondDone, firstKept, laterDone, twoGiven}
-use Rattle.rolling.specs.ProgramLaws.{later-second}
-use Rattle.rolling.proofs.later_low.Statement.{statement}
-use Rattle.rolling.proofs.later_low.Tie as tie
-use Rattle.lifting.specs.Patch.{at}
 use Rattle.rolling_lines.specs.Memory.{moved}
 use Rattle.rolling_lines.specs.Program.{SecondFits, secondDone, firstKept, laterDone, twoGiven}
 use Rattle.rolling_lines.specs.ProgramLaws.{later-second}
 use Rattle.rolling_lines.proofs.later_low.Statement.{statement}
+use Rattle.rolling_lines.proofs.later_low.Tie as tie
 use Rattle.rolling_lines.proofs.later_low.Tie as tie
 
 -- all stages are done

@@ -6,15 +6,6 @@ use borrow.Author.Needs.{needs}
 use lib.IntN.{ℤ}
 use Rattle.width_table.specs.declared.WidthTable.{WidthTable}
 use Rattle.slices.specs.Patch.{at}
-use Rattle.rolling.specs.Calls.{heldLines}
-use Rattle.rolling.specs.Program.{LaterFits, laterDone, laterKept, twoGiven}
-use Rattle.rolling.specs.ProgramLaws.{past-later}
-use Rattle.rolling.specs.Rows.{rowOf}
-use Rattle.rolling.specs.Worked.{later-even}
-use Rattle.rolling.specs.WorkLaws.{kept-from, kept-then, later-same, later-given, later-kept, later-fits}
-use Rattle.rolling.proofs.later_row.Statement.{statement}
-use Rattle.rolling.proofs.later_row.Tie as tie
-use Rattle.lifting.specs.Patch.{at}
 use Rattle.rolling_lines.specs.LentLines.{heldLines}
 use Rattle.rolling_lines.specs.Program.{LaterFits, laterDone, laterKept, twoGiven}
 use Rattle.rolling_lines.specs.ProgramLaws.{past-later}
@@ -22,6 +13,7 @@ use Rattle.rolling_lines.specs.Rows.{rowOf}
 use Rattle.rolling_lines.specs.Worked.{later-even}
 use Rattle.rolling_lines.specs.WorkLaws.{kept-from, kept-then, later-same, later-given, later-kept, later-fits}
 use Rattle.rolling_lines.proofs.later_row.Statement.{statement}
+use Rattle.rolling_lines.proofs.later_row.Tie as tie
 use Rattle.rolling_lines.proofs.later_row.Tie as tie
 
 later-low-requires : tie.Need-later-low-requires

@@ -6,20 +6,13 @@ use native.Mathlib.Omega.{arith}
 use borrow.Author.Needs.{needs}
 use lib.IntN.{ℤ}
 use Rattle.slices.specs.Patch.{at}
-use Rattle.rolling.specs.Calls.{heldLines}
-use Rattle.rolling.specs.Memory.{setLine, lineIn, past-set}
-use Rattle.rolling.specs.Program.{HeldFits, Enters}
-use Rattle.rolling.specs.Rows.{rowOf}
-use Rattle.rolling.specs.WorkLaws.{kept-from, kept-then, sound-fits, row-enters, low-fits, low-enters}
-use Rattle.rolling.proofs.low_row.Statement.{statement}
-use Rattle.rolling.proofs.low_row.Tie as tie
-use Rattle.lifting.specs.Patch.{at}
 use Rattle.rolling_lines.specs.LentLines.{heldLines}
 use Rattle.rolling_lines.specs.Memory.{setLine, lineIn, past-set}
 use Rattle.rolling_lines.specs.Program.{HeldFits, Enters}
 use Rattle.rolling_lines.specs.Rows.{rowOf}
 use Rattle.rolling_lines.specs.WorkLaws.{kept-from, kept-then, sound-fits, row-enters, low-fits, low-enters}
 use Rattle.rolling_lines.proofs.low_row.Statement.{statement}
+use Rattle.rolling_lines.proofs.low_row.Tie as tie
 use Rattle.rolling_lines.proofs.low_row.Tie as tie
 
 returns : tie.Need-returns

@@ -8,13 +8,9 @@ use lib.ListN.{length, length-set}
 use mir.Facts.{toZ-ofZ}
 use Rattle.slices.specs.Patch.{at, patch, patch-none, patch-set, patch-to}
 use Rattle.slices.specs.Runs.{side-as-was}
-use Rattle.rolling.specs.Memory.{setLine, in-lent, lines-apart}
-use Rattle.rolling.proofs.move_line.Statement.{statement}
-use Rattle.rolling.proofs.move_line.Tie as tie
-use Rattle.lifting.specs.Patch.{at, patch, patch-none, patch-set, patch-to}
-use Rattle.lifting.specs.Runs.{side-as-was}
 use Rattle.rolling_lines.specs.Memory.{setLine, in-lent, lines-apart}
 use Rattle.rolling_lines.proofs.move_line.Statement.{statement}
+use Rattle.rolling_lines.proofs.move_line.Tie as tie
 use Rattle.rolling_lines.proofs.move_line.Tie as tie
 
 abbrev Inv-loop : tie.InvT-loop

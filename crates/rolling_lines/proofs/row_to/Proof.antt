@@ -16,17 +16,11 @@ use Rattle.pictures.specs.Pictures.{sample}
 use Rattle.precision.specs.Promise.{promise}
 use Rattle.fixed_stages.specs.Kernels.{kernelOf}
 use Rattle.fixed_stages.specs.KernelLaws.{kernel-line, stages-kernel}
-use Rattle.rolling.specs.Memory.{setLine, Lent, in-lent}
-use Rattle.rolling.specs.Rows.{LineRight, rowOf, pixels-sampled}
-use Rattle.rolling.specs.FiveBits.{row-safe}
-use Rattle.rolling.proofs.row_to.Statement.{statement}
-use Rattle.rolling.proofs.row_to.Tie as tie
-use Rattle.irreversible.specs.KernelLaws.{kernelOf, kernel-line}
-use Rattle.irreversible.specs.StagesLaws.{stages-kernel}
 use Rattle.rolling_lines.specs.Memory.{setLine, Lent, in-lent}
 use Rattle.rolling_lines.specs.Rows.{LineRight, rowOf, pixels-sampled}
 use Rattle.rolling_lines.specs.FiveBits.{row-safe}
 use Rattle.rolling_lines.proofs.row_to.Statement.{statement}
+use Rattle.rolling_lines.proofs.row_to.Tie as tie
 use Rattle.rolling_lines.proofs.row_to.Tie as tie
 
 line-in : (s : tie.Start) → s .args .line * s .args .w + s .args .w ≤ length (s .args .held .now)

@@ -9,15 +9,10 @@ use Rattle.lines.specs.Lines.{lows}
 use Rattle.lifting.specs.Steps.{FactorSafe}
 use Rattle.slices.specs.Patch.{at}
 use Rattle.slices.specs.Runs.{as-type}
-use Rattle.rolling.specs.Calls.{outLines}
-use Rattle.rolling.specs.Memory.{in-lent, pick-low, pick-high, scaling-in-two}
-use Rattle.rolling.proofs.scale_line.Statement.{statement}
-use Rattle.rolling.proofs.scale_line.Tie as tie
-use Rattle.lifting.specs.Patch.{at}
-use Rattle.lifting.specs.Runs.{as-type}
 use Rattle.rolling_lines.specs.LentLines.{outLines}
 use Rattle.rolling_lines.specs.Memory.{in-lent, pick-low, pick-high, scaling-in-two}
 use Rattle.rolling_lines.proofs.scale_line.Statement.{statement}
+use Rattle.rolling_lines.proofs.scale_line.Tie as tie
 use Rattle.rolling_lines.proofs.scale_line.Tie as tie
 
 -- both lines lie within what is lent

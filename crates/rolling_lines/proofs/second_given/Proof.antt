@@ -5,14 +5,10 @@ use native.Mathlib.Omega.{arith}
 use borrow.Author.Needs.{needs}
 use lib.IntN.{ℤ}
 use Rattle.slices.specs.Patch.{at}
-use Rattle.rolling.specs.Program.{GiveFits, twoGiven}
-use Rattle.rolling.specs.ProgramLaws.{second-give}
-use Rattle.rolling.proofs.second_given.Statement.{statement}
-use Rattle.rolling.proofs.second_given.Tie as tie
-use Rattle.lifting.specs.Patch.{at}
 use Rattle.rolling_lines.specs.Program.{GiveFits, twoGiven}
 use Rattle.rolling_lines.specs.ProgramLaws.{second-give}
 use Rattle.rolling_lines.proofs.second_given.Statement.{statement}
+use Rattle.rolling_lines.proofs.second_given.Tie as tie
 use Rattle.rolling_lines.proofs.second_given.Tie as tie
 
 give-two-requires : tie.Need-give-two-requires

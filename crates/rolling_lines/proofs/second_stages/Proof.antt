@@ -3,16 +3,11 @@ use mathlib.Core.Path.{_≡_, refl, sym, subst}
 use native.Mathlib.Omega.{arith}
 use borrow.Author.Needs.{needs}
 use Rattle.slices.specs.Patch.{at}
-use Rattle.rolling.specs.Memory.{SafeStage}
-use Rattle.rolling.specs.Program.{setP2}
-use Rattle.rolling.specs.ProgramLaws.{P2-done, U2-done, after-apart, before-apart-2, second-P2, second-U2}
-use Rattle.rolling.proofs.second_stages.Statement.{statement}
-use Rattle.rolling.proofs.second_stages.Tie as tie
-use Rattle.lifting.specs.Patch.{at}
 use Rattle.rolling_lines.specs.Memory.{SafeStage}
 use Rattle.rolling_lines.specs.Program.{setP2}
 use Rattle.rolling_lines.specs.ProgramLaws.{P2-done, U2-done, after-apart, before-apart-2, second-P2, second-U2}
 use Rattle.rolling_lines.proofs.second_stages.Statement.{statement}
+use Rattle.rolling_lines.proofs.second_stages.Tie as tie
 use Rattle.rolling_lines.proofs.second_stages.Tie as tie
 
 -- with P2 in line 2

@@ -14,16 +14,11 @@ use Rattle.lifting.specs.Steps.{FactorSafe, scaledBy}
 use Rattle.slices.specs.Pixels.{pixelLine}
 use Rattle.precision.specs.Promise.{promise}
 use Rattle.fixed_stages.specs.KernelLaws.{factor-line}
-use Rattle.rolling.specs.Memory.{setLine, changed-there}
-use Rattle.rolling.specs.Rows.{pixels-sampled}
-use Rattle.rolling.specs.FiveBits.{row-safe}
-use Rattle.rolling.proofs.single_row.Statement.{statement}
-use Rattle.rolling.proofs.single_row.Tie as tie
-use Rattle.irreversible.specs.KernelLaws.{factor-line}
 use Rattle.rolling_lines.specs.Memory.{setLine, changed-there}
 use Rattle.rolling_lines.specs.Rows.{pixels-sampled}
 use Rattle.rolling_lines.specs.FiveBits.{row-safe}
 use Rattle.rolling_lines.proofs.single_row.Statement.{statement}
+use Rattle.rolling_lines.proofs.single_row.Tie as tie
 use Rattle.rolling_lines.proofs.single_row.Tie as tie
 
 scale-here-requires : tie.Need-scale-here-requires

@@ -8,13 +8,9 @@ use Rattle.lines.specs.Lines.{lows}
 use Rattle.lifting.specs.Steps.{Safe}
 use Rattle.slices.specs.Patch.{at}
 use Rattle.slices.specs.Runs.{as-type}
-use Rattle.rolling.specs.Memory.{in-lent, lines-apart, pick-low, second-safe, stage-in-two}
-use Rattle.rolling.proofs.stage_line.Statement.{statement}
-use Rattle.rolling.proofs.stage_line.Tie as tie
-use Rattle.lifting.specs.Patch.{at}
-use Rattle.lifting.specs.Runs.{as-type}
 use Rattle.rolling_lines.specs.Memory.{in-lent, lines-apart, pick-low, second-safe, stage-in-two}
 use Rattle.rolling_lines.proofs.stage_line.Statement.{statement}
+use Rattle.rolling_lines.proofs.stage_line.Tie as tie
 use Rattle.rolling_lines.proofs.stage_line.Tie as tie
 
 -- the three lines lie within what is lent

@@ -6,20 +6,13 @@ use borrow.Author.Needs.{needs}
 use lib.IntN.{ℤ}
 use Rattle.width_table.specs.declared.WidthTable.{WidthTable}
 use Rattle.slices.specs.Patch.{at}
-use Rattle.rolling.specs.Calls.{heldLines}
-use Rattle.rolling.specs.Program.{FirstFits, firstDone, firstKept}
-use Rattle.rolling.specs.ProgramLaws.{past-then, past-first, past-kept}
-use Rattle.rolling.specs.Rows.{rowOf}
-use Rattle.rolling.specs.WorkLaws.{kept-from, kept-then, two-same, two-fits}
-use Rattle.rolling.proofs.third_row.Statement.{statement}
-use Rattle.rolling.proofs.third_row.Tie as tie
-use Rattle.lifting.specs.Patch.{at}
 use Rattle.rolling_lines.specs.LentLines.{heldLines}
 use Rattle.rolling_lines.specs.Program.{FirstFits, firstDone, firstKept}
 use Rattle.rolling_lines.specs.ProgramLaws.{past-then, past-first, past-kept}
 use Rattle.rolling_lines.specs.Rows.{rowOf}
 use Rattle.rolling_lines.specs.WorkLaws.{kept-from, kept-then, two-same, two-fits}
 use Rattle.rolling_lines.proofs.third_row.Statement.{statement}
+use Rattle.rolling_lines.proofs.third_row.Tie as tie
 use Rattle.rolling_lines.proofs.third_row.Tie as tie
 
 first-low-requires : tie.Need-first-low-requires

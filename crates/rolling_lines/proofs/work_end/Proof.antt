@@ -9,17 +9,6 @@ use lib.IntN.{ℤ}
 use lib.ListN.{length}
 use Rattle.width_table.specs.declared.WidthTable.{WidthTable}
 use Rattle.slices.specs.Patch.{at}
-use Rattle.rolling.specs.declared.Taken.{Taken}
-use Rattle.rolling.specs.declared.Taken.the-variants.{Zero, Two, Three, Four, OddMany, EvenMany}
-use Rattle.rolling.specs.Schedule.{Line, lineGives, endGives}
-use Rattle.rolling.specs.Calls.{heldLines, heldIn, Sound, KeptFrom, outAfter}
-use Rattle.rolling.specs.Program.{HeldFits, PastSame, oneEnded, twoEnded, evenEnded, oddEnded}
-use Rattle.rolling.specs.Memory.{moved}
-use Rattle.rolling.specs.Worked.{EndWorked}
-use Rattle.rolling.specs.WorkLaws.{kept-from, kept-then, sound-fits, one-end-kept, one-ended, two-end-kept, two-ended, even-end-kept, four-ended, many-ended, odd-end-kept, three-ended, odd-ended, quiet-end}
-use Rattle.rolling.proofs.work_end.Statement.{statement}
-use Rattle.rolling.proofs.work_end.Tie as tie
-use Rattle.lifting.specs.Patch.{at}
 use Rattle.rolling_lines.specs.declared.Taken.{Taken}
 use Rattle.rolling_lines.specs.declared.Taken.the-variants.{Zero, Two, Three, Four, OddMany, EvenMany}
 use Rattle.rolling_lines.specs.Schedule.{Line, lineGives, endGives}
@@ -29,6 +18,7 @@ use Rattle.rolling_lines.specs.Memory.{moved}
 use Rattle.rolling_lines.specs.Worked.{EndWorked, Later, fifth, later}
 use Rattle.rolling_lines.specs.WorkLaws.{kept-from, kept-then, sound-fits, one-end-kept, one-ended, two-end-kept, two-ended, even-end-kept, four-ended, many-ended, odd-end-kept, three-ended, odd-ended, quiet-end}
 use Rattle.rolling_lines.proofs.work_end.Statement.{statement}
+use Rattle.rolling_lines.proofs.work_end.Tie as tie
 use Rattle.rolling_lines.proofs.work_end.Tie as tie
 
 -- what is said of an end by how many lines came

@@ -8,17 +8,6 @@ use borrow.Author.Needs.{needs}
 use lib.IntN.{ℤ}
 use lib.ListN.{length}
 use Rattle.slices.specs.Patch.{at}
-use Rattle.rolling.specs.declared.Taken.{Taken}
-use Rattle.rolling.specs.declared.Taken.the-variants.{Zero, One, Two, Three, Four, OddMany, EvenMany}
-use Rattle.rolling.specs.Schedule.{Line, heldAfter, lineGives}
-use Rattle.rolling.specs.Calls.{heldLines, heldIn, SameHeld}
-use Rattle.rolling.specs.Memory.{setLine, past-set}
-use Rattle.rolling.specs.Rows.{rowOf}
-use Rattle.rolling.specs.Worked.{LineWorked, fifth, later}
-use Rattle.rolling.specs.WorkLaws.{kept-from, quiet, one-same, three-same, odd-same}
-use Rattle.rolling.proofs.work_line.Statement.{statement}
-use Rattle.rolling.proofs.work_line.Tie as tie
-use Rattle.lifting.specs.Patch.{at}
 use Rattle.rolling_lines.specs.declared.Taken.{Taken}
 use Rattle.rolling_lines.specs.declared.Taken.the-variants.{Zero, One, Two, Three, Four, OddMany, EvenMany}
 use Rattle.rolling_lines.specs.Schedule.{Line, heldAfter, lineGives}
@@ -28,6 +17,7 @@ use Rattle.rolling_lines.specs.Rows.{rowOf}
 use Rattle.rolling_lines.specs.Worked.{LineWorked, fifth, later}
 use Rattle.rolling_lines.specs.WorkLaws.{kept-from, quiet, one-same, three-same, odd-same}
 use Rattle.rolling_lines.proofs.work_line.Statement.{statement}
+use Rattle.rolling_lines.proofs.work_line.Tie as tie
 use Rattle.rolling_lines.proofs.work_line.Tie as tie
 
 -- what is said of a line by how many came before it

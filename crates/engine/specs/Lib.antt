@@ -9,8 +9,6 @@
 --   ReversiblePromises what the numbers of the 5/3 calls promise
 --   ScanClaims   the claim over calls of a rolling scan, at the bytes
 --   Zero         an answer of 0 says that the call was done; 11 of a 5/3 call back, that it is refused 11
---   EarlierOrder what document 02, job 3, changed of each call
---   WithoutProducts what each call does with a table without tag 5 (document 02, job 7): what it did
 -- For the code:
 --   AnswerLaws, ScanLaws   what the answers of the calls below say of them
 pub mod Answers

@@ -8,7 +8,6 @@
 --   FracLaws   laws of fractions
 --   InverseLaws   the exact inverse inverts the exact transform, and the exact transform it
 --   CaseLaws   pass-is, back-is: the exact 9/7 by cases is the exact 9/7
---   Unchanged  sides that were admitted before job 6
 pub mod Fractions
 pub mod Exact
 pub mod Picture

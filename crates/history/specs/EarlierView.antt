@@ -9,7 +9,7 @@ use Rattle.width_table.specs.Nodes.{Node, G1, G2, Pass, Rows, LowColumns, HighC
 use Rattle.width_table.specs.declared.WidthTable.{WidthTable}
 use Rattle.precision.specs.Verdict.{verdict}
 use Rattle.view_precision.specs.Bounds.{stored, startBound, stepsAllowed, passRight}
-use Rattle.view_precision.specs.LongLines.{longBound, longGives}
+use Rattle.view_precision.specs.LongLines.{longInverseBound, longGives}
 
 module _ (t : WidthTable) (steps l : ℕ) (b : Bound) where
   unfoldable pub fromLowBefore : Bound
@@ -19,9 +19,9 @@ module _ (t : WidthTable) (steps l : ℕ) (b : Bound) where
   fromHighBefore = longGives (stored t steps l HighColumns G1) (stored t steps l HighColumns G2)
 
   unfoldable pub passBoundBefore : Pass → Node → Bound
-  passBoundBefore LowColumns = longBound b (stored t steps l LowColumns G2)
-  passBoundBefore HighColumns = longBound (stored t steps l HighColumns G1) (stored t steps l HighColumns G2)
-  passBoundBefore Rows = longBound fromLowBefore fromHighBefore
+  passBoundBefore LowColumns = longInverseBound b (stored t steps l LowColumns G2)
+  passBoundBefore HighColumns = longInverseBound (stored t steps l HighColumns G1) (stored t steps l HighColumns G2)
+  passBoundBefore Rows = longInverseBound fromLowBefore fromHighBefore
 
   unfoldable pub levelGivesBefore : Bound
   levelGivesBefore = longGives fromLowBefore fromHighBefore

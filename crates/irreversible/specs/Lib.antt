@@ -9,8 +9,6 @@
 -- Proved of them:
 --   Demand3      two-steps : TwoSteps, widths : Widths; two-steps-strip, widths-strip: the same of strips of any size
 --   CallLaws     call-near, call-widths: demand 3 of every call that is not refused
---   Unchanged    fixed-unchanged: sides that were admitted before job 6 give what they gave
---   Uncut        old-coefficients: a table without tag 5 cuts no product and gives what it gave
 --   Narrow       eleven-bits: range and error of every node of an accepted table leave room in eleven integer bits
 --                five-bits: those of level 1 in five
 --                least-bits: what the columns of its level l leave has at least 2 l integer bits

@@ -4,9 +4,8 @@
 --   BoundCalls  the call that tells range and error of a node
 -- Proved of them:
 --   Promise     promise : Accepted t → AcceptPromise t, accept : AcceptPromise t → Accepted t
+--   LongLines   same-bound: on lines of two samples or more G1 has the larger error
 --   FirstNode   first-node-refused: level 1 row P1 with IB 2 is refused 6, whatever the other numbers
---   Before      the analysis without job 6, and same-verdict: no verdict changes by it
---   Uncut       job 7: the analysis in which no product is cut, and old-bounds, old-verdict: a table without tag 5 keeps its own
 -- For the program:
 --   Places      nodes, passes and bounds by number
 --   ProductReads   the width of a product as a number
@@ -17,6 +16,7 @@ pub mod Bounds
 pub mod Verdict
 pub mod BoundCalls
 pub mod Promise
+pub mod LongLines
 pub mod FirstNode
 pub mod Places
 pub mod PlaceLaws

@@ -10,7 +10,6 @@
 --   CallLaws         the claims: makes-copy, there-and-back; gives-picture, back-and-there; done-exactly, eleven-exactly
 --   OneToOne         the claim one-picture: two pictures with one transform are equal
 --   TwoOrders        worked copies: the two orders are two
---   Unchanged        sides that were admitted before job 6
 -- For the proofs of the code, which is that of the forward call; the way back is the crate reversible_back:
 --   Sizes            the kernel of the code is the pass; how large its values become
 --   Columns          the columns of a picture, line by line into the plane

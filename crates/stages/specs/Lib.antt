@@ -13,7 +13,6 @@
 --   RuleLaws   the error as a sum; a side that a stage does not work keeps its bound; bound-grows: the bounds grow with what enters
 --   Ends       a fixed-point stage at an end of a line is the stage of its one neighbour twice
 --   ProductLaws   widths of products: none is as document 01 has it, a wide one cuts nothing; the loss as a number
---   UncutRule  the rule of document 01, in which no product is cut, and that it is this one without widths of products
 -- Of the two passes:
 --   GainTable  the gains as numbers
 --   ForwardLaws   the bounds of the forward pass by these numbers; single-least: the error of a single sample is never above that of G1 on

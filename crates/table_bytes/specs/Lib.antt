@@ -5,12 +5,9 @@
 --   Bytes      reading (refusals 1 to 5) and writing (4, 9)
 --   Names      naming a tag (2, then 1 to 5, then 2 for tag 5 where there is none)
 --   Told       what the code's answers of writing and naming say
---   EarlierForms  the forms before document 02, jobs 3 and 7, and the two cases in which job 3 changed an answer
 -- Proved of them:
 --   BytesLaws  fields and the whole form taken apart, and the values of tags
 --   RoundTrip  read and written, written and read; what a write leaves
---   EarlierOrder  exactly which of document 01's answers document 02, job 3, changed
---   WithoutProducts  tables without tag 5 are read, named and written as before document 02, job 7
 -- For the code:
 --   ReadLaws, NameLaws, WriteLaws   the rules one by one, as the code goes through them
 pub mod Fields

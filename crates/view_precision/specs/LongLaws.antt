@@ -8,14 +8,14 @@ use Rattle.inverse_lifting.specs.Fixed.{nodeBits, inverseBits}
 use Rattle.width_table.specs.Nodes.{Node, P1, U1, P2, U2, G1, G2}
 use Rattle.view_precision.specs.Bounds.{larger, boundAfter, even, inverseBound, passGives}
 use Rattle.view_precision.specs.Odd.{odd-range, odd-error}
-use Rattle.view_precision.specs.LongLines.{longBound, longGives}
+use Rattle.view_precision.specs.LongLines.{longInverseBound, longGives}
 
 module _ {a a' b b' : Bound} (h : AtMost a a') (k : AtMost b b') where
   after-more : (s : Side) (m : ℕ) → AtMost (boundAfter a b s m) (boundAfter a' b' s m)
   after-more = bound-grows inverse (apart a b) (apart a' b') (λ i. inverseBits) (λ i. uncut) (λ s. 0) (λ i. nodeBits) (apart-at-most h k)
 
-  pub node-more : (n : Node) → AtMost (longBound a b n) (inverseBound a' b' n)
-  unfolding longBound inverseBound even larger
+  pub node-more : (n : Node) → AtMost (longInverseBound a b n) (inverseBound a' b' n)
+  unfolding longInverseBound inverseBound even larger
   node-more G1 = after-more low 1
   node-more G2 = after-more high 2
   node-more U2 = after-more low 3

@@ -6,14 +6,14 @@ use Rattle.view_precision.specs.Bounds.{larger, boundAfter}
 
 module _ (a b : Bound) where
   -- of each node
-  unfoldable pub longBound : Node → Bound
-  longBound G1 = boundAfter a b low 1
-  longBound G2 = boundAfter a b high 2
-  longBound U2 = boundAfter a b low 3
-  longBound P2 = boundAfter a b high 4
-  longBound U1 = boundAfter a b low 5
-  longBound P1 = boundAfter a b high 6
+  unfoldable pub longInverseBound : Node → Bound
+  longInverseBound G1 = boundAfter a b low 1
+  longInverseBound G2 = boundAfter a b high 2
+  longInverseBound U2 = boundAfter a b low 3
+  longInverseBound P2 = boundAfter a b high 4
+  longInverseBound U1 = boundAfter a b low 5
+  longInverseBound P1 = boundAfter a b high 6
 
   -- what a pass gives on
   unfoldable pub longGives : Bound
-  longGives = larger (longBound U1) (longBound P1)
+  longGives = larger (longInverseBound U1) (longInverseBound P1)

@@ -12,7 +12,6 @@
 --   CallLaws   call-done, call-viewable, call-room, call-stored: when a call is done; call-pixel, call-near: what then stands in the pixels
 --   Forward    forward-stored, forward-held, forward-shown: what the 9/7 call stores is never refused 12, and how far the shown pixels are
 --              from the scanned ones
---   Unchanged  view-unchanged: sides that were admitted before job 6
 --   Products   seen-plane, seen-picture, seen-answer: of the table viewing takes depth, levels and the kept nodes' widths alone (job 7)
 -- Proofs: Pass (by the rule of the crate stages, which is sound), Level lead to Viewing, in this order.
 -- For the proofs of the code:

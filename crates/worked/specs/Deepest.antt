@@ -30,7 +30,7 @@ use Rattle.table_meaning.specs.Products.{productOf}
 use Rattle.precision.specs.Verdict.{judged, firstRefusal, verdict, Accepted, AcceptPromise}
 use Rattle.precision.specs.Promise.{promise}
 use Rattle.view_precision.specs.Bounds
-use Rattle.view_precision.specs.LongLines.{longBound, longGives}
+use Rattle.view_precision.specs.LongLines.{longInverseBound, longGives}
 use Rattle.view_precision.specs.LongLaws.{gives-more}
 use Rattle.view_precision.specs.Bounds.{stored, levelGives, givesFrom, startBound, pixelBound, nodesRight, viewable, viewVerdict}
 use Rattle.irreversible.specs.Narrow.{least-bits}
@@ -91,7 +91,7 @@ numbers = 552196 ∷ 2201719 ∷ 9809170 ∷ 44357886 ∷ []
 
 -- of 2 to 5 levels, in whole numbers of 2^-32, computed once for all
 least-pixels : leastPixel 2 ∷ leastPixel 3 ∷ leastPixel 4 ∷ leastPixel 5 ∷ [] ≡ numbers
-unfolding leastFrom leastGives longGives longBound Bounds.larger Rule.sideBound Rule.rangeAt Rule.errorAt Rule.owns Rule.stagesPart Rule.ownErrorOf Rule.inputPart Rule.ownLift Rule.productLoss Rule.ownScale Rule.loss Rule.timesGain bits upDiv gain exactGain sumFrom sumTo inputAnswer nodeAnswer valuesAfter made roundedUp lift _⊕_ _⊗_ neg whole magnitude
+unfolding leastFrom leastGives longGives longInverseBound Bounds.larger Rule.sideBound Rule.rangeAt Rule.errorAt Rule.owns Rule.stagesPart Rule.ownErrorOf Rule.inputPart Rule.ownLift Rule.productLoss Rule.ownScale Rule.loss Rule.timesGain bits upDiv gain exactGain sumFrom sumTo inputAnswer nodeAnswer valuesAfter made roundedUp lift _⊕_ _⊗_ neg whole magnitude
 least-pixels = refl
 
 nth : (k : ℕ) → getD (leastPixel 2 ∷ leastPixel 3 ∷ leastPixel 4 ∷ leastPixel 5 ∷ []) k 0 ≡ getD numbers k 0

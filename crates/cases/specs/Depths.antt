@@ -25,7 +25,8 @@ use Rattle.table_meaning.specs.Products.{productOf}
 use Rattle.table_meaning.specs.ProductLaws.{none-cut}
 use Rattle.precision.specs.Bounds.{boundAfter, nodeBound, byRule, boundOfBy, boundOf}
 use Rattle.precision.specs.Verdict.{firstRefusalWith, verdict, Accepted}
-use Rattle.precision.specs.LongLines.{longBound, same-bound}
+use Rattle.precision.specs.LongLines.{longBound}
+use Rattle.precision.specs.LongLaws.{same-bound}
 use Rattle.worked_precision.specs.Verdicts as Depth8
 
 -- ---- one pass that cuts no product, fed at fi or at fi' bits

@@ -5,7 +5,8 @@ use Rattle.width_table.specs.Nodes.{TableNode}
 use Rattle.width_table.specs.declared.WidthTable.{WidthTable}
 use Rattle.precision.specs.Bounds.{nodeBound, PassRule, byRule, boundOfBy, boundOf}
 use Rattle.precision.specs.Verdict.{verdictWith, verdict}
-use Rattle.precision.specs.LongLines.{longBound, same-bound}
+use Rattle.precision.specs.LongLines.{longBound}
+use Rattle.precision.specs.LongLaws.{same-bound}
 use Rattle.history.specs.EarlierAnalysis.{boundBefore, verdictBefore, SameVerdict}
 
 same-rule : nodeBound ≡ longBound

@@ -4,7 +4,7 @@
 --   BoundCalls  the call that tells range and error of a node
 -- Proved of them:
 --   Promise     promise : Accepted t → AcceptPromise t, accept : AcceptPromise t → Accepted t
---   LongLines   same-bound: on lines of two samples or more G1 has the larger error
+--   LongLaws    same-bound: lines of two samples or more (LongLines) have the bounds of all lines
 --   FirstNode   first-node-refused: level 1 row P1 with IB 2 is refused 6, whatever the other numbers
 -- For the program:
 --   Places      nodes, passes and bounds by number
@@ -17,6 +17,7 @@ pub mod Verdict
 pub mod BoundCalls
 pub mod Promise
 pub mod LongLines
+pub mod LongLaws
 pub mod FirstNode
 pub mod Places
 pub mod PlaceLaws

@@ -1,14 +1,10 @@
--- On lines of two samples or more G1 has the larger error (`same-bound`): the bound of each node is the one there.
-use Prim.Native.Nat.{ℕ, suc, max}
-use mathlib.Core.Path.{_≡_, refl, ap}
-use native.Mathlib.Omega.{arith}
+-- The bounds of a pass over lines of two samples or more.
+use Prim.Native.Nat.{ℕ}
 use Rattle.stages.specs.Stages.{low, high, Product}
 use Rattle.stages.specs.Rule as Rule
-use Rattle.stages.specs.Rule.{Bound, singleError}
-use Rattle.stages.specs.ForwardLaws.{single-least}
+use Rattle.stages.specs.Rule.{Bound}
 use Rattle.width_table.specs.Nodes.{Node, P1, U1, P2, U2, G1, G2}
-use Rattle.width_table.specs.Numbered.{nodeOf}
-use Rattle.precision.specs.Bounds.{boundAfter, nodeBound}
+use Rattle.precision.specs.Bounds.{boundAfter}
 
 -- the bound of each node on lines of two samples or more
 module _ (F : Node → ℕ) (fp : Node → Product) (fi : ℕ) (b : Bound) (f : Node → ℕ) where
@@ -19,17 +15,3 @@ module _ (F : Node → ℕ) (fp : Node → Product) (fi : ℕ) (b : Bound) (f : 
   longBound U2 = boundAfter F fp fi b f low 4
   longBound G1 = boundAfter F fp fi b f low 5
   longBound G2 = boundAfter F fp fi b f high 6
-
--- the larger error of G1 is always the one on longer lines
-module _ (F : Node → ℕ) (fp : Node → Product) (fi : ℕ) (b : Bound) (f : Node → ℕ) where
-  pub same-bound : (n : Node) → nodeBound F fp fi b f n ≡ longBound F fp fi b f n
-  unfolding nodeBound longBound Rule.sideBound
-  same-bound P1 = refl
-  same-bound U1 = refl
-  same-bound P2 = refl
-  same-bound U2 = refl
-  same-bound G1 =
-      let long = boundAfter F fp fi b f low 5 in
-      let e : max (long .error) (singleError fi b (f G1)) ≡ long .error = omega (arith, single-least b (λ i. F (nodeOf (suc i))) (λ i. fp (nodeOf (suc i))) fi (λ i. f (nodeOf (suc i)))) in
-      ap (λ (x : ℕ). record { range = long .range; error = x }) e
-  same-bound G2 = refl

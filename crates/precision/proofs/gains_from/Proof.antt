@@ -1,16 +1,24 @@
 use Prim.Native.Nat.{ℕ}
 use mathlib.Core.List.{[]}
-use mathlib.Core.Path.{ap}
+use mathlib.Core.Path.{_≡_, ap}
 use native.Mathlib.Omega.{arith}
-use borrow.Author.Needs.{needs}
 use lib.ListN.{getD}
 use Rattle.stages.specs.GainTable.{forwardGains}
 use Rattle.precision.proofs.gains_from.Statement.{statement}
 use Rattle.precision.proofs.gains_from.Tie as tie
 
--- the last place is what is left
-returns-7 : tie.Need-returns-7
-returns-7 c = ap (λ (k : ℕ). getD forwardGains k []) {x = 6} {y = c .before .args .place} (omega arith)
+-- the line of gains of a place
+line : (k place : ℕ) → k ≡ place → getD forwardGains k [] ≡ getD forwardGains place []
+line k place = ap (λ (k : ℕ). getD forwardGains k [])
 
 pub gains-from-spec : {M : Type 1} → statement M
-gains-from-spec = tie.close (tie.spec (λ c. search needs) (λ c. search needs) (λ c. search needs) (λ c. search needs) (λ c. search needs) (λ c. search needs) returns-7)
+gains-from-spec =
+    tie.close
+    (tie.spec
+    (λ c. line 0 (c .before .args .place) (omega arith))
+    (λ c. line 1 (c .before .args .place) (omega arith))
+    (λ c. line 2 (c .before .args .place) (omega arith))
+    (λ c. line 3 (c .before .args .place) (omega arith))
+    (λ c. line 4 (c .before .args .place) (omega arith))
+    (λ c. line 5 (c .before .args .place) (omega arith))
+    (λ c. line 6 (c .before .args .place) (omega arith)))

@@ -24,8 +24,9 @@ outLines = 4
 unfoldable pub heldIn : ℕ → List ℤ → Held
 heldIn w held = record { low = planeOf w held 0; high = planeOf w held 1; p1 = planeOf w held 2; u1 = planeOf w held 3; p2 = planeOf w held 4 }
 
--- Five integer bits hold each value on the way of a one-level transform under every accepted table (`small` of Small). Held memory
--- is sound where each value in its lines is one of five integer bits; what a scan left is (`sound-left` of Theorems).
+-- Five integer bits hold each value on the way of a one-level transform under every accepted table (`row-five`, `column-five` of FiveBits).
+-- Held memory is sound where each value in its lines is one of five integer bits; what a scan left is (`sound-left` of rolling_claims,
+-- Theorems).
 unfoldable pub FiveBits : ℕ → ℤ → Type 0
 FiveBits f v = InNodeWidth 5 f v
 

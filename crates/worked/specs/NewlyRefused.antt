@@ -50,7 +50,7 @@ figuresBefore t = record {
 
 -- now and before, computed once for both
 both-figures : figures lowWide ∷ figuresBefore lowWide ∷ [] ≡ are (refused (13, [])) true false 8442504 9613572342 ∷ are passed true true 8263100 9613392938 ∷ []
-unfolding viewVerdict viewable pixelBound viewDistance nodesRight Bounds.givesFrom Bounds.levelGives Bounds.passBound Bounds.fromLow Bounds.fromHigh Bounds.stored Bounds.larger Bounds.even Bounds.odd Bounds.inverseBound Bounds.passGives viewVerdictBefore Before.viewableBefore pixelBoundBefore viewDistanceBefore nodesRightBefore Before.givesFromBefore Before.levelGivesBefore Before.passBoundBefore Before.fromLowBefore Before.fromHighBefore longInverseBound longGives verdict formRight every firstRefusal judged Judge.boundOf Judge.entering Judge.passBound Judge.rowBound Judge.nodeBound productOf Rule.sideBound Rule.rangeAt Rule.errorAt Rule.owns Rule.stagesPart Rule.ownErrorOf Rule.inputPart Rule.ownLift Rule.productLoss Rule.ownScale Rule.loss Rule.timesGain bits upDiv gain exactGain sumFrom sumTo inputAnswer nodeAnswer valuesAfter made roundedUp lift _⊕_ _⊗_ neg whole magnitude
+unfolding viewVerdict viewable pixelBound viewDistance nodesRight Bounds.givesFrom Bounds.levelGives Bounds.passBound Bounds.fromLow Bounds.fromHigh Bounds.stored Bounds.larger Bounds.even Bounds.odd Bounds.inverseBound Bounds.passGives viewVerdictBefore EarlierView.viewableBefore pixelBoundBefore viewDistanceBefore nodesRightBefore EarlierView.givesFromBefore EarlierView.levelGivesBefore EarlierView.passBoundBefore EarlierView.fromLowBefore EarlierView.fromHighBefore longInverseBound longGives verdict formRight every firstRefusal judged Judge.boundOf Judge.entering Judge.passBound Judge.rowBound Judge.nodeBound productOf Rule.sideBound Rule.rangeAt Rule.errorAt Rule.owns Rule.stagesPart Rule.ownErrorOf Rule.inputPart Rule.ownLift Rule.productLoss Rule.ownScale Rule.loss Rule.timesGain bits upDiv gain exactGain sumFrom sumTo inputAnswer nodeAnswer valuesAfter made roundedUp lift _⊕_ _⊗_ neg whole magnitude
 both-figures = refl
 
 pub newly-refused : figures lowWide ≡ are (refused (13, [])) true false 8442504 9613572342

@@ -1,6 +1,7 @@
--- The viewing call: it is done where the table is viewable, the memory suffices and each coefficient is in its width (`call-done`), and
--- nowhere else (`call-viewable`, `call-room`, `call-stored`); what then stands in the pixels is the picture (`call-pixel`), before rounding
--- within the bound (`call-within`, `call-sizes`), shown less than one grey off (`call-near`).
+-- The viewing call: what the table is refused for comes first (`table-first`); the call is done where the table is viewable, the memory
+-- suffices and each coefficient is in its width (`call-done`), and nowhere else (`call-viewable`, `call-room`, `call-stored`); what then
+-- stands in the pixels is the picture (`call-pixel`), before rounding within the bound (`call-within`, `call-sizes`), shown less than one
+-- grey off (`call-near`).
 use Prim.Native.Nat.{ℕ, _+_, _*_, _-_, _^_, _<_, _≤_}
 use mathlib.Core.List.{List}
 use mathlib.Core.Path.{_≡_, sym, _∙_, ap, subst}
@@ -11,8 +12,8 @@ use lib.IntN.{ℤ, pos, negℤ}
 use lib.Signed.{leZ, ltZ, leZ-yes, ltZ-yes}
 use Rattle.numbers.specs.Lists.{over}
 use Rattle.numbers.specs.Tests.{every, both, and-intro}
-use Rattle.refusals.specs.Answers.{passed}
-use Rattle.refusals.specs.AnswerLaws.{asks-done, asks-right, then-done, then-right, answered-done}
+use Rattle.refusals.specs.Answers.{Reason, passed, refused}
+use Rattle.refusals.specs.AnswerLaws.{asks-done, asks-right, then-done, then-right, then-refused, answered-done}
 use Rattle.lines.specs.Planes.{rowByRow}
 use Rattle.lines.specs.RowLaws.{place-in, rows-length, rows-at, every-row, every-row-at}
 use Rattle.width_table.specs.declared.WidthTable.{WidthTable}
@@ -56,6 +57,11 @@ module _ (t : WidthTable) (w h : ℕ) (plane : List ℤ) where
       (every-row w h (omega (arith, s .width .0)) (λ q. q) (inWidth t w h (planeOf w plane)) (λ r c i j. holds-fits _ _ _ (s .held r c i j)))
 
 -- ---- the call
+
+-- a table that is refused, by the lengths of pixels and work area
+pub table-first : (t : WidthTable) (w h : ℕ) (plane : List ℤ) (pixels work : ℕ) (r : Reason) → viewVerdict t ≡ refused r → viewAnswerOf t w h plane pixels work ≡ refused r
+unfolding viewAnswerOf
+table-first t w h plane pixels work r e = then-refused (viewVerdict t) _ r e
 
 module _ (t : WidthTable) (w h : ℕ) (plane : List ℤ) (pixels : List ℕ) (work : List ℤ) where
   abbrev room : Type 0

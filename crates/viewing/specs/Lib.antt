@@ -7,9 +7,9 @@
 --   Claims     WithinBound, Sizes, OneGrey, ScanToView, GreysApart
 -- Proved of them:
 --   Viewing    within-bound : WithinBound, sizes : Sizes
---   Shown      one-grey : OneGrey
+--   Shown      one-grey : OneGrey; shown-greys: worked greys
 --   Scan       scan-to-view : ScanToView, greys-apart : GreysApart
---   CallLaws   call-done, call-viewable, call-room, call-stored: when a call is done; call-pixel, call-near: what then stands in the pixels
+--   CallLaws   table-first: what a table is refused for comes first; call-done, call-viewable, call-room, call-stored: when a call is done; call-pixel, call-near: what then stands in the pixels
 --   Forward    forward-stored, forward-held, forward-shown: what the 9/7 call stores is never refused 12, and how far the shown pixels are
 --              from the scanned ones
 --   Products   seen-plane, seen-picture, seen-answer: of the table viewing takes depth, levels and the kept nodes' widths alone (job 7)

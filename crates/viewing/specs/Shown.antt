@@ -1,7 +1,8 @@
 -- The shown pixel is less than one grey from the exact value, clamped to the depth (`one-grey`): the bound is below half a grey, and
 -- rounding adds at most half a grey.
 use Prim.Native.Nat.{ℕ, zero, suc, _+_, _*_, _-_, _^_, _<_, _≤_, min}
-use mathlib.Core.Path.{_≡_, sym, _∙_, ap, subst}
+use mathlib.Core.List.{[], _∷_}
+use mathlib.Core.Path.{_≡_, refl, sym, _∙_, ap, subst}
 use mathlib.Core.Bool.{Bool, true, false, not}
 use native.Mathlib.Omega.{arith}
 use native.Mathlib.Decide.{decLt}
@@ -23,6 +24,12 @@ use Rattle.irreversible.specs.Pass.{abs-<}
 use Rattle.viewing.specs.View.{grey, pixel, viewPlane, viewPicture, exactView}
 use Rattle.viewing.specs.Claims.{Close, exactGreys, clamped, LessThanOne, OneGrey}
 use Rattle.viewing.specs.Viewing.{view-promise, view-right, within-bound}
+
+-- ---- halves go up, and greys are limited to the depth: single values at 8 bits, half a grey being 2048
+
+pub shown-greys : pixel 8 (pos 0) ∷ pixel 8 (pos 2047) ∷ pixel 8 (pos 2048) ∷ pixel 8 (negℤ (pos 2048)) ∷ pixel 8 (negℤ (pos 2049)) ∷ pixel 8 (pos 1048576) ∷ pixel 8 (negℤ (pos 1048576)) ∷ [] ≡ 128 ∷ 128 ∷ 129 ∷ 128 ∷ 127 ∷ 255 ∷ 0 ∷ []
+unfolding pixel grey
+shown-greys = refl
 
 -- ---- a bound below half a grey
 

@@ -1,4 +1,4 @@
--- Worked lines, planes, greys and widths, by computation; a call that is done; a picture, and what is stored of it. So nothing that the
+-- Worked lines, planes and widths, by computation; a call that is done; a picture, and what is stored of it. So nothing that the
 -- claims ask for is empty.
 use Prim.Native.Nat.{ℕ, _+_, _*_, _/_, _^_}
 use mathlib.Core.List.{List, [], _∷_, _++_}
@@ -58,12 +58,6 @@ second = planeOf 3 (pos 7 ∷ negℤ (pos 3) ∷ pos 2 ∷ pos 1 ∷ pos 5 ∷ n
 pub two-levels-shown : viewPicture (uniform 8 2 5) 3 3 second 0 2 ≡ 28
 unfolding viewPicture pixel grey viewPlane viewFrom inverseLevels levelColumnsFirst viewLine within rows columns side fixedInverse fixedInverseLong fromOne interleaved atG1 atG2 atU2 atP2 atU1 atP1 onHighs onLows lowAfter highBefore highAfter inverseStep scale cut nearest
 two-levels-shown = refl
-
--- ---- rounding: halves up, and limits
-
-pub shown-greys : pixel 8 (pos 0) ∷ pixel 8 (pos 2047) ∷ pixel 8 (pos 2048) ∷ pixel 8 (negℤ (pos 2048)) ∷ pixel 8 (negℤ (pos 2049)) ∷ pixel 8 (pos 1048576) ∷ pixel 8 (negℤ (pos 1048576)) ∷ [] ≡ 128 ∷ 128 ∷ 129 ∷ 128 ∷ 127 ∷ 255 ∷ 0 ∷ []
-unfolding pixel grey
-shown-greys = refl
 
 -- ---- 12: at 4 integer and 2 fractional bits, -32 to 31
 

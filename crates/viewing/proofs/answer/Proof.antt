@@ -7,6 +7,7 @@ use Rattle.refusals.specs.AnswerLaws.{then-right, then-refused}
 use Rattle.pictures.specs.PictureLaws.{roomAnswer, sized-then}
 use Rattle.view_precision.specs.Bounds.{viewVerdict}
 use Rattle.viewing.specs.Calls.{viewAnswerOf}
+use Rattle.viewing.specs.CallLaws.{table-first}
 use Rattle.viewing.specs.CallSteps.{lookable}
 use Rattle.viewing.proofs.answer.Statement.{statement}
 use Rattle.viewing.proofs.answer.Tie as tie
@@ -19,11 +20,10 @@ coefficients-right-requires c κs =
     lookable (a .table) (a .w) (a .h) (a .plane .now) (a .first) (a .third) (sym (j .judge .ensures) ∙ ap told (m .before .enum-told .given .1)) (sym (m .room-right .ensures) ∙ ap told (c .enum-told2 .given .1))
 
 returns : tie.Need-returns
-unfolding viewAnswerOf
 returns c =
     let j = c .before .before .before in
     let a = j .before .args in
-    sym (then-refused (viewVerdict (a .table)) _ _ (sym (j .judge .ensures) ∙ ap told (c .before .why .given .1)))
+    sym (table-first (a .table) (a .w) (a .h) (a .plane .now) (a .first) (a .third) _ (sym (j .judge .ensures) ∙ ap told (c .before .why .given .1)))
 
 returns-2 : tie.Need-returns-2
 unfolding viewAnswerOf

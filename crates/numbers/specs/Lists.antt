@@ -6,7 +6,7 @@ use mathlib.Core.Path.{_≡_, refl, sym, _∙_, ap, ap₂, subst}
 use native.Mathlib.Omega.{arith}
 use lib.Dec.{T, eqb, eqb→eq}
 use lib.ListN.{length, getD, take, drop, set, replicate, length-append, length-drop, drop-of-length-le}
-use lib.Seq.{paste, drop-cons, drop-drop, take-all, take-at, drop-at, take-length, take-paste, drop-paste, set-at, length-take-le, take-suc, append-snoc}
+use lib.Seq.{paste, drop-cons, drop-drop, take-all, take-at, drop-at, take-length, take-paste, drop-paste}
 use Rattle.numbers.specs.Tests.{every, both, and-intro}
 
 -- `new` over the front of `old`; what lies past it stays
@@ -19,9 +19,6 @@ module _ {A : Type 0} where
   -- what a part that starts at n holds
   pub rest-whole : (n : ℕ) (l : List A) → take (length l - n) (drop n l) ≡ drop n l
   rest-whole n l = take-all (length l - n) (drop n l) (omega (arith, length-drop n l))
-
-  pub rest-length : (n : ℕ) (l : List A) → length (take (length l - n) (drop n l)) ≡ length l - n
-  rest-length n l = ap length (rest-whole n l) ∙ length-drop n l
 
   -- the first of what is left, and the first two
   pub next-one : (l : List A) (d : A) (i : ℕ) → i < length l → drop i l ≡ getD l i d ∷ drop (i + 1) l
@@ -62,18 +59,6 @@ module _ {A : Type 0} where
       ∙ ap (drop (length v)) (drop-paste e n h (length h) k (omega arith))
       ∙ drop-drop (length v) (n + length h) e)
       ∙ ap₂ (λ (x : List A) (m : ℕ). x ++ drop m e) (append-assoc (take n e) h v ∙ ap (λ (y : List A). take n e ++ y) (sym (take-length (h ++ v)))) m
-
--- one more element over what a list is filled up with
-pub fill-next : {A : Type 0} (l : List A) (d : A) (i m : ℕ) → i < length l → i < m → set (take i l ++ replicate (m - i) d) i (getD l i d) ≡ take (i + 1) l ++ replicate (m - (i + 1)) d
-fill-next {A} l d i m h k =
-    let e : m - i ≡ suc (m - (i + 1)) = omega arith in
-    let s : suc i ≡ i + 1 = omega arith in
-    let r : List A = replicate (m - (i + 1)) d in
-    ap (λ (n : ℕ). set (take i l ++ replicate n d) i (getD l i d)) e
-    ∙ set-at (take i l) d r (getD l i d) i (length-take-le i l (omega arith))
-    ∙ sym (append-snoc (take i l) (getD l i d) r)
-    ∙ ap (λ (t : List A). t ++ r) (sym (take-suc l i d h))
-    ∙ ap (λ (n : ℕ). take n l ++ r) s
 
 -- ---- every element
 

@@ -1,5 +1,5 @@
 -- Bounds as the program holds them, and what is carried to a place by a table of gains (document 01: the judge).
-use Prim.Native.Nat.{ℕ, zero, suc, _+_, _^_}
+use Prim.Native.Nat.{ℕ, zero, suc, _+_, _*_, _^_}
 use mathlib.Core.List.{List, []}
 use lib.ListN.{getD}
 use Rattle.stages.specs.Rule.{Bound, timesGain}
@@ -27,6 +27,10 @@ carriedTo gains x j (suc n) = carriedTo gains x j n + timesGain (getD x n 0) (ga
 -- what is multiplied by a gain
 abbrev pub mostCarried : ℕ
 mostCarried = 2 ^ 49
+
+-- the product of such a number with any gain stays in 64 bits
+abbrev pub mostOnce : ℕ
+mostOnce = 15 * 2 ^ 42
 
 -- the largest gain of either pass
 abbrev pub mostGain : ℕ

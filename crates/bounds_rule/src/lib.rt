@@ -4,7 +4,7 @@ ghost use mathlib.Core.Path.{_≡_};
 ghost use Prim.Native.Nat.{_<_, _≤_, _^_};
 ghost use Rattle.stages.specs.Stages.{cutTo};
 ghost use Rattle.stages.specs.Rule.{timesGain, loss, productLoss, ownLift, ownScale};
-ghost use Rattle.bounds_rule.specs.Carried.{mostCarried, mostGain, mostTotal};
+ghost use Rattle.bounds_rule.specs.Carried.{mostCarried, mostOnce, mostGain, mostTotal};
 
 // Range and error.
 pub struct Bound {
@@ -26,6 +26,14 @@ pub fn times_gain(x: u64, gain: u64) -> u64
     ensures { λ r. ⌜ r ≡ timesGain x gain ⌝ }
 {
     x / GAIN_ONE * gain + (x % GAIN_ONE * gain + (GAIN_ONE - 1)) / GAIN_ONE
+}
+
+// The same by one product, where it stays in 64 bits.
+pub fn times_gain_once(x: u64, gain: u64) -> u64
+    requires { ⌜ (x ≤ mostOnce) × (gain ≤ mostGain) ⌝ }
+    ensures { λ r. ⌜ r ≡ timesGain x gain ⌝ }
+{
+    (x * gain + (GAIN_ONE - 1)) / GAIN_ONE
 }
 
 // 2^-f where f is below the full precision.

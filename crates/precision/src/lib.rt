@@ -53,7 +53,7 @@ fn carry(sums: [u64; PLACES as usize], x: u64, from: u8) -> [u64; PLACES as usiz
     let mut carried = sums;
     for to in 0..PLACES {
         let place = to as usize;
-        carried[place] += bounds_rule::times_gain(x, gains[place]);
+        carried[place] += bounds_rule::times_gain_once(x, gains[place]);
     }
     carried
 }

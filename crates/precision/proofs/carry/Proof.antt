@@ -42,16 +42,16 @@ gains-from-requires c κs = omega arith
 loop-holds : tie.Need-loop-holds Inv-loop μ-loop
 loop-holds c = (omega arith, omega (arith, c .before .good), ((λ i j. absurd (omega (arith, j))), (λ i j. refl)))
 
-times-gain-requires : tie.Need-times-gain-requires Inv-loop μ-loop
-times-gain-requires c κs =
+times-gain-once-requires : tie.Need-times-gain-once-requires Inv-loop μ-loop
+times-gain-once-requires c κs =
     let g = c .before .before in
     (omega (arith, g .before .pre .0), subst (λ (l : List ℕ). getD l (c .before .loop .to) 0 ≤ mostGain) (sym (g .gains-from .ensures)) (gain-most (g .before .args .from) (c .before .loop .to)))
 
 -- what is added
-sum : (c : tie.After-times-gain Inv-loop μ-loop) → let i = c .before .before in c .times-gain .result ≡ timesGain (i .before .before .args .x) (gainAt (i .before .before .args .from) (i .loop .to))
+sum : (c : tie.After-times-gain-once Inv-loop μ-loop) → let i = c .before .before in c .times-gain-once .result ≡ timesGain (i .before .before .args .x) (gainAt (i .before .before .args .from) (i .loop .to))
 sum c =
     let i = c .before .before in
-    c .times-gain .ensures ∙ ap (λ (l : List ℕ). timesGain (i .before .before .args .x) (getD l (i .loop .to) 0)) (i .before .gains-from .ensures)
+    c .times-gain-once .ensures ∙ ap (λ (l : List ℕ). timesGain (i .before .before .args .x) (getD l (i .loop .to) 0)) (i .before .gains-from .ensures)
 
 add-carried : tie.Need-add-carried Inv-loop μ-loop
 add-carried c =
@@ -82,7 +82,7 @@ carry-spec =
     (λ c. omega arith)
     (λ c. omega arith)
     (λ c. omega arith)
-    times-gain-requires
+    times-gain-once-requires
     (λ c. omega arith)
     (λ c. omega arith)
     add-carried

@@ -13,7 +13,7 @@ use Rattle.table_bytes.specs.Bytes.{form, tableRead, tableIn}
 use Rattle.table_bytes.specs.ReadLaws.{table-read}
 use Rattle.table_calls.specs.Calls.{formThen, afterForm}
 
--- a lent thing that is written where an answer is done, and what is written stands beside that answer
+-- an answer asked twice is asked once
 answered-twice : {A : Type 0} (o : Answer Unit) (x none old : A) → answered o (answered o x none) old ≡ answered o x old
 answered-twice (done tt) x none old = refl
 answered-twice (refused r) x none old = refl
@@ -31,6 +31,7 @@ module _ (bytes : List ℕ) {o : Outcome} {held : WidthTable} (reads : (told o �
     pub unread-leaves : {A : Type 0} (made old : A) → old ≡ answered (form bytes) made old
     unread-leaves made old = sym (answered-refused made old form-refused)
 
+    -- so does what is written only where the whole call is done
     pub unread-if-done : {A : Type 0} (own : Answer Unit) (made old : A) → old ≡ answered (form bytes then own) made old
     unread-if-done own made old = ap (λ (a : Answer Unit). answered a made old) (unread own)
 
@@ -48,7 +49,7 @@ module _ (bytes : List ℕ) {o : Outcome} {held : WidthTable} (reads : (told o �
     pub read-leaves : {A : Type 0} (made : WidthTable → A) (old : A) {x : A} → x ≡ made held → x ≡ afterForm bytes made old
     read-leaves made old q = q ∙ ap made table-held ∙ sym (answered-done (made (tableIn bytes)) old form-right)
 
-    -- what is lent is written where the whole call is done, and none stands in its place where the call's own answer is a refusal
+    -- what is lent is written only where the whole call is done: the call gives what to write, and `none` where it is refused
     pub read-if-done : {A : Type 0} (call : WidthTable → Answer Unit) (made : WidthTable → A) (none old : A) {a : Answer Unit} {x y : A}
         → a ≡ call held → x ≡ answered (call held) (made held) none → y ≡ answered a x old → y ≡ answered (formThen bytes call) (made (tableIn bytes)) old
     read-if-done call made none old a-is x-is y-is =

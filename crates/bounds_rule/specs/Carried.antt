@@ -37,5 +37,5 @@ abbrev pub mostGain : ℕ
 mostGain = 273434
 
 -- range plus error of a value that a stage multiplies
-abbrev pub mostTotal : ℕ
-mostTotal = 2 ^ 62
+abbrev pub mostMultiplied : ℕ
+mostMultiplied = 2 ^ 62

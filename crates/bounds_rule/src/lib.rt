@@ -4,7 +4,7 @@ ghost use mathlib.Core.Path.{_≡_};
 ghost use Prim.Native.Nat.{_<_, _≤_, _^_};
 ghost use Rattle.stages.specs.Stages.{cutTo};
 ghost use Rattle.stages.specs.Rule.{timesGain, loss, productLoss, ownLift, ownScale};
-ghost use Rattle.bounds_rule.specs.Carried.{mostCarried, mostOnce, mostGain, mostTotal};
+ghost use Rattle.bounds_rule.specs.Carried.{mostCarried, mostOnce, mostGain, mostMultiplied};
 
 // Range and error.
 pub struct Bound {
@@ -63,7 +63,7 @@ fn product_loss(width: u8, full: u8) -> u64
 // Own error of a stage that lifts, whose product is cut to `width` bits and whose constant has so many; the value that it multiplies has
 // `multiplied` bits and `total` is its range plus error; the other operand has `other` bits and the node f.
 pub fn own_lift(width: u8, constant: u8, multiplied: u8, other: u8, f: u8, total: u64) -> u64
-    requires { ⌜ (width < 64) × (constant < 63) × (multiplied ≤ 32) × (f ≤ 32) × (total ≤ mostTotal) ⌝ }
+    requires { ⌜ (width < 64) × (constant < 63) × (multiplied ≤ 32) × (f ≤ 32) × (total ≤ mostMultiplied) ⌝ }
     ensures { λ r. ⌜ r ≡ ownLift (cutTo width) constant multiplied other f total ⌝ }
 {
     let full = constant + multiplied;
@@ -77,7 +77,7 @@ pub fn own_lift(width: u8, constant: u8, multiplied: u8, other: u8, f: u8, total
 
 // Own error of a stage that scales.
 pub fn own_scale(constant: u8, multiplied: u8, f: u8, total: u64) -> u64
-    requires { ⌜ (constant < 63) × (multiplied ≤ 32) × (f ≤ 32) × (total ≤ mostTotal) ⌝ }
+    requires { ⌜ (constant < 63) × (multiplied ≤ 32) × (f ≤ 32) × (total ≤ mostMultiplied) ⌝ }
     ensures { λ r. ⌜ r ≡ ownScale constant multiplied f total ⌝ }
 {
     numbers::up_div(total, (constant + 1) as u32) + loss_of(f, constant + multiplied)

@@ -8,7 +8,7 @@ use native.Mathlib.Decide.{decLt, ℕ-discrete}
 use lib.IntN.{ℤ}
 use Rattle.slices.specs.Patch.{patch}
 use Rattle.slices.specs.PatchLines.{lineAt, Lying, patchLines, packed-is, lines-apart, lines-out, lines-more, lines-in, lines-is, lines-ext}
-use Rattle.slices.specs.Parts.{Pass, rowOf, columnOf, rowsBy, columnsBy}
+use Rattle.slices.specs.Parts.{LineFunction, rowOf, columnOf, rowsBy, columnsBy}
 
 -- the lines from line k on
 pub lines-after : (from stride k b i : ℕ) → b ≡ from + k * stride → lineAt b stride i ≡ lineAt from stride (k + i)
@@ -40,7 +40,7 @@ row-column b j y h = fun-ext λ i. ap y (let e : b + i * 1 + j ≡ b + i = omega
 pub row-lines : (b w : ℕ) (row y : ℕ → ℤ) → patchLines (lineAt b 1) 1 w (λ i j. row i) y ≡ patch b w row y
 row-lines b w row y = sym (packed-is b 1 w 1 row _ y refl (λ i j p g. ap row (let u : i * 1 + j ≡ i = omega arith in u))) ∙ (λ u. patch b (mul-one w u) row y)
 
-pub row-patch : (pass : Pass) (b w : ℕ) (y : ℕ → ℤ) → columnsBy pass 1 b 1 w y ≡ patch b w (pass w (λ i. y (b + i))) y
+pub row-patch : (pass : LineFunction) (b w : ℕ) (y : ℕ → ℤ) → columnsBy pass 1 b 1 w y ≡ patch b w (pass w (λ i. y (b + i))) y
 row-patch pass b w y = lines-ext (lineAt b 1) 1 _ _ y w (λ i j p g. ap (λ (c : ℕ → ℤ). pass w c i) (row-column b j y g)) ∙ row-lines b w _ y
 
 -- ---- row by row: the first r rows are done, and row r is as it was
@@ -61,12 +61,12 @@ row-put stride w r b new row x y z is start e same = lines-more (lineAt 0 stride
     (λ j h. ap (λ (f : ℕ → ℤ). f j) same)
 
 -- a row more, by a pass
-pub row-next : (pass : Pass) (stride w r b : ℕ) → w ≤ stride → (x y z : ℕ → ℤ) → y ≡ rowsBy pass stride w r x → b ≡ lineAt 0 stride r → z ≡ patch b w (pass w (λ i. y (b + i))) y → z ≡ rowsBy pass stride w (r + 1) x
+pub row-next : (pass : LineFunction) (stride w r b : ℕ) → w ≤ stride → (x y z : ℕ → ℤ) → y ≡ rowsBy pass stride w r x → b ≡ lineAt 0 stride r → z ≡ patch b w (pass w (λ i. y (b + i))) y → z ≡ rowsBy pass stride w (r + 1) x
 row-next pass stride w r b narrow x y z is start e = lines-more (lineAt 0 stride) w _ x r y z (pass w (λ i. y (b + i))) is
     (e ∙ ap (λ (k : ℕ). patch k w (pass w (λ i. y (b + i))) y) start)
     (λ j h. ap (λ (c : ℕ → ℤ). pass w c j) (row-kept stride w r b narrow _ x y is start))
 
-pub row-done : (pass : Pass) (stride w r b : ℕ) → w ≤ stride → (x y z : ℕ → ℤ) → y ≡ rowsBy pass stride w r x → b ≡ lineAt 0 stride r → z ≡ columnsBy pass 1 b 1 w y → z ≡ rowsBy pass stride w (r + 1) x
+pub row-done : (pass : LineFunction) (stride w r b : ℕ) → w ≤ stride → (x y z : ℕ → ℤ) → y ≡ rowsBy pass stride w r x → b ≡ lineAt 0 stride r → z ≡ columnsBy pass 1 b 1 w y → z ≡ rowsBy pass stride w (r + 1) x
 row-done pass stride w r b narrow x y z is start e = row-next pass stride w r b narrow x y z is start (e ∙ row-patch pass b w y)
 
 -- ---- strip by strip: the first d columns are done, and the next s are as they were
@@ -97,7 +97,7 @@ module _ (stride from d s h : ℕ) (narrow : from + (d + s) ≤ stride) (new : �
           ∙ lines-in (lineAt (from + d) stride) s next y (λ u v a. lines-apart (from + d) stride s u v (omega arith) (omega arith)) h i (j - d) p (omega arith)
           ∙ same i (j - d) p (omega arith) ∙ ap (new i) (sym o)
 
-module _ (pass : Pass) (stride from d s h : ℕ) (narrow : from + (d + s) ≤ stride) (x y : ℕ → ℤ) (is : y ≡ columnsBy pass stride from d h x) where
+module _ (pass : LineFunction) (stride from d s h : ℕ) (narrow : from + (d + s) ≤ stride) (x y : ℕ → ℤ) (is : y ≡ columnsBy pass stride from d h x) where
   pub column-as-was : (j : ℕ) → j < s → columnOf stride (from + d) y j ≡ columnOf stride from x (d + j)
   column-as-was j g = fun-ext λ r. value-as-was stride from d s h narrow _ x y is r j g
 
@@ -105,5 +105,5 @@ module _ (pass : Pass) (stride from d s h : ℕ) (narrow : from + (d + s) ≤ st
   columns-more z e = strips-more stride from d s h narrow _ x y is _ z e (λ i j p g. ap (λ (c : ℕ → ℤ). pass h c i) (column-as-was j g))
 
 -- no column is done
-pub columns-none : (pass : Pass) (stride from h : ℕ) (x : ℕ → ℤ) → x ≡ columnsBy pass stride from 0 h x
+pub columns-none : (pass : LineFunction) (stride from h : ℕ) (x : ℕ → ℤ) → x ≡ columnsBy pass stride from 0 h x
 columns-none pass stride from h x = fun-ext λ p. sym (lines-out (lineAt from stride) 0 _ x h p (λ i j a b e. omega arith))

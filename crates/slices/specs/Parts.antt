@@ -20,13 +20,13 @@ abbrev pub columnOf : ℕ → ℕ → (ℕ → ℤ) → ℕ → ℕ → ℤ
 columnOf stride from x j r = x (lineAt from stride r + j)
 
 -- what is made of a line of n values
-abbrev pub Pass : Type 0
-Pass = ℕ → (ℕ → ℤ) → ℕ → ℤ
+abbrev pub LineFunction : Type 0
+LineFunction = ℕ → (ℕ → ℤ) → ℕ → ℤ
 
 -- the first w values of h rows, each row by a pass
-abbrev pub rowsBy : Pass → ℕ → ℕ → ℕ → (ℕ → ℤ) → ℕ → ℤ
+abbrev pub rowsBy : LineFunction → ℕ → ℕ → ℕ → (ℕ → ℤ) → ℕ → ℤ
 rowsBy pass stride w h x = patchLines (lineAt 0 stride) w h (λ r. pass w (rowOf stride 0 x r)) x
 
 -- w columns of h rows, from column `from` on, each column by a pass
-abbrev pub columnsBy : Pass → ℕ → ℕ → ℕ → ℕ → (ℕ → ℤ) → ℕ → ℤ
+abbrev pub columnsBy : LineFunction → ℕ → ℕ → ℕ → ℕ → (ℕ → ℤ) → ℕ → ℤ
 columnsBy pass stride from w h x = patchLines (lineAt from stride) w h (λ r j. pass h (columnOf stride from x j) r) x

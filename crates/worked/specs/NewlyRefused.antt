@@ -25,7 +25,7 @@ use Rattle.view_precision.specs.Bounds.{startBound, pixelBound, viewDistance, n
 use Rattle.view_precision.specs.LongLines.{longInverseBound, longGives}
 use Rattle.history.specs.EarlierView
 use Rattle.history.specs.EarlierView.{pixelBoundBefore, viewDistanceBefore, nodesRightBefore, viewVerdictBefore}
-use Rattle.worked.specs.ViewTables.{lifted, pass, Figures, figures, are}
+use Rattle.worked.specs.ViewTables.{lifted, nodesOfPass, Figures, figures, are}
 
 -- One level, depth 8: low-low is (12, 2), the other kept nodes are (6, 2), all others (12, 20).
 abbrev pub lowWide : WidthTable
@@ -33,7 +33,7 @@ lowWide = record {
   depth = 8;
   levels = 1;
   constants = 24 ∷ 24 ∷ 24 ∷ 24 ∷ 24 ∷ 24 ∷ [];
-  nodes = pass 12 20 20 ++ (lifted 12 ++ (12 ∷ 2 ∷ 6 ∷ 2 ∷ [])) ++ (lifted 12 ++ (6 ∷ 2 ∷ 6 ∷ 2 ∷ [])) ++ repeat (maxLevels - 1) (repeat 36 (0 ∷ []));
+  nodes = nodesOfPass 12 20 20 ++ (lifted 12 ++ (12 ∷ 2 ∷ 6 ∷ 2 ∷ [])) ++ (lifted 12 ++ (6 ∷ 2 ∷ 6 ∷ 2 ∷ [])) ++ repeat (maxLevels - 1) (repeat 36 (0 ∷ []));
   «has_products» = false;
   products = noProducts maxLevels;
 }

@@ -16,12 +16,12 @@ abbrev pub lifted : ℕ → List ℕ
 lifted IB = IB ∷ 20 ∷ IB ∷ 20 ∷ IB ∷ 20 ∷ IB ∷ 20 ∷ []
 
 -- the nodes of a pass: f of G1, of G2
-abbrev pub pass : ℕ → ℕ → ℕ → List ℕ
-pass IB g1 g2 = lifted IB ++ (IB ∷ g1 ∷ IB ∷ g2 ∷ [])
+abbrev pub nodesOfPass : ℕ → ℕ → ℕ → List ℕ
+nodesOfPass IB g1 g2 = lifted IB ++ (IB ∷ g1 ∷ IB ∷ g2 ∷ [])
 
 -- a level: f of its kept nodes, of its low-low
 abbrev level : ℕ → ℕ → ℕ → List ℕ
-level IB f lowLow = pass IB 20 20 ++ pass IB lowLow f ++ pass IB f f
+level IB f lowLow = nodesOfPass IB 20 20 ++ nodesOfPass IB lowLow f ++ nodesOfPass IB f f
 
 -- f of the kept nodes, B, L, IB
 abbrev pub withKept : ℕ → ℕ → ℕ → ℕ → WidthTable

@@ -15,6 +15,9 @@
 --   Job7Analysis     old-bounds, old-verdict: and have their old ranges, errors and verdict
 --   Job7Lifting      old-coefficients: and give their old coefficients
 --   Job7Calls        the same at the C interface
+-- Worked:
+--   EarlierBytes     heads and tables read before jobs 3 and 7
+--   NewlyRefused     a table that job 6 newly refuses 13
 pub mod EarlierForms
 pub mod EarlierRule
 pub mod EarlierAnalysis
@@ -29,3 +32,5 @@ pub mod Job6View
 pub mod Job7Analysis
 pub mod Job7Lifting
 pub mod Job7Calls
+pub mod EarlierBytes
+pub mod NewlyRefused

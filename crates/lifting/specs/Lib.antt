@@ -1,5 +1,6 @@
 -- Lifting on line buffers: what the code of src/ does to the contents of slices, as functions of the place.
 --   Steps      one lifting step on unlimited integers, and what keeps the machine's step inside its types
+--   Forms      the steps and the scaling in biased forms, by their numbers
 --   SafeRuns   the same at each place of a run
 --   Passes, Kernels   a pass over a line, over rows and over columns of a plane
 --   Buffers    a step at each high or low of the columns of a line buffer; a line buffer filled with lines; a row
@@ -11,6 +12,7 @@
 --   Strips     a strip's lines, worked on their way out of the line buffer
 --   PixelLaws  a kernel reads its line's own values only; lines of pixels
 pub mod Steps
+pub mod Forms
 pub mod SafeRuns
 pub mod Passes
 pub mod Buffers

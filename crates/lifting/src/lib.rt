@@ -90,6 +90,34 @@ pub enum Factor {
     },
 }
 
+// The numbers of a step in the form `Separate` or `Combined`, with no sign: `separateStep` and `combinedStep` of specs/Forms.
+struct BiasedForm {
+    by: u32,
+    c: u32,
+    offset: u64,
+    base: u64,
+    cut: u32,
+}
+
+// The numbers of a step in the form `BiasedCut`, with no sign: `cutStep` of specs/Forms.
+struct CutForm {
+    k: u32,
+    c: u32,
+    offset: u64,
+    first: u32,
+    up: u32,
+    base: u64,
+    cut: u32,
+}
+
+// The numbers of a scaling in the form `Biased`: `biasedFactor` of specs/Forms.
+struct FactorForm {
+    c: u32,
+    offset: u64,
+    base: u64,
+    cut: u32,
+}
+
 // A pair of lifting steps: one at the highs, then one at the lows; inverted, the other way round.
 pub struct Pair {
     pub highs: Step,

@@ -2,11 +2,15 @@
 ghost use mathlib.Core.Path.{_≡_};
 ghost use Prim.Native.Nat.{ℕ, _+_, _<_, _≤_};
 ghost use lib.ListN.{length};
-ghost use Rattle.lifting.specs.Steps.{applied, PlainStep, biasedStep, scaledBy, FactorSafe};
+ghost use Rattle.lifting.specs.Steps.{applied, PlainStep, scaledBy, FactorSafe};
+ghost use Rattle.lifting.specs.Forms.{separateStep, combinedStep, biasedStep, cutStep, biasedFactor};
 ghost use Rattle.slices.specs.Patch.{at, patch};
 ghost use Rattle.slices.specs.Runs.{ran, Runs};
 ghost use Rattle.lifting.specs.SafeRuns.{SafeRun};
+use crate::BiasedForm;
+use crate::CutForm;
 use crate::Factor;
+use crate::FactorForm;
 use crate::Step;
 use crate::steps::apply;
 use crate::steps::apply_end;
@@ -36,29 +40,14 @@ fn biased_run(
     n: usize,
     separate: bool,
     down: bool,
-    by: u32,
-    c: u32,
-    offset: u64,
-    base: u64,
-    cut: u32,
+    form: BiasedForm,
 )
     requires { ⌜ Runs (now buf) t a b n ⌝ }
-    requires { ⌜ SafeRun (biasedStep separate down by c offset base cut) t a b n (at (now buf)) ⌝ }
-    ensures { λ _. ⌜ at (now (buf .exit)) ≡ ran (applied (biasedStep separate down by c offset base cut)) t a b n (at (now (buf .entry))) ⌝ }
+    requires { ⌜ SafeRun (biasedStep separate down form) t a b n (at (now buf)) ⌝ }
+    ensures { λ _. ⌜ at (now (buf .exit)) ≡ ran (applied (biasedStep separate down form)) t a b n (at (now (buf .entry))) ⌝ }
 {
     for j in 0..n {
-        let v = biased_of(
-            separate,
-            down,
-            by,
-            c,
-            offset,
-            base,
-            cut,
-            buf[t + j],
-            buf[a + j],
-            buf[b + j],
-        );
+        let v = biased_of(separate, down, form, buf[t + j], buf[a + j], buf[b + j]);
         buf[t + j] = v;
     }
 }
@@ -71,25 +60,29 @@ fn separate_run(
     b: usize,
     n: usize,
     down: bool,
-    rise: u32,
-    c: u32,
-    base: u64,
-    cut: u32,
+    form: BiasedForm,
 )
     requires { ⌜ Runs (now buf) t a b n ⌝ }
-    requires { ⌜ SafeRun (Step.Separate down rise c base cut) t a b n (at (now buf)) ⌝ }
-    ensures { λ _. ⌜ at (now (buf .exit)) ≡ ran (applied (Step.Separate down rise c base cut)) t a b n (at (now (buf .entry))) ⌝ }
+    requires { ⌜ SafeRun (separateStep down form) t a b n (at (now buf)) ⌝ }
+    ensures { λ _. ⌜ at (now (buf .exit)) ≡ ran (applied (separateStep down form)) t a b n (at (now (buf .entry))) ⌝ }
 {
-    if rise == 0 {
+    if form.by == 0 {
+        let level = BiasedForm {
+            by: 0,
+            c: form.c,
+            offset: 0,
+            base: form.base,
+            cut: form.cut,
+        };
         if down {
-            biased_run(buf, t, a, b, n, true, true, 0, c, 0, base, cut);
+            biased_run(buf, t, a, b, n, true, true, level);
         } else {
-            biased_run(buf, t, a, b, n, true, false, 0, c, 0, base, cut);
+            biased_run(buf, t, a, b, n, true, false, level);
         }
     } else if down {
-        biased_run(buf, t, a, b, n, true, true, rise, c, 0, base, cut);
+        biased_run(buf, t, a, b, n, true, true, form);
     } else {
-        biased_run(buf, t, a, b, n, true, false, rise, c, 0, base, cut);
+        biased_run(buf, t, a, b, n, true, false, form);
     }
 }
 
@@ -101,20 +94,16 @@ fn combined_run(
     b: usize,
     n: usize,
     down: bool,
-    k: u32,
-    c: u32,
-    offset: u64,
-    base: u64,
-    cut: u32,
+    form: BiasedForm,
 )
     requires { ⌜ Runs (now buf) t a b n ⌝ }
-    requires { ⌜ SafeRun (Step.Combined down k c offset base cut) t a b n (at (now buf)) ⌝ }
-    ensures { λ _. ⌜ at (now (buf .exit)) ≡ ran (applied (Step.Combined down k c offset base cut)) t a b n (at (now (buf .entry))) ⌝ }
+    requires { ⌜ SafeRun (combinedStep down form) t a b n (at (now buf)) ⌝ }
+    ensures { λ _. ⌜ at (now (buf .exit)) ≡ ran (applied (combinedStep down form)) t a b n (at (now (buf .entry))) ⌝ }
 {
     if down {
-        biased_run(buf, t, a, b, n, false, true, k, c, offset, base, cut);
+        biased_run(buf, t, a, b, n, false, true, form);
     } else {
-        biased_run(buf, t, a, b, n, false, false, k, c, offset, base, cut);
+        biased_run(buf, t, a, b, n, false, false, form);
     }
 }
 
@@ -126,32 +115,14 @@ fn biased_cut_run(
     b: usize,
     n: usize,
     down: bool,
-    k: u32,
-    c: u32,
-    offset: u64,
-    first: u32,
-    up: u32,
-    base: u64,
-    cut: u32,
+    form: CutForm,
 )
     requires { ⌜ Runs (now buf) t a b n ⌝ }
-    requires { ⌜ SafeRun (Step.BiasedCut down k c offset first up base cut) t a b n (at (now buf)) ⌝ }
-    ensures { λ _. ⌜ at (now (buf .exit)) ≡ ran (applied (Step.BiasedCut down k c offset first up base cut)) t a b n (at (now (buf .entry))) ⌝ }
+    requires { ⌜ SafeRun (cutStep down form) t a b n (at (now buf)) ⌝ }
+    ensures { λ _. ⌜ at (now (buf .exit)) ≡ ran (applied (cutStep down form)) t a b n (at (now (buf .entry))) ⌝ }
 {
     for j in 0..n {
-        let v = biased_cut_of(
-            down,
-            k,
-            c,
-            offset,
-            first,
-            up,
-            base,
-            cut,
-            buf[t + j],
-            buf[a + j],
-            buf[b + j],
-        );
+        let v = biased_cut_of(down, form, buf[t + j], buf[a + j], buf[b + j]);
         buf[t + j] = v;
     }
 }
@@ -164,53 +135,51 @@ fn signed_cut_run(
     b: usize,
     n: usize,
     down: bool,
-    k: u32,
-    c: u32,
-    offset: u64,
-    first: u32,
-    up: u32,
-    base: u64,
-    cut: u32,
+    form: CutForm,
 )
     requires { ⌜ Runs (now buf) t a b n ⌝ }
-    requires { ⌜ SafeRun (Step.BiasedCut down k c offset first up base cut) t a b n (at (now buf)) ⌝ }
-    ensures { λ _. ⌜ at (now (buf .exit)) ≡ ran (applied (Step.BiasedCut down k c offset first up base cut)) t a b n (at (now (buf .entry))) ⌝ }
+    requires { ⌜ SafeRun (cutStep down form) t a b n (at (now buf)) ⌝ }
+    ensures { λ _. ⌜ at (now (buf .exit)) ≡ ran (applied (cutStep down form)) t a b n (at (now (buf .entry))) ⌝ }
 {
     if down {
-        biased_cut_run(buf, t, a, b, n, true, k, c, offset, first, up, base, cut);
+        biased_cut_run(buf, t, a, b, n, true, form);
     } else {
-        biased_cut_run(buf, t, a, b, n, false, k, c, offset, first, up, base, cut);
+        biased_cut_run(buf, t, a, b, n, false, form);
     }
 }
 
 // The same, with a loop of its own where nothing is cut after the sum, and where the own value is not shifted either.
-fn cut_run(
-    buf: &mut [i32],
-    t: usize,
-    a: usize,
-    b: usize,
-    n: usize,
-    down: bool,
-    k: u32,
-    c: u32,
-    offset: u64,
-    first: u32,
-    up: u32,
-    base: u64,
-    cut: u32,
-)
+fn cut_run(buf: &mut [i32], t: usize, a: usize, b: usize, n: usize, down: bool, form: CutForm)
     requires { ⌜ Runs (now buf) t a b n ⌝ }
-    requires { ⌜ SafeRun (Step.BiasedCut down k c offset first up base cut) t a b n (at (now buf)) ⌝ }
-    ensures { λ _. ⌜ at (now (buf .exit)) ≡ ran (applied (Step.BiasedCut down k c offset first up base cut)) t a b n (at (now (buf .entry))) ⌝ }
+    requires { ⌜ SafeRun (cutStep down form) t a b n (at (now buf)) ⌝ }
+    ensures { λ _. ⌜ at (now (buf .exit)) ≡ ran (applied (cutStep down form)) t a b n (at (now (buf .entry))) ⌝ }
 {
-    if cut == 0 {
-        if k == 0 {
-            signed_cut_run(buf, t, a, b, n, down, 0, c, offset, first, up, base, 0);
+    if form.cut == 0 {
+        if form.k == 0 {
+            let whole = CutForm {
+                k: 0,
+                c: form.c,
+                offset: form.offset,
+                first: form.first,
+                up: form.up,
+                base: form.base,
+                cut: 0,
+            };
+            signed_cut_run(buf, t, a, b, n, down, whole);
         } else {
-            signed_cut_run(buf, t, a, b, n, down, k, c, offset, first, up, base, 0);
+            let uncut = CutForm {
+                k: form.k,
+                c: form.c,
+                offset: form.offset,
+                first: form.first,
+                up: form.up,
+                base: form.base,
+                cut: 0,
+            };
+            signed_cut_run(buf, t, a, b, n, down, uncut);
         }
     } else {
-        signed_cut_run(buf, t, a, b, n, down, k, c, offset, first, up, base, cut);
+        signed_cut_run(buf, t, a, b, n, down, form);
     }
 }
 
@@ -245,7 +214,21 @@ pub fn lift_run(buf: &mut [i32], t: usize, a: usize, b: usize, n: usize, step: S
             c,
             base,
             cut,
-        } => separate_run(buf, t, a, b, n, down, rise, c, base, cut),
+        } => separate_run(
+            buf,
+            t,
+            a,
+            b,
+            n,
+            down,
+            BiasedForm {
+                by: rise,
+                c,
+                offset: 0,
+                base,
+                cut,
+            },
+        ),
         Step::Combined {
             down,
             k,
@@ -253,7 +236,21 @@ pub fn lift_run(buf: &mut [i32], t: usize, a: usize, b: usize, n: usize, step: S
             offset,
             base,
             cut,
-        } => combined_run(buf, t, a, b, n, down, k, c, offset, base, cut),
+        } => combined_run(
+            buf,
+            t,
+            a,
+            b,
+            n,
+            down,
+            BiasedForm {
+                by: k,
+                c,
+                offset,
+                base,
+                cut,
+            },
+        ),
         Step::Cut {
             k,
             c,
@@ -270,7 +267,23 @@ pub fn lift_run(buf: &mut [i32], t: usize, a: usize, b: usize, n: usize, step: S
             up,
             base,
             cut,
-        } => cut_run(buf, t, a, b, n, down, k, c, offset, first, up, base, cut),
+        } => cut_run(
+            buf,
+            t,
+            a,
+            b,
+            n,
+            down,
+            CutForm {
+                k,
+                c,
+                offset,
+                first,
+                up,
+                base,
+                cut,
+            },
+        ),
     }
 }
 
@@ -307,17 +320,14 @@ fn biased_scale_run(
     dst: &mut [i32],
     to: usize,
     n: usize,
-    c: u32,
-    offset: u64,
-    base: u64,
-    cut: u32,
+    form: FactorForm,
 )
     requires { ⌜ (from + n ≤ length (now src)) × (to + n ≤ length (now dst)) ⌝ }
-    requires { ⌜ ((j : ℕ) → j < n → FactorSafe (Factor.Biased c offset base cut) (at (now src) (from + j))) ⌝ }
-    ensures { λ _. ⌜ at (now (dst .exit)) ≡ patch to n (λ j. scaledBy (Factor.Biased c offset base cut) (at (now (src .entry)) (from + j))) (at (now (dst .entry))) ⌝ }
+    requires { ⌜ ((j : ℕ) → j < n → FactorSafe (biasedFactor form) (at (now src) (from + j))) ⌝ }
+    ensures { λ _. ⌜ at (now (dst .exit)) ≡ patch to n (λ j. scaledBy (biasedFactor form) (at (now (src .entry)) (from + j))) (at (now (dst .entry))) ⌝ }
 {
     for j in 0..n {
-        let v = biased_by(c, offset, base, cut, src[from + j]);
+        let v = biased_by(form, src[from + j]);
         dst[to + j] = v;
     }
 }
@@ -335,7 +345,19 @@ pub fn scale_run(src: &[i32], from: usize, dst: &mut [i32], to: usize, n: usize,
             offset,
             base,
             cut,
-        } => { biased_scale_run(src, from, dst, to, n, c, offset, base, cut) }
+        } => biased_scale_run(
+            src,
+            from,
+            dst,
+            to,
+            n,
+            FactorForm {
+                c,
+                offset,
+                base,
+                cut,
+            },
+        ),
     }
 }
 
@@ -352,21 +374,13 @@ fn plain_scale_here(buf: &mut [i32], from: usize, n: usize, c: i64, cut: u32)
 }
 
 // The same by biased values.
-fn biased_scale_here(
-    buf: &mut [i32],
-    from: usize,
-    n: usize,
-    c: u32,
-    offset: u64,
-    base: u64,
-    cut: u32,
-)
+fn biased_scale_here(buf: &mut [i32], from: usize, n: usize, form: FactorForm)
     requires { ⌜ from + n ≤ length (now buf) ⌝ }
-    requires { ⌜ ((j : ℕ) → j < n → FactorSafe (Factor.Biased c offset base cut) (at (now buf) (from + j))) ⌝ }
-    ensures { λ _. ⌜ at (now (buf .exit)) ≡ patch from n (λ j. scaledBy (Factor.Biased c offset base cut) (at (now (buf .entry)) (from + j))) (at (now (buf .entry))) ⌝ }
+    requires { ⌜ ((j : ℕ) → j < n → FactorSafe (biasedFactor form) (at (now buf) (from + j))) ⌝ }
+    ensures { λ _. ⌜ at (now (buf .exit)) ≡ patch from n (λ j. scaledBy (biasedFactor form) (at (now (buf .entry)) (from + j))) (at (now (buf .entry))) ⌝ }
 {
     for j in 0..n {
-        let v = biased_by(c, offset, base, cut, buf[from + j]);
+        let v = biased_by(form, buf[from + j]);
         buf[from + j] = v;
     }
 }
@@ -384,6 +398,16 @@ pub fn scale_here(buf: &mut [i32], from: usize, n: usize, g: Factor)
             offset,
             base,
             cut,
-        } => { biased_scale_here(buf, from, n, c, offset, base, cut) }
+        } => biased_scale_here(
+            buf,
+            from,
+            n,
+            FactorForm {
+                c,
+                offset,
+                base,
+                cut,
+            },
+        ),
     }
 }

@@ -5,10 +5,14 @@ ghost use lib.Signed.{shrZ};
 ghost use lib.IntN.{pos, _+ℤ_, _-ℤ_, _*ℤ_};
 ghost use mir.Syntax.{w32, w64};
 ghost use mir.Val.{SFits};
-ghost use Rattle.lifting.specs.Steps.{applied, ended, PlainStep, Safe, SumSafe, signedSum, signed, biasedStep, scaledBy, FactorSafe};
+ghost use Rattle.lifting.specs.Steps.{applied, ended, PlainStep, Safe, SumSafe, signedSum, signed, scaledBy, FactorSafe};
+ghost use Rattle.lifting.specs.Forms.{separateStep, combinedStep, biasedStep, cutStep, biasedFactor};
 ghost use Rattle.slices.specs.Biased.{biased};
 ghost use Rattle.lifting.specs.BiasedCut.{joined, JoinSafe};
+use crate::BiasedForm;
+use crate::CutForm;
 use crate::Factor;
+use crate::FactorForm;
 use crate::Step;
 
 // One value less half of its neighbours' sum, rounded down.
@@ -170,53 +174,36 @@ fn product(down: bool, c: u32, offset: u64, x: i32, y: i32) -> u64
 }
 
 // The step `Separate`: the own value is taken out of the cut.
-fn separate_of(down: bool, rise: u32, c: u32, base: u64, cut: u32, own: i32, x: i32, y: i32) -> i32
-    requires { ⌜ Safe (Step.Separate down rise c base cut) own x y ⌝ }
-    ensures { λ r. ⌜ r ≡ applied (Step.Separate down rise c base cut) own x y ⌝ }
+fn separate_of(down: bool, form: BiasedForm, own: i32, x: i32, y: i32) -> i32
+    requires { ⌜ Safe (separateStep down form) own x y ⌝ }
+    ensures { λ r. ⌜ r ≡ applied (separateStep down form) own x y ⌝ }
 {
-    let part = shifted_unbiased(product(down, c, 0, x, y), cut, base);
-    moved(scaled_up(own, rise), part)
+    let part = shifted_unbiased(product(down, form.c, 0, x, y), form.cut, form.base);
+    moved(scaled_up(own, form.by), part)
 }
 
 // The step `Combined`: the own value is cut with the product.
-fn combined_of(
-    down: bool,
-    k: u32,
-    c: u32,
-    offset: u64,
-    base: u64,
-    cut: u32,
-    own: i32,
-    x: i32,
-    y: i32,
-) -> i32
-    requires { ⌜ Safe (Step.Combined down k c offset base cut) own x y ⌝ }
-    ensures { λ r. ⌜ r ≡ applied (Step.Combined down k c offset base cut) own x y ⌝ }
+fn combined_of(down: bool, form: BiasedForm, own: i32, x: i32, y: i32) -> i32
+    requires { ⌜ Safe (combinedStep down form) own x y ⌝ }
+    ensures { λ r. ⌜ r ≡ applied (combinedStep down form) own x y ⌝ }
 {
-    let part = product(down, c, offset, x, y);
-    narrow(shifted_unbiased(fused(1u32 << k, slices::bias(own), part), cut, base))
+    let part = product(down, form.c, form.offset, x, y);
+    narrow(shifted_unbiased(
+        fused(1u32 << form.by, slices::bias(own), part),
+        form.cut,
+        form.base,
+    ))
 }
 
-// Both, by number: `biasedStep` of specs/Steps.
-pub fn biased_of(
-    separate: bool,
-    down: bool,
-    by: u32,
-    c: u32,
-    offset: u64,
-    base: u64,
-    cut: u32,
-    own: i32,
-    x: i32,
-    y: i32,
-) -> i32
-    requires { ⌜ Safe (biasedStep separate down by c offset base cut) own x y ⌝ }
-    ensures { λ r. ⌜ r ≡ applied (biasedStep separate down by c offset base cut) own x y ⌝ }
+// Both.
+pub fn biased_of(separate: bool, down: bool, form: BiasedForm, own: i32, x: i32, y: i32) -> i32
+    requires { ⌜ Safe (biasedStep separate down form) own x y ⌝ }
+    ensures { λ r. ⌜ r ≡ applied (biasedStep separate down form) own x y ⌝ }
 {
     if separate {
-        separate_of(down, by, c, base, cut, own, x, y)
+        separate_of(down, form, own, x, y)
     } else {
-        combined_of(down, by, c, offset, base, cut, own, x, y)
+        combined_of(down, form, own, x, y)
     }
 }
 
@@ -229,24 +216,20 @@ fn realigned(t: u64, first: u32, up: u32) -> u64
 }
 
 // The step `BiasedCut`.
-pub fn biased_cut_of(
-    down: bool,
-    k: u32,
-    c: u32,
-    offset: u64,
-    first: u32,
-    up: u32,
-    base: u64,
-    cut: u32,
-    own: i32,
-    x: i32,
-    y: i32,
-) -> i32
-    requires { ⌜ Safe (Step.BiasedCut down k c offset first up base cut) own x y ⌝ }
-    ensures { λ r. ⌜ r ≡ applied (Step.BiasedCut down k c offset first up base cut) own x y ⌝ }
+pub fn biased_cut_of(down: bool, form: CutForm, own: i32, x: i32, y: i32) -> i32
+    requires { ⌜ Safe (cutStep down form) own x y ⌝ }
+    ensures { λ r. ⌜ r ≡ applied (cutStep down form) own x y ⌝ }
 {
-    let part = realigned(product(down, c, offset, x, y), first, up);
-    narrow(shifted_unbiased(fused(1u32 << k, slices::bias(own), part), cut, base))
+    let part = realigned(
+        product(down, form.c, form.offset, x, y),
+        form.first,
+        form.up,
+    );
+    narrow(shifted_unbiased(
+        fused(1u32 << form.k, slices::bias(own), part),
+        form.cut,
+        form.base,
+    ))
 }
 
 // One step of one value, not in a biased form.
@@ -387,9 +370,13 @@ pub fn scaled_by(c: i64, cut: u32, x: i32) -> i32
 }
 
 // The same of biased values.
-pub fn biased_by(c: u32, offset: u64, base: u64, cut: u32, x: i32) -> i32
-    requires { ⌜ FactorSafe (Factor.Biased c offset base cut) x ⌝ }
-    ensures { λ r. ⌜ r ≡ scaledBy (Factor.Biased c offset base cut) x ⌝ }
+pub fn biased_by(form: FactorForm, x: i32) -> i32
+    requires { ⌜ FactorSafe (biasedFactor form) x ⌝ }
+    ensures { λ r. ⌜ r ≡ scaledBy (biasedFactor form) x ⌝ }
 {
-    narrow(shifted_unbiased(fused(c, slices::bias(x), offset), cut, base))
+    narrow(shifted_unbiased(
+        fused(form.c, slices::bias(x), form.offset),
+        form.cut,
+        form.base,
+    ))
 }

@@ -3,8 +3,8 @@ use Prim.Native.Nat.{_+_, _-_}
 use native.Mathlib.Omega.{arith}
 use mir.Syntax.{w32}
 use Rattle.lifting.specs.declared.Factor.{Factor}
-use Rattle.lifting.specs.declared.Factor.the-variants.{Biased}
 use Rattle.lifting.specs.Steps.{scaledBy, FactorSafe}
+use Rattle.lifting.specs.Forms.{biasedFactor}
 use Rattle.slices.specs.Patch.{at}
 use Rattle.slices.specs.Filling.{Filling, filling-none, filling-more, filling-all, filling-own}
 use Rattle.slices.specs.SignedRuns.{value-safe, value-gives}
@@ -12,13 +12,13 @@ use Rattle.lifting.proofs.runs.biased_scale_here.Statement.{statement}
 use Rattle.lifting.proofs.runs.biased_scale_here.Tie as tie
 
 abbrev Inv-loop : tie.InvT-loop
-Inv-loop buf₀ from n c offset base cut j₀ buf j = Filling from n (λ i. scaledBy (Biased c offset base cut) (at buf₀ (from + i))) buf₀ buf j
+Inv-loop buf₀ from n form j₀ buf j = Filling from n (λ i. scaledBy (biasedFactor form) (at buf₀ (from + i))) buf₀ buf j
 
 abbrev μ-loop : tie.MeasureT-loop
-μ-loop buf₀ from n c offset base cut j₀ buf j = n - j
+μ-loop buf₀ from n form j₀ buf j = n - j
 
 abbrev factor : tie.Start Inv-loop μ-loop → Factor
-factor s = Biased (s .args .c) (s .args .offset) (s .args .base) (s .args .cut)
+factor s = biasedFactor (s .args .form)
 
 pub biased-scale-here-spec : {M : Type 1} → statement M
 biased-scale-here-spec = tie.close (tie.spec Inv-loop μ-loop

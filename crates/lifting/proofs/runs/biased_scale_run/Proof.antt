@@ -4,8 +4,8 @@ use Prim.Native.Nat.{_+_, _-_}
 use native.Mathlib.Omega.{arith}
 use mir.Syntax.{w32}
 use Rattle.lifting.specs.declared.Factor.{Factor}
-use Rattle.lifting.specs.declared.Factor.the-variants.{Biased}
 use Rattle.lifting.specs.Steps.{scaledBy, FactorSafe}
+use Rattle.lifting.specs.Forms.{biasedFactor}
 use Rattle.slices.specs.Patch.{at}
 use Rattle.slices.specs.Filling.{Filling, filling-none, filling-more, filling-all}
 use Rattle.slices.specs.SignedRuns.{value-safe, value-gives}
@@ -13,13 +13,13 @@ use Rattle.lifting.proofs.runs.biased_scale_run.Statement.{statement}
 use Rattle.lifting.proofs.runs.biased_scale_run.Tie as tie
 
 abbrev Inv-loop : tie.InvT-loop
-Inv-loop src from dst₀ to n c offset base cut j₀ dst j = Filling to n (λ i. scaledBy (Biased c offset base cut) (at src (from + i))) dst₀ dst j
+Inv-loop src from dst₀ to n form j₀ dst j = Filling to n (λ i. scaledBy (biasedFactor form) (at src (from + i))) dst₀ dst j
 
 abbrev μ-loop : tie.MeasureT-loop
-μ-loop src from dst₀ to n c offset base cut j₀ dst j = n - j
+μ-loop src from dst₀ to n form j₀ dst j = n - j
 
 abbrev factor : tie.Start Inv-loop μ-loop → Factor
-factor s = Biased (s .args .c) (s .args .offset) (s .args .base) (s .args .cut)
+factor s = biasedFactor (s .args .form)
 
 pub biased-scale-run-spec : {M : Type 1} → statement M
 biased-scale-run-spec = tie.close (tie.spec Inv-loop μ-loop

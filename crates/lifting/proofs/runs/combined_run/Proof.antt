@@ -3,14 +3,14 @@ use mathlib.Core.Path.{ap}
 use mathlib.Core.Bool.{Bool}
 use borrow.Author.Needs.{needs}
 use Rattle.lifting.specs.declared.Step.{Step}
-use Rattle.lifting.specs.declared.Step.the-variants.{Combined}
+use Rattle.lifting.specs.Forms.{combinedStep}
 use Rattle.slices.specs.Patch.{at}
 use Rattle.lifting.proofs.Turn.{run-asks, run-gives}
 use Rattle.lifting.proofs.runs.combined_run.Statement.{statement}
 use Rattle.lifting.proofs.runs.combined_run.Tie as tie
 
 abbrev step : tie.Start → Bool → Step
-step s down = Combined down (s .args .k) (s .args .c) (s .args .offset) (s .args .base) (s .args .cut)
+step s down = combinedStep down (s .args .form)
 
 pub combined-run-spec : {M : Type 1} → statement M
 combined-run-spec = tie.close (tie.spec

@@ -3,14 +3,14 @@ use mathlib.Core.Path.{ap}
 use mathlib.Core.Bool.{Bool}
 use borrow.Author.Needs.{needs}
 use Rattle.lifting.specs.declared.Step.{Step}
-use Rattle.lifting.specs.declared.Step.the-variants.{BiasedCut}
+use Rattle.lifting.specs.Forms.{cutStep}
 use Rattle.slices.specs.Patch.{at}
 use Rattle.lifting.proofs.Turn.{run-asks, run-gives}
 use Rattle.lifting.proofs.runs.signed_cut_run.Statement.{statement}
 use Rattle.lifting.proofs.runs.signed_cut_run.Tie as tie
 
 abbrev step : tie.Start → Bool → Step
-step s down = BiasedCut down (s .args .k) (s .args .c) (s .args .offset) (s .args .first) (s .args .up) (s .args .base) (s .args .cut)
+step s down = cutStep down (s .args .form)
 
 pub signed-cut-run-spec : {M : Type 1} → statement M
 signed-cut-run-spec = tie.close (tie.spec

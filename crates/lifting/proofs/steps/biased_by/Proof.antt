@@ -14,20 +14,20 @@ use Rattle.lifting.proofs.steps.biased_by.Statement.{statement}
 use Rattle.lifting.proofs.steps.biased_by.Tie as tie
 
 fused-requires : tie.Need-fused-requires
-fused-requires c κs = let a = c .before in fused-small (a .args .c) (c .bias .result) (a .args .offset) 4611686018427387904 (c .bias .ok) (a .pre .more) (omega (arith, a .pre .room))
+fused-requires c κs = let a = c .before in fused-small (a .args .form .c) (c .bias .result) (a .args .form .offset) 4611686018427387904 (c .bias .ok) (a .pre .more) (omega (arith, a .pre .room))
 
 shifted-unbiased-requires : tie.Need-shifted-unbiased-requires
 shifted-unbiased-requires c κs =
     let a = c .before .before in
-    (a .pre .short, cut-small (c .fused .result) (a .args .cut) (c .fused .ok) (a .pre .some), base-small (a .args .c * 2147483648 + a .args .offset) (a .args .base) (a .args .cut) (omega (arith, a .pre .room, a .pre .more)) (a .pre .some) (a .pre .tied))
+    (a .pre .short, cut-small (c .fused .result) (a .args .form .cut) (c .fused .ok) (a .pre .some), base-small (a .args .form .c * 2147483648 + a .args .form .offset) (a .args .form .base) (a .args .form .cut) (omega (arith, a .pre .room, a .pre .more)) (a .pre .some) (a .pre .tied))
 
-value : (c : tie.After-shifted-unbiased) → let a = c .before .before .before .args in c .shifted-unbiased .result ≡ shrZ (pos (a .c) *ℤ a .x) (2 ^ a .cut)
+value : (c : tie.After-shifted-unbiased) → let a = c .before .before .before .args in c .shifted-unbiased .result ≡ shrZ (pos (a .form .c) *ℤ a .x) (2 ^ a .form .cut)
 value c =
     let f = c .before in
     let a = f .before .before in
     c .shifted-unbiased .ensures
-    ∙ ap (λ (n : ℕ). pos (n / 2 ^ a .args .cut) -ℤ pos (a .args .base)) (f .fused .ensures ∙ ap (λ (n : ℕ). a .args .c * n + a .args .offset) (f .before .bias .ensures ∙ ap biased (toZ-ofZ (a .fits .x))))
-    ∙ sym (padded-is (a .args .c) (a .args .offset) (a .args .base) (a .args .cut) (a .pre .tied) (a .args .x) (a .fits .x))
+    ∙ ap (λ (n : ℕ). pos (n / 2 ^ a .args .form .cut) -ℤ pos (a .args .form .base)) (f .fused .ensures ∙ ap (λ (n : ℕ). a .args .form .c * n + a .args .form .offset) (f .before .bias .ensures ∙ ap biased (toZ-ofZ (a .fits .x))))
+    ∙ sym (padded-is (a .args .form .c) (a .args .form .offset) (a .args .form .base) (a .args .form .cut) (a .pre .tied) (a .args .x) (a .fits .x))
 
 narrow-requires : tie.Need-narrow-requires
 narrow-requires c κs = fits-at (got w64 (c .shifted-unbiased .ok) (value c)) (c .before .before .before .pre .result)

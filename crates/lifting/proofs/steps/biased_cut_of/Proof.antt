@@ -16,43 +16,43 @@ use Rattle.lifting.proofs.steps.biased_cut_of.Statement.{statement}
 use Rattle.lifting.proofs.steps.biased_cut_of.Tie as tie
 
 -- the own value's factor
-factor : (a : tie.Start) → ((1 * 2 ^ a .args .k) % 2 ^ 32 ≡ 2 ^ a .args .k) × (2 ^ a .args .k ≤ 1073741824)
+factor : (a : tie.Start) → ((1 * 2 ^ a .args .form .k) % 2 ^ 32 ≡ 2 ^ a .args .form .k) × (2 ^ a .args .form .k ≤ 1073741824)
 factor a =
-    let l : 2 ^ a .args .k ≤ 1073741824 = pow-mono {i = a .args .k} {j = 30} (a .pre .few) in
-    (omega (arith, shl-exact {a = 1} 1 (a .args .k) 32 (omega arith) (omega (arith, a .pre .few))), l)
+    let l : 2 ^ a .args .form .k ≤ 1073741824 = pow-mono {i = a .args .form .k} {j = 30} (a .pre .few) in
+    (omega (arith, shl-exact {a = 1} 1 (a .args .form .k) 32 (omega arith) (omega (arith, a .pre .few))), l)
 
 -- the biased product
-whole : (p : tie.After-product) → let a = p .before .args in p .product .result ≡ a .c * biased (signedSum (a .down) (a .x) (a .y)) + a .offset
+whole : (p : tie.After-product) → let a = p .before .args in p .product .result ≡ a .form .c * biased (signedSum (a .down) (a .x) (a .y)) + a .form .offset
 whole p =
     let a = p .before in
-    p .product .ensures .0 ∙ (λ u. a .args .c * biased (signedSum (a .args .down) (toZ-ofZ (a .fits .x) u) (toZ-ofZ (a .fits .y) u)) + a .args .offset)
+    p .product .ensures .0 ∙ (λ u. a .args .form .c * biased (signedSum (a .args .down) (toZ-ofZ (a .fits .x) u) (toZ-ofZ (a .fits .y) u)) + a .args .form .offset)
 
-small : (c : tie.After-bias) → (1 * 2 ^ c .before .before .before .args .k) % 2 ^ 32 * c .bias .result + c .before .realigned .result < 9223372036854775808
+small : (c : tie.After-bias) → (1 * 2 ^ c .before .before .before .before .args .form .k) % 2 ^ 32 * c .bias .result + c .before .before .realigned .result < 9223372036854775808
 small c =
-    let p = c .before .before in
+    let p = c .before .before .before in
     let f = factor (p .before) in
-    whole-small _ (c .bias .result) (c .before .realigned .result) (p .product .result) (omega (arith, f .0, f .1)) (c .bias .ok) (c .before .realigned .ensures .1) (omega (arith, whole p, product-small (p .before .pre)))
+    whole-small _ (c .bias .result) (c .before .before .realigned .result) (p .product .result) (omega (arith, f .0, f .1)) (c .bias .ok) (c .before .before .realigned .ensures .1) (omega (arith, whole p, product-small (p .before .pre)))
 
 shifted-unbiased-requires : tie.Need-shifted-unbiased-requires
 shifted-unbiased-requires c κs =
-    let a = c .before .before .before .before in
-    (a .pre .signedly .short, omega (arith, div-le-self (c .fused .result) (2 ^ a .args .cut), c .fused .ensures, small (c .before)), cut-base-small (a .pre))
+    let a = c .before .before .before .before .before in
+    (a .pre .signedly .short, omega (arith, div-le-self (c .fused .result) (2 ^ a .args .form .cut), c .fused .ensures, small (c .before)), cut-base-small (a .pre))
 
-value : (c : tie.After-shifted-unbiased) → let a = c .before .before .before .before .before .args in c .shifted-unbiased .result ≡ cutFirst (a .k) (signed (a .down) (a .c)) (a .first) (a .up) (a .cut) (a .own) (a .x) (a .y)
+value : (c : tie.After-shifted-unbiased) → let a = c .before .before .before .before .before .before .args in c .shifted-unbiased .result ≡ cutFirst (a .form .k) (signed (a .down) (a .form .c)) (a .form .first) (a .form .up) (a .form .cut) (a .own) (a .x) (a .y)
 value c =
     let f = c .before in
     let r = f .before in
-    let q = r .before in
+    let q = r .before .before in
     let p = q .before in
     let a = p .before in
     let g = a .args in
-    let total : f .fused .result ≡ 2 ^ g .k * biased (g .own) + (g .c * biased (signedSum (g .down) (g .x) (g .y)) + g .offset) / 2 ^ g .first * 2 ^ g .up =
-    f .fused .ensures ∙ (λ u. factor a .0 u * (r .bias .ensures ∙ ap biased (toZ-ofZ (a .fits .own))) u + (q .realigned .ensures .0 ∙ ap (λ (n : ℕ). n / 2 ^ g .first * 2 ^ g .up) (whole p)) u) in
-    c .shifted-unbiased .ensures ∙ ap (λ (n : ℕ). pos (n / 2 ^ g .cut) -ℤ pos (g .base)) total
-    ∙ sym (biased-cut-is (g .down) (g .k) (g .c) (g .offset) (g .first) (g .up) (g .base) (g .cut) (a .pre .mid) (a .pre .tied) (a .pre .even) (g .own) (g .x) (g .y) (a .fits .own) (a .pre .signedly .sides))
+    let total : f .fused .result ≡ 2 ^ g .form .k * biased (g .own) + (g .form .c * biased (signedSum (g .down) (g .x) (g .y)) + g .form .offset) / 2 ^ g .form .first * 2 ^ g .form .up =
+    f .fused .ensures ∙ (λ u. factor a .0 u * (r .bias .ensures ∙ ap biased (toZ-ofZ (a .fits .own))) u + (q .realigned .ensures .0 ∙ ap (λ (n : ℕ). n / 2 ^ g .form .first * 2 ^ g .form .up) (whole p)) u) in
+    c .shifted-unbiased .ensures ∙ ap (λ (n : ℕ). pos (n / 2 ^ g .form .cut) -ℤ pos (g .form .base)) total
+    ∙ sym (biased-cut-is (g .down) (g .form .k) (g .form .c) (g .form .offset) (g .form .first) (g .form .up) (g .form .base) (g .form .cut) (a .pre .mid) (a .pre .tied) (a .pre .even) (g .own) (g .x) (g .y) (a .fits .own) (a .pre .signedly .sides))
 
 narrow-requires : tie.Need-narrow-requires
-narrow-requires c κs = fits-at (got w64 (c .shifted-unbiased .ok) (value c)) (c .before .before .before .before .before .pre .signedly .result)
+narrow-requires c κs = fits-at (got w64 (c .shifted-unbiased .ok) (value c)) (c .before .before .before .before .before .before .pre .signedly .result)
 
 returns : tie.Need-returns
 returns c = got w32 (c .narrow .ok) (c .narrow .ensures ∙ got w64 (c .before .shifted-unbiased .ok) (value (c .before)))

@@ -3,13 +3,13 @@ use mathlib.Core.Path.{ap}
 use mathlib.Core.Bool.{Bool}
 use mir.Syntax.{w32}
 use Rattle.lifting.specs.declared.Step.{Step}
-use Rattle.lifting.specs.Steps.{biasedStep}
+use Rattle.lifting.specs.Forms.{biasedStep}
 use Rattle.lifting.proofs.Read.{safe-back, applied-back}
 use Rattle.lifting.proofs.steps.biased_of.Statement.{statement}
 use Rattle.lifting.proofs.steps.biased_of.Tie as tie
 
 abbrev form : tie.Start → Bool → Step
-form a separate = biasedStep separate (a .args .down) (a .args .by) (a .args .c) (a .args .offset) (a .args .base) (a .args .cut)
+form a separate = biasedStep separate (a .args .down) (a .args .form)
 
 separate-of-requires : tie.Need-separate-of-requires
 separate-of-requires c κs = let a = c .before in safe-back w32 (a .fits .own) (a .fits .x) (a .fits .y) (ap (form a) (c .if1 .taken)) (a .pre)

@@ -85,11 +85,6 @@ plain (BiasedCut down k c offset first up base cut) = false
 abbrev pub PlainStep : Step → Type 0
 PlainStep s = T (plain s)
 
--- the two biased forms by number
-abbrev pub biasedStep : Bool → Bool → ℕ → ℕ → ℕ → ℕ → ℕ → Step
-biasedStep true down by c offset base cut = Separate down by c base cut
-biasedStep false down by c offset base cut = Combined down by c offset base cut
-
 -- ---- every number on the way fits
 
 -- the neighbours' sum and its negative fit an i32

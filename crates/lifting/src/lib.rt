@@ -124,6 +124,14 @@ pub struct Pair {
     pub lows: Step,
 }
 
+// What `Kernel::Two` holds.
+struct TwoPairs {
+    first: Pair,
+    second: Pair,
+    low: Factor,
+    high: Factor,
+}
+
 // What a pass does with a line: `worked` of specs/Kernels.
 pub enum Kernel {
     // a pair (5/3)

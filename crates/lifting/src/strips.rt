@@ -5,9 +5,9 @@ ghost use Rattle.slices.specs.Patch.{at};
 ghost use Rattle.lifting.specs.Kernels.{Forward, SafeKernel, columnsWorked};
 ghost use Rattle.slices.specs.Parts.{columnOf};
 ghost use Rattle.lifting.specs.Strips.{StripRoom, Ready, Finished};
-use crate::Factor;
 use crate::Kernel;
 use crate::Pair;
+use crate::TwoPairs;
 use crate::buffers::copy_lines;
 use crate::buffers::inverse_lift;
 use crate::buffers::lift;
@@ -41,15 +41,16 @@ fn finish_two(
     from: usize,
     s: usize,
     n: usize,
-    first: Pair,
-    second: Pair,
-    low: Factor,
-    high: Factor,
+    by: TwoPairs,
 )
     requires { ⌜ StripRoom (now plane) (now buffer) stride from s n ⌝ }
-    requires { ⌜ Ready (Kernel.Two first second low high) s n (at (now buffer)) ⌝ }
-    ensures { λ _. ⌜ Finished (Kernel.Two first second low high) stride from s n (at (now (buffer .entry))) (at (now (plane .entry))) (at (now (plane .exit))) ⌝ }
+    requires { ⌜ Ready (Kernel.Two (by .first) (by .second) (by .low) (by .high)) s n (at (now buffer)) ⌝ }
+    ensures { λ _. ⌜ Finished (Kernel.Two (by .first) (by .second) (by .low) (by .high)) stride from s n (at (now (buffer .entry))) (at (now (plane .entry))) (at (now (plane .exit))) ⌝ }
 {
+    let first = by.first;
+    let second = by.second;
+    let low = by.low;
+    let high = by.high;
     lift(buffer, s, n, first);
     lift(buffer, s, n, second);
     let half = (n + 1) / 2;
@@ -87,7 +88,20 @@ pub fn finish(
             second,
             low,
             high,
-        } => finish_two(plane, buffer, stride, from, s, n, first, second, low, high),
+        } => finish_two(
+            plane,
+            buffer,
+            stride,
+            from,
+            s,
+            n,
+            TwoPairs {
+                first,
+                second,
+                low,
+                high,
+            },
+        ),
         Kernel::Inverse(_) => {}
     }
 }

@@ -6,7 +6,7 @@ ghost use Rattle.stages.specs.Rule.{times_gain, loss, product_loss, own_lift, ow
 ghost use Rattle.bounds_rule.specs.Carried.{most_carried, most_once, most_gain, most_multiplied};
 
 // Range and error.
-#[derive(Drop)]
+#[derive(Clone, Copy)]
 pub struct Bound {
     pub range: u64,
     pub error: u64,

@@ -153,7 +153,7 @@ fn scaling(node: u8, bits: u8, value: u8, kept: u8) -> Factor
 }
 
 // The stages of a pass, in the forms in which they are run: two pairs, then the scaling of the lows and that of the highs.
-#[derive(Drop)]
+#[derive(Clone, Copy)]
 pub struct Stages {
     pub first: Pair,
     pub second: Pair,

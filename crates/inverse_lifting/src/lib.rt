@@ -67,7 +67,7 @@ fn scaled(x: i64, c: i64, cut: u32) -> i64
 // Step i of a line takes low i and high i, scaled, and inverts U2 at low i, P2 at high i - 1, U1 at low i - 1 and P1 at high i - 2. Past the
 // last low and the last high it takes that one again, and does not use it. Held after it are g2 and u2 of place i, p2 and u1 of place i - 1;
 // `even` and `odd` are what it gives: the line's values at places 2 (i - 2) and 2 (i - 2) + 1.
-#[derive(Drop)]
+#[derive(Clone, Copy)]
 struct Pipeline {
     g2: i64,
     u2: i64,
@@ -309,7 +309,7 @@ pub fn rows(work: &mut [i64], line: &mut [i64], stride: usize, w: usize, h: usiz
 
 // A strip of so many lines and columns; the lows have lowbits bits, the highs highbits. What is held of its columns, `room` at most, stands
 // in `state`: four values of each column, and after those the low of each that comes next.
-#[derive(Drop)]
+#[derive(Clone, Copy)]
 struct ColumnStrip {
     lines: usize,
     columns: usize,
@@ -417,7 +417,7 @@ fn steps(
 
 // Columns from column `from` on: a row of the plane is `width` long, and in the work area they have lines `stride` apart. Their lows are
 // stored in the plane, or stand on the even lines of the work area.
-#[derive(Drop)]
+#[derive(Clone, Copy)]
 pub struct ColumnsAt {
     pub width: usize,
     pub stride: usize,

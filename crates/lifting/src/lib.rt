@@ -21,7 +21,7 @@ pub use steps::{predicted, predicted_end, updated, updated_end};
 // A lifting step: what it makes of a value and two neighbours is `applied` of specs/Steps. `Separate` and `Combined` are the forms in which a
 // scaled step is run: by products of unsigned numbers, the neighbours' sum negated where the constant is negative. `Cut` cuts the product by
 // itself, first; `BiasedCut` is the form in which it is run.
-#[derive(Drop)]
+#[derive(Clone, Copy)]
 pub enum Step {
     Predict,
     Update,
@@ -67,7 +67,7 @@ pub enum Step {
 }
 
 // A scaling by a constant: `scaled_by` of specs/Steps. `Biased` is the form in which it is run.
-#[derive(Drop)]
+#[derive(Clone, Copy)]
 pub enum Factor {
     Plain {
         c: i64,
@@ -82,7 +82,7 @@ pub enum Factor {
 }
 
 // The numbers of a step in the form `Separate` or `Combined`, with no sign: `separate_step` and `combined_step` of specs/Forms.
-#[derive(Drop)]
+#[derive(Clone, Copy)]
 struct BiasedForm {
     by: u32,
     c: u32,
@@ -92,7 +92,7 @@ struct BiasedForm {
 }
 
 // The numbers of a step in the form `BiasedCut`, with no sign: `cut_step` of specs/Forms.
-#[derive(Drop)]
+#[derive(Clone, Copy)]
 struct CutForm {
     k: u32,
     c: u32,
@@ -104,7 +104,7 @@ struct CutForm {
 }
 
 // The numbers of a scaling in the form `Biased`: `biased_factor` of specs/Forms.
-#[derive(Drop)]
+#[derive(Clone, Copy)]
 struct FactorForm {
     c: u32,
     offset: u64,
@@ -113,14 +113,14 @@ struct FactorForm {
 }
 
 // A pair of lifting steps: one at the highs, then one at the lows; inverted, the other way round.
-#[derive(Drop)]
+#[derive(Clone, Copy)]
 pub struct Pair {
     pub highs: Step,
     pub lows: Step,
 }
 
 // What `Kernel::Two` holds.
-#[derive(Drop)]
+#[derive(Clone, Copy)]
 struct TwoPairs {
     first: Pair,
     second: Pair,
@@ -129,7 +129,7 @@ struct TwoPairs {
 }
 
 // What a pass does with a line: `worked` of specs/Kernels.
-#[derive(Drop)]
+#[derive(Clone, Copy)]
 pub enum Kernel {
     // a pair (5/3)
     One(Pair),

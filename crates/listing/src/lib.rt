@@ -140,7 +140,7 @@ fn read_pixels(bytes: &[u8], pixels: &mut [u16], n: usize)
 }
 
 // What the head of an input says.
-#[derive(Drop)]
+#[derive(Clone, Copy)]
 struct Head {
     pub depth: u8,
     pub levels: u8,

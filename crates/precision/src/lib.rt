@@ -55,7 +55,7 @@ fn carry(sums: [u64; PLACES as usize], x: u64, from: u8) -> [u64; PLACES as usiz
 
 // The widths of a pass: the bits of its constants and its nodes' integer bits, from P1 on; the fractional bits of its places; the bits
 // that its products are cut to, from P1 on.
-#[derive(Drop)]
+#[derive(Clone, Copy)]
 struct Widths {
     constants: [u8; WidthTable::CONSTANTS],
     integers: [u8; WidthTable::NODES as usize],
@@ -151,7 +151,7 @@ fn own_error(widths: Widths, node: u8, total: u64) -> u64
 }
 
 // The widths of a pass, and the ranges and errors of its places.
-#[derive(Drop)]
+#[derive(Clone, Copy)]
 struct PassBounds {
     widths: Widths,
     ranges: [u64; PLACES as usize],
@@ -262,7 +262,7 @@ fn judge_nodes(table: WidthTable, level: u8, pass: u8, bounds: PassBounds, count
 }
 
 // The answer on a pass, with the bounds of what it leaves: of G1 and of G2.
-#[derive(Drop)]
+#[derive(Clone, Copy)]
 struct PassAnswer {
     outcome: Outcome,
     low: Bound,
@@ -285,7 +285,7 @@ fn judge_pass(table: WidthTable, level: u8, pass: u8, input: Bound) -> PassAnswe
 }
 
 // The first refusal of what comes before a pass in book order; where there is none, what enters the pass.
-#[derive(Drop)]
+#[derive(Clone, Copy)]
 struct Entered {
     outcome: Outcome,
     bound: Bound,
@@ -390,7 +390,7 @@ pub fn judge(table: WidthTable) -> Outcome
 }
 
 // Range and error of a node, where the outcome is Done.
-#[derive(Drop)]
+#[derive(Clone, Copy)]
 pub struct BoundAnswer {
     pub outcome: Outcome,
     pub range: u64,

@@ -4,14 +4,14 @@ ghost use Rattle.refusals.specs.Answers.{bytes_up, code};
 ghost use Rattle.refusals.specs.Told.{told_refusal, told};
 
 // A node of a width table: level from 1, pass 1 to 3, node 1 to 6.
-#[derive(Drop)]
+#[derive(Clone, Copy)]
 pub struct NodePlace {
     pub level: u8,
     pub pass: u8,
     pub node: u8,
 }
 
-#[derive(Drop)]
+#[derive(Clone, Copy)]
 pub enum Refusal {
     CutShort,
     WrongTag,
@@ -30,7 +30,7 @@ pub enum Refusal {
 }
 
 // The answer of a call that hands nothing else back.
-#[derive(Drop)]
+#[derive(Clone, Copy)]
 pub enum Outcome {
     Done,
     Refused(Refusal),

@@ -32,7 +32,7 @@ const INVERSE_PASS: Kernel = Kernel::Inverse(Pair {
 });
 
 // What the levels of a copy worked first; `order_of` of specs/Orders says the order.
-#[derive(Drop)]
+#[derive(Clone, Copy)]
 enum CopyOrder {
     ColumnsFirst,
     RowsFirst,

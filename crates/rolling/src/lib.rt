@@ -11,7 +11,7 @@ use rolling_lines::Taken;
 use width_table::WidthTable;
 
 // A scan: its table; the width of its lines, 0 before the first; the lines taken; whether the end was announced.
-#[derive(Drop)]
+#[derive(Clone, Copy)]
 pub struct Scan {
     pub table: WidthTable,
     pub width: usize,
@@ -20,21 +20,21 @@ pub struct Scan {
 }
 
 // The answer of a line or an end: how many lines were given out.
-#[derive(Drop)]
+#[derive(Clone, Copy)]
 pub enum Given {
     Lines(usize),
     NotGiven(Refusal),
 }
 
 // The answer of beginning a scan, with the scan.
-#[derive(Drop)]
+#[derive(Clone, Copy)]
 pub struct Begun {
     pub outcome: Outcome,
     pub scan: Scan,
 }
 
 // The answer of a line or an end, with the scan afterwards.
-#[derive(Drop)]
+#[derive(Clone, Copy)]
 pub struct ScanAnswer {
     pub given: Given,
     pub scan: Scan,
@@ -99,7 +99,7 @@ fn line_width_right(taken: Taken, width: usize) -> bool
 }
 
 // Whether a scan goes on.
-fn goes_on_lem(scan: Scan) -> bool
+fn goes_on(scan: Scan) -> bool
     ensures { result ≡ goes_on scan }
 {
     if scan.ended {
@@ -120,7 +120,7 @@ fn goes_on_lem(scan: Scan) -> bool
 fn line_answer(scan: Scan, pixels: &[u16], w: usize, held: usize, out: usize) -> Outcome
     ensures { told result ≡ line_answer_of scan pixels.now w held out }
 {
-    if goes_on_lem(scan) {} else {
+    if goes_on(scan) {} else {
         return Outcome::Refused(Refusal::OutOfTurn);
     }
     let taken = scan.taken;
@@ -149,7 +149,7 @@ fn line_answer(scan: Scan, pixels: &[u16], w: usize, held: usize, out: usize) ->
 fn end_answer(scan: Scan, held: usize, out: usize) -> Outcome
     ensures { told result ≡ end_answer_of scan held out }
 {
-    if goes_on_lem(scan) {} else {
+    if goes_on(scan) {} else {
         return Outcome::Refused(Refusal::OutOfTurn);
     }
     let taken = scan.taken;

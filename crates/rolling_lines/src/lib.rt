@@ -21,7 +21,7 @@ use lifting::{Factor, Step};
 use width_table::WidthTable;
 
 // How many lines a scan has taken, as far as it matters: from five on, whether the number is odd or even.
-#[derive(Drop)]
+#[derive(Clone, Copy)]
 pub enum Taken {
     Zero,
     One,
@@ -161,7 +161,7 @@ fn make_sound(table: WidthTable, held: &mut [i32], w: usize)
 // ---- the stages of the columns
 
 // A table of one level, and its stages in row-low and in row-high columns.
-#[derive(Drop)]
+#[derive(Clone, Copy)]
 struct Columns {
     table: WidthTable,
     low: Stages,

@@ -13,7 +13,7 @@ use rolling_lines::Taken;
 use width_table::WidthTable;
 
 // The answer of reading a scan, with the scan.
-#[derive(Drop)]
+#[derive(Clone, Copy)]
 pub struct ScanRead {
     pub outcome: Outcome,
     pub scan: Scan,

@@ -36,14 +36,14 @@ pub const MAX_BYTES: usize = 5 * HEAD_BYTES
     + WidthTable::PRODUCT_BYTES;
 
 // The answer of writing: how many bytes were written.
-#[derive(Drop)]
+#[derive(Clone, Copy)]
 pub enum Written {
     Bytes(usize),
     NotWritten(Refusal),
 }
 
 // The answer of naming a tag: where its value lies in the caller's bytes.
-#[derive(Drop)]
+#[derive(Clone, Copy)]
 pub enum Named {
     Value { start: usize, len: usize },
     NotNamed(Refusal),

@@ -200,7 +200,7 @@ fn nodes_right(low: Bound, high: Bound, own: [u64; SOURCES as usize]) -> bool
 }
 
 // Whether the nodes of a pass, a level or some levels are right, and the bound of what these give on.
-#[derive(Drop)]
+#[derive(Clone, Copy)]
 struct Given {
     right: bool,
     bound: Bound,
@@ -310,7 +310,7 @@ pub fn judge(table: WidthTable) -> Outcome
 }
 
 // The distance from scan to view, where the outcome is Done.
-#[derive(Drop)]
+#[derive(Clone, Copy)]
 pub struct DistanceAnswer {
     pub outcome: Outcome,
     pub distance: u64,

@@ -16,7 +16,7 @@ use refusals::{Outcome, Refusal};
 // ((l - 1) * PASSES + (p - 1)) * PASS_BYTES + (k - 1) * WIDTH_BYTES of `nodes` and their fractional bits after them; places of unused
 // levels hold 0. `has_products` says whether the table has tag 5; where it has, the product of P1, U1, P2, U2, counted from 1, has its width at
 // place ((l - 1) * PASSES + (p - 1)) * PRODUCTS + (k - 1) of `products`; all other places there hold 0.
-#[derive(Drop)]
+#[derive(Clone, Copy)]
 pub struct WidthTable {
     pub depth: u8,
     pub levels: u8,
@@ -85,7 +85,7 @@ impl WidthTable {
 }
 
 // A table with an answer: of a change (the old table where it is refused), and of reading bytes (the empty one then).
-#[derive(Drop)]
+#[derive(Clone, Copy)]
 pub struct TableAnswer {
     pub outcome: Outcome,
     pub table: WidthTable,

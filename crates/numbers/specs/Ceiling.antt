@@ -55,4 +55,5 @@ up_most a k = law (2 ^ k) ((a + (2 ^ k - 1)) / 2 ^ k) (pow_pos k) (div-mul-le_se
   where
     law : (m q : ℕ) → 0 < m → q * m ≤ a + (m - 1) → q ≤ a
     law m zero i j = omega arith
+    law zero (suc q) i j = elim i [ ]
     law (suc m) (suc q) i j = by_leb (λ (x : Bool). suc q ≤ a) (suc q) a (λ h. h) (λ h. absurd (omega (arith, mul-le-mul_right m h)))

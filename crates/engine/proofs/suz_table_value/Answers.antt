@@ -1,0 +1,34 @@
+use mathlib.Core.Path.{sym, ◌∙◌, ap}
+use native.Mathlib.Omega.{arith}
+use Rattle.refusals.specs.Answers.{code}
+use Rattle.table_bytes.specs.Told.{told_named}
+use Rattle.table_bytes.specs.NameLaws.{valued}
+use Rattle.engine.specs.AnswerLaws.{name_refused, name_found}
+use borrow.Author.Rules.{rules}
+use Rattle.engine.proofs.suz_table_value.Goals as goal
+
+pub overflow_cast-start : goal.overflow_cast-start
+overflow_cast-start c =
+    let v = c in
+    let a = v.args in
+    omega (arith, (valued a.table.now a.tag _ _ (sym v.value_place.ensures ∙ ap told_named c.in-Value.is)).small)
+
+pub overflow_cast-length : goal.overflow_cast-length
+overflow_cast-length c =
+    let v = c in
+    let a = v.args in
+    omega (arith, (valued a.table.now a.tag _ _ (sym v.value_place.ensures ∙ ap told_named c.in-Value.is)).small)
+
+pub returns-in-NotNamed : goal.returns-in-NotNamed
+returns-in-NotNamed c =
+    let v = c in
+    let a = v.args in
+    let g = name_refused a.table.now a.tag a.start.now a.length.now _ (sym v.value_place.ensures ∙ ap told_named c.in-NotNamed.is) in
+    (c.refusal_code.ensures ∙ sym (ap code g.answers), (g.leaves-start, g.leaves-length))
+
+pub returns-in-Value : goal.returns-in-Value
+returns-in-Value c =
+    let v = c in
+    let a = v.args in
+    let g = name_found a.table.now a.tag a.start.now a.length.now _ _ (sym v.value_place.ensures ∙ ap told_named c.in-Value.is) in
+    (sym (ap code g.answers), (g.leaves-start, g.leaves-length))

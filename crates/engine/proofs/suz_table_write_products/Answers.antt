@@ -1,0 +1,15 @@
+use mathlib.Core.Path.{◌∙◌, ap}
+use Rattle.refusals.specs.Answers.{code}
+use Rattle.width_table.specs.declared.WidthTable.{WidthTable}
+use Rattle.table_bytes.specs.Bytes.{write_answer, bytes_after}
+use borrow.Author.Rules.{rules}
+use Rattle.engine.proofs.suz_table_write_products.Goals as goal
+
+pub returns : goal.returns
+returns c =
+    let w = c in
+    let n = w in
+    let a = n.args in record {
+      answer = w.table_written.ensures.answer ∙ ap (λ (t : WidthTable). code (write_answer t a.out.now)) n.new-table.ensures;
+      out = w.table_written.ensures.out ∙ ap (λ (t : WidthTable). bytes_after t a.out.now) n.new-table.ensures;
+    }

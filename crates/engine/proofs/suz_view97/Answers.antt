@@ -1,0 +1,30 @@
+use mathlib.Core.Path.{◌∙◌, ap}
+use Rattle.refusals.specs.Answers.{code}
+use Rattle.width_table.specs.declared.WidthTable.{WidthTable}
+use Rattle.viewing.specs.Calls.{view_answer, view_pixels, view_work}
+use Rattle.table_calls.specs.CallLaws.{unread, unread_leaves, read, read_leaves}
+use Rattle.engine.specs.Answers.{view_answer97, view_pixels97, view_work97}
+use borrow.Author.Rules.{rules}
+use Rattle.engine.proofs.suz_view97.Goals as goal
+
+pub returns-in-Refused : goal.returns-in-Refused
+unfolding view_answer97 view_pixels97 view_work97
+returns-in-Refused c =
+    let v = c.read-read.ensures in
+    let e = c.in-Refused.is in
+    (c.refusal_code.ensures ∙ ap code (unread _ v e _), (unread_leaves _ v e _ _, unread_leaves _ v e _ _))
+
+pub returns-in-Done : goal.returns-in-Done
+unfolding view_answer97 view_pixels97 view_work97
+returns-in-Done c =
+    let f = c in
+    let t = f in
+    let a = t.args in
+    let v = t.read-read.ensures in
+    let e = t.in-Done.is in (
+      c.code.ensures ∙ ap code (read _ v e (λ (t : WidthTable). view_answer t a.width a.height a.plane.now a.pixels.now a.work.now) f.view.ensures.answer),
+      (
+        read_leaves _ v e (λ (t : WidthTable). view_pixels t a.width a.height a.plane.now a.pixels.now a.work.now) _ f.view.ensures.pixels.0,
+        read_leaves _ v e (λ (t : WidthTable). view_work t a.width a.height a.plane.now a.pixels.now a.work.now) _ f.view.ensures.pixels.1,
+      ),
+    )

@@ -1,0 +1,31 @@
+use mathlib.Core.Path.{◌≡◌, ap, ◌∙◌}
+use Prim.Native.Nat.{ℕ, ◌+◌, ◌-◌, ◌^◌, max}
+use native.Mathlib.Omega.{arith}
+use lib.IntN.{ℤ, pos, ◌*ℤ◌}
+use Rattle.stages.specs.Fixed.{nearest}
+use Rattle.fixed_stages.specs.Constants.{constant_of}
+use Rattle.width_table.specs.Numbered.{node_of}
+use Rattle.fixed_stages.specs.Steps.{factor_of}
+use Rattle.fixed_stages.specs.SafeLaws.{constant_scaled_up}
+use Rattle.fixed_stages.proofs.Read.{back, got, fits_at}
+use Rattle.fixed_stages.proofs.scaling.Goals as goal
+
+constant : (c : goal.After-nearest_at) → let a = c.args in back c.nearest_at.result ≡ nearest (constant_of (node_of a.node)) a.bits
+constant c = got c.nearest_at.type_inv c.nearest_at.ensures
+
+pub factor_of-requires : goal.factor_of-requires
+factor_of-requires c =
+    let s = c in
+    let a = s.args in
+    let top : ℕ = max (a.bits + a.value) a.kept in record {
+      constant_bits = (s.requires.1, s.requires.2, s.requires.3);
+      sfits = fits_at (ap (λ (z : ℤ). z *ℤ pos (2 ^ (top - (a.bits + a.value)))) (constant c)) (constant_scaled_up (node_of a.node) a.bits a.value top s.requires.1 (omega arith) (omega arith));
+    }
+
+pub returns : goal.returns
+returns c =
+    let a = c.args in
+    c.factor_of.ensures ∙ ap (λ (z : ℤ). factor_of z a.bits a.value a.kept) (constant c.before)
+
+pub nearest_at-requires : goal.nearest_at-requires
+nearest_at-requires c = (c.requires.0, c.requires.1)

@@ -1,0 +1,32 @@
+use mathlib.Core.Path.{◌≡◌, ap, ◌∙◌}
+use Prim.Native.Nat.{ℕ, ◌+◌, ◌-◌, ◌^◌}
+use native.Mathlib.Omega.{arith}
+use lib.IntN.{ℤ, pos, ◌*ℤ◌}
+use Rattle.stages.specs.Stages.{cut_to}
+use Rattle.stages.specs.Fixed.{nearest}
+use Rattle.fixed_stages.specs.Constants.{constant_of}
+use Rattle.width_table.specs.Numbered.{node_of}
+use Rattle.fixed_stages.specs.Steps.{step_top, step_of}
+use Rattle.fixed_stages.specs.SafeLaws.{constant_scaled_up}
+use Rattle.fixed_stages.proofs.Read.{back, got, fits_at}
+use Rattle.fixed_stages.proofs.stage.Goals as goal
+
+constant : (c : goal.After-nearest_at) → let a = c.args in back c.nearest_at.result ≡ nearest (constant_of (node_of a.node)) a.bits
+constant c = got c.nearest_at.type_inv c.nearest_at.ensures
+
+pub step_of-requires : goal.step_of-requires
+step_of-requires c =
+    let s = c in
+    let a = s.args in
+    let top : ℕ = step_top a.bits a.sides a.own a.kept in record {
+      constant_bits = (s.requires.1, s.requires.2, s.requires.3, s.requires.4);
+      sfits = fits_at (ap (λ (z : ℤ). z *ℤ pos (2 ^ (top - (a.bits + a.sides)))) (constant c)) (constant_scaled_up (node_of a.node) a.bits a.sides top s.requires.1 (omega arith) (omega arith));
+    }
+
+pub returns : goal.returns
+returns c =
+    let a = c.args in
+    c.step_of.ensures ∙ ap (λ (z : ℤ). step_of (cut_to a.width) z a.bits a.sides a.own a.kept) (constant c.before)
+
+pub nearest_at-requires : goal.nearest_at-requires
+nearest_at-requires c = (c.requires.0, c.requires.1)

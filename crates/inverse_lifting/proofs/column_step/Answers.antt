@@ -1,0 +1,139 @@
+-- `inverse_lifting::column_step` meets its contract: what is held and what comes next are taken by `stepped`, and what it gives is kept.
+use mathlib.Core.Path.{◌≡◌, sym, ap, subst, ◌∙◌}
+use Prim.Native.Nat.{◌+◌, ◌*◌, ◌≤◌}
+use native.Mathlib.Omega.{arith}
+use borrow.Author.Rules.{sfits_of}
+use lib.Dec.{lit≤}
+use lib.IntN.{ℤ, nat_abs}
+use lib.ListN.{length-set}
+use mir.Syntax.{w32, w64}
+use mir.Val.{SFits}
+use mir.Facts.{to_z-of_z, sfits_widen}
+use Rattle.numbers.specs.Auto.{rd}
+use Rattle.lines.specs.Lines.{lows, highs}
+use Rattle.slices.specs.Patch.{at}
+use Rattle.slices.specs.Runs.{as_type}
+use Rattle.inverse_lifting.specs.Fixed.{limit}
+use Rattle.inverse_lifting.specs.Stages.{read, size_read, again, scaled_by, cut_bits, at_inverse, at_zeta}
+use Rattle.inverse_lifting.specs.Steps.{SomeReady, Stepped}
+use Rattle.inverse_lifting.specs.Columns.{low_size, high_size, column_line_lem, column_done}
+use Rattle.inverse_lifting.proofs.column_step.Goals as goal
+
+pub scaled-requires : goal.scaled-requires
+scaled-requires c =
+    let s = c in
+    (size_read (at s.args.state.now (4 * s.args.b.room + s.args.j)) (low_size s.requires.ready s.requires.sized.two), lit≤ tt, omega (arith, s.requires.sized.lowbits))
+
+-- the low, scaled
+low_is_lem : (c : goal.After-scaled) → let a = c.args in rd w64 c.scaled.result ≡ scaled_by at_inverse (cut_bits a.b.lowbits) (at a.state.now (4 * a.b.room + a.j))
+low_is_lem c =
+    let s = c in
+    again c.scaled.result c.scaled.type_inv ∙ c.scaled.ensures ∙ ap (scaled_by at_inverse (cut_bits s.args.b.lowbits)) (read (at s.args.state.now (4 * s.args.b.room + s.args.j)) (low_size s.requires.ready s.requires.sized.two))
+
+-- a coefficient fits 32 bits, and so 64
+fits : (c : goal.After-scaled-arg-2-1) → let a = c.args in SFits w32 (at a.plane.now (a.high + a.j))
+fits c = sfits_of c.scaled-arg-2-1.given
+
+pub overflow_cast-plane : goal.overflow_cast-plane
+overflow_cast-plane c = subst (SFits w64) (sym (to_z-of_z (fits c))) (sfits_widen tt (fits c))
+
+cast_is : (c : goal.After-scaled-arg-2-1) → let a = c.args in rd w64 (rd w32 (at a.plane.now (a.high + a.j))) ≡ at a.plane.now (a.high + a.j)
+cast_is c = to_z-of_z (cast-scaled c) ∙ to_z-of_z (fits c)
+
+pub scaled-requires-2 : goal.scaled-requires-2
+scaled-requires-2 c =
+    let s = c in
+    (subst (λ (v : ℤ). nat_abs v ≤ limit) (sym (cast_is c)) (high_size s.requires.ready s.requires.sized.two), lit≤ tt, omega (arith, s.requires.sized.highbits))
+
+-- the high, scaled
+high_is_lem : (c : goal.After-scaled-2) → let a = c.args in rd w64 c.scaled-2.result ≡ scaled_by at_zeta (cut_bits a.b.highbits) (at a.plane.now (a.high + a.j))
+high_is_lem c =
+    let s = c in
+    again c.scaled-2.result c.scaled-2.type_inv ∙ c.scaled-2.ensures ∙ ap (scaled_by at_zeta (cut_bits s.args.b.highbits)) (cast_is c.before)
+
+pub stepped-t-requires : goal.stepped-t-requires
+stepped-t-requires c =
+    let l = c in
+    let h = l in
+    let s = h in
+    let a = s.args in
+    let n = a.b.lines in (
+      as_type (λ u. SomeReady a.i (lows n) (highs n) (sym h.held.ensures u) (sym (low_is_lem c.before.before) u) (sym (high_is_lem c) u)) (record { line = _; ready = column_line_lem s.requires.ready s.requires.sized.two s.requires.sized.within }),
+      s.requires.sized.middle,
+    )
+
+pub returns : goal.returns
+returns c =
+    let told = c.struct_told-1.given in
+    let k = c in
+    let t = k in
+    let g = t in
+    let l = g in
+    let h = l in
+    let s = h in
+    let a = s.args in
+    let n = a.b.lines in
+    let r = t.stepped-t.result in
+    column_done a.plane.now a.high a.state.now k.keep.new.0 a.out.now a.to a.gap a.b a.i a.j r _ _ s.requires.among s.requires.sized.apart s.requires.sized.fits
+    (as_type (λ u. Stepped a.i (lows n) (highs n) (h.held.ensures u) (low_is_lem c.before.before.before.before.before.before.before.before u) (high_is_lem c.before.before.before.before.before.before u) r) t.stepped-t.ensures)
+    k.keep.ensures (again r.even told.1.1.1.1.0.1) (again r.odd told.1.1.1.1.1.0.1)
+
+pub held-requires : goal.held-requires
+held-requires c = omega (arith, c.requires.among, c.requires.sized.narrow, c.requires.sized.room)
+
+pub overflow_mul-room : goal.overflow_mul-room
+overflow_mul-room c = omega (arith, c.requires.sized.room)
+
+pub overflow_add-room : goal.overflow_add-room
+overflow_add-room c = omega (arith, c.requires.sized.room, c.requires.sized.narrow)
+
+pub offset_bounds-state-room : goal.offset_bounds-state-room
+offset_bounds-state-room c = omega (arith, c.requires.sized.room, c.requires.sized.narrow)
+
+pub slice_copy_out-scaled : goal.slice_copy_out-scaled
+slice_copy_out-scaled c = omega (arith, c.requires.sized.room, c.requires.sized.narrow)
+
+pub overflow_add-lowbits : goal.overflow_add-lowbits
+overflow_add-lowbits c = omega (arith, c.requires.sized.lowbits)
+
+pub overflow_add-high : goal.overflow_add-high
+overflow_add-high c = omega (arith, c.requires.sized.there)
+
+pub offset_bounds-plane-high : goal.offset_bounds-plane-high
+offset_bounds-plane-high c = omega (arith, c.requires.sized.there)
+
+pub bounds-plane-high : goal.bounds-plane-high
+bounds-plane-high c = omega (arith, c.requires.sized.there)
+
+pub overflow_add-highbits : goal.overflow_add-highbits
+overflow_add-highbits c = omega (arith, c.requires.sized.highbits)
+
+pub overflow_add-n : goal.overflow_add-n
+overflow_add-n c = omega (arith, c.requires.sized.few)
+
+pub keep-requires : goal.keep-requires
+keep-requires c = let s = c in omega (arith, s.requires.among, s.requires.sized.narrow, s.requires.sized.room)
+
+pub overflow_add-even : goal.overflow_add-even
+overflow_add-even c = omega (arith, c.requires.sized.fits, c.requires.among, c.well_formed)
+
+pub offset_bounds-out-to : goal.offset_bounds-out-to
+offset_bounds-out-to c = omega (arith, c.requires.sized.fits, c.requires.among, c.well_formed)
+
+pub bounds-out-to : goal.bounds-out-to
+bounds-out-to c = omega (arith, c.requires.sized.fits, c.requires.among, c.well_formed)
+
+pub overflow_add-odd : goal.overflow_add-odd
+overflow_add-odd c = omega (arith, c.requires.sized.fits, c.requires.among, c.well_formed)
+
+pub overflow_add-odd-2 : goal.overflow_add-odd-2
+overflow_add-odd-2 c = omega (arith, c.requires.sized.fits, c.requires.among, c.well_formed)
+
+pub offset_bounds-out-to-2 : goal.offset_bounds-out-to-2
+offset_bounds-out-to-2 c = omega (arith, c.requires.sized.fits, c.requires.among, c.well_formed)
+
+pub bounds-out-to-2 : goal.bounds-out-to-2
+bounds-out-to-2 c = simp length-set (omega (arith, c.requires.sized.fits, c.requires.among, c.well_formed))
+
+pub shape_of-out : goal.shape_of-out
+shape_of-out c = simp length-set

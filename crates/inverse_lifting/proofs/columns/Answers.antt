@@ -1,0 +1,117 @@
+-- `inverse_lifting::columns` meets its contract. A single line goes by itself. The loop's invariant: the first `done` columns are inverted.
+use mathlib.Core.Path.{◌≡◌, refl, sym, ap, subst, ◌∙◌}
+use mathlib.Core.Bool.{Bool}
+use Prim.Native.Nat.{ℕ, ◌+◌, ◌*◌, ◌-◌, ◌≤◌}
+use native.Mathlib.Omega.{arith}
+use lib.IntN.{nat_abs}
+use lib.ListN.{length}
+use Rattle.slices.specs.Patch.{at}
+use Rattle.slices.specs.PatchLines.{lines_none, lines_to}
+use Rattle.inverse_lifting.specs.declared.ColumnsAt.{ColumnsAt}
+use Rattle.inverse_lifting.specs.Fixed.{limit}
+use Rattle.inverse_lifting.specs.Planes.{Safe}
+use Rattle.inverse_lifting.specs.Strips.{source, inverted, Lies, source_as_was, inverted_more, inverted_none, inverted_single}
+use Rattle.inverse_lifting.proofs.columns.Goals as goal
+
+abbrev site : ℕ → ℕ → ℕ → Bool → ColumnsAt
+site width stride from stored = record { width = width; stride = stride; from = from; stored = stored }
+
+-- the strip's width
+width : (c : goal.After-smaller-s) → let a = c.args in (1 ≤ c.smaller-s.result) × (c.loop-done.done + c.smaller-s.result ≤ a.w) × (5 * c.smaller-s.result ≤ length a.state.now)
+width c = (omega (arith, c.smaller-s.ensures), omega (arith, c.smaller-s.ensures), omega (arith, c.smaller-s.ensures))
+
+pub single_line-requires : goal.single_line-requires
+single_line-requires c =
+    let s = c in
+    let a = s.args in
+    let e : a.h ≡ 1 = omega arith in record {
+      lies = (subst (Lies _ _ a.a a.w) e s.requires.lies.0, s.requires.lies.3);
+      by_index = λ j g. subst (λ (h : ℕ). nat_abs (source a.a h (at a.plane.now) (at a.work.now) j 0) ≤ limit) e ((s.requires.by_index j g).enters 0 (omega arith));
+    }
+
+pub returns-then-h-eq1 : goal.returns-then-h-eq1
+returns-then-h-eq1 c =
+    let s = c in
+    let a = s.args in
+    let e : 1 ≡ a.h = omega arith in (
+      c.single_line.ensures ∙ inverted_single a.a a.lowbits a.highbits a.w (at a.plane.now) (at a.work.now)
+          ∙ ap (λ (h : ℕ). inverted a.a a.lowbits a.highbits a.w h (at a.plane.now) (at a.work.now)) e,
+      (refl, refl),
+    )
+
+pub inverse_strip-requires : goal.inverse_strip-requires
+inverse_strip-requires c =
+    let m = c in
+    let l = m in
+    let t = l.loop-done in
+    let s = l in
+    let a = s.args in
+    let q = s.requires.lies.0 in
+    let z = width m in
+    record {
+      placed = record {
+        two = record { least = omega arith };
+        lies = record {
+          few = q.few;
+          narrow = omega (arith, q.narrow);
+          in_plane = λ k h. omega (arith, q.in_plane k h);
+          in_work = λ k h. omega (arith, q.in_work k h, t.invariant.1);
+        };
+        narrow = omega (arith, m.smaller-s.ensures);
+        room = omega (arith, t.invariant.2);
+        spare = omega (arith, t.invariant.3, s.requires.lies.2);
+        lowbits = s.requires.lies.3;
+        highbits = s.requires.lies.4;
+      };
+      safe = λ j g.
+          subst (Safe a.lowbits a.highbits a.h)
+          (sym (source_as_was a.a a.lowbits a.highbits t.done m.smaller-s.result a.h (omega (arith, q.narrow)) (at a.plane.now) (at a.work.now) _ t.invariant.4 j g))
+          (s.requires.by_index (t.done + j) (omega arith));
+    }
+
+pub loop-done-preserved : goal.loop-done-preserved
+loop-done-preserved c =
+    let f = c in
+    let m = f in
+    let l = m in
+    let t = l.loop-done in
+    let s = l in
+    let a = s.args in
+    let z = width m in (
+      omega arith,
+      omega (arith, t.invariant.1),
+      omega (arith, t.invariant.2),
+      omega (arith, t.invariant.3),
+      inverted_more a.a a.lowbits a.highbits t.done m.smaller-s.result a.h (omega (arith, s.requires.lies.0.narrow)) (at a.plane.now) (at a.work.now) _ t.invariant.4 _ f.inverse_strip.ensures,
+    )
+
+pub returns : goal.returns
+returns c =
+    let t = c.loop-done in
+    let a = c.args in
+    let e : t.done ≡ a.w = omega arith in
+    (t.invariant.4 ∙ ap (λ (w : ℕ). inverted a.a a.lowbits a.highbits w a.h (at a.plane.now) (at a.work.now)) e, (t.invariant.2, t.invariant.3))
+
+pub returns-then-h-eq0 : goal.returns-then-h-eq0
+returns-then-h-eq0 c = (lines_to _ _ 0 _ _ _ _ (lines_none _ _ _ _) (omega arith), (refl, refl))
+
+pub loop-done-init : goal.loop-done-init
+loop-done-init c = (omega arith, refl, refl, refl, inverted_none _ _ _ _ _ _)
+
+pub overflow_add-at : goal.overflow_add-at
+overflow_add-at c = omega (arith, c.requires.lies.0.narrow)
+
+pub overflow_add-done : goal.overflow_add-done
+overflow_add-done c = omega (arith, width c.before.before.before.before.before.before.before)
+
+pub loop-done-smaller : goal.loop-done-smaller
+loop-done-smaller c = omega (arith, width c.before.before.before.before.before.before.before)
+
+pub shape_of-work : goal.shape_of-work
+shape_of-work c = omega (arith, c.loop-done.invariant.1)
+
+pub shape_of-state : goal.shape_of-state
+shape_of-state c = omega (arith, c.loop-done.invariant.2)
+
+pub shape_of-line : goal.shape_of-line
+shape_of-line c = omega (arith, c.loop-done.invariant.3)

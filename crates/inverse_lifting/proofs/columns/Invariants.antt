@@ -1,0 +1,21 @@
+use mathlib.Core.Path.{◌≡◌, refl, sym, ap, subst, ◌∙◌}
+use mathlib.Core.Bool.{Bool}
+use Prim.Native.Nat.{ℕ, ◌+◌, ◌*◌, ◌-◌, ◌≤◌}
+use native.Mathlib.Omega.{arith}
+use lib.IntN.{nat_abs}
+use lib.ListN.{length}
+use Rattle.slices.specs.Patch.{at}
+use Rattle.slices.specs.PatchLines.{lines_none, lines_to}
+use Rattle.inverse_lifting.specs.declared.ColumnsAt.{ColumnsAt}
+use Rattle.inverse_lifting.specs.Fixed.{limit}
+use Rattle.inverse_lifting.specs.Planes.{Safe}
+use Rattle.inverse_lifting.specs.Strips.{source, inverted, Lies, source_as_was, inverted_more, inverted_none, inverted_single}
+use Rattle.inverse_lifting.proofs.columns.Given as goal
+
+abbrev pub invariant-loop-done : goal.invariant-loop-done
+invariant-loop-done l =
+    (l.done ≤ l.w) × (length l.work ≡ length l.initial.work) × (length l.state ≡ length l.initial.state) × (length l.line ≡ length l.initial.line)
+    × (at l.work ≡ inverted (site l.width l.stride l.from l.stored) l.lowbits l.highbits l.done l.h (at l.plane) (at l.initial.work))
+
+abbrev pub decreases-loop-done : goal.decreases-loop-done
+decreases-loop-done l = l.w - l.done

@@ -1,0 +1,15 @@
+use mathlib.Core.Path.{◌≡◌, refl, subst}
+use Prim.Native.Nat.{ℕ, ◌+◌, ◌-◌, ◌≤◌}
+use native.Mathlib.Omega.{arith}
+use lib.ListN.{length}
+use Rattle.lines.specs.Lines.{lows}
+use Rattle.inverse_lifting.specs.Strips.{Placed}
+use Rattle.inverse_lifting.specs.StripLoop.{StripDone, none_taken, column_ready, strip_more, strip_all, placed_as}
+use Rattle.inverse_lifting.proofs.inverse_strip.Given as goal
+
+abbrev pub invariant-loop-i : goal.invariant-loop-i
+invariant-loop-i l =
+    (l.i ≤ lows l.b.lines + 2) × (length l.work ≡ length l.initial.work) × (length l.state ≡ length l.initial.state) × (length l.line ≡ length l.initial.line) × StripDone l.plane l.initial.work l.work l.state l.a l.b l.i
+
+abbrev pub decreases-loop-i : goal.decreases-loop-i
+decreases-loop-i l = lows l.b.lines + 2 - l.i

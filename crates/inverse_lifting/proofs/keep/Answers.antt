@@ -1,0 +1,26 @@
+-- `inverse_lifting::keep` meets its contract: four stores.
+use native.Mathlib.Omega.{arith}
+use lib.ListN.{length-set}
+use Rattle.inverse_lifting.specs.Stages.{again}
+use Rattle.inverse_lifting.specs.Columns.{kept_sets}
+use Rattle.inverse_lifting.proofs.keep.Goals as goal
+
+pub returns : goal.returns
+returns c =
+    let told = c.struct_told-1.given in
+    let s = c in
+    let t = s.args.t in
+    kept_sets s.args.state.now s.args.j t _ _ _ _ s.requires
+    (again t.g2 told.0.1) (again t.u2 told.1.0.1) (again t.p2 told.1.1.0.1) (again t.u1 told.1.1.1.0.1)
+
+pub bounds-state-j-2 : goal.bounds-state-j-2
+bounds-state-j-2 c = simp length-set (omega arith)
+
+pub bounds-state-j-3 : goal.bounds-state-j-3
+bounds-state-j-3 c = simp length-set (omega arith)
+
+pub bounds-state-j-4 : goal.bounds-state-j-4
+bounds-state-j-4 c = simp length-set (omega arith)
+
+pub shape_of-state : goal.shape_of-state
+shape_of-state c = simp length-set

@@ -1,0 +1,18 @@
+use mathlib.Core.Path.{◌≡◌, refl, sym, subst, ◌∙◌}
+use Prim.Native.Nat.{◌*◌, ◌-◌, ◌≤◌}
+use native.Mathlib.Omega.{arith}
+use lib.ListN.{length}
+use Rattle.slices.specs.Patch.{at, patch_ext}
+use Rattle.slices.specs.PatchLines.{lines_none, lines_to}
+use Rattle.slices.specs.PartLaws.{row_kept, row_next}
+use Rattle.inverse_lifting.specs.Fixed.{node_bits, fixed_inverse}
+use Rattle.inverse_lifting.specs.Planes.{Safe, rows_inverse}
+use Rattle.inverse_lifting.specs.Rows.{rows_single}
+use Rattle.inverse_lifting.proofs.rows.Given as goal
+
+abbrev pub invariant-loop-r : goal.invariant-loop-r
+invariant-loop-r l =
+    (l.r ≤ l.h) × (length l.work ≡ length l.initial.work) × (length l.line ≡ length l.initial.line) × (at l.work ≡ rows_inverse l.stride l.w l.r (at l.initial.work))
+
+abbrev pub decreases-loop-r : goal.decreases-loop-r
+decreases-loop-r l = l.h - l.r

@@ -1,0 +1,27 @@
+-- The columns follow the rows of the pixels.
+use mathlib.Core.Path.{ap, ◌∙◌}
+use Prim.Native.Nat.{◌-◌, ◌^◌}
+use native.Mathlib.Omega.{arith}
+use Rattle.slices.specs.Patch.{at}
+use Rattle.slices.specs.Pixels.{loaded}
+use Rattle.irreversible.specs.Memory.{columned}
+use Rattle.irreversible.specs.CallSteps.{first_ready, both_ready}
+use Rattle.irreversible.proofs.first_level.Goals as goal
+
+pub work_columns-requires : goal.work_columns-requires
+work_columns-requires c =
+    let o = c in
+    let s = o in
+    let a = s.args in
+    let f = first_ready s.requires in
+    both_ready a.table 1 a.w a.w a.h (loaded a.pixels.now (2 ^ (a.table.depth - 1)) a.w a.h (at a.plane.now)) a.plane.now _ _ f.is_level f.part (omega (arith, f.down)) f.safe (omega arith) o.pixel_rows.ensures
+
+pub returns : goal.returns
+returns c =
+    let f = c in
+    let o = f in
+    let a = o.args in
+    f.work_columns.ensures ∙ ap (columned a.table 1 a.w a.w a.h) o.pixel_rows.ensures
+
+pub pixel_rows-requires : goal.pixel_rows-requires
+pixel_rows-requires c = c.requires

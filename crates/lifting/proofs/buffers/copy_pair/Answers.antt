@@ -1,0 +1,13 @@
+-- `lifting::buffers::copy_pair` meets its contract.
+use mathlib.Core.Path.{ap, ◌∙◌}
+use Prim.Native.Nat.{◌+◌}
+use native.Mathlib.Omega.{arith}
+use Rattle.slices.specs.Patch.{at, patch}
+use Rattle.lifting.proofs.buffers.copy_pair.Goals as goal
+
+pub returns : goal.returns
+returns c =
+    let g = c in
+    let f = g in
+    let a = f.args in
+    g.copy_run-2.ensures ∙ ap (patch a.d a.m (λ j. at a.src.now (a.b + j))) f.copy_run.ensures

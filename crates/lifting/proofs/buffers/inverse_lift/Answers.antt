@@ -1,0 +1,21 @@
+-- `lifting::buffers::inverse_lift` meets its contract.
+use mathlib.Core.Path.{ap, sym, subst, ◌∙◌}
+use native.Mathlib.Omega.{arith}
+use Rattle.lifting.specs.Steps.{applied, Safe}
+use Rattle.lifting.specs.Buffers.{AtHighs, highs_done, buffer_as}
+use Rattle.lifting.proofs.buffers.inverse_lift.Goals as goal
+
+pub on_lows-requires : goal.on_lows-requires
+on_lows-requires c = record {
+      buffer = c.requires.buffer;
+      at_lows = c.requires.inverse_lift_safe.on_lows_lem;
+    }
+
+pub on_highs-requires : goal.on_highs-requires
+on_highs-requires c = let f = c in let a = f in record {
+      buffer = buffer_as a.requires.buffer _ (omega arith);
+      at_highs = subst (AtHighs (Safe a.args.pair.highs) a.args.s a.args.n) (sym f.on_lows.ensures) a.requires.inverse_lift_safe.on_highs_lem;
+    }
+
+pub returns : goal.returns
+returns c = let g = c in let f = g in let a = f in g.on_highs.ensures ∙ ap (highs_done (applied a.args.pair.highs) a.args.s a.args.n) f.on_lows.ensures

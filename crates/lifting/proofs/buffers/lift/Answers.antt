@@ -1,0 +1,21 @@
+-- `lifting::buffers::lift` meets its contract.
+use mathlib.Core.Path.{ap, sym, subst, ◌∙◌}
+use native.Mathlib.Omega.{arith}
+use Rattle.lifting.specs.Steps.{applied, Safe}
+use Rattle.lifting.specs.Buffers.{AtLows, lows_done, buffer_as}
+use Rattle.lifting.proofs.buffers.lift.Goals as goal
+
+pub on_highs-requires : goal.on_highs-requires
+on_highs-requires c = record {
+      buffer = c.requires.buffer;
+      at_highs = c.requires.lift_safe.on_highs_lem;
+    }
+
+pub on_lows-requires : goal.on_lows-requires
+on_lows-requires c = let f = c in let a = f in record {
+      buffer = buffer_as a.requires.buffer _ (omega arith);
+      at_lows = subst (AtLows (Safe a.args.pair.lows) a.args.s a.args.n) (sym f.on_highs.ensures) a.requires.lift_safe.on_lows_lem;
+    }
+
+pub returns : goal.returns
+returns c = let g = c in let f = g in let a = f in g.on_lows.ensures ∙ ap (lows_done (applied a.args.pair.lows) a.args.s a.args.n) f.on_highs.ensures

@@ -1,0 +1,21 @@
+-- `lifting::buffers::merge` meets its contract.
+use native.Mathlib.Omega.{arith}
+use Rattle.slices.specs.Patch.{at}
+use Rattle.lifting.specs.Strips.{as_row, one_column, woven_row}
+use Rattle.lifting.proofs.buffers.merge.Goals as goal
+
+pub returns-then-stride-eq1 : goal.returns-then-stride-eq1
+returns-then-stride-eq1 c =
+    let f = c in
+    let a = f in
+    let e = f.if-stride-eq1.true in
+    woven_row _ _ _ _ (at a.args.buffer.now) _ e (one_column a.requires e) _ f.merge_lines.ensures
+
+pub merge_lines-requires : goal.merge_lines-requires
+merge_lines-requires c = as_row c.requires c.if-stride-eq1.true
+
+pub merge_lines-requires-else-stride-eq1 : goal.merge_lines-requires-else-stride-eq1
+merge_lines-requires-else-stride-eq1 c = c.requires
+
+pub returns-else-stride-eq1 : goal.returns-else-stride-eq1
+returns-else-stride-eq1 c = c.merge_lines-else-stride-eq1.ensures

@@ -1,0 +1,79 @@
+-- `lifting::buffers::scale_part` meets its contract: one run, or a loop whose invariant is that the first r lines are done.
+use mathlib.Core.Path.{◌≡◌, refl, sym, ap, subst, ◌∙◌}
+use mathlib.Core.List.{List}
+use Prim.Native.Nat.{ℕ, zero, suc, ◌+◌, ◌*◌, ◌-◌, ◌<◌, ◌≤◌}
+use native.Mathlib.Omega.{arith}
+use lib.IntN.{ℤ}
+use lib.ListN.{length}
+use Rattle.lifting.specs.Steps.{scaled_by, FactorSafe}
+use Rattle.slices.specs.Patch.{at}
+use Rattle.slices.specs.PatchLines.{line_at, patch_lines, lines_apart, lines_out, lines_none, lines_more, lines_to, packed_is}
+use Rattle.lifting.specs.Buffers.{by_line}
+use Rattle.slices.specs.Parts.{Part}
+use Rattle.lifting.proofs.buffers.scale_part.Goals as goal
+
+-- lines without a gap lie in the plane as one run
+one-run : {l : List ℤ} {stride from w : ℕ} (h : ℕ) → Part l stride from w h → stride ≡ w → from + h * w ≤ length l
+one-run zero part e = omega (arith, part.narrow)
+one-run {stride} {w} (suc k) part e =
+    let s : k * stride ≡ k * w = ap (λ (t : ℕ). k * t) e in
+    omega (arith, part.fits k (omega arith))
+
+-- line r is as it was
+kept : (from stride w r : ℕ) → w ≤ stride → (new : ℕ → ℕ → ℤ) (x y : ℕ → ℤ) → y ≡ patch_lines (line_at from stride) w r new x → (j : ℕ) → j < w → y (line_at from stride r + j) ≡ x (line_at from stride r + j)
+kept from stride w r narrow new x y is j h = ap (λ (g : ℕ → ℤ). g (line_at from stride r + j)) is
+    ∙ lines_out (line_at from stride) w new x r _ (λ u v a b. lines_apart from stride w u r narrow (omega arith) v j b h)
+
+pub overflow_mul-h : goal.overflow_mul-h
+overflow_mul-h c = let a = c in omega (arith, one-run a.args.h a.requires.part c.if-stride-w.true)
+
+pub scale_here-requires : goal.scale_here-requires
+scale_here-requires c =
+    let a = c in
+    let e = c.if-stride-w.true in
+    let x = at a.args.plane.now in record {
+      n_in_bounds = one-run a.args.h a.requires.part e;
+      by_index = by_line (λ p. FactorSafe a.args.g (x (a.args.from + p))) a.args.w a.args.h
+          (λ r j p q. subst (λ (u : ℕ). FactorSafe a.args.g (x u)) (omega (arith, ap (λ (t : ℕ). r * t) e)) (a.requires.by_index r j p q));
+    }
+
+pub returns-then-stride-w : goal.returns-then-stride-w
+returns-then-stride-w c =
+    let t = c in
+    let a = t in
+    let e = t.if-stride-w.true in
+    c.scale_here.ensures ∙ packed_is a.args.from a.args.w a.args.h a.args.stride _ _ _ e
+    (λ r j p q. ap (λ (u : ℕ). scaled_by a.args.g (at a.args.plane.now u)) (omega (arith, ap (λ (t : ℕ). r * t) e)))
+
+pub loop-r-init : goal.loop-r-init
+loop-r-init c = (omega arith, refl, lines_none _ _ _ _)
+
+pub overflow_mul-r : goal.overflow_mul-r
+overflow_mul-r c = let t = c in omega (arith, t.requires.part.fits t.loop-r.r c.loop-r-test.true)
+
+pub overflow_add-from : goal.overflow_add-from
+overflow_add-from c = let t = c in omega (arith, t.requires.part.fits t.loop-r.r c.loop-r-test.true)
+
+pub scale_here-requires-in-loop-r : goal.scale_here-requires-in-loop-r
+scale_here-requires-in-loop-r c =
+    let t = c in
+    let a = t in
+    let r = t.loop-r.r in
+    let p = c.loop-r-test.true in record {
+      n_in_bounds = omega (arith, a.requires.part.fits r p);
+      by_index = λ j q. subst (FactorSafe a.args.g) (sym (kept a.args.from a.args.stride a.args.w r (omega (arith, a.requires.part.narrow)) _ _ _ t.loop-r.invariant.2 j q)) (a.requires.by_index r j p q);
+    }
+
+pub loop-r-preserved : goal.loop-r-preserved
+loop-r-preserved c =
+    let t = c in
+    let a = t in
+    let r = t.loop-r.r in (
+      omega arith,
+      omega arith,
+      lines_more _ _ _ _ r _ _ _ t.loop-r.invariant.2 c.scale_here-in-loop-r.ensures
+          (λ j q. ap (scaled_by a.args.g) (kept a.args.from a.args.stride a.args.w r (omega (arith, a.requires.part.narrow)) _ _ _ t.loop-r.invariant.2 j q)),
+    )
+
+pub returns : goal.returns
+returns c = lines_to _ _ _ _ _ _ _ c.loop-r.invariant.2 (omega arith)

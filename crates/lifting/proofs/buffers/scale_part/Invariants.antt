@@ -1,0 +1,19 @@
+use mathlib.Core.Path.{◌≡◌, refl, sym, ap, subst, ◌∙◌}
+use mathlib.Core.List.{List}
+use Prim.Native.Nat.{ℕ, zero, suc, ◌+◌, ◌*◌, ◌-◌, ◌<◌, ◌≤◌}
+use native.Mathlib.Omega.{arith}
+use lib.IntN.{ℤ}
+use lib.ListN.{length}
+use Rattle.lifting.specs.Steps.{scaled_by, FactorSafe}
+use Rattle.slices.specs.Patch.{at}
+use Rattle.slices.specs.PatchLines.{line_at, patch_lines, lines_apart, lines_out, lines_none, lines_more, lines_to, packed_is}
+use Rattle.lifting.specs.Buffers.{by_line}
+use Rattle.slices.specs.Parts.{Part}
+use Rattle.lifting.proofs.buffers.scale_part.Given as goal
+
+abbrev pub invariant-loop-r : goal.invariant-loop-r
+invariant-loop-r l =
+    (l.r ≤ l.h) × (length l.plane ≡ length l.initial.plane) × (at l.plane ≡ patch_lines (line_at l.from l.stride) l.w l.r (λ k j. scaled_by l.g (at l.initial.plane (line_at l.from l.stride k + j))) (at l.initial.plane))
+
+abbrev pub decreases-loop-r : goal.decreases-loop-r
+decreases-loop-r l = l.h - l.r

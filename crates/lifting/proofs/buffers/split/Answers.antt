@@ -1,0 +1,27 @@
+-- `lifting::buffers::split` meets its contract.
+use mathlib.Core.Path.{sym}
+use native.Mathlib.Omega.{arith}
+use Rattle.slices.specs.Patch.{at}
+use Rattle.slices.specs.Runs.{as_type}
+use Rattle.lifting.specs.Passes.{evens, odds}
+use Rattle.slices.specs.Parts.{column_of}
+use Rattle.lifting.specs.Buffers.{BufferHolds}
+use Rattle.lifting.specs.Strips.{as_row, one_column}
+use Rattle.lifting.proofs.buffers.split.Goals as goal
+
+pub returns-then-stride-eq1 : goal.returns-then-stride-eq1
+returns-then-stride-eq1 c =
+    let f = c in
+    let a = f in
+    let e = f.if-stride-eq1.true in
+    let x = at a.args.plane.now in
+    as_type (λ u. BufferHolds (sym (one_column a.requires e) u) a.args.n (λ j. evens (column_of (sym e u) a.args.from x j)) (λ j. odds (column_of (sym e u) a.args.from x j)) (at f.split_lines.new.1.0)) f.split_lines.ensures
+
+pub split_lines-requires : goal.split_lines-requires
+split_lines-requires c = as_row c.requires c.if-stride-eq1.true
+
+pub split_lines-requires-else-stride-eq1 : goal.split_lines-requires-else-stride-eq1
+split_lines-requires-else-stride-eq1 c = c.requires
+
+pub returns-else-stride-eq1 : goal.returns-else-stride-eq1
+returns-else-stride-eq1 c = c.split_lines-else-stride-eq1.ensures

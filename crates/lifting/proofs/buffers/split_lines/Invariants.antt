@@ -1,0 +1,18 @@
+use mathlib.Core.Path.{◌≡◌, refl, ap}
+use Prim.Native.Nat.{◌*◌, ◌-◌, ◌≤◌}
+use native.Mathlib.Omega.{arith}
+use lib.ListN.{length}
+use Rattle.lines.specs.Lines.{lows, highs}
+use Rattle.slices.specs.Patch.{at}
+use Rattle.lifting.specs.Passes.{evens, odds}
+use Rattle.slices.specs.Parts.{column_of}
+use Rattle.lifting.specs.Buffers.{Filled, filled_none, filled_low, filled_high, filled_to, sizes}
+use Rattle.lifting.specs.Strips.{two_lines_lem, last_line}
+use Rattle.lifting.proofs.buffers.split_lines.Given as goal
+
+abbrev pub invariant-loop-i : goal.invariant-loop-i
+invariant-loop-i l =
+    (l.i ≤ highs l.n) × (length l.buffer ≡ length l.initial.buffer) × Filled l.s (lows l.n * l.s) l.i l.i (λ j. evens (column_of l.stride l.from (at l.plane) j)) (λ j. odds (column_of l.stride l.from (at l.plane) j)) (at l.buffer)
+
+abbrev pub decreases-loop-i : goal.decreases-loop-i
+decreases-loop-i l = highs l.n - l.i

@@ -1,0 +1,16 @@
+use mathlib.Core.Path.{◌≡◌, refl, sym, ap, subst, ◌∙◌}
+use Prim.Native.Nat.{ℕ, ◌+◌, ◌*◌, ◌-◌, ◌≤◌}
+use native.Mathlib.Omega.{arith}
+use lib.ListN.{length}
+use Rattle.slices.specs.Patch.{at}
+use Rattle.lifting.specs.Kernels.{worked, SafeKernel, columns_worked}
+use Rattle.slices.specs.PartLaws.{column_as_was, columns_more, columns_none}
+use Rattle.lifting.specs.Strips.{some_width, enough_room, part_strip}
+use Rattle.lifting.proofs.passes.columns.Given as goal
+
+abbrev pub invariant-loop-done : goal.invariant-loop-done
+invariant-loop-done l =
+    (l.done ≤ l.w) × (length l.plane ≡ length l.initial.plane) × (length l.buffer ≡ length l.initial.buffer) × (at l.plane ≡ columns_worked l.kernel l.stride l.from l.done l.h (at l.initial.plane))
+
+abbrev pub decreases-loop-done : goal.decreases-loop-done
+decreases-loop-done l = l.w - l.done

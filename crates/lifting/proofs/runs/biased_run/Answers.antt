@@ -1,0 +1,25 @@
+-- `lifting::runs::biased_run` meets its contract.
+use Prim.Native.Nat.{◌-◌}
+use native.Mathlib.Omega.{arith}
+use Rattle.lifting.specs.declared.Step.{Step}
+use Rattle.lifting.specs.Steps.{applied}
+use Rattle.lifting.specs.Forms.{biased_step}
+use Rattle.lifting.specs.SafeRuns.{step_asks, step_done}
+use Rattle.slices.specs.Filling.{filling_none, filling_all}
+use Rattle.slices.specs.SignedRuns.{Running}
+use Rattle.lifting.proofs.runs.biased_run.Goals as goal
+
+abbrev step : goal.Start → Step
+step s = biased_step s.args.separate s.args.down s.args.form
+
+pub loop-j-init : goal.loop-j-init
+loop-j-init c = filling_none _ _ _ _
+
+pub biased_of-v-requires : goal.biased_of-v-requires
+biased_of-v-requires c = let i = c in let s = i in step_asks (step s) s.requires.runs i.loop-j.invariant i.loop-j-test.true c.biased_of-arg-1.given c.biased_of-arg-in-loop-j-1.given c.biased_of-arg-in-loop-j-2-1.given s.requires.safe_run
+
+pub loop-j-preserved : goal.loop-j-preserved
+loop-j-preserved c = let g = c in let i = g in let s = i in step_done (step s) s.requires.runs i.loop-j.invariant i.loop-j-test.true g.biased_of-arg-1.given g.biased_of-arg-in-loop-j-1.given g.biased_of-arg-in-loop-j-2-1.given c.biased_of-v.type_inv c.biased_of-v.ensures
+
+pub returns : goal.returns
+returns c = filling_all c.loop-j.invariant (omega arith)

@@ -1,0 +1,30 @@
+-- `lifting::runs::combined_run` meets its contract: in each branch the step is the one that is handed on.
+use mathlib.Core.Path.{ap}
+use mathlib.Core.Bool.{Bool}
+use borrow.Author.Rules.{rules}
+use Rattle.lifting.specs.declared.Step.{Step}
+use Rattle.lifting.specs.Forms.{combined_step}
+use Rattle.slices.specs.Patch.{at}
+use Rattle.lifting.proofs.Turn.{run_asks, run_gives}
+use Rattle.lifting.proofs.runs.combined_run.Goals as goal
+
+abbrev step : goal.Start → Bool → Step
+step s down = combined_step down s.args.form
+
+pub biased_run-requires : goal.biased_run-requires
+biased_run-requires c = let s = c in record {
+      runs = s.requires.runs;
+      safe_run = run_asks s.args.t s.args.a s.args.b s.args.n (at s.args.buf.now) (ap (step s) c.if-down.true) s.requires.safe_run;
+    }
+
+pub biased_run-requires-else-down : goal.biased_run-requires-else-down
+biased_run-requires-else-down c = let s = c in record {
+      runs = s.requires.runs;
+      safe_run = run_asks s.args.t s.args.a s.args.b s.args.n (at s.args.buf.now) (ap (step s) c.if-down.false) s.requires.safe_run;
+    }
+
+pub returns-then-down : goal.returns-then-down
+returns-then-down c = let i = c in let s = i in run_gives s.args.t s.args.a s.args.b s.args.n (at s.args.buf.now) (ap (step s) i.if-down.true) c.biased_run.ensures
+
+pub returns-else-down : goal.returns-else-down
+returns-else-down c = let i = c in let s = i in run_gives s.args.t s.args.a s.args.b s.args.n (at s.args.buf.now) (ap (step s) i.if-down.false) c.biased_run-else-down.ensures

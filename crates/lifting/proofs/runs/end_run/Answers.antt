@@ -1,0 +1,22 @@
+-- `lifting::runs::end_run` meets its contract.
+use Prim.Native.Nat.{◌-◌}
+use native.Mathlib.Omega.{arith}
+use mathlib.Core.Path.{◌∙◌}
+use Rattle.lifting.specs.Steps.{applied}
+use Rattle.lifting.specs.Ends.{ended_is}
+use Rattle.lifting.specs.SafeRuns.{step_asks, step_done}
+use Rattle.slices.specs.Filling.{filling_none, filling_all}
+use Rattle.slices.specs.SignedRuns.{Running}
+use Rattle.lifting.proofs.runs.end_run.Goals as goal
+
+pub loop-j-init : goal.loop-j-init
+loop-j-init c = filling_none _ _ _ _
+
+pub apply_end-v-requires : goal.apply_end-v-requires
+apply_end-v-requires c = let i = c in let s = i in step_asks s.args.step s.requires.runs i.loop-j.invariant i.loop-j-test.true c.apply_end-arg-1.given c.apply_end-arg-in-loop-j-1.given c.apply_end-arg-in-loop-j-1.given s.requires.safe_run
+
+pub loop-j-preserved : goal.loop-j-preserved
+loop-j-preserved c = let g = c in let i = g in let s = i in step_done s.args.step s.requires.runs i.loop-j.invariant i.loop-j-test.true g.apply_end-arg-1.given g.apply_end-arg-in-loop-j-1.given g.apply_end-arg-in-loop-j-1.given c.apply_end-v.type_inv (c.apply_end-v.ensures ∙ ended_is s.args.step _ _)
+
+pub returns : goal.returns
+returns c = filling_all c.loop-j.invariant (omega arith)

@@ -1,0 +1,30 @@
+-- `lifting::runs::plain_scale_here` meets its contract.
+use mathlib.Core.Path.{sym, subst, ◌∙◌}
+use Prim.Native.Nat.{◌+◌, ◌-◌}
+use native.Mathlib.Omega.{arith}
+use lib.IntN.{ℤ}
+use mir.Syntax.{w32, w64}
+use mir.Val.{to_z}
+use mir.Facts.{to_z-of_z}
+use Rattle.lifting.specs.declared.Factor.{Factor}
+use Rattle.lifting.specs.declared.Factor.TheVariants.{Plain}
+use Rattle.lifting.specs.Steps.{scaled_by, FactorSafe}
+use Rattle.slices.specs.Patch.{at, patch}
+use Rattle.slices.specs.Filling.{Filling, filling_none, filling_more, filling_all, filling_own}
+use Rattle.slices.specs.SignedRuns.{back, value_safe, value_gives}
+use Rattle.lifting.proofs.runs.plain_scale_here.Goals as goal
+
+abbrev factor : goal.Start → Factor
+factor s = Plain (back w64 s.args.c) s.args.cut
+
+pub loop-j-init : goal.loop-j-init
+loop-j-init c = filling_none _ _ _ _
+
+pub scaled_by-v-requires : goal.scaled_by-v-requires
+scaled_by-v-requires c = let s = c in value_safe w32 (at s.args.buf.now (s.args.from + c.loop-j.j)) c.scaled_by-arg-1.given (filling_own c.loop-j.invariant) (FactorSafe (factor s)) (subst (λ (z : ℤ). FactorSafe (Plain z s.args.cut) (at s.args.buf.now (s.args.from + c.loop-j.j))) (sym (to_z-of_z s.ranges.c)) (s.requires.by_index c.loop-j.j c.loop-j-test.true))
+
+pub loop-j-preserved : goal.loop-j-preserved
+loop-j-preserved c = let s = c in filling_more c.loop-j.invariant (omega arith) (omega arith) _ (value_gives w32 (at s.args.buf.now (s.args.from + c.loop-j.j)) c.scaled_by-arg-1.given (filling_own c.loop-j.invariant) (scaled_by (factor s)) c.scaled_by-v.type_inv c.scaled_by-v.ensures)
+
+pub returns : goal.returns
+returns c = let s = c in filling_all c.loop-j.invariant (omega arith) ∙ (λ u. patch s.args.from s.args.n (λ j. scaled_by (Plain (to_z-of_z s.ranges.c u) s.args.cut) (at s.args.buf.now (s.args.from + j))) (at s.args.buf.now))

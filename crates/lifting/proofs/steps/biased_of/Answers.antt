@@ -1,0 +1,23 @@
+-- `lifting::steps::biased_of` meets its contract: in each branch the step is the one that the branch takes.
+use mathlib.Core.Path.{ap}
+use mathlib.Core.Bool.{Bool}
+use mir.Syntax.{w32}
+use Rattle.lifting.specs.declared.Step.{Step}
+use Rattle.lifting.specs.Forms.{biased_step}
+use Rattle.lifting.proofs.Read.{safe_back, applied_back}
+use Rattle.lifting.proofs.steps.biased_of.Goals as goal
+
+abbrev form : goal.Start → Bool → Step
+form a separate = biased_step separate a.args.down a.args.form
+
+pub separate_of-requires : goal.separate_of-requires
+separate_of-requires c = let a = c in safe_back w32 a.ranges.own a.ranges.x a.ranges.y (ap (form a) c.if-separate.true) a.requires
+
+pub combined_of-requires : goal.combined_of-requires
+combined_of-requires c = let a = c in safe_back w32 a.ranges.own a.ranges.x a.ranges.y (ap (form a) c.if-separate.false) a.requires
+
+pub returns-then-separate : goal.returns-then-separate
+returns-then-separate c = let a = c in applied_back w32 a.ranges.own a.ranges.x a.ranges.y (ap (form a) c.if-separate.true) c.separate_of.type_inv c.separate_of.ensures
+
+pub returns-else-separate : goal.returns-else-separate
+returns-else-separate c = let a = c in applied_back w32 a.ranges.own a.ranges.x a.ranges.y (ap (form a) c.if-separate.false) c.combined_of.type_inv c.combined_of.ensures

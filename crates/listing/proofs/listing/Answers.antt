@@ -1,0 +1,25 @@
+-- `listing::listing` meets its contract: a text of MAX_TEXT bytes is enough, a shorter one stays.
+use mathlib.Core.Path.{sym, ◌∙◌, ap}
+use mathlib.Core.List.{List}
+use Prim.Native.Nat.{ℕ}
+use native.Mathlib.Omega.{arith}
+use borrow.Author.Rules.{rules}
+use lib.ListN.{length}
+use Rattle.numbers.specs.Lists.{over}
+use Rattle.listing.specs.Writing.{put_over}
+use Rattle.listing.specs.AnswerLaws.{listed_short, listed_whole}
+use Rattle.listing.proofs.listing.Goals as goal
+
+pub returns-then-text-lt-MAX_TEXT : goal.returns-then-text-lt-MAX_TEXT
+returns-then-text-lt-MAX_TEXT c =
+    let a = c.args in
+    let e = listed_short a.input.now a.text.now (omega arith) in
+    (ap length (sym e), (ap (λ (t : List ℕ). over t a.text.now) (sym e), omega arith))
+
+pub returns : goal.returns
+returns c =
+    let p = c in
+    let s = p in
+    let e = listed_whole s.args.input.now s.args.text.now (omega arith) in
+    let r = p.list_into.ensures in
+    (omega (arith, r.end, ap length e), (put_over r ∙ ap (λ (t : List ℕ). over t s.args.text.now) (sym e), r.inside))

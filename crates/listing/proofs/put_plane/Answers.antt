@@ -1,0 +1,21 @@
+-- `listing::put_plane` meets its contract: the head, then the rows; the numbers of the head fit an i32.
+use mathlib.Core.List.{[], ◌∷◌}
+use native.Mathlib.Omega.{arith}
+use borrow.Author.Rules.{rules}
+use lib.IntN.{pos}
+use mir.Syntax.{w32}
+use mir.Facts.{to_z_pos}
+use Rattle.listing.specs.Listing.{line}
+use Rattle.listing.specs.Writing.{put_then, put_same}
+use Rattle.listing.proofs.put_plane.Goals as goal
+
+pub returns : goal.returns
+returns c =
+    let r = c in
+    let h = r in
+    let s = h in
+    let n = s.args.head in
+    put_then
+    (put_same _ _ h.put_line-next.ensures.0
+    (λ i. line (pos 53 ∷ to_z_pos w32 {n = n.depth} (omega arith) i ∷ to_z_pos w32 {n = n.levels} (omega arith) i ∷ to_z_pos w32 {n = n.w} (omega arith) i ∷ to_z_pos w32 {n = n.h} (omega (arith, h.struct_known-2-1.given)) i ∷ [])))
+    r.put_rows.ensures

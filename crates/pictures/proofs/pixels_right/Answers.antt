@@ -1,0 +1,13 @@
+-- `pictures::pixels_right` meets its contract: all are below 2^B where the largest is.
+use Rattle.std.proofs.Common.{◌*◌, sym, arith, length-take-le, rules}
+use Rattle.pictures.specs.PixelLaws.{one_shifted, pixels_small, pixel_large}
+use Rattle.pictures.proofs.pixels_right.Goals as goal
+
+pub slice_bounds-largest-end : goal.slice_bounds-largest-end
+slice_bounds-largest-end c = let a = c.args in sym (length-take-le (a.w * a.h) a.pixels.now c.requires.3)
+
+pub returns-then-most-depth : goal.returns-then-most-depth
+returns-then-most-depth c = let s = c in let e = one_shifted s.args.depth 16 (omega arith) in sym (pixels_small s.args.depth s.args.w s.args.h _ s.args.pixels.now c.largest-most.ensures (omega arith))
+
+pub returns-else-most-depth : goal.returns-else-most-depth
+returns-else-most-depth c = let s = c in let e = one_shifted s.args.depth 16 (omega arith) in sym (pixel_large s.args.depth s.args.w s.args.h _ s.args.pixels.now c.largest-most.ensures (omega arith))

@@ -1,0 +1,81 @@
+use mathlib.Core.Path.{refl, sym, ◌∙◌, ap}
+use native.Mathlib.Omega.{arith}
+use borrow.Author.Rules.{rules}
+use lib.Dec.{lit≤}
+use Rattle.refusals.specs.Answers.{passed}
+use Rattle.refusals.specs.Told.{told}
+use Rattle.bounds_rule.specs.declared.Bound.{Bound}
+use Rattle.precision.specs.Places.{Enters}
+use Rattle.precision.specs.JudgeLaws.{at_pass}
+use Rattle.precision.specs.OrderLaws.{enters, enters_level, tells, level_refuses, pass_refuses, node_answers}
+use Rattle.precision.proofs.bound_in.Goals as goal
+
+pub enter_level-rows-requires : goal.enter_level-rows-requires
+enter_level-rows-requires c = (c.requires.at.form, omega (arith, c.requires.at.level_to))
+
+pub returns-in-Refused : goal.returns-in-Refused
+returns-in-Refused c =
+    let e = c in
+    let s = e in
+    tells _ (level_refuses s.requires.at s.args.node s.requires.node _ (sym e.enter_level-rows.ensures.outcome ∙ ap told c.in-Refused.is)) c.no_bound.ensures
+
+pub enter_pass-entered-requires : goal.enter_pass-entered-requires
+enter_pass-entered-requires c =
+    let e = c in
+    let s = e in record {
+      enters = enters_level (at_pass s.requires.at 1 (lit≤ tt, lit≤ tt)) (e.enter_level-rows.ensures.bound (ap told c.in-Done.is));
+      done_le_passes_per_level = omega (arith, s.requires.at.pass);
+    }
+
+pub returns-in-Refused-passes : goal.returns-in-Refused-passes
+returns-in-Refused-passes c =
+    let q = c in
+    let d = q in
+    let e = d in
+    let s = e in
+    tells _ (pass_refuses s.requires.at s.args.node s.requires.node (sym e.enter_level-rows.ensures.outcome ∙ ap told d.in-Done.is) _ (sym q.enter_pass-entered.ensures.outcome ∙ ap told c.in-Refused-passes.is)) c.no_bound-in-Refused-passes.ensures
+
+-- what enters the pass
+entered : (c : goal.In-Done-passes) → Enters c.args.table c.args.level c.args.pass c.enter_pass-entered.result.bound
+entered c =
+    let q = c in
+    let s = q in
+    enters s.requires.at (q.enter_pass-entered.ensures.bound (ap told c.in-Done-passes.is))
+
+pub judge_nodes-requires : goal.judge_nodes-requires
+judge_nodes-requires c = record {
+      bounds_of = c.pass_bounds-bounds.ensures;
+      count_lt_places = omega arith;
+    }
+
+pub returns-in-Refused-judge_nodes : goal.returns-in-Refused-judge_nodes
+returns-in-Refused-judge_nodes c =
+    let j = c in
+    let k = j in
+    let q = k in
+    let d = q in
+    let e = d in
+    let s = e in
+    tells _ (node_answers s.requires.at s.args.node s.requires.node (sym e.enter_level-rows.ensures.outcome ∙ ap told d.in-Done.is) _ (sym q.enter_pass-entered.ensures.outcome ∙ ap told k.in-Done-passes.is) (sym j.judge_nodes.ensures ∙ ap told c.in-Refused-judge_nodes.is)) c.no_bound-in-Refused-judge_nodes.ensures
+
+pub returns : goal.returns
+returns c =
+    let j = c in
+    let o = j in
+    let k = o in
+    let q = k in
+    let d = q in
+    let e = d in
+    let s = e in
+    let is = c.bound_at-bound.ensures ∙ o.pass_bounds-bounds.ensures.is s.args.node s.requires.node in
+    tells _ (node_answers s.requires.at s.args.node s.requires.node (sym e.enter_level-rows.ensures.outcome ∙ ap told d.in-Done.is) passed (sym q.enter_pass-entered.ensures.outcome ∙ ap told k.in-Done-passes.is) (sym j.judge_nodes.ensures ∙ ap told c.in-Done-judge_nodes.is))
+    (refl, (ap (λ (b : Bound). b.range) is, ap (λ (b : Bound). b.error) is))
+
+pub overflow_sub-level : goal.overflow_sub-level
+overflow_sub-level c = omega (arith, c.requires.at.level_from)
+
+pub overflow_sub-pass : goal.overflow_sub-pass
+overflow_sub-pass c = omega (arith, c.requires.at.pass)
+
+pub pass_bounds-bounds-requires : goal.pass_bounds-bounds-requires
+pass_bounds-bounds-requires c = entered c

@@ -1,0 +1,65 @@
+use Prim.Native.Nat.{ℕ, ◌+◌, ◌-◌, ◌<◌, ◌≤◌}
+use mathlib.Core.List.{List}
+use mathlib.Core.Path.{◌≡◌, refl, sym, ◌∙◌, ap, subst}
+use native.Mathlib.Omega.{arith}
+use native.Mathlib.Decide.{dec_lt}
+use lib.ListN.{length, get_or, set, length-set}
+use lib.Seq.{get_or-set_same, get_or-set_other}
+use Rattle.stages.specs.Rule.{times_gain}
+use Rattle.bounds_rule.specs.Carried.{most_gain}
+use Rattle.precision.specs.Places.{places, gain_at}
+use Rattle.precision.specs.PlaceLaws.{gain_most, times_small}
+use Rattle.precision.proofs.carry.Goals as goal
+
+-- the first k places have f more than at first, the others what they had
+abbrev Added : (ℕ → ℕ) → List ℕ → List ℕ → ℕ → Type 0
+Added f l m k = ((i : ℕ) → i < k → get_or m i 0 ≡ get_or l i 0 + f i) × ((i : ℕ) → k ≤ i → get_or m i 0 ≡ get_or l i 0)
+
+-- one place more
+added_next : (f : ℕ → ℕ) (l m : List ℕ) (k v : ℕ) → k < length m → v ≡ get_or m k 0 + f k → Added f l m k → Added f l (set m k v) (k + 1)
+added_next f l m k v h e a = (first, λ i j. get_or-set_other m k i v 0 (λ q. absurd (omega (arith, q, j))) ∙ a.1 i (omega arith))
+  where
+    first : (i : ℕ) → i < k + 1 → get_or (set m k v) i 0 ≡ get_or l i 0 + f i
+    first i j = go (dec_lt i k)
+      where
+        here : get_or (set m k v) k 0 ≡ get_or l k 0 + f k
+        here = get_or-set_same m k v 0 h ∙ e ∙ ap (λ (x : ℕ). x + f k) (a.1 k (omega arith))
+
+        go : Dec (i < k) → get_or (set m k v) i 0 ≡ get_or l i 0 + f i
+        go (yes b) = get_or-set_other m k i v 0 (λ q. absurd (omega (arith, q, b))) ∙ a.0 i b
+        go (no b) = subst (λ (i : ℕ). get_or (set m k v) i 0 ≡ get_or l i 0 + f i) {x = k} {y = i} (omega arith) here
+
+pub gains_from-gains-requires : goal.gains_from-gains-requires
+gains_from-gains-requires c = omega arith
+
+pub loop-to-init : goal.loop-to-init
+loop-to-init c = (omega arith, omega (arith, c.well_formed), ((λ i j. absurd (omega (arith, j))), (λ i j. refl)))
+
+pub times_gain_once-requires : goal.times_gain_once-requires
+times_gain_once-requires c =
+    let g = c in
+    (omega (arith, g.requires.0), subst (λ (l : List ℕ). get_or l c.loop-to.to 0 ≤ most_gain) (sym g.gains_from-gains.ensures) (gain_most g.args.from c.loop-to.to))
+
+-- what is added
+sum : (c : goal.After-times_gain_once) → let i = c in c.times_gain_once.result ≡ times_gain i.args.x (gain_at i.args.from i.loop-to.to)
+sum c =
+    let i = c in
+    c.times_gain_once.ensures ∙ ap (λ (l : List ℕ). times_gain i.args.x (get_or l i.loop-to.to 0)) i.gains_from-gains.ensures
+
+pub overflow_add-carried : goal.overflow_add-carried
+overflow_add-carried c =
+    let i = c in
+    omega (arith, i.loop-to.invariant.2.1 i.loop-to.to (omega arith), i.requires.2 i.loop-to.to (omega arith), sum c, times_small i.args.x i.args.from i.loop-to.to i.requires.0)
+
+pub loop-to-preserved : goal.loop-to-preserved
+loop-to-preserved c =
+    let i = c in
+    let g = i in
+    let a = g.args in (
+      omega arith,
+      simp length-set i.loop-to.invariant.1,
+      added_next (λ j. times_gain a.x (gain_at a.from j)) a.sums i.loop-to.carried i.loop-to.to _ (omega arith) (ap (λ (x : ℕ). get_or i.loop-to.carried i.loop-to.to 0 + x) (sum c)) i.loop-to.invariant.2,
+    )
+
+pub returns : goal.returns
+returns c = λ j h. c.loop-to.invariant.2.0 j (omega arith)

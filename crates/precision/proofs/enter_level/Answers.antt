@@ -1,0 +1,50 @@
+use Prim.Native.Nat.{ℕ, ◌+◌, ◌-◌, ◌≤◌}
+use mathlib.Core.Path.{◌≡◌, refl, sym, ◌∙◌, ap, subst}
+use native.Mathlib.Omega.{arith}
+use borrow.Author.Rules.{rules}
+use lib.Dec.{lit≤}
+use Rattle.refusals.specs.Answers.{passed}
+use Rattle.refusals.specs.Told.{told}
+use Rattle.width_table.specs.Nodes.{table_order}
+use Rattle.precision.specs.Bounds.{entering}
+use Rattle.precision.specs.Verdict.{first_refusal}
+use Rattle.precision.specs.Places.{most_fitting, Reached}
+use Rattle.bounds_rule.specs.Carried.{as_held}
+use Rattle.precision.specs.OrderLaws.{not_reached, enters_first, enters_next, level_at, level_refused, level_accepted}
+use Rattle.precision.proofs.enter_level.Goals as goal
+
+pub loop-before-init : goal.loop-before-init
+unfolding first_refusal
+loop-before-init c = (omega arith, enters_first c.args.table, omega arith, refl)
+
+pub enter_pass-answer-requires : goal.enter_pass-answer-requires
+enter_pass-answer-requires c =
+    let i = c in
+    let s = i in record {
+      enters = record { place = level_at s.args.table i.loop-before.before (omega arith) s.requires.0; is = i.loop-before.invariant.1; small = i.loop-before.invariant.2 };
+      done_le_passes_per_level = lit≤ tt;
+    }
+
+pub returns-in-Refused : goal.returns-in-Refused
+returns-in-Refused c =
+    let e = c in
+    let i = e in
+    let a = i.args in
+    not_reached a.table (table_order a.done) _ _ _ (level_refused a.table _ i.loop-before.before a.done (omega arith) i.loop-before.invariant.3 (sym e.enter_pass-answer.ensures.outcome ∙ ap told c.in-Refused.is))
+
+pub loop-before-preserved : goal.loop-before-preserved
+loop-before-preserved c =
+    let e = c in
+    let i = e in
+    let t = i.args.table in
+    let ok = ap told c.in-Done.is in
+    let next = e.enter_pass-answer.ensures.bound ok in
+    (omega arith, next.is ∙ enters_next t (i.loop-before.before + 1) (omega arith), next.small, level_accepted t i.loop-before.before i.loop-before.invariant.3 (sym e.enter_pass-answer.ensures.outcome ∙ ok))
+
+pub returns : goal.returns
+returns c =
+    let i = c in
+    let a = i.args in
+    let end : i.loop-before.before ≡ a.done = omega arith in
+    subst (λ (k : ℕ). (passed ≡ first_refusal a.table (table_order k)) × (passed ≡ passed → Reached (entering a.table (k + 1)) i.loop-before.input)) end
+    (sym i.loop-before.invariant.3, λ d. record { is = i.loop-before.invariant.1; small = i.loop-before.invariant.2 })

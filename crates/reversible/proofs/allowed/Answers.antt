@@ -1,0 +1,11 @@
+-- `reversible::allowed` meets its contract: the limits, then the room.
+use mathlib.Core.Path.{sym, ◌∙◌}
+use borrow.Author.Rules.{rules}
+use Rattle.reversible.specs.AnswerLaws.{limits_kept, limits_broken}
+use Rattle.reversible.proofs.allowed.Goals as goal
+
+pub returns-else-limits_right : goal.returns-else-limits_right
+returns-else-limits_right c = let a = c.args in sym (limits_broken a.depth a.levels _ (sym c.limits_right.ensures ∙ c.if-limits_right.false))
+
+pub returns : goal.returns
+returns c = let a = c.args in c.room_right.ensures ∙ sym (limits_kept a.depth a.levels _ (sym c.limits_right.ensures ∙ c.if-limits_right.true))

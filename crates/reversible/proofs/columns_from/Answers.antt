@@ -1,0 +1,20 @@
+-- `reversible::columns_from` meets its contract: a single value stays, and two or more are worked by the kernel.
+use mathlib.Core.Path.{◌∙◌}
+use native.Mathlib.Omega.{arith}
+use borrow.Author.Rules.{rules}
+use Rattle.slices.specs.Patch.{at}
+use Rattle.reversible.specs.LevelLaws.{columns_one, columns_more}
+use Rattle.reversible.proofs.columns_from.Goals as goal
+
+pub returns-then-h-lt2 : goal.returns-then-h-lt2
+returns-then-h-lt2 c = let s = c in columns_one s.args.kernel s.args.stride s.args.w s.args.h (at s.args.plane.now) (omega (arith, s.requires.part.narrow)) (omega arith)
+
+pub columns-requires : goal.columns-requires
+columns-requires c = let p = c.requires in record {
+      part = (p.part, record { least = omega arith }, p.column);
+      by_index = p.safe (record { least = omega arith });
+    }
+
+pub returns : goal.returns
+returns c = let a = c.args in
+    c.columns.ensures.plane ∙ columns_more a.kernel a.stride a.w a.h (at a.plane.now) (record { least = omega arith })

@@ -1,0 +1,20 @@
+-- `reversible::rows_from` meets its contract: a single value stays, and two or more are worked by the kernel.
+use mathlib.Core.Path.{◌∙◌}
+use native.Mathlib.Omega.{arith}
+use borrow.Author.Rules.{rules}
+use Rattle.slices.specs.Patch.{at}
+use Rattle.reversible.specs.LevelLaws.{rows_one, rows_more}
+use Rattle.reversible.proofs.rows_from.Goals as goal
+
+pub returns-then-w-lt2 : goal.returns-then-w-lt2
+returns-then-w-lt2 c = let s = c in rows_one s.args.kernel s.args.stride s.args.w s.args.h (at s.args.plane.now) (omega (arith, s.requires.part.narrow)) (omega arith)
+
+pub rows-requires : goal.rows-requires
+rows-requires c = let p = c.requires in record {
+      part = (p.part, record { least = omega arith }, p.row);
+      by_index = p.safe (record { least = omega arith });
+    }
+
+pub returns : goal.returns
+returns c = let a = c.args in
+    c.rows.ensures.plane ∙ rows_more a.kernel a.stride a.w a.h (at a.plane.now) (record { least = omega arith })

@@ -1,0 +1,20 @@
+-- `rolling::begin` meets its contract.
+use mathlib.Core.Path.{sym, ◌∙◌, ap}
+use borrow.Author.Rules.{rules}
+use Rattle.refusals.specs.Told.{told}
+use Rattle.rolling.specs.AnswerLaws.{scan_begun_lem, scan_refused}
+use Rattle.rolling.proofs.begin.Goals as goal
+
+pub returns-in-Done : goal.returns-in-Done
+returns-in-Done c =
+    let b = c in record {
+      outcome = b.begin_answer-outcome.ensures;
+      scan = scan_begun_lem b.args.table (sym b.begin_answer-outcome.ensures ∙ ap told c.in-Done.is);
+    }
+
+pub returns-in-Refused : goal.returns-in-Refused
+returns-in-Refused c =
+    let b = c in record {
+      outcome = b.begin_answer-outcome.ensures;
+      scan = scan_refused b.args.table (sym b.begin_answer-outcome.ensures ∙ ap told c.in-Refused.is);
+    }

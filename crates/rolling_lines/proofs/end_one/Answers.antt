@@ -1,0 +1,27 @@
+-- `rolling_lines::end_one` meets its contract.
+use mathlib.Core.Path.{◌∙◌, ap}
+use native.Mathlib.Omega.{arith}
+use borrow.Author.Rules.{rules}
+use Rattle.slices.specs.Patch.{at}
+use Rattle.rolling_lines.specs.Schedule.{Line}
+use Rattle.rolling_lines.specs.Memory.{set_line}
+use Rattle.rolling_lines.specs.Program.{single_line_lem, single_may}
+use Rattle.rolling_lines.proofs.end_one.Goals as goal
+
+pub scale_line-requires : goal.scale_line-requires
+scale_line-requires c =
+    let h = c in
+    let l = h in
+    let s = l in
+    let (level, lent, enters, room) = s.requires in record {
+      lent = (lent, omega arith, omega arith, room);
+      safe_scaling = single_may s.args.table s.args.w _ _ l.single_of-low.ensures h.single_of-high.ensures _ level enters;
+    }
+
+pub returns : goal.returns
+returns c =
+    let r = c in
+    let h = r in
+    let l = h in
+    let a = l.args in
+    r.scale_line.ensures ∙ ap (λ (x : Line). set_line a.w 0 x (at a.out.now)) (single_line_lem a.table a.w _ _ l.single_of-low.ensures h.single_of-high.ensures _)

@@ -1,0 +1,11 @@
+-- `rolling_lines::first_low` meets its contract.
+use mathlib.Core.Path.{◌∙◌, ap}
+use borrow.Author.Rules.{rules}
+use Rattle.rolling_lines.specs.Program.{first_kept}
+use Rattle.rolling_lines.proofs.first_low.Goals as goal
+
+pub returns : goal.returns
+returns c =
+    let k = c in
+    let f = k in
+    k.keep_first.ensures ∙ ap (first_kept f.args.w) f.first_stages.ensures

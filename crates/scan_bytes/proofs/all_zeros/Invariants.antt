@@ -1,0 +1,15 @@
+use Prim.Native.Nat.{◌-◌, ◌≤◌}
+use mathlib.Core.Path.{◌≡◌, refl, ◌∙◌, sym}
+use native.Mathlib.Omega.{arith}
+use lib.Dec.{eqb}
+use lib.ListN.{length, get_or, drop}
+use Rattle.numbers.specs.Tests.{every}
+use Rattle.numbers.specs.Lists.{every_next, every_stops, every_ends}
+use Rattle.scan_bytes.specs.ByteLaws.{is_zero, not_zero}
+use Rattle.scan_bytes.proofs.all_zeros.Given as goal
+
+abbrev pub invariant-loop-i : goal.invariant-loop-i
+invariant-loop-i l = (l.i ≤ length l.bytes) × (every (eqb 0) l.bytes ≡ every (eqb 0) (drop l.i l.bytes))
+
+abbrev pub decreases-loop-i : goal.decreases-loop-i
+decreases-loop-i l = length l.bytes - l.i

@@ -1,0 +1,16 @@
+use mathlib.Core.Path.{sym, ◌∙◌}
+use native.Mathlib.Omega.{arith}
+use Rattle.scan_bytes.specs.ByteLaws.{not_formed, not_one, by_width}
+use borrow.Author.Rules.{rules}
+use Rattle.scan_bytes.proofs.keepable.Goals as goal
+
+pub returns-else-form_right : goal.returns-else-form_right
+returns-else-form_right c = sym (not_formed _ (sym c.form_right.ensures ∙ c.if-form_right.false))
+
+pub returns-else-table-eq1 : goal.returns-else-table-eq1
+returns-else-table-eq1 c = sym (not_one _ (omega arith))
+
+pub returns : goal.returns
+returns c =
+    let f = c in
+    sym (by_width f.args.scan (sym f.form_right.ensures ∙ f.if-form_right.true) (omega arith))

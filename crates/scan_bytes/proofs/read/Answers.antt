@@ -1,0 +1,83 @@
+use Prim.Native.Nat.{ℕ, ◌+◌, ◌≤◌}
+use mathlib.Core.List.{List}
+use mathlib.Core.Path.{◌≡◌, sym, ◌∙◌, ap}
+use native.Mathlib.Omega.{arith}
+use lib.ListN.{length, get_or, take}
+use lib.Seq.{length-take-le}
+use Rattle.refusals.specs.Answers.{Reason, done, refused, passed}
+use Rattle.refusals.specs.Told.{told}
+use Rattle.width_table.specs.declared.WidthTable.{WidthTable}
+use Rattle.table_bytes.specs.Bytes.{form, table_in, table_read}
+use Rattle.table_bytes.specs.ReadLaws.{table_read_lem}
+use Rattle.scan_bytes.specs.ScanBytes.{table_room, scan_length, table_end, held_with, scan_in, ended_scan, scan_read}
+use Rattle.scan_bytes.specs.Told.{told_read}
+use Rattle.scan_bytes.specs.declared.ScanRead.{ScanRead}
+use Rattle.scan_bytes.specs.ByteLaws.{end_fits, left_looked, too_short, not_counted, not_marked, not_padded, not_tabled, found, scan_read_lem, ended_read}
+use borrow.Author.Rules.{rules}
+use Rattle.scan_bytes.proofs.read.Goals as goal
+
+-- a reading that is refused as the bytes are
+refuses : (bytes : List ℕ) (r : Reason) → scan_in bytes ≡ refused r → (read : ScanRead) → (told_read read ≡ refused r) × (read.scan ≡ ended_scan) → (told_read read ≡ scan_in bytes) × (read.scan ≡ scan_read bytes)
+refuses bytes r e read not-read = (not-read.0 ∙ sym e, not-read.1 ∙ sym (ended_read bytes e))
+
+pub returns-then-state-lt-SCAN_LENGTH : goal.returns-then-state-lt-SCAN_LENGTH
+returns-then-state-lt-SCAN_LENGTH c = refuses _ _ (too_short _ (omega arith)) c.not_read.result c.not_read.ensures
+
+pub returns-then-state-gt6 : goal.returns-then-state-gt6
+returns-then-state-gt6 c = refuses _ _ (not_counted _ (omega arith) (omega arith)) c.not_read-then-state-gt6.result c.not_read-then-state-gt6.ensures
+
+pub returns-then-state-gt1 : goal.returns-then-state-gt1
+returns-then-state-gt1 c = refuses _ _ (not_marked _ (omega arith) (omega arith)) c.not_read-then-state-gt1.result c.not_read-then-state-gt1.ensures
+
+pub slice_bounds-all_zeros-count : goal.slice_bounds-all_zeros-count
+slice_bounds-all_zeros-count c =
+    let b = c.args.state.now in
+    omega (arith, c.table_end-end.ensures, end_fits b)
+
+pub slice_bounds-all_zeros-start : goal.slice_bounds-all_zeros-start
+slice_bounds-all_zeros-start c =
+    let b = c.args.state.now in
+    omega (arith, c.table_end-end.ensures, end_fits b)
+
+pub returns-else-all_zeros : goal.returns-else-all_zeros
+returns-else-all_zeros c =
+    let z = c in
+    let t = z in
+    let b = t.args.state.now in
+    refuses b _ (not_padded b (omega arith) (sym (left_looked b _ t.table_end-end.ensures (omega arith)) ∙ sym z.all_zeros.ensures ∙ c.if-all_zeros.false)) c.not_read-else-all_zeros.result c.not_read-else-all_zeros.ensures
+
+pub slice_bounds-read-end : goal.slice_bounds-read-end
+slice_bounds-read-end c =
+    let t = c in
+    let b = t.args.state.now in
+    sym (length-take-le _ b (omega (arith, t.table_end-end.ensures, end_fits b)))
+
+pub returns-in-Refused : goal.returns-in-Refused
+returns-in-Refused c =
+    let m = c in
+    let v = m in
+    let t = v in
+    let b = t.args.state.now in
+    refuses b _ (not_tabled b (omega arith) _ (ap (λ (n : ℕ). form (take n b)) (sym t.table_end-end.ensures) ∙ sym v.read-read.ensures.outcome ∙ ap told m.in-Refused.is)) c.not_read-in-Refused.result c.not_read-in-Refused.ensures
+
+-- what the first three tests say
+passes : (e : goal.Else-state-gt1) → let b = e.args.state.now in (scan_length ≤ length b) × (get_or b (table_room + 2) 0 ≤ 6) × (get_or b (table_room + 3) 0 ≤ 1)
+passes e = (omega arith, omega arith, omega arith)
+
+pub returns-in-Done : goal.returns-in-Done
+returns-in-Done c =
+    let m = c in
+    let v = m in
+    let i = v in
+    let z = i in
+    let t = z in
+    let b = t.args.state.now in
+    let long = passes t in
+    let ends = sym t.table_end-end.ensures in
+    let right : form (take (table_end b) b) ≡ passed = ap (λ (n : ℕ). form (take n b)) ends ∙ sym v.read-read.ensures.outcome ∙ ap told m.in-Done.is in
+    let table : v.read-read.result.table ≡ table_in (take (table_end b) b) = v.read-read.ensures.table ∙ ap (λ (n : ℕ). table_read (take n b)) (sym ends) ∙ table_read_lem (take (table_end b) b) right in
+    let scan = c.scan_held.ensures ∙ ap (λ (t : WidthTable). held_with t b) table in
+    let held = found b long.0 long.1 long.2 (sym (left_looked b _ t.table_end-end.ensures (omega (arith, long.0))) ∙ sym z.all_zeros.ensures ∙ i.if-all_zeros.true) right in record {
+      answer = ap done scan ∙ sym held;
+      scan = scan ∙ sym (scan_read_lem b held);
+    }

@@ -1,0 +1,15 @@
+use Prim.Native.Nat.{ℕ, ◌+◌}
+use mathlib.Core.Path.{ap₂}
+use lib.Dec.{eqb}
+use lib.ListN.{get_or}
+use Rattle.rolling_lines.specs.declared.Taken.{Taken}
+use Rattle.scan_bytes.specs.ScanBytes.{table_room}
+use borrow.Author.Rules.{rules}
+use Rattle.scan_bytes.proofs.scan_held.Goals as goal
+
+pub returns : goal.returns
+returns c =
+    let t = c in
+    let w = t in
+    let a = w.args in
+    ap₂ (λ (n : ℕ) (k : Taken). record { table = a.table; width = n; taken = k; ended = eqb (get_or a.state.now (table_room + 3) 0) 1 }) w.two.ensures t.taken_of.ensures

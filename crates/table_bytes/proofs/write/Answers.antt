@@ -1,0 +1,35 @@
+use mathlib.Core.Path.{sym, ◌∙◌, ap}
+use native.Mathlib.Omega.{arith}
+use Rattle.refusals.specs.Answers.{done}
+use Rattle.width_table.specs.FormLaws.{few_levels}
+use Rattle.table_bytes.specs.WriteLaws.{not_formed, too_short, table_written_lem}
+use borrow.Author.Rules.{rules}
+use Rattle.table_bytes.proofs.write.Goals as goal
+
+pub returns-else-form_right : goal.returns-else-form_right
+returns-else-form_right c =
+    let a = c.args in
+    not_formed a.table a.lent.now (sym c.form_right.ensures ∙ c.if-form_right.false)
+
+pub returns-then-lent-n : goal.returns-then-lent-n
+returns-then-lent-n c =
+    let i = c in
+    let a = i.args in
+    too_short a.table a.lent.now (sym i.form_right.ensures ∙ i.if-form_right.true) (omega (arith, c.table_size-n.ensures))
+
+pub put_table-requires : goal.put_table-requires
+put_table-requires c =
+    let n = c in
+    let i = n in
+    (few_levels i.args.table (sym i.form_right.ensures ∙ i.if-form_right.true), omega (arith, n.table_size-n.ensures))
+
+pub returns : goal.returns
+returns c =
+    let p = c in
+    let n = p in
+    let i = n in
+    let a = i.args in
+    let w = table_written_lem a.table a.lent.now (sym i.form_right.ensures ∙ i.if-form_right.true) (omega (arith, n.table_size-n.ensures)) in record {
+      answer = ap done n.table_size-n.ensures ∙ w.0;
+      bytes = p.put_table.ensures ∙ w.1;
+    }

@@ -1,0 +1,13 @@
+use Rattle.precision.specs.Verdict.{verdict}
+use Rattle.table_calls.specs.Calls.{check_answer}
+use Rattle.table_calls.specs.CallLaws.{unread, read}
+use borrow.Author.Rules.{rules}
+use Rattle.table_calls.proofs.check.Goals as goal
+
+pub returns-in-Refused : goal.returns-in-Refused
+unfolding check_answer
+returns-in-Refused c = unread _ c.read-read.ensures c.in-Refused.is _
+
+pub returns-in-Done : goal.returns-in-Done
+unfolding check_answer
+returns-in-Done c = let t = c in read _ t.read-read.ensures t.in-Done.is verdict c.judge.ensures

@@ -1,0 +1,28 @@
+use Rattle.width_table.specs.declared.WidthTable.{WidthTable}
+use Rattle.irreversible.specs.Calls.{fixed_answer, fixed_plane_after, fixed_work}
+use Rattle.table_calls.specs.Calls.{answer97, plane97, work97}
+use Rattle.table_calls.specs.CallLaws.{unread, unread_leaves, read, read_leaves}
+use borrow.Author.Rules.{rules}
+use Rattle.table_calls.proofs.forward.Goals as goal
+
+pub returns-in-Refused : goal.returns-in-Refused
+unfolding answer97 plane97 work97
+returns-in-Refused c =
+    let v = c.read-read.ensures in
+    let e = c.in-Refused.is in
+    (unread _ v e _, (unread_leaves _ v e _ _, unread_leaves _ v e _ _))
+
+pub returns-in-Done : goal.returns-in-Done
+unfolding answer97 plane97 work97
+returns-in-Done c =
+    let f = c in
+    let t = f in
+    let a = t.args in
+    let v = t.read-read.ensures in
+    let e = t.in-Done.is in (
+      read _ v e (λ (t : WidthTable). fixed_answer t a.width a.height a.pixels.now a.plane.now a.work.now) f.forward.ensures.answer,
+      (
+        read_leaves _ v e (λ (t : WidthTable). fixed_plane_after t a.width a.height a.pixels.now a.plane.now a.work.now) _ f.forward.ensures.plane.0,
+        read_leaves _ v e (λ (t : WidthTable). fixed_work t a.width a.height a.pixels.now a.plane.now a.work.now) _ f.forward.ensures.plane.1,
+      ),
+    )

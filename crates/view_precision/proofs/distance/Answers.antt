@@ -1,0 +1,32 @@
+use mathlib.Core.Path.{◌≡◌, sym, ◌∙◌, ap}
+use native.Mathlib.Omega.{arith}
+use borrow.Author.Rules.{rules}
+use Rattle.refusals.specs.Answers.{passed}
+use Rattle.refusals.specs.AnswerLaws.{answered_refused}
+use Rattle.refusals.specs.Told.{told}
+use Rattle.view_precision.specs.Bounds.{view_distance, view_verdict}
+use Rattle.view_precision.specs.LevelLaws.{accepted_form, viewable_accepted, distance_told}
+use Rattle.view_precision.proofs.distance.Goals as goal
+
+pub returns-in-Refused : goal.returns-in-Refused
+returns-in-Refused c =
+    let j = c in
+    let e = sym j.judge.ensures ∙ ap told c.in-Refused.is in record {
+      outcome = sym e;
+      distance = sym (answered_refused (view_distance j.args.table) 0 e);
+    }
+
+passes : (c : goal.In-Done) → view_verdict c.args.table ≡ passed
+passes c = sym c.judge.ensures ∙ ap told c.in-Done.is
+
+pub returns : goal.returns
+returns c =
+    let w = c in
+    let e = w in
+    let t = e.args.table in record {
+      outcome = sym (passes c.before.before);
+      distance = distance_told t (passes c.before.before) _ w.work_levels-pixels.ensures.bound;
+    }
+
+pub work_levels-pixels-requires : goal.work_levels-pixels-requires
+work_levels-pixels-requires c = let t = c.args.table in (accepted_form t (viewable_accepted t (passes c)), omega arith)

@@ -1,0 +1,14 @@
+use Prim.Native.Nat.{◌+◌, ◌-◌, ◌≤◌}
+use mathlib.Core.Path.{◌≡◌, refl, sym, ◌∙◌, ap, subst}
+use native.Mathlib.Omega.{arith}
+use Rattle.view_precision.specs.Places.{stages, own_at, owns_below, AllSmall}
+use Rattle.bounds_rule.specs.Carried.{as_bound}
+use Rattle.view_precision.specs.PlaceLaws.{owns_step}
+use Rattle.view_precision.specs.SizeLaws.{owns_small}
+use Rattle.view_precision.proofs.own_errors.Given as goal
+
+abbrev pub invariant-loop-stage : goal.invariant-loop-stage
+invariant-loop-stage l = (l.stage ≤ stages) × (l.own ≡ owns_below (as_bound l.low) (as_bound l.high) (l.stage + 2))
+
+abbrev pub decreases-loop-stage : goal.decreases-loop-stage
+decreases-loop-stage l = stages - l.stage

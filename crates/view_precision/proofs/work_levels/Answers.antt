@@ -1,0 +1,36 @@
+use mathlib.Core.Bool.{◌&&◌}
+use mathlib.Core.Path.{◌∙◌, ap}
+use native.Mathlib.Omega.{arith}
+use lib.Dec.{lit≤}
+use Rattle.width_table.specs.Limits.{form_levels}
+use Rattle.bounds_rule.specs.Carried.{as_bound}
+use Rattle.view_precision.specs.LevelLaws.{Reached, reached_first, reached_next, reached_small, reached_last}
+use Rattle.view_precision.proofs.work_levels.Goals as goal
+
+pub stored_bound-bound-requires : goal.stored_bound-bound-requires
+stored_bound-bound-requires c = (record { form = c.requires.0; level_from = (form_levels c.args.table c.requires.0).0; level_to = omega arith; pass = (lit≤ tt, lit≤ tt) }, ((lit≤ tt, lit≤ tt), c.requires.1))
+
+pub loop-level-init : goal.loop-level-init
+loop-level-init c = reached_first c.args.table c.args.steps c.requires.0 c.requires.1 _ c.stored_bound-bound.ensures.0
+
+pub work_level-given-requires : goal.work_level-given-requires
+work_level-given-requires c =
+    let i = c in
+    let s = i in record {
+      at = record { form = s.requires.0; level_from = c.loop-level-test.true; level_to = i.loop-level.invariant.level; pass = (lit≤ tt, lit≤ tt) };
+      steps_le_steps_allowed = (s.requires.1, reached_small s.args.table s.args.steps i.loop-level.invariant);
+    }
+
+pub loop-level-preserved : goal.loop-level-preserved
+loop-level-preserved c =
+    let both1 = c in
+    let w = both1 in
+    let i = w in
+    let s = i in
+    reached_next s.args.table s.args.steps s.requires.0 s.requires.1 i.loop-level.level w.loop-level-test.true i.loop-level.invariant (both1.both-right.ensures ∙ ap (λ x. i.loop-level.right && x) w.work_level-given.ensures.right) w.work_level-given.ensures.bound
+
+pub returns : goal.returns
+returns c =
+    let i = c in
+    let s = i in
+    reached_last s.args.table s.args.steps (omega arith) i.loop-level.invariant

@@ -1,0 +1,14 @@
+use mathlib.Core.Bool.{◌&&◌}
+use mathlib.Core.Path.{◌∙◌, ap}
+use native.Mathlib.Omega.{arith}
+use lib.Dec.{lit≤}
+use Rattle.width_table.specs.Limits.{form_levels}
+use Rattle.bounds_rule.specs.Carried.{as_bound}
+use Rattle.view_precision.specs.LevelLaws.{Reached, reached_first, reached_next, reached_small, reached_last}
+use Rattle.view_precision.proofs.work_levels.Given as goal
+
+abbrev pub invariant-loop-level : goal.invariant-loop-level
+invariant-loop-level l = Reached l.table l.steps l.level l.right (as_bound l.bound)
+
+abbrev pub decreases-loop-level : goal.decreases-loop-level
+decreases-loop-level l = l.level

@@ -1,0 +1,68 @@
+-- `viewing::coefficients_right` meets its contract. The loop's invariant: what lies outside of the part that the levels so far leave is right.
+use Prim.Native.Nat.{◌-◌, ◌≤◌}
+use mathlib.Core.Path.{◌≡◌, sym, ◌∙◌, ap}
+use native.Mathlib.Omega.{arith}
+use Rattle.lines.specs.Lines.{lows}
+use Rattle.lines.specs.Planes.{side}
+use Rattle.lines.specs.PlaneLaws.{side_none, side_more}
+use Rattle.viewing.specs.WidthLaws.{RightOutside, right_none, last_level, look_part, look_ready, right_next, details_wrong, low_low_done, low_low_wrong}
+use Rattle.viewing.proofs.coefficients_right.Goals as goal
+
+pub details_fit-requires : goal.details_fit-requires
+details_fit-requires c =
+    let l = c in
+    let s = l in
+    look_ready s.args.table s.args.w s.args.h s.args.plane.now s.requires l.loop-k.k _ _ l.loop-k.invariant.1 l.loop-k.invariant.2 c.loop-k-test.true
+
+pub returns-else-details_fit : goal.returns-else-details_fit
+returns-else-details_fit c =
+    let l = c in
+    let s = l in
+    details_wrong s.args.table s.args.w s.args.h s.args.plane.now s.requires l.loop-k.k _ _ l.loop-k.invariant.1 l.loop-k.invariant.2 c.loop-k-test.true _ c.details_fit.ensures c.if-details_fit.false
+
+pub overflow_add-across : goal.overflow_add-across
+overflow_add-across c =
+    let l = c in
+    let s = l in
+    omega (arith, (look_part s.args.table s.args.w s.args.h s.args.plane.now s.requires l.loop-k.k _ _ l.loop-k.invariant.1 l.loop-k.invariant.2).narrow, s.requires.width.1)
+
+pub overflow_add-down : goal.overflow_add-down
+overflow_add-down c =
+    let l = c in
+    let s = l in
+    omega (arith, (look_part s.args.table s.args.w s.args.h s.args.plane.now s.requires l.loop-k.k _ _ l.loop-k.invariant.1 l.loop-k.invariant.2).few)
+
+pub loop-k-preserved : goal.loop-k-preserved
+loop-k-preserved c =
+    let l = c in
+    let s = l in (
+      omega arith,
+      ap lows l.loop-k.invariant.1 ∙ side_more _ _,
+      ap lows l.loop-k.invariant.2 ∙ side_more _ _,
+      right_next s.args.table s.args.w s.args.h s.args.plane.now s.requires l.loop-k.k _ _ l.loop-k.invariant.1 l.loop-k.invariant.2 c.loop-k-test.true _ c.details_fit.ensures c.if-details_fit.true l.loop-k.invariant.3,
+    )
+
+pub part_fits-requires : goal.part_fits-requires
+part_fits-requires c =
+    let l = c in
+    let s = l in record {
+      level = (last_level s.args.table s.args.w s.args.h s.args.plane.now s.requires, (omega arith, omega arith), (omega arith, omega arith));
+      by_index = (look_part s.args.table s.args.w s.args.h s.args.plane.now s.requires l.loop-k.k _ _ l.loop-k.invariant.1 l.loop-k.invariant.2).fits;
+    }
+
+pub returns-then-part_fits : goal.returns-then-part_fits
+returns-then-part_fits c =
+    let l = c in
+    let s = l in
+    let last : l.loop-k.k ≡ s.args.table.levels = omega arith in
+    low_low_done s.args.table s.args.w s.args.h s.args.plane.now s.requires l.loop-k.k _ _ l.loop-k.invariant.1 l.loop-k.invariant.2 last _ c.part_fits.ensures c.if-part_fits.true l.loop-k.invariant.3
+
+pub returns-else-part_fits : goal.returns-else-part_fits
+returns-else-part_fits c =
+    let l = c in
+    let s = l in
+    let last : l.loop-k.k ≡ s.args.table.levels = omega arith in
+    low_low_wrong s.args.table s.args.w s.args.h s.args.plane.now s.requires l.loop-k.k _ _ l.loop-k.invariant.1 l.loop-k.invariant.2 last _ c.part_fits.ensures c.if-part_fits.false
+
+pub loop-k-init : goal.loop-k-init
+loop-k-init c = (omega arith, sym (side_none _), sym (side_none _), right_none _ _ _ _)

@@ -1,0 +1,77 @@
+-- `viewing::levels_back` meets its contract. The loop's invariant: so many levels are left to invert.
+use mathlib.Core.Path.{◌≡◌, refl, sym, ◌∙◌, subst}
+use Prim.Native.Nat.{ℕ, suc, ◌-◌, ◌<◌, ◌≤◌}
+use native.Mathlib.Numerals.{add-one}
+use native.Mathlib.Omega.{arith}
+use lib.IntN.{ℤ}
+use lib.ListN.{length}
+use Rattle.slices.specs.Patch.{at}
+use Rattle.slices.specs.Runs.{as_type}
+use Rattle.viewing.specs.LevelSteps.{level_inverse}
+use Rattle.viewing.specs.CallSteps.{LevelReady, LevelsLeft, levels_some, levels_few, left_all, level_ready, left_less}
+use Rattle.viewing.proofs.levels_back.Goals as goal
+
+-- level k of those that are left
+last-left : {t : _} {w h : ℕ} {p x₀ x : ℕ → ℤ} (k : ℕ) → 1 < k → LevelsLeft t w h k p x₀ x → LevelsLeft t w h (suc (k - 1)) p x₀ x
+last-left {t} {w} {h} {p} {x₀} {x} k more left =
+    let e : k ≡ suc (k - 1) = omega arith in
+    subst (λ (j : ℕ). LevelsLeft t w h j p x₀ x) e left
+
+pub level_back-requires : goal.level_back-requires
+level_back-requires c =
+    let b = c in
+    let l = b in
+    let s = l in
+    let a = s.args in
+    let t = l.loop-k in
+    let j : ℕ = t.k - 1 in
+    as_type (λ u. LevelReady a.table (sym (add-one j) u) a.plane.now t.work (length t.state) (length t.line) a.w (sym c.spread.ensures u) (sym b.side_after-across.ensures u) (sym b.side_after-down.ensures u))
+    (level_ready s.requires j (omega (arith, t.invariant.1)) _ _ (last-left t.k b.loop-k-test.true t.invariant.5) t.work _ _ (omega (arith, t.invariant.2)) (omega (arith, t.invariant.3)) (omega (arith, t.invariant.4)) refl)
+
+pub loop-k-preserved : goal.loop-k-preserved
+loop-k-preserved c =
+    let v = c in
+    let d = v in
+    let b = d in
+    let l = b in
+    let s = l in
+    let a = s.args in
+    let t = l.loop-k in
+    let j : ℕ = t.k - 1 in
+    let more = b.loop-k-test.true in (
+      omega arith,
+      omega (arith, t.invariant.1),
+      omega (arith, t.invariant.2),
+      omega (arith, t.invariant.3),
+      omega (arith, t.invariant.4),
+      left_less s.requires j (omega (arith, t.invariant.1)) _ _ (last-left t.k more t.invariant.5) _
+          (v.level_back.ensures ∙ (λ u. level_inverse a.table (add-one j u) a.w (d.spread.ensures u) (b.side_after-across.ensures u) (b.side_after-down.ensures u) (at a.plane.now) (at t.work))),
+    )
+
+pub returns : goal.returns
+returns c =
+    let l = c in
+    let a = l.args in
+    let e : l.loop-k.k ≡ 1 = omega (arith, l.loop-k.invariant.0) in
+    subst (λ (k : ℕ). LevelsLeft a.table a.w a.h k (at a.plane.now) (at a.work.now) (at l.loop-k.work)) e l.loop-k.invariant.5
+
+pub loop-k-init : goal.loop-k-init
+loop-k-init c = (levels_some c.requires, omega arith, refl, refl, refl, left_all c.requires _)
+
+pub side_after-across-requires : goal.side_after-across-requires
+side_after-across-requires c = let s = c in (omega (arith, s.requires.stored.width.0), s.requires.stored.width.1)
+
+pub side_after-down-requires : goal.side_after-down-requires
+side_after-down-requires c = let s = c in (omega (arith, s.requires.stored.height.0), s.requires.stored.height.1)
+
+pub spread-requires : goal.spread-requires
+spread-requires c = let l = c in (l.requires.stored.width.1, omega (arith, l.loop-k.invariant.1, levels_few l.requires))
+
+pub shape_of-work : goal.shape_of-work
+shape_of-work c = omega (arith, c.loop-k.invariant.2)
+
+pub shape_of-state : goal.shape_of-state
+shape_of-state c = omega (arith, c.loop-k.invariant.3)
+
+pub shape_of-line : goal.shape_of-line
+shape_of-line c = omega (arith, c.loop-k.invariant.4)

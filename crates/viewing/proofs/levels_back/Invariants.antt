@@ -1,0 +1,18 @@
+use mathlib.Core.Path.{◌≡◌, refl, sym, ◌∙◌, subst}
+use Prim.Native.Nat.{ℕ, suc, ◌-◌, ◌<◌, ◌≤◌}
+use native.Mathlib.Numerals.{add-one}
+use native.Mathlib.Omega.{arith}
+use lib.IntN.{ℤ}
+use lib.ListN.{length}
+use Rattle.slices.specs.Patch.{at}
+use Rattle.slices.specs.Runs.{as_type}
+use Rattle.viewing.specs.LevelSteps.{level_inverse}
+use Rattle.viewing.specs.CallSteps.{LevelReady, LevelsLeft, levels_some, levels_few, left_all, level_ready, left_less}
+use Rattle.viewing.proofs.levels_back.Given as goal
+
+abbrev pub invariant-loop-k : goal.invariant-loop-k
+invariant-loop-k l =
+    (1 ≤ l.k) × (l.k ≤ l.table.levels) × (length l.work ≡ length l.initial.work) × (length l.state ≡ length l.initial.state) × (length l.line ≡ length l.initial.line) × LevelsLeft l.table l.w l.h l.k (at l.plane) (at l.initial.work) (at l.work)
+
+abbrev pub decreases-loop-k : goal.decreases-loop-k
+decreases-loop-k l = l.k

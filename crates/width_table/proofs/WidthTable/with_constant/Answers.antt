@@ -1,0 +1,39 @@
+use mathlib.Core.Path.{sym, ◌∙◌}
+use native.Mathlib.Omega.{arith}
+use Rattle.width_table.specs.FormLaws.{gives_back, table_not_formed, no_stage, no_bits, constant_changes}
+use Rattle.numbers.specs.Tests.{in_limits}
+use Rattle.width_table.specs.Nodes.{nodes_per_pass}
+use borrow.Author.Rules.{rules}
+use Rattle.width_table.proofs.WidthTable.with_constant.Goals as goal
+
+pub returns-else-form_right : goal.returns-else-form_right
+returns-else-form_right c =
+    let a = c.args in
+    gives_back c.not_changed.ensures (table_not_formed a.t1 a.node a.bits (sym c.form_right.ensures ∙ c.if-form_right.false))
+
+pub returns-else-in_between : goal.returns-else-in_between
+returns-else-in_between c =
+    let a = c.args in
+    gives_back c.not_changed-else-in_between.ensures (no_stage a.t1 a.node a.bits (sym c.in_between.ensures ∙ c.if-in_between.false))
+
+pub returns-else-in_between-2 : goal.returns-else-in_between-2
+returns-else-in_between-2 c =
+    let a = c.args in
+    gives_back c.not_changed-else-in_between-2.ensures (no_bits a.t1 a.node a.bits (sym c.in_between-2.ensures ∙ c.if-in_between-2.false))
+
+pub overflow_sub-self : goal.overflow_sub-self
+overflow_sub-self c =
+    let j = c in
+    omega (arith, in_limits 1 nodes_per_pass j.args.node (sym j.in_between.ensures ∙ j.if-in_between.true))
+
+pub bounds-self-node : goal.bounds-self-node
+bounds-self-node c =
+    let j = c in
+    omega (arith, in_limits 1 nodes_per_pass j.args.node (sym j.in_between.ensures ∙ j.if-in_between.true))
+
+pub returns : goal.returns
+returns c =
+    let j = c in
+    let i = j in
+    let a = i.args in
+    constant_changes a.t1 a.node a.bits (sym i.form_right.ensures ∙ i.if-form_right.true) (sym j.in_between.ensures ∙ j.if-in_between.true) (sym c.in_between-2.ensures ∙ c.if-in_between-2.true)

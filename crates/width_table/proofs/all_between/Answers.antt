@@ -1,0 +1,29 @@
+use Prim.Native.Nat.{◌-◌, ◌≤◌}
+use mathlib.Core.Path.{◌≡◌, refl, ◌∙◌, sym}
+use native.Mathlib.Omega.{arith}
+use borrow.Author.Rules.{rules}
+use lib.ListN.{length, drop}
+use Rattle.numbers.specs.Tests.{between, every}
+use Rattle.numbers.specs.Lists.{every_next, every_stops, every_ends}
+use Rattle.width_table.proofs.all_between.Goals as goal
+
+pub returns-else-in_between : goal.returns-else-in_between
+returns-else-in_between c =
+    let l = c in
+    let a = l.args in
+    sym (l.loop-i.invariant.1 ∙ every_stops (between a.least a.most) a.numbers.now 0 l.loop-i.i (omega arith) (sym c.in_between.ensures ∙ c.if-in_between.false))
+
+pub loop-i-preserved : goal.loop-i-preserved
+loop-i-preserved c =
+    let l = c in
+    let a = l.args in
+    (omega arith, l.loop-i.invariant.1 ∙ every_next (between a.least a.most) a.numbers.now 0 l.loop-i.i (omega arith) (sym c.in_between.ensures ∙ c.if-in_between.true))
+
+pub returns : goal.returns
+returns c =
+    let l = c in
+    let a = l.args in
+    sym (l.loop-i.invariant.1 ∙ every_ends (between a.least a.most) a.numbers.now l.loop-i.i (omega arith))
+
+pub loop-i-init : goal.loop-i-init
+loop-i-init c = (omega arith, refl)

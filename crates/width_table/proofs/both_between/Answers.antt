@@ -1,0 +1,16 @@
+use mathlib.Core.Path.{sym, ◌∙◌, ap}
+use mathlib.Core.Bool.{Bool, ◌&&◌}
+use Rattle.numbers.specs.Tests.{between}
+use borrow.Author.Rules.{rules}
+use Rattle.width_table.proofs.both_between.Goals as goal
+
+pub returns-else-in_between : goal.returns-else-in_between
+returns-else-in_between c =
+    let a = c.args in
+    sym (ap (λ (t : Bool). t && between a.bottom a.top a.b) (sym c.in_between.ensures ∙ c.if-in_between.false))
+
+pub returns : goal.returns
+returns c =
+    let i = c in
+    let a = i.args in
+    c.in_between-2.ensures ∙ sym (ap (λ (t : Bool). t && between a.bottom a.top a.b) (sym i.in_between.ensures ∙ i.if-in_between.true))

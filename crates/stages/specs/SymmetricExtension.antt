@@ -71,13 +71,18 @@ pub record Extension (n : ℕ) : Type 0 where
   pub inside : (s : Side) (k : ℤ) → place s k < count n s
   pub beside : (s : Side) (k : ℤ) → Two (before_in s (place s k)) (after_in n s (place s k)) (place (other s) (before s k)) (place (other s) (after s k))
 
+-- the places of a pair as it goes along
+abbrev placed : (n : ℕ) → Stand n → Side → ℤ → ℕ
+placed n p low k = (stand n p k).low
+placed n p high k = (stand n p k).high
+
 -- the extension that has a place at 0
 extension_from : (n : ℕ) → Stand n → Extension n
 unfolding stand onward backward
 extension_from n p = record {
-  place = λ s k. elim s [ low ↦ (stand n p k).low | high ↦ (stand n p k).high ];
-  inside = λ s k. elim s [ low ↦ (stand n p k).beside.low_in_lem | high ↦ (stand n p k).beside.high_in_lem ];
-  beside = λ s. elim s [ low ↦ at_low | high ↦ at_high ];
+  place = placed n p;
+  inside = λ s k. elim s as (λ x. placed n p x k < count n x) [ low ↦ (stand n p k).beside.low_in_lem | high ↦ (stand n p k).beside.high_in_lem ];
+  beside = λ s. elim s as (λ x. (k : ℤ) → Two (before_in x (placed n p x k)) (after_in n x (placed n p x k)) (placed n p (other x) (before x k)) (placed n p (other x) (after x k))) [ low ↦ at_low | high ↦ at_high ];
 }
   where
     at_low : (k : ℤ) → Two (high_before (stand n p k).low) (high_after n (stand n p k).low) (stand n p (pred_ℤ k)).high (stand n p k).high

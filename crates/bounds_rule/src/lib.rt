@@ -1,5 +1,7 @@
 // The arithmetic of bounds that both judges use (document 01: the judge; document 02, jobs 1 and 7). Every definition that the contracts
 // cite is in specs/ or in the crate stages. All bounds are whole numbers of 2^-32.
+#![tactic(auto)]
+
 ghost use Rattle.std.specs.Prelude.{◌≡◌, ◌<◌, ◌≤◌, ◌^◌};
 ghost use Rattle.stages.specs.Stages.{cut_to};
 ghost use Rattle.stages.specs.Rule.{times_gain, loss, product_loss, own_lift, own_scale};

@@ -1,1 +1,2 @@
 // The proved table of cases, in specs/; no code.
+#![tactic(auto)]

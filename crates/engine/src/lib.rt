@@ -1,4 +1,6 @@
 // The C interface (include/suzdrepa.h): thin functions over the layers below. Every definition that the contracts cite is in specs/.
+#![tactic(auto)]
+
 ghost use Rattle.std.specs.Prelude.{◌≡◌, ℕ, ◌≤◌, leb, length};
 ghost use Rattle.refusals.specs.Answers.{done, passed, asks, ◌then◌, answered, code};
 ghost use Rattle.refusals.specs.Told.{told};

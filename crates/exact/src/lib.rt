@@ -1,1 +1,2 @@
 // The exact transform, in specs/; no code.
+#![tactic(auto)]

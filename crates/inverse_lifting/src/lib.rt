@@ -1,5 +1,7 @@
 // The 9/7 lifting inverted in 64-bit values (document 02, job 1): a line step by step, its four stages together. Rows are inverted one by one,
 // columns side by side in strips, so that memory is passed over once. A single value has no stages (document 02, job 6).
+#![tactic(auto)]
+
 ghost use Rattle.std.specs.Prelude.{◌≡◌, true, ℕ, ◌+◌, ◌*◌, ◌<◌, ◌≤◌, min, length, nat_abs};
 ghost use Rattle.slices.specs.Patch.{at, Free, patch};
 ghost use Rattle.slices.specs.Parts.{Part, row_of};

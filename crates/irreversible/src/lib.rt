@@ -1,4 +1,6 @@
 // The 9/7 transform in fixed point under a width table.
+#![tactic(auto)]
+
 ghost use Rattle.std.specs.Prelude.{◌≡◌, ◌+◌, ◌*◌, ◌-◌, ◌<◌, ◌^◌};
 ghost use Rattle.slices.specs.Patch.{at};
 ghost use Rattle.lines.specs.Planes.{row_by_row};

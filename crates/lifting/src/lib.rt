@@ -5,6 +5,8 @@
 //   buffers  a line buffer
 //   strips   neighbouring columns, by way of the line buffer
 //   passes   rows and columns of a plane
+#![tactic(auto)]
+
 mod buffers;
 mod forms;
 mod passes;

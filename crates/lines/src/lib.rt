@@ -1,1 +1,2 @@
 // Places of lines and planes, in specs/; no code.
+#![tactic(auto)]

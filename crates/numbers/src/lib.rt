@@ -1,4 +1,6 @@
 // Small functions of whole numbers that the crates above share.
+#![tactic(auto)]
+
 ghost use Rattle.std.specs.Prelude.{◌≡◌, ◌+◌, ◌*◌, ◌<◌, ◌≤◌, ◌^◌, min, max};
 ghost use Rattle.numbers.specs.Ceiling.{up_div};
 

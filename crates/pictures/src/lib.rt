@@ -1,4 +1,6 @@
 // Pictures and planes in memory: refusals 8, 9 and 10, looks over values, the middle of the pixels.
+#![tactic(auto)]
+
 ghost use Rattle.std.specs.Prelude.{◌≡◌, ℕ, ◌+◌, ◌-◌, ◌*◌, ◌^◌, ◌<◌, ◌≤◌, length};
 ghost use Rattle.width_table.specs.Table.{max_depth};
 ghost use Rattle.lines.specs.Planes.{side};

@@ -1,5 +1,7 @@
 // The precision analysis of a width table (document 01: the judge; document 02, jobs 6 and 7). Every definition that the contracts cite
 // is in specs/. All bounds are whole numbers of 2^-32.
+#![tactic(auto)]
+
 ghost use Rattle.std.specs.Prelude.{◌≡◌, ℕ, ◌+◌, ◌*◌, ◌-◌, ◌<◌, ◌≤◌, [], ◌∷◌, T, get_or, take};
 ghost use Rattle.stages.specs.GainTable.{forward_gains};
 ghost use Rattle.stages.specs.Rule.{times_gain};

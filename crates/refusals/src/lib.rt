@@ -1,4 +1,6 @@
 // What calls answer. specs/Told sets out the documents' numbers and values for each case.
+#![tactic(auto)]
+
 ghost use Rattle.std.specs.Prelude.{◌≡◌, [], ◌∷◌, ◌*◌, ◌≤◌};
 ghost use Rattle.refusals.specs.Answers.{bytes_up, code};
 ghost use Rattle.refusals.specs.Told.{told_refusal, told};

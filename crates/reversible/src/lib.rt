@@ -1,5 +1,7 @@
 // The reversible 5/3 transform of a picture, columns before rows (document 01: the lifting; document 02, job 4). Its way back is in
 // reversible_back.
+#![tactic(auto)]
+
 ghost use Rattle.std.specs.Prelude.{◌≡◌, ℕ, ◌+◌, ◌*◌, ◌-◌, ◌<◌, ◌≤◌, ◌^◌, length};
 ghost use Rattle.numbers.specs.Lists.{over};
 ghost use Rattle.refusals.specs.Answers.{◌then◌};

@@ -1,5 +1,7 @@
 // The way back of the reversible 5/3 transform, for copies worked columns before rows and for those made rows before columns
 // (document 01: why a strip or book comes back; document 02, job 4).
+#![tactic(auto)]
+
 ghost use Rattle.std.specs.Prelude.{◌≡◌, ℕ, ◌+◌, ◌*◌, ◌-◌, ◌<◌, ◌≤◌, ◌^◌, length, get_or, pos, nat_abs, neg_ℤ, ◌+ℤ◌, ◌-ℤ◌};
 ghost use Rattle.refusals.specs.Told.{told};
 ghost use Rattle.slices.specs.Patch.{at, patch};

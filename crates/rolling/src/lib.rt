@@ -1,5 +1,7 @@
 // The rolling scan (document 02, jobs 5 and 6): a one-level 9/7 transform line by line. Definitions in specs/; the lines are worked in
 // rolling_lines.
+#![tactic(auto)]
+
 ghost use Rattle.std.specs.Prelude.{◌≡◌, ◌*◌};
 ghost use Rattle.refusals.specs.Told.{told};
 ghost use Rattle.rolling.specs.Calls.{begin_answer, scan_of, line_width_right, goes_on, line_answer_of, LineCall, end_answer_of, EndCall};

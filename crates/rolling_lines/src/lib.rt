@@ -1,5 +1,7 @@
 // The lines of a rolling scan (document 02, jobs 5 and 6): what a line and an end do to the lines held and to the output. The order is
 // that of specs/Schedule.
+#![tactic(auto)]
+
 ghost use Rattle.std.specs.Prelude.{◌≡◌, ℕ, ◌+◌, ◌*◌, ◌<◌, ◌≤◌, ◌⊎◌, length};
 ghost use Rattle.slices.specs.Patch.{at};
 ghost use Rattle.slices.specs.PatchLines.{line_at};

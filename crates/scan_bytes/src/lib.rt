@@ -1,4 +1,6 @@
 // A rolling scan as bytes of the caller (include/suzdrepa.h). Definitions in specs/.
+#![tactic(auto)]
+
 ghost use Rattle.std.specs.Prelude.{◌≡◌, ◌+◌, ◌≤◌, eqb, length, get_or, replicate};
 ghost use Rattle.numbers.specs.Tests.{every};
 ghost use Rattle.numbers.specs.Lists.{over};

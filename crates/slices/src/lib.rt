@@ -1,4 +1,6 @@
 // Values of slices copied, cleared and biased.
+#![tactic(auto)]
+
 ghost use Rattle.std.specs.Prelude.{◌≡◌, ◌+◌, ◌≤◌, length};
 ghost use Rattle.slices.specs.Patch.{at, patch};
 ghost use Rattle.slices.specs.Fronts.{zeroed};

@@ -1,4 +1,6 @@
 // Width tables (document 01: books) as bytes. Every definition that the contracts cite is in specs/.
+#![tactic(auto)]
+
 ghost use Rattle.std.specs.Prelude.{◌≡◌, ◌+◌, ◌≤◌, true, false, length, drop};
 ghost use Rattle.std.proofs.Math.Seq.{paste};
 ghost use Rattle.refusals.specs.Answers.{passed};

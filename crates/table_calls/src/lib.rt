@@ -1,4 +1,6 @@
 // Calls that take a width table as its bytes. Every definition that the contracts cite is in specs/.
+#![tactic(auto)]
+
 ghost use Rattle.std.specs.Prelude.{◌≡◌};
 ghost use Rattle.refusals.specs.Told.{told};
 ghost use Rattle.table_calls.specs.Calls.{check_answer, answer97, plane97, work97};

@@ -1,1 +1,2 @@
 // The meaning of a width table, in specs/; no code.
+#![tactic(auto)]

@@ -1,4 +1,5 @@
 // The tag program: reads a tag and a table's bytes from standard input, and writes the tag's value as it is, or nothing where it is refused.
+#![tactic(auto)]
 
 // As many bytes of input as decide: a tag, the bytes of a table of all levels, and one byte more.
 const MAX_INPUT: usize = 1 + table_bytes::MAX_BYTES + 1;

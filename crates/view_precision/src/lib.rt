@@ -1,5 +1,7 @@
 // The precision analysis of viewing (document 02, jobs 1 and 6). Every definition that the contracts cite is in specs/.
 // All bounds are whole numbers of 2^-32.
+#![tactic(auto)]
+
 ghost use Rattle.std.specs.Prelude.{◌≡◌, ◌+◌, ◌*◌, ◌<◌, ◌≤◌, max, ◌&&◌, T};
 ghost use Rattle.refusals.specs.Answers.{answered};
 ghost use Rattle.refusals.specs.Told.{told};

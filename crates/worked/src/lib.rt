@@ -1,1 +1,2 @@
 // Worked computations of the crates below, in specs/; no code.
+#![tactic(auto)]

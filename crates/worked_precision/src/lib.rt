@@ -1,1 +1,2 @@
 // Worked verdicts of the judge, in specs/; no code.
+#![tactic(auto)]

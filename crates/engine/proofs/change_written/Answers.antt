@@ -8,8 +8,7 @@ use Rattle.engine.proofs.change_written.Goals as goal
 
 pub returns-in-Refused : goal.returns-in-Refused
 returns-in-Refused c =
-    let m = c in
-    let a = m.args in
+    let a = c.args in
     let q = c.in-Refused.is in record {
       answer = c.refusal_code.ensures ∙ sym (ap (λ (o : Outcome). code (told o then write_answer a.change.table a.out.now)) q);
       out = sym (ap (λ (o : Outcome). answered (told o) (bytes_after a.change.table a.out.now) a.out.now) q);
@@ -17,10 +16,8 @@ returns-in-Refused c =
 
 pub returns-in-Done : goal.returns-in-Done
 returns-in-Done c =
-    let w = c in
-    let d = w in
-    let a = d.args in
-    let q = d.in-Done.is in record {
-      answer = w.table_written.ensures.answer ∙ sym (ap (λ (o : Outcome). code (told o then write_answer a.change.table a.out.now)) q);
-      out = w.table_written.ensures.out ∙ sym (ap (λ (o : Outcome). answered (told o) (bytes_after a.change.table a.out.now) a.out.now) q);
+    let a = c.args in
+    let q = c.in-Done.is in record {
+      answer = c.table_written.ensures.answer ∙ sym (ap (λ (o : Outcome). code (told o then write_answer a.change.table a.out.now)) q);
+      out = c.table_written.ensures.out ∙ sym (ap (λ (o : Outcome). answered (told o) (bytes_after a.change.table a.out.now) a.out.now) q);
     }

@@ -7,9 +7,8 @@ use Rattle.engine.proofs.number_written.Goals as goal
 
 pub returns-in-Refused : goal.returns-in-Refused
 returns-in-Refused c =
-    let t = c in
-    let a = t.args in
-    let q = t.in-Refused.is in record {
+    let a = c.args in
+    let q = c.in-Refused.is in record {
       answer = c.refusal_code.ensures ∙ sym (ap (λ (o : Outcome). code (told o)) q);
       lent = sym (ap (λ (o : Outcome). answered (told o) a.number a.lent.now) q);
     }

@@ -18,10 +18,8 @@ by-told begun l {r} {l'} {o} e answer state = subst (λ (o : Outcome). (r ≡ co
 
 pub returns-then-state-lt-SCAN_LENGTH : goal.returns-then-state-lt-SCAN_LENGTH
 returns-then-state-lt-SCAN_LENGTH c =
-    let w = c in
-    let t = c in
     let a = c.args in
-    by-told a.begun a.state.now t.in-Done.is (c.refusal_code-then-state-lt-SCAN_LENGTH.ensures ∙ sym (ap (λ (o : Answer Unit). code o) (not_roomy a.state.now (omega arith)))) w.write.ensures
+    by-told a.begun a.state.now c.in-Done.is (c.refusal_code-then-state-lt-SCAN_LENGTH.ensures ∙ sym (ap (λ (o : Answer Unit). code o) (not_roomy a.state.now (omega arith)))) c.write.ensures
 
 pub returns-in-Refused : goal.returns-in-Refused
 returns-in-Refused c =
@@ -30,7 +28,5 @@ returns-in-Refused c =
 
 pub returns-else-state-lt-SCAN_LENGTH : goal.returns-else-state-lt-SCAN_LENGTH
 returns-else-state-lt-SCAN_LENGTH c =
-    let w = c in
-    let t = c in
     let a = c.args in
-    by-told a.begun a.state.now t.in-Done.is (sym (ap (λ (o : Answer Unit). code o) (is_roomy a.state.now (omega arith)))) w.write.ensures
+    by-told a.begun a.state.now c.in-Done.is (sym (ap (λ (o : Answer Unit). code o) (is_roomy a.state.now (omega arith)))) c.write.ensures

@@ -9,27 +9,22 @@ use borrow.Author.Rules.{rules}
 use Rattle.engine.proofs.scan_went.Goals as goal
 
 pub overflow_cast-given : goal.overflow_cast-given
-overflow_cast-given c =
-    let t = c in
-    omega (arith, t.requires _ (ap told_given t.in-Lines.is))
+overflow_cast-given c = omega (arith, c.requires _ (ap told_given c.in-Lines.is))
 
 pub returns-in-NotGiven : goal.returns-in-NotGiven
 returns-in-NotGiven c =
-    let t = c in
-    let a = t.args in
+    let a = c.args in
     let l = a.state.now in
-    let q = t.in-NotGiven.is in (
+    let q = c.in-NotGiven.is in (
       c.refusal_code.ensures ∙ sym (ap (λ (g : Given). code (told_given g)) q),
       (sym (ap (λ (g : Given). answered (told_given g) (numbers_after a.scanned.scan.width a.scanned.scan.taken a.scanned.scan.ended l) l) q), sym (ap (λ (g : Given). given_after (told_given g) a.given.now) q)),
     )
 
 pub returns-in-Lines : goal.returns-in-Lines
 returns-in-Lines c =
-    let w = c in
-    let t = w in
-    let a = t.args in
+    let a = c.args in
     let l = a.state.now in
-    let q = t.in-Lines.is in (
+    let q = c.in-Lines.is in (
       sym (ap (λ (g : Given). code (told_given g)) q),
-      (w.renew.ensures ∙ sym (ap (λ (g : Given). answered (told_given g) (numbers_after a.scanned.scan.width a.scanned.scan.taken a.scanned.scan.ended l) l) q), sym (ap (λ (g : Given). given_after (told_given g) a.given.now) q)),
+      (c.renew.ensures ∙ sym (ap (λ (g : Given). answered (told_given g) (numbers_after a.scanned.scan.width a.scanned.scan.taken a.scanned.scan.ended l) l) q), sym (ap (λ (g : Given). given_after (told_given g) a.given.now) q)),
     )

@@ -6,11 +6,7 @@ pub scan_went-requires : goal.scan_went-requires
 scan_went-requires c = end_gives_few _ _ _ c.end.ensures
 
 pub returns-in-Refused : goal.returns-in-Refused
-returns-in-Refused c = let t = c in end_none _ _ _ _ _ t.read-read.ensures.answer t.in-Refused.is c.refusal_code.ensures
+returns-in-Refused c = end_none _ _ _ _ _ c.read-read.ensures.answer c.in-Refused.is c.refusal_code.ensures
 
 pub returns-in-Done : goal.returns-in-Done
-returns-in-Done c =
-    let w = c in
-    let l = w in
-    let t = l in
-    end_some _ _ _ _ t.read-read.ensures.answer t.in-Done.is l.end.ensures w.scan_went.ensures
+returns-in-Done c = end_some _ _ _ _ c.read-read.ensures.answer c.in-Done.is c.end.ensures c.scan_went.ensures

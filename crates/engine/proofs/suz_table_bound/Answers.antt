@@ -17,16 +17,14 @@ returns-in-Refused c =
 pub returns-in-Done : goal.returns-in-Done
 unfolding table_bound_answer range_after error_after
 returns-in-Done c =
-    let range = c in
-    let b = range.bound_of-bound.ensures in
-    let t = range in
-    let a = t.args in
-    let v = t.read-read.ensures in
-    let e = t.in-Done.is in
-    let own : WidthTable → Answer Unit = λ t. bound_answer t a.level a.pass a.node in (
+    let b = c.bound_of-bound.ensures in
+    let a = c.args in
+    let v = c.read-read.ensures in
+    let e = c.in-Done.is in
+    let own : WidthTable → Answer Unit = λ c. bound_answer c a.level a.pass a.node in (
       c.number_written-in-Done.ensures.answer ∙ ap code (read _ v e own b.0),
       (
-        read_if_done _ v e own (λ (t : WidthTable). (bound_numbered t a.level a.pass a.node).range) 0 _ b.0 b.1.0 range.number_written.ensures.lent,
-        read_if_done _ v e own (λ (t : WidthTable). (bound_numbered t a.level a.pass a.node).error) 0 _ b.0 b.1.1 c.number_written-in-Done.ensures.lent,
+        read_if_done _ v e own (λ (c : WidthTable). (bound_numbered c a.level a.pass a.node).range) 0 _ b.0 b.1.0 c.number_written.ensures.lent,
+        read_if_done _ v e own (λ (c : WidthTable). (bound_numbered c a.level a.pass a.node).error) 0 _ b.0 b.1.1 c.number_written-in-Done.ensures.lent,
       ),
     )

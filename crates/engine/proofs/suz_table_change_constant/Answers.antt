@@ -3,10 +3,7 @@ use borrow.Author.Rules.{rules}
 use Rattle.engine.proofs.suz_table_change_constant.Goals as goal
 
 pub returns-in-Refused : goal.returns-in-Refused
-returns-in-Refused c = let t = c in change_unread _ t.read-read.ensures t.in-Refused.is _ _ _ c.refusal_code.ensures
+returns-in-Refused c = change_unread _ c.read-read.ensures c.in-Refused.is _ _ _ c.refusal_code.ensures
 
 pub returns-in-Done : goal.returns-in-Done
-returns-in-Done c =
-    let x = c in
-    let t = x in
-    constant_changed _ t.read-read.ensures t.in-Done.is _ _ _ x.with_constant.ensures x.change_written.ensures
+returns-in-Done c = constant_changed _ c.read-read.ensures c.in-Done.is _ _ _ c.with_constant.ensures c.change_written.ensures

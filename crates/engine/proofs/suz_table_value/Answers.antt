@@ -9,26 +9,22 @@ use Rattle.engine.proofs.suz_table_value.Goals as goal
 
 pub overflow_cast-start : goal.overflow_cast-start
 overflow_cast-start c =
-    let v = c in
-    let a = v.args in
-    omega (arith, (valued a.table.now a.tag _ _ (sym v.value_place.ensures ∙ ap told_named c.in-Value.is)).small)
+    let a = c.args in
+    omega (arith, (valued a.table.now a.tag _ _ (sym c.value_place.ensures ∙ ap told_named c.in-Value.is)).small)
 
 pub overflow_cast-length : goal.overflow_cast-length
 overflow_cast-length c =
-    let v = c in
-    let a = v.args in
-    omega (arith, (valued a.table.now a.tag _ _ (sym v.value_place.ensures ∙ ap told_named c.in-Value.is)).small)
+    let a = c.args in
+    omega (arith, (valued a.table.now a.tag _ _ (sym c.value_place.ensures ∙ ap told_named c.in-Value.is)).small)
 
 pub returns-in-NotNamed : goal.returns-in-NotNamed
 returns-in-NotNamed c =
-    let v = c in
-    let a = v.args in
-    let g = name_refused a.table.now a.tag a.start.now a.length.now _ (sym v.value_place.ensures ∙ ap told_named c.in-NotNamed.is) in
+    let a = c.args in
+    let g = name_refused a.table.now a.tag a.start.now a.length.now _ (sym c.value_place.ensures ∙ ap told_named c.in-NotNamed.is) in
     (c.refusal_code.ensures ∙ sym (ap code g.answers), (g.leaves-start, g.leaves-length))
 
 pub returns-in-Value : goal.returns-in-Value
 returns-in-Value c =
-    let v = c in
-    let a = v.args in
-    let g = name_found a.table.now a.tag a.start.now a.length.now _ _ (sym v.value_place.ensures ∙ ap told_named c.in-Value.is) in
+    let a = c.args in
+    let g = name_found a.table.now a.tag a.start.now a.length.now _ _ (sym c.value_place.ensures ∙ ap told_named c.in-Value.is) in
     (sym (ap code g.answers), (g.leaves-start, g.leaves-length))

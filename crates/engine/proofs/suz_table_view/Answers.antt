@@ -8,10 +8,8 @@ use Rattle.engine.proofs.suz_table_view.Goals as goal
 
 pub returns-in-Refused : goal.returns-in-Refused
 unfolding view_check_answer
-returns-in-Refused c = let t = c in c.refusal_code.ensures ∙ ap code (unread _ t.read-read.ensures t.in-Refused.is _)
+returns-in-Refused c = c.refusal_code.ensures ∙ ap code (unread _ c.read-read.ensures c.in-Refused.is _)
 
 pub returns-in-Done : goal.returns-in-Done
 unfolding view_check_answer
-returns-in-Done c =
-    let t = c in
-    c.code.ensures ∙ ap code (read _ t.read-read.ensures t.in-Done.is view_verdict c.judge.ensures)
+returns-in-Done c = c.code.ensures ∙ ap code (read _ c.read-read.ensures c.in-Done.is view_verdict c.judge.ensures)

@@ -7,9 +7,7 @@ use Rattle.engine.proofs.suz_table_write_products.Goals as goal
 
 pub returns : goal.returns
 returns c =
-    let w = c in
-    let n = w in
-    let a = n.args in record {
-      answer = w.table_written.ensures.answer ∙ ap (λ (t : WidthTable). code (write_answer t a.out.now)) n.new-table.ensures;
-      out = w.table_written.ensures.out ∙ ap (λ (t : WidthTable). bytes_after t a.out.now) n.new-table.ensures;
+    let a = c.args in record {
+      answer = c.table_written.ensures.answer ∙ ap (λ (t : WidthTable). code (write_answer t a.out.now)) c.new-table.ensures;
+      out = c.table_written.ensures.out ∙ ap (λ (t : WidthTable). bytes_after t a.out.now) c.new-table.ensures;
     }

@@ -17,14 +17,12 @@ returns-in-Refused c =
 pub returns-in-Done : goal.returns-in-Done
 unfolding view_answer97 view_pixels97 view_work97
 returns-in-Done c =
-    let f = c in
-    let t = f in
-    let a = t.args in
-    let v = t.read-read.ensures in
-    let e = t.in-Done.is in (
-      c.code.ensures ∙ ap code (read _ v e (λ (t : WidthTable). view_answer t a.width a.height a.plane.now a.pixels.now a.work.now) f.view.ensures.answer),
+    let a = c.args in
+    let v = c.read-read.ensures in
+    let e = c.in-Done.is in (
+      c.code.ensures ∙ ap code (read _ v e (λ (c : WidthTable). view_answer c a.width a.height a.plane.now a.pixels.now a.work.now) c.view.ensures.answer),
       (
-        read_leaves _ v e (λ (t : WidthTable). view_pixels t a.width a.height a.plane.now a.pixels.now a.work.now) _ f.view.ensures.pixels.0,
-        read_leaves _ v e (λ (t : WidthTable). view_work t a.width a.height a.plane.now a.pixels.now a.work.now) _ f.view.ensures.pixels.1,
+        read_leaves _ v e (λ (c : WidthTable). view_pixels c a.width a.height a.plane.now a.pixels.now a.work.now) _ c.view.ensures.pixels.0,
+        read_leaves _ v e (λ (c : WidthTable). view_work c a.width a.height a.plane.now a.pixels.now a.work.now) _ c.view.ensures.pixels.1,
       ),
     )

@@ -20,9 +20,8 @@ unfolding view_check_answer distance_after
 returns-in-Done c =
     let w = c.number_written.ensures in
     let d = c.distance-found.ensures in
-    let t = c in
-    let v = t.read-read.ensures in
-    let e = t.in-Done.is in record {
+    let v = c.read-read.ensures in
+    let e = c.in-Done.is in record {
       answer = w.0 ∙ ap code (read _ v e view_verdict d.0);
       distance = read_if_done _ v e view_verdict view_distance 0 _ d.0 d.1 w.1;
     }

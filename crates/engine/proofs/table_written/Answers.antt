@@ -7,16 +7,14 @@ use Rattle.engine.proofs.table_written.Goals as goal
 
 pub returns-in-Bytes : goal.returns-in-Bytes
 returns-in-Bytes c =
-    let w = c in
-    let a = w.args in record {
-      answer = sym (ap code (write_done a.table a.out.now _ (sym w.write.ensures.answer ∙ ap told_written c.in-Bytes.is)));
-      out = w.write.ensures.bytes;
+    let a = c.args in record {
+      answer = sym (ap code (write_done a.table a.out.now _ (sym c.write.ensures.answer ∙ ap told_written c.in-Bytes.is)));
+      out = c.write.ensures.bytes;
     }
 
 pub returns-in-NotWritten : goal.returns-in-NotWritten
 returns-in-NotWritten c =
-    let w = c in
-    let a = w.args in record {
-      answer = c.refusal_code.ensures ∙ sym (ap code (write_refused a.table a.out.now _ (sym w.write.ensures.answer ∙ ap told_written c.in-NotWritten.is)));
-      out = w.write.ensures.bytes;
+    let a = c.args in record {
+      answer = c.refusal_code.ensures ∙ sym (ap code (write_refused a.table a.out.now _ (sym c.write.ensures.answer ∙ ap told_written c.in-NotWritten.is)));
+      out = c.write.ensures.bytes;
     }

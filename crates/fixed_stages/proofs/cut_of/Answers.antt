@@ -8,8 +8,7 @@ use Rattle.fixed_stages.proofs.cut_of.Goals as goal
 pub returns : goal.returns
 unfolding cut_of
 returns c =
-    let s = c in
-    let a = s.args in
+    let a = c.args in
     let top = c.larger_bits-top.ensures in
-    let constant = to_z-of_z s.ranges.constant in
+    let constant = to_z-of_z c.ranges.constant in
     λ u. Cut (top u - a.own) (constant u) (a.bits + a.sides - a.width) (top u - a.width) (top u - a.kept)

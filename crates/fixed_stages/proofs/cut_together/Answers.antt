@@ -11,12 +11,10 @@ returns-then-product-width c =
 
 pub returns-else-own-width : goal.returns-else-own-width
 returns-else-own-width c =
-    let i = c in
-    let a = i.args in
-    sym (ap (λ (t : Bool). t || (leb a.own a.width && leb a.kept a.width)) (lt-leb a.product a.width i.if-product-width.false) ∙ ap (λ (t : Bool). t && leb a.kept a.width) (lt-leb a.own a.width c.if-own-width.false))
+    let a = c.args in
+    sym (ap (λ (t : Bool). t || (leb a.own a.width && leb a.kept a.width)) (lt-leb a.product a.width c.if-product-width.false) ∙ ap (λ (t : Bool). t && leb a.kept a.width) (lt-leb a.own a.width c.if-own-width.false))
 
 pub returns : goal.returns
 returns c =
-    let i = c in
-    let a = i.args in
-    sym (ap (λ (t : Bool). t || (leb a.own a.width && leb a.kept a.width)) (lt-leb a.product a.width i.if-product-width.false) ∙ ap (λ (t : Bool). t && leb a.kept a.width) (le-leb a.own a.width c.if-own-width.true))
+    let a = c.args in
+    sym (ap (λ (t : Bool). t || (leb a.own a.width && leb a.kept a.width)) (lt-leb a.product a.width c.if-product-width.false) ∙ ap (λ (t : Bool). t && leb a.kept a.width) (le-leb a.own a.width c.if-own-width.true))

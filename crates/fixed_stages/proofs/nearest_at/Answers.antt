@@ -16,10 +16,6 @@ use Rattle.fixed_stages.specs.RoundingLaws.{fine_read, fine_small, rounded_is}
 use Rattle.fixed_stages.proofs.Read.{got}
 use Rattle.fixed_stages.proofs.nearest_at.Goals as goal
 
--- half a step
-half_small : (c : goal.After-signed_power-half) → nat_abs c.signed_power-half.result ≤ 2 ^ 31
-half_small c = subst (λ (z : ℤ). nat_abs z ≤ 2 ^ 31) (sym c.signed_power-half.ensures) (pow_mono {i = fine_bits - c.args.bits - 1} {j = 31} (omega arith))
-
 -- a constant and half a step
 module _ (node : ℕ) (i : IsNode node) (half : ℤ) (h : nat_abs half ≤ 2 ^ 31) where
   small : nat_abs (get_or fine_table (node - 1) (pos 0)) ≤ 2 ^ 33
@@ -37,9 +33,10 @@ unfolding fine_table tabulate nearest
 overflow_add-node c = sum_fits c.args.node (omega arith) c.signed_power-half.result (half_small c.before.before)
 
 pub returns : goal.returns
-unfolding fine_table tabulate nearest
+unfolding fine_table nearest tabulate
 returns c =
-    let p = c in
-    let a = p.args in
+    let half_small : nat_abs c.signed_power-half.result ≤ 2 ^ 31 =
+        subst (λ (z : ℤ). nat_abs z ≤ 2 ^ 31) (sym c.signed_power-half.ensures) (pow_mono {i = fine_bits - c.args.bits - 1} {j = 31} (omega arith)) in
+    let a = c.args in
     let below : ℤ → ℤ = λ z. floor_div z (2 ^ (fine_bits - a.bits)) in
-    got c.floor_shifted.type_inv (c.floor_shifted.ensures ∙ ap below (sum_is a.node (omega arith) p.signed_power-half.result (half_small c.before.before.before) ∙ ap (λ (z : ℤ). fine_at a.node +ℤ z) p.signed_power-half.ensures) ∙ rounded_is a.node a.bits (omega arith) (omega arith))
+    got c.floor_shifted.type_inv (c.floor_shifted.ensures ∙ ap below (sum_is a.node (omega arith) c.signed_power-half.result half_small ∙ ap (λ (z : ℤ). fine_at a.node +ℤ z) c.signed_power-half.ensures) ∙ rounded_is a.node a.bits (omega arith) (omega arith))

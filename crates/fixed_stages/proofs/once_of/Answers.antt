@@ -8,23 +8,20 @@ use Rattle.fixed_stages.specs.Steps.{step_top, once_of}
 use Rattle.fixed_stages.proofs.Read.{back, got, fits_at}
 use Rattle.fixed_stages.proofs.once_of.Goals as goal
 
--- the bits at which the sum is formed
-top : (c : goal.After-larger_bits-top) → let a = c.args in c.larger_bits-top.result ≡ step_top a.bits a.sides a.own a.kept
-top c = c.larger_bits-top.ensures ∙ ap (λ (m : ℕ). max m c.args.kept) c.larger_bits.ensures
-
--- the constant at these bits
-times_power : (c : goal.After-signed_power) → let a = c.args in back a.constant *ℤ back c.signed_power.result ≡ a.constant *ℤ pos (2 ^ (step_top a.bits a.sides a.own a.kept - (a.bits + a.sides)))
-times_power c =
-    let s = c in
-    ap₂ ◌*ℤ◌ (to_z-of_z s.ranges.constant) (got c.signed_power.type_inv (c.signed_power.ensures ∙ ap (λ (k : ℕ). pos (2 ^ (k - (s.args.bits + s.args.sides)))) (top c.before)))
-
 pub times-c-requires : goal.times-c-requires
-times-c-requires c = fits_at (times_power c) c.requires.sfits
+times-c-requires c =
+    let top : let a = c.args in c.larger_bits-top.result ≡ step_top a.bits a.sides a.own a.kept =
+        c.larger_bits-top.ensures ∙ ap (λ (m : ℕ). max m c.args.kept) c.larger_bits.ensures in
+    let times_power : let a = c.args in back a.constant *ℤ back c.signed_power.result ≡ a.constant *ℤ pos (2 ^ (step_top a.bits a.sides a.own a.kept - (a.bits + a.sides))) =
+        ap₂ ◌*ℤ◌ (to_z-of_z c.ranges.constant) (got c.signed_power.type_inv (c.signed_power.ensures ∙ ap (λ (k : ℕ). pos (2 ^ (k - (c.args.bits + c.args.sides)))) top)) in
+    fits_at times_power c.requires.sfits
 
 pub returns : goal.returns
 unfolding once_of
 returns c =
-    let p = c in
-    let s = p in
-    let d = got c.times-c.type_inv (c.times-c.ensures ∙ times_power p) in
-    λ u. Scaled (top c.before.before u - s.args.own) (d u) (top c.before.before u - s.args.kept)
+    let top : let a = c.args in c.larger_bits-top.result ≡ step_top a.bits a.sides a.own a.kept =
+        c.larger_bits-top.ensures ∙ ap (λ (m : ℕ). max m c.args.kept) c.larger_bits.ensures in
+    let times_power : let a = c.args in back a.constant *ℤ back c.signed_power.result ≡ a.constant *ℤ pos (2 ^ (step_top a.bits a.sides a.own a.kept - (a.bits + a.sides))) =
+        ap₂ ◌*ℤ◌ (to_z-of_z c.ranges.constant) (got c.signed_power.type_inv (c.signed_power.ensures ∙ ap (λ (k : ℕ). pos (2 ^ (k - (c.args.bits + c.args.sides)))) top)) in
+    let d = got c.times-c.type_inv (c.times-c.ensures ∙ times_power) in
+    λ u. Scaled (top u - c.args.own) (d u) (top u - c.args.kept)

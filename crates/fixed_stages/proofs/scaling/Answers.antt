@@ -10,22 +10,22 @@ use Rattle.fixed_stages.specs.SafeLaws.{constant_scaled_up}
 use Rattle.fixed_stages.proofs.Read.{back, got, fits_at}
 use Rattle.fixed_stages.proofs.scaling.Goals as goal
 
-constant : (c : goal.After-nearest_at) → let a = c.args in back c.nearest_at.result ≡ nearest (constant_of (node_of a.node)) a.bits
-constant c = got c.nearest_at.type_inv c.nearest_at.ensures
-
 pub factor_of-requires : goal.factor_of-requires
 factor_of-requires c =
-    let s = c in
-    let a = s.args in
+    let constant : let a = c.args in back c.nearest_at.result ≡ nearest (constant_of (node_of a.node)) a.bits =
+        got c.nearest_at.type_inv c.nearest_at.ensures in
+    let a = c.args in
     let top : ℕ = max (a.bits + a.value) a.kept in record {
-      constant_bits = (s.requires.1, s.requires.2, s.requires.3);
-      sfits = fits_at (ap (λ (z : ℤ). z *ℤ pos (2 ^ (top - (a.bits + a.value)))) (constant c)) (constant_scaled_up (node_of a.node) a.bits a.value top s.requires.1 (omega arith) (omega arith));
+      constant_bits = (c.requires.1, c.requires.2, c.requires.3);
+      sfits = fits_at (ap (λ (z : ℤ). z *ℤ pos (2 ^ (top - (a.bits + a.value)))) constant) (constant_scaled_up (node_of a.node) a.bits a.value top c.requires.1 (omega arith) (omega arith));
     }
 
 pub returns : goal.returns
 returns c =
+    let constant : let a = c.args in back c.nearest_at.result ≡ nearest (constant_of (node_of a.node)) a.bits =
+        got c.nearest_at.type_inv c.nearest_at.ensures in
     let a = c.args in
-    c.factor_of.ensures ∙ ap (λ (z : ℤ). factor_of z a.bits a.value a.kept) (constant c.before)
+    c.factor_of.ensures ∙ ap (λ (z : ℤ). factor_of z a.bits a.value a.kept) constant
 
 pub nearest_at-requires : goal.nearest_at-requires
 nearest_at-requires c = (c.requires.0, c.requires.1)

@@ -10,7 +10,6 @@ use Rattle.fixed_stages.proofs.single_factor.Goals as goal
 pub returns : goal.returns
 unfolding single_of
 returns c =
-    let l = c in
-    let a = l.args in
-    let d = got c.signed_power-c.type_inv (c.signed_power-c.ensures ∙ ap (λ (k : ℕ). pos (2 ^ (k - a.value))) l.larger_bits-top.ensures) in
-    λ u. Plain (d u) (l.larger_bits-top.ensures u - a.kept)
+    let a = c.args in
+    let d = got c.signed_power-c.type_inv (c.signed_power-c.ensures ∙ ap (λ (k : ℕ). pos (2 ^ (k - a.value))) c.larger_bits-top.ensures) in
+    λ u. Plain (d u) (c.larger_bits-top.ensures u - a.kept)

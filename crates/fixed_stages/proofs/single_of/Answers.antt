@@ -10,17 +10,18 @@ use Rattle.fixed_stages.specs.Steps.{single_of}
 use Rattle.fixed_stages.specs.LevelBits.{fraction_is, input_is}
 use Rattle.fixed_stages.proofs.single_of.Goals as goal
 
--- the bits that enter the pass, and those of G1
-enters : (c : goal.After-input_bits-enters) → let a = c.args in (c.input_bits-enters.result ≡ input_bits a.table a.level (pass_of a.pass)) × (c.input_bits-enters.result ≤ max_fraction_bits)
-enters c = let s = c in input_is s.args.table s.args.level s.requires.0 s.args.pass s.requires.1 c.input_bits-enters.ensures
-
-kept : (c : goal.After-fraction_bits-kept) → let a = c.args in (c.fraction_bits-kept.result ≡ fraction_bits a.table a.level (pass_of a.pass) G1) × (c.fraction_bits-kept.result ≤ max_fraction_bits)
-kept c = let s = c in fraction_is s.args.table s.args.level s.requires.0 s.args.pass s.requires.1 5 (omega arith, omega arith) c.fraction_bits-kept.ensures
-
 pub returns : goal.returns
 returns c =
-    let f = c in
-    as_type (λ u. SameFactor ((c.single_factor.ensures ∙ (λ v. single_of ((enters c.before.before.before).0 v) ((kept c.before.before).0 v))) u) c.fastest_factor.result) c.fastest_factor.ensures
+    let enters : let a = c.args in (c.input_bits-enters.result ≡ input_bits a.table a.level (pass_of a.pass)) × (c.input_bits-enters.result ≤ max_fraction_bits) =
+        input_is c.args.table c.args.level c.requires.0 c.args.pass c.requires.1 c.input_bits-enters.ensures in
+    let kept : let a = c.args in (c.fraction_bits-kept.result ≡ fraction_bits a.table a.level (pass_of a.pass) G1) × (c.fraction_bits-kept.result ≤ max_fraction_bits) =
+        fraction_is c.args.table c.args.level c.requires.0 c.args.pass c.requires.1 5 (omega arith, omega arith) c.fraction_bits-kept.ensures in
+    as_type (λ u. SameFactor ((c.single_factor.ensures ∙ (λ v. single_of (enters.0 v) (kept.0 v))) u) c.fastest_factor.result) c.fastest_factor.ensures
 
 pub single_factor-requires : goal.single_factor-requires
-single_factor-requires c = ((enters c.before).1, (kept c).1)
+single_factor-requires c =
+    let enters : let a = c.args in (c.input_bits-enters.result ≡ input_bits a.table a.level (pass_of a.pass)) × (c.input_bits-enters.result ≤ max_fraction_bits) =
+        input_is c.args.table c.args.level c.requires.0 c.args.pass c.requires.1 c.input_bits-enters.ensures in
+    let kept : let a = c.args in (c.fraction_bits-kept.result ≡ fraction_bits a.table a.level (pass_of a.pass) G1) × (c.fraction_bits-kept.result ≤ max_fraction_bits) =
+        fraction_is c.args.table c.args.level c.requires.0 c.args.pass c.requires.1 5 (omega arith, omega arith) c.fraction_bits-kept.ensures in
+    (enters.1, kept.1)

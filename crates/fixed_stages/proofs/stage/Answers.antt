@@ -11,22 +11,22 @@ use Rattle.fixed_stages.specs.SafeLaws.{constant_scaled_up}
 use Rattle.fixed_stages.proofs.Read.{back, got, fits_at}
 use Rattle.fixed_stages.proofs.stage.Goals as goal
 
-constant : (c : goal.After-nearest_at) → let a = c.args in back c.nearest_at.result ≡ nearest (constant_of (node_of a.node)) a.bits
-constant c = got c.nearest_at.type_inv c.nearest_at.ensures
-
 pub step_of-requires : goal.step_of-requires
 step_of-requires c =
-    let s = c in
-    let a = s.args in
+    let constant : let a = c.args in back c.nearest_at.result ≡ nearest (constant_of (node_of a.node)) a.bits =
+        got c.nearest_at.type_inv c.nearest_at.ensures in
+    let a = c.args in
     let top : ℕ = step_top a.bits a.sides a.own a.kept in record {
-      constant_bits = (s.requires.1, s.requires.2, s.requires.3, s.requires.4);
-      sfits = fits_at (ap (λ (z : ℤ). z *ℤ pos (2 ^ (top - (a.bits + a.sides)))) (constant c)) (constant_scaled_up (node_of a.node) a.bits a.sides top s.requires.1 (omega arith) (omega arith));
+      constant_bits = (c.requires.1, c.requires.2, c.requires.3, c.requires.4);
+      sfits = fits_at (ap (λ (z : ℤ). z *ℤ pos (2 ^ (top - (a.bits + a.sides)))) constant) (constant_scaled_up (node_of a.node) a.bits a.sides top c.requires.1 (omega arith) (omega arith));
     }
 
 pub returns : goal.returns
 returns c =
+    let constant : let a = c.args in back c.nearest_at.result ≡ nearest (constant_of (node_of a.node)) a.bits =
+        got c.nearest_at.type_inv c.nearest_at.ensures in
     let a = c.args in
-    c.step_of.ensures ∙ ap (λ (z : ℤ). step_of (cut_to a.width) z a.bits a.sides a.own a.kept) (constant c.before)
+    c.step_of.ensures ∙ ap (λ (z : ℤ). step_of (cut_to a.width) z a.bits a.sides a.own a.kept) constant
 
 pub nearest_at-requires : goal.nearest_at-requires
 nearest_at-requires c = (c.requires.0, c.requires.1)

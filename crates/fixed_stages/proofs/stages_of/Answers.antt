@@ -21,19 +21,19 @@ use Rattle.fixed_stages.specs.Constants.{ConstantBits}
 use Rattle.fixed_stages.specs.LevelBits.{constant_limits, fraction_at, stage_at, input_is}
 use Rattle.fixed_stages.proofs.stages_of.Goals as goal
 
--- no more levels than a table may have
-few : (s : goal.Start) → s.args.level ≤ max_levels
-few s =
-    let l = s.requires.0 in
-    omega (arith, l.most, form_levels s.args.table (promise s.args.table l.accepted).form)
-
 pub node_place-at-requires : goal.node_place-at-requires
-node_place-at-requires c = omega (arith, c.requires.0.least, few c.before, c.requires.1)
+node_place-at-requires c =
+    let few : c.args.level ≤ max_levels =
+        let l = c.requires.0 in
+            omega (arith, l.most, form_levels c.args.table (promise c.args.table l.accepted).form) in
+    omega (arith, c.requires.0.least, few, c.requires.1)
 
 pub product_place-from-requires : goal.product_place-from-requires
 product_place-from-requires c =
-    let s = c in
-    omega (arith, s.requires.0.least, few c.before.before, s.requires.1)
+    let few : c.args.level ≤ max_levels =
+        let l = c.requires.0 in
+            omega (arith, l.most, form_levels c.args.table (promise c.args.table l.accepted).form) in
+    omega (arith, c.requires.0.least, few, c.requires.1)
 
 -- what the function is given
 abbrev start : goal.After-products-1 → goal.Start
@@ -42,12 +42,6 @@ start q = q.before.before.before.before.before.before
 -- the bits that enter the pass
 abbrev entered : goal.After-products-1 → ℕ
 entered q = q.before.before.before.before.before.input-bits.result
-
-enters : (q : goal.After-products-1) → let a = (start q).args in (entered q ≡ input_bits a.table a.level (pass_of a.pass)) × (entered q ≤ max_fraction_bits)
-enters q =
-    let s = start q in
-    let a = s.args in
-    input_is a.table a.level s.pre.0 a.pass s.pre.1 q.input_bits-enters.ensures
 
 -- those of a node's constant
 constant : (q : goal.After-products-1) (n : Node) → ConstantBits (constant_bits (start q).args.table n)
@@ -88,34 +82,33 @@ Found c =
     × (c.before.scaling.result ≡ s_g1 F fp fi f)
     × (c.scaling2.result ≡ s_g2 F fp fi f)
 
-found : (c : goal.After-scaling-high) → Found c
-found c =
-    let w = c in
-    let q = w in
-    let a = (start q).args in
-    let F = constant_bits a.table in
-    let fp = product_of a.table a.level (pass_of a.pass) in
-    let (en, most) = enters q in
-    let p1 = (fraction c.before.before.before.before.before.before.before.before.before.before P1).0 in
-    let u1 = (fraction c.before.before.before.before.before.before.before.before.before.before U1).0 in
-    let p2 = (fraction c.before.before.before.before.before.before.before.before.before.before P2).0 in
-    let u2 = (fraction c.before.before.before.before.before.before.before.before.before.before U2).0 in
-    let g1 = (fraction c.before.before.before.before.before.before.before.before.before.before G1).0 in
-    let g2 = (fraction c.before.before.before.before.before.before.before.before.before.before G2).0 in
-    let P = c.stage.ensures ∙ lifted q P1 (omega arith) (from q) (omega arith) w.cut_bits-w1.ensures alpha (entered q) (entered q) (read q P1) most ∙ (λ u. stage_of (fp P1) alpha (F P1) (en u) (en u) (p1 u)) in
-    let U = c.stage-2.ensures ∙ lifted q U1 (omega arith) (from q + 1) (omega arith) w.cut_bits-w2.ensures beta (read q P1) (entered q) (read q U1) (fraction c.before.before.before.before.before.before.before.before.before.before P1).1 ∙ (λ u. stage_of (fp U1) beta (F U1) (p1 u) (en u) (u1 u)) in
-    let P' = c.stage-3.ensures ∙ lifted q P2 (omega arith) (from q + 2) (omega arith) w.cut_bits-w3.ensures gamma (read q U1) (read q P1) (read q P2) (fraction c.before.before.before.before.before.before.before.before.before.before U1).1 ∙ (λ u. stage_of (fp P2) gamma (F P2) (u1 u) (p1 u) (p2 u)) in
-    let U' = c.stage-4.ensures ∙ lifted q U2 (omega arith) (from q + 3) (omega arith) w.cut_bits-w4.ensures delta (read q P2) (read q U1) (read q U2) (fraction c.before.before.before.before.before.before.before.before.before.before P2).1 ∙ (λ u. stage_of (fp U2) delta (F U2) (p2 u) (u1 u) (u2 u)) in (
-      (λ u. record { highs = P u; lows = U u }),
-      (λ u. record { highs = P' u; lows = U' u }),
-      c.scaling-low.ensures ∙ (λ u. scaling_of zeta (F G1) (u2 u) (g1 u)),
-      c.scaling-high.ensures ∙ (λ u. scaling_of zeta_inverse (F G2) (p2 u) (g2 u)),
-    )
-
 pub returns : goal.returns
 returns c =
-    let s = c in
-    let (first, second, low, high) = found s in
+    let enters : let a = (start q).args in (entered q ≡ input_bits a.table a.level (pass_of a.pass)) × (entered q ≤ max_fraction_bits) =
+        let s = start q in
+            let a = s.args in
+            input_is a.table a.level s.pre.0 a.pass s.pre.1 c.input_bits-enters.ensures in
+    let found : Found c =
+        let a = (start c).args in
+            let F = constant_bits a.table in
+            let fp = product_of a.table a.level (pass_of a.pass) in
+            let (en, most) = enters in
+            let p1 = (fraction c.before.before.before.before.before.before.before.before.before.before P1).0 in
+            let u1 = (fraction c.before.before.before.before.before.before.before.before.before.before U1).0 in
+            let p2 = (fraction c.before.before.before.before.before.before.before.before.before.before P2).0 in
+            let u2 = (fraction c.before.before.before.before.before.before.before.before.before.before U2).0 in
+            let g1 = (fraction c.before.before.before.before.before.before.before.before.before.before G1).0 in
+            let g2 = (fraction c.before.before.before.before.before.before.before.before.before.before G2).0 in
+            let P = c.stage.ensures ∙ lifted c P1 (omega arith) (from c) (omega arith) c.cut_bits-w1.ensures alpha (entered c) (entered c) (read c P1) most ∙ (λ u. stage_of (fp P1) alpha (F P1) (en u) (en u) (p1 u)) in
+            let U = c.stage-2.ensures ∙ lifted c U1 (omega arith) (from c + 1) (omega arith) c.cut_bits-w2.ensures beta (read c P1) (entered c) (read c U1) (fraction c.before.before.before.before.before.before.before.before.before.before P1).1 ∙ (λ u. stage_of (fp U1) beta (F U1) (p1 u) (en u) (u1 u)) in
+            let P' = c.stage-3.ensures ∙ lifted c P2 (omega arith) (from c + 2) (omega arith) c.cut_bits-w3.ensures gamma (read c U1) (read c P1) (read c P2) (fraction c.before.before.before.before.before.before.before.before.before.before U1).1 ∙ (λ u. stage_of (fp P2) gamma (F P2) (u1 u) (p1 u) (p2 u)) in
+            let U' = c.stage-4.ensures ∙ lifted c U2 (omega arith) (from c + 3) (omega arith) c.cut_bits-w4.ensures delta (read c P2) (read c U1) (read c U2) (fraction c.before.before.before.before.before.before.before.before.before.before P2).1 ∙ (λ u. stage_of (fp U2) delta (F U2) (p2 u) (u1 u) (u2 u)) in (
+              (λ u. record { highs = P u; lows = U u }),
+              (λ u. record { highs = P' u; lows = U' u }),
+              c.scaling-low.ensures ∙ (λ u. scaling_of zeta (F G1) (u2 u) (g1 u)),
+              c.scaling-high.ensures ∙ (λ u. scaling_of zeta_inverse (F G2) (p2 u) (g2 u)),
+            ) in
+    let (first, second, low, high) = found in
     record {
       first = as_type (λ u. SamePair (first u) c.fastest_pair.result) c.fastest_pair.ensures;
       second = as_type (λ u. SamePair (second u) c.fastest_pair-2.result) c.fastest_pair-2.ensures;
@@ -124,19 +117,29 @@ returns c =
     }
 
 pub stage-requires : goal.stage-requires
-stage-requires c = let q = c in ((omega arith, omega arith), constant c.before.before.before.before P1, (enters c.before.before.before.before).1, (enters c.before.before.before.before).1, (fraction c.before.before.before.before P1).1)
+stage-requires c =
+    let enters : let a = (start q).args in (entered q ≡ input_bits a.table a.level (pass_of a.pass)) × (entered q ≤ max_fraction_bits) =
+        let s = start q in
+            let a = s.args in
+            input_is a.table a.level s.pre.0 a.pass s.pre.1 c.input_bits-enters.ensures in
+    ((omega arith, omega arith), constant c.before.before.before.before P1, enters.1, enters.1, (fraction c.before.before.before.before P1).1)
 
 pub stage-requires-2 : goal.stage-requires-2
-stage-requires-2 c = let q = c in ((omega arith, omega arith), constant c.before.before.before.before.before U1, (fraction c.before.before.before.before.before P1).1, (enters c.before.before.before.before.before).1, (fraction c.before.before.before.before.before U1).1)
+stage-requires-2 c =
+    let enters : let a = (start q).args in (entered q ≡ input_bits a.table a.level (pass_of a.pass)) × (entered q ≤ max_fraction_bits) =
+        let s = start q in
+            let a = s.args in
+            input_is a.table a.level s.pre.0 a.pass s.pre.1 c.input_bits-enters.ensures in
+    ((omega arith, omega arith), constant c.before.before.before.before.before U1, (fraction c.before.before.before.before.before P1).1, enters.1, (fraction c.before.before.before.before.before U1).1)
 
 pub stage-requires-3 : goal.stage-requires-3
-stage-requires-3 c = let q = c in ((omega arith, omega arith), constant c.before.before.before.before.before.before P2, (fraction c.before.before.before.before.before.before U1).1, (fraction c.before.before.before.before.before.before P1).1, (fraction c.before.before.before.before.before.before P2).1)
+stage-requires-3 c = ((omega arith, omega arith), constant c.before.before.before.before.before.before P2, (fraction c.before.before.before.before.before.before U1).1, (fraction c.before.before.before.before.before.before P1).1, (fraction c.before.before.before.before.before.before P2).1)
 
 pub stage-requires-4 : goal.stage-requires-4
-stage-requires-4 c = let q = c in ((omega arith, omega arith), constant c.before.before.before.before.before.before.before U2, (fraction c.before.before.before.before.before.before.before P2).1, (fraction c.before.before.before.before.before.before.before U1).1, (fraction c.before.before.before.before.before.before.before U2).1)
+stage-requires-4 c = ((omega arith, omega arith), constant c.before.before.before.before.before.before.before U2, (fraction c.before.before.before.before.before.before.before P2).1, (fraction c.before.before.before.before.before.before.before U1).1, (fraction c.before.before.before.before.before.before.before U2).1)
 
 pub scaling-low-requires : goal.scaling-low-requires
-scaling-low-requires c = let q = c in ((omega arith, omega arith), constant c.before.before.before.before.before.before.before.before G1, (fraction c.before.before.before.before.before.before.before.before U2).1, (fraction c.before.before.before.before.before.before.before.before G1).1)
+scaling-low-requires c = ((omega arith, omega arith), constant c.before.before.before.before.before.before.before.before G1, (fraction c.before.before.before.before.before.before.before.before U2).1, (fraction c.before.before.before.before.before.before.before.before G1).1)
 
 pub scaling-high-requires : goal.scaling-high-requires
-scaling-high-requires c = let q = c in ((omega arith, omega arith), constant c.before.before.before.before.before.before.before.before.before G2, (fraction c.before.before.before.before.before.before.before.before.before P2).1, (fraction c.before.before.before.before.before.before.before.before.before G2).1)
+scaling-high-requires c = ((omega arith, omega arith), constant c.before.before.before.before.before.before.before.before.before G2, (fraction c.before.before.before.before.before.before.before.before.before P2).1, (fraction c.before.before.before.before.before.before.before.before.before G2).1)

@@ -20,15 +20,7 @@ use Rattle.inverse_lifting.specs.Columns.{low_size, high_size, column_line_lem, 
 use Rattle.inverse_lifting.proofs.column_step.Goals as goal
 
 pub scaled-requires : goal.scaled-requires
-scaled-requires c =
-    let s = c in
-    (size_read (at s.args.state.now (4 * s.args.b.room + s.args.j)) (low_size s.requires.ready s.requires.sized.two), lit≤ tt, omega (arith, s.requires.sized.lowbits))
-
--- the low, scaled
-low_is_lem : (c : goal.After-scaled) → let a = c.args in rd w64 c.scaled.result ≡ scaled_by at_inverse (cut_bits a.b.lowbits) (at a.state.now (4 * a.b.room + a.j))
-low_is_lem c =
-    let s = c in
-    again c.scaled.result c.scaled.type_inv ∙ c.scaled.ensures ∙ ap (scaled_by at_inverse (cut_bits s.args.b.lowbits)) (read (at s.args.state.now (4 * s.args.b.room + s.args.j)) (low_size s.requires.ready s.requires.sized.two))
+scaled-requires c = (size_read (at c.args.state.now (4 * c.args.b.room + c.args.j)) (low_size c.requires.ready c.requires.sized.two), lit≤ tt, omega (arith, c.requires.sized.lowbits))
 
 -- a coefficient fits 32 bits, and so 64
 fits : (c : goal.After-scaled-arg-2-1) → let a = c.args in SFits w32 (at a.plane.now (a.high + a.j))
@@ -41,42 +33,33 @@ cast_is : (c : goal.After-scaled-arg-2-1) → let a = c.args in rd w64 (rd w32 (
 cast_is c = to_z-of_z (cast-scaled c) ∙ to_z-of_z (fits c)
 
 pub scaled-requires-2 : goal.scaled-requires-2
-scaled-requires-2 c =
-    let s = c in
-    (subst (λ (v : ℤ). nat_abs v ≤ limit) (sym (cast_is c)) (high_size s.requires.ready s.requires.sized.two), lit≤ tt, omega (arith, s.requires.sized.highbits))
-
--- the high, scaled
-high_is_lem : (c : goal.After-scaled-2) → let a = c.args in rd w64 c.scaled-2.result ≡ scaled_by at_zeta (cut_bits a.b.highbits) (at a.plane.now (a.high + a.j))
-high_is_lem c =
-    let s = c in
-    again c.scaled-2.result c.scaled-2.type_inv ∙ c.scaled-2.ensures ∙ ap (scaled_by at_zeta (cut_bits s.args.b.highbits)) (cast_is c.before)
+scaled-requires-2 c = (subst (λ (v : ℤ). nat_abs v ≤ limit) (sym (cast_is c)) (high_size c.requires.ready c.requires.sized.two), lit≤ tt, omega (arith, c.requires.sized.highbits))
 
 pub stepped-t-requires : goal.stepped-t-requires
 stepped-t-requires c =
-    let l = c in
-    let h = l in
-    let s = h in
-    let a = s.args in
+    let low_is_lem : let a = c.args in rd w64 c.scaled.result ≡ scaled_by at_inverse (cut_bits a.b.lowbits) (at a.state.now (4 * a.b.room + a.j)) =
+        again c.scaled.result c.scaled.type_inv ∙ c.scaled.ensures ∙ ap (scaled_by at_inverse (cut_bits c.args.b.lowbits)) (read (at c.args.state.now (4 * c.args.b.room + c.args.j)) (low_size c.requires.ready c.requires.sized.two)) in
+    let high_is_lem : let a = c.args in rd w64 c.scaled-2.result ≡ scaled_by at_zeta (cut_bits a.b.highbits) (at a.plane.now (a.high + a.j)) =
+        again c.scaled-2.result c.scaled-2.type_inv ∙ c.scaled-2.ensures ∙ ap (scaled_by at_zeta (cut_bits c.args.b.highbits)) (cast_is c.before) in
+    let a = c.args in
     let n = a.b.lines in (
-      as_type (λ u. SomeReady a.i (lows n) (highs n) (sym h.held.ensures u) (sym (low_is_lem c.before.before) u) (sym (high_is_lem c) u)) (record { line = _; ready = column_line_lem s.requires.ready s.requires.sized.two s.requires.sized.within }),
-      s.requires.sized.middle,
+      as_type (λ u. SomeReady a.i (lows n) (highs n) (sym c.held.ensures u) (sym low_is_lem u) (sym high_is_lem u)) (record { line = _; ready = column_line_lem c.requires.ready c.requires.sized.two c.requires.sized.within }),
+      c.requires.sized.middle,
     )
 
 pub returns : goal.returns
 returns c =
+    let low_is_lem : let a = c.args in rd w64 c.scaled.result ≡ scaled_by at_inverse (cut_bits a.b.lowbits) (at a.state.now (4 * a.b.room + a.j)) =
+        again c.scaled.result c.scaled.type_inv ∙ c.scaled.ensures ∙ ap (scaled_by at_inverse (cut_bits c.args.b.lowbits)) (read (at c.args.state.now (4 * c.args.b.room + c.args.j)) (low_size c.requires.ready c.requires.sized.two)) in
+    let high_is_lem : let a = c.args in rd w64 c.scaled-2.result ≡ scaled_by at_zeta (cut_bits a.b.highbits) (at a.plane.now (a.high + a.j)) =
+        again c.scaled-2.result c.scaled-2.type_inv ∙ c.scaled-2.ensures ∙ ap (scaled_by at_zeta (cut_bits c.args.b.highbits)) (cast_is c.before) in
     let told = c.struct_told-1.given in
-    let k = c in
-    let t = k in
-    let g = t in
-    let l = g in
-    let h = l in
-    let s = h in
-    let a = s.args in
+    let a = c.args in
     let n = a.b.lines in
-    let r = t.stepped-t.result in
-    column_done a.plane.now a.high a.state.now k.keep.new.0 a.out.now a.to a.gap a.b a.i a.j r _ _ s.requires.among s.requires.sized.apart s.requires.sized.fits
-    (as_type (λ u. Stepped a.i (lows n) (highs n) (h.held.ensures u) (low_is_lem c.before.before.before.before.before.before.before.before u) (high_is_lem c.before.before.before.before.before.before u) r) t.stepped-t.ensures)
-    k.keep.ensures (again r.even told.1.1.1.1.0.1) (again r.odd told.1.1.1.1.1.0.1)
+    let r = c.stepped-t.result in
+    column_done a.plane.now a.high a.state.now c.keep.new.state a.out.now a.to a.gap a.b a.i a.j r _ _ c.requires.among c.requires.sized.apart c.requires.sized.fits
+    (as_type (λ u. Stepped a.i (lows n) (highs n) (c.held.ensures u) (low_is_lem u) (high_is_lem u) r) c.stepped-t.ensures)
+    c.keep.ensures (again r.even told.1.1.1.1.0.1) (again r.odd told.1.1.1.1.1.0.1)
 
 pub held-requires : goal.held-requires
 held-requires c = omega (arith, c.requires.among, c.requires.sized.narrow, c.requires.sized.room)
@@ -112,7 +95,7 @@ pub overflow_add-n : goal.overflow_add-n
 overflow_add-n c = omega (arith, c.requires.sized.few)
 
 pub keep-requires : goal.keep-requires
-keep-requires c = let s = c in omega (arith, s.requires.among, s.requires.sized.narrow, s.requires.sized.room)
+keep-requires c = omega (arith, c.requires.among, c.requires.sized.narrow, c.requires.sized.room)
 
 pub overflow_add-even : goal.overflow_add-even
 overflow_add-even c = omega (arith, c.requires.sized.fits, c.requires.among, c.well_formed)

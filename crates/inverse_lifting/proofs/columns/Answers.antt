@@ -16,23 +16,17 @@ use Rattle.inverse_lifting.proofs.columns.Goals as goal
 abbrev site : ℕ → ℕ → ℕ → Bool → ColumnsAt
 site width stride from stored = record { width = width; stride = stride; from = from; stored = stored }
 
--- the strip's width
-width : (c : goal.After-smaller-s) → let a = c.args in (1 ≤ c.smaller-s.result) × (c.loop-done.done + c.smaller-s.result ≤ a.w) × (5 * c.smaller-s.result ≤ length a.state.now)
-width c = (omega (arith, c.smaller-s.ensures), omega (arith, c.smaller-s.ensures), omega (arith, c.smaller-s.ensures))
-
 pub single_line-requires : goal.single_line-requires
 single_line-requires c =
-    let s = c in
-    let a = s.args in
+    let a = c.args in
     let e : a.h ≡ 1 = omega arith in record {
-      lies = (subst (Lies _ _ a.a a.w) e s.requires.lies.0, s.requires.lies.3);
-      by_index = λ j g. subst (λ (h : ℕ). nat_abs (source a.a h (at a.plane.now) (at a.work.now) j 0) ≤ limit) e ((s.requires.by_index j g).enters 0 (omega arith));
+      lies = (subst (Lies _ _ a.a a.w) e c.requires.lies.0, c.requires.lies.3);
+      by_index = λ j g. subst (λ (h : ℕ). nat_abs (source a.a h (at a.plane.now) (at a.work.now) j 0) ≤ limit) e ((c.requires.by_index j g).enters 0 (omega arith));
     }
 
 pub returns-then-h-eq1 : goal.returns-then-h-eq1
 returns-then-h-eq1 c =
-    let s = c in
-    let a = s.args in
+    let a = c.args in
     let e : 1 ≡ a.h = omega arith in (
       c.single_line.ensures ∙ inverted_single a.a a.lowbits a.highbits a.w (at a.plane.now) (at a.work.now)
           ∙ ap (λ (h : ℕ). inverted a.a a.lowbits a.highbits a.w h (at a.plane.now) (at a.work.now)) e,
@@ -41,13 +35,12 @@ returns-then-h-eq1 c =
 
 pub inverse_strip-requires : goal.inverse_strip-requires
 inverse_strip-requires c =
-    let m = c in
-    let l = m in
-    let t = l.loop-done in
-    let s = l in
-    let a = s.args in
-    let q = s.requires.lies.0 in
-    let z = width m in
+    let width : let a = c.args in (1 ≤ c.smaller-s.result) × (c.loop-done.done + c.smaller-s.result ≤ a.w) × (5 * c.smaller-s.result ≤ length a.state.now) =
+        (omega (arith, c.smaller-s.ensures), omega (arith, c.smaller-s.ensures), omega (arith, c.smaller-s.ensures)) in
+    let t = c.loop-done in
+    let a = c.args in
+    let q = c.requires.lies.0 in
+    let z = width in
     record {
       placed = record {
         two = record { least = omega arith };
@@ -57,32 +50,30 @@ inverse_strip-requires c =
           in_plane = λ k h. omega (arith, q.in_plane k h);
           in_work = λ k h. omega (arith, q.in_work k h, t.invariant.1);
         };
-        narrow = omega (arith, m.smaller-s.ensures);
+        narrow = omega (arith, c.smaller-s.ensures);
         room = omega (arith, t.invariant.2);
-        spare = omega (arith, t.invariant.3, s.requires.lies.2);
-        lowbits = s.requires.lies.3;
-        highbits = s.requires.lies.4;
+        spare = omega (arith, t.invariant.3, c.requires.lies.2);
+        lowbits = c.requires.lies.3;
+        highbits = c.requires.lies.4;
       };
       safe = λ j g.
           subst (Safe a.lowbits a.highbits a.h)
-          (sym (source_as_was a.a a.lowbits a.highbits t.done m.smaller-s.result a.h (omega (arith, q.narrow)) (at a.plane.now) (at a.work.now) _ t.invariant.4 j g))
-          (s.requires.by_index (t.done + j) (omega arith));
+          (sym (source_as_was a.a a.lowbits a.highbits t.done c.smaller-s.result a.h (omega (arith, q.narrow)) (at a.plane.now) (at a.work.now) _ t.invariant.4 j g))
+          (c.requires.by_index (t.done + j) (omega arith));
     }
 
 pub loop-done-preserved : goal.loop-done-preserved
 loop-done-preserved c =
-    let f = c in
-    let m = f in
-    let l = m in
-    let t = l.loop-done in
-    let s = l in
-    let a = s.args in
-    let z = width m in (
+    let width : let a = c.args in (1 ≤ c.smaller-s.result) × (c.loop-done.done + c.smaller-s.result ≤ a.w) × (5 * c.smaller-s.result ≤ length a.state.now) =
+        (omega (arith, c.smaller-s.ensures), omega (arith, c.smaller-s.ensures), omega (arith, c.smaller-s.ensures)) in
+    let t = c.loop-done in
+    let a = c.args in
+    let z = width in (
       omega arith,
       omega (arith, t.invariant.1),
       omega (arith, t.invariant.2),
       omega (arith, t.invariant.3),
-      inverted_more a.a a.lowbits a.highbits t.done m.smaller-s.result a.h (omega (arith, s.requires.lies.0.narrow)) (at a.plane.now) (at a.work.now) _ t.invariant.4 _ f.inverse_strip.ensures,
+      inverted_more a.a a.lowbits a.highbits t.done c.smaller-s.result a.h (omega (arith, c.requires.lies.0.narrow)) (at a.plane.now) (at a.work.now) _ t.invariant.4 _ c.inverse_strip.ensures,
     )
 
 pub returns : goal.returns
@@ -102,10 +93,16 @@ pub overflow_add-at : goal.overflow_add-at
 overflow_add-at c = omega (arith, c.requires.lies.0.narrow)
 
 pub overflow_add-done : goal.overflow_add-done
-overflow_add-done c = omega (arith, width c.before.before.before.before.before.before.before)
+overflow_add-done c =
+    let width : let a = c.args in (1 ≤ c.smaller-s.result) × (c.loop-done.done + c.smaller-s.result ≤ a.w) × (5 * c.smaller-s.result ≤ length a.state.now) =
+        (omega (arith, c.smaller-s.ensures), omega (arith, c.smaller-s.ensures), omega (arith, c.smaller-s.ensures)) in
+    omega (arith, width)
 
 pub loop-done-smaller : goal.loop-done-smaller
-loop-done-smaller c = omega (arith, width c.before.before.before.before.before.before.before)
+loop-done-smaller c =
+    let width : let a = c.args in (1 ≤ c.smaller-s.result) × (c.loop-done.done + c.smaller-s.result ≤ a.w) × (5 * c.smaller-s.result ≤ length a.state.now) =
+        (omega (arith, c.smaller-s.ensures), omega (arith, c.smaller-s.ensures), omega (arith, c.smaller-s.ensures)) in
+    omega (arith, width)
 
 pub shape_of-work : goal.shape_of-work
 shape_of-work c = omega (arith, c.loop-done.invariant.1)

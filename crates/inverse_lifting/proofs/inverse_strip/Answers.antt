@@ -8,48 +8,42 @@ use Rattle.inverse_lifting.specs.Strips.{Placed}
 use Rattle.inverse_lifting.specs.StripLoop.{StripDone, none_taken, column_ready, strip_more, strip_all, placed_as}
 use Rattle.inverse_lifting.proofs.inverse_strip.Goals as goal
 
--- the strip lies where it did
-placed : (c : goal.At-loop-i) → let t = c.loop-i in let a = c.args in Placed (length a.plane.now) (length t.work) (length t.state) (length t.line) a.a a.b
-placed c = let t = c.loop-i in placed_as c.requires.placed _ _ _ t.invariant.1 t.invariant.2 t.invariant.3
-
 pub feed-requires : goal.feed-requires
-feed-requires c = let q = placed c.before.before in (q.lies, q.narrow, q.room)
+feed-requires c =
+    let placed : let t = c.loop-i in let a = c.args in Placed (length a.plane.now) (length t.work) (length t.state) (length t.line) a.a a.b =
+        let t = c.loop-i in placed_as c.requires.placed _ _ _ t.invariant.1 t.invariant.2 t.invariant.3 in
+    let q = placed in (q.lies, q.narrow, q.room)
 
 pub strip_step-requires : goal.strip_step-requires
 strip_step-requires c =
-    let f = c in
-    let l = f in
-    let t = l.loop-i in
-    let s = l in
-    let q = placed l in
+    let placed : let t = c.loop-i in let a = c.args in Placed (length a.plane.now) (length t.work) (length t.state) (length t.line) a.a a.b =
+        let t = c.loop-i in placed_as c.requires.placed _ _ _ t.invariant.1 t.invariant.2 t.invariant.3 in
+    let t = c.loop-i in
+    let q = placed in
     record {
       placed = placed_as q _ _ _ refl (omega arith) refl;
-      within = f.loop-i-test.true;
+      within = c.loop-i-test.true;
       y = _;
-      ready = column_ready s.requires t.invariant.4 f.loop-i-test.true f.feed.ensures;
+      ready = column_ready c.requires t.invariant.4 c.loop-i-test.true c.feed.ensures;
     }
 
 pub loop-i-preserved : goal.loop-i-preserved
 loop-i-preserved c =
-    let m = c in
-    let f = m in
-    let l = f in
-    let t = l.loop-i in
-    let s = l in (
+    let t = c.loop-i in
+    (
       omega arith,
       omega (arith, t.invariant.1),
       omega (arith, t.invariant.2),
       omega (arith, t.invariant.3),
-      strip_more s.requires t.invariant.4 f.loop-i-test.true f.feed.ensures m.strip_step.ensures,
+      strip_more c.requires t.invariant.4 c.loop-i-test.true c.feed.ensures c.strip_step.ensures,
     )
 
 pub returns : goal.returns
 returns c =
     let t = c.loop-i in
-    let s = c in
-    let a = s.args in
+    let a = c.args in
     let e : t.i ≡ lows a.b.lines + 2 = omega (arith, t.invariant.0) in
-    strip_all s.requires (subst (λ (i : ℕ). StripDone a.plane.now a.work.now t.work t.state a.a a.b i) e t.invariant.4)
+    strip_all c.requires (subst (λ (i : ℕ). StripDone a.plane.now a.work.now t.work t.state a.a a.b i) e t.invariant.4)
 
 pub overflow_add-low : goal.overflow_add-low
 overflow_add-low c = omega (arith, c.requires.placed.lies.few)

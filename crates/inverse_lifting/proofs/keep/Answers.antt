@@ -8,9 +8,8 @@ use Rattle.inverse_lifting.proofs.keep.Goals as goal
 pub returns : goal.returns
 returns c =
     let told = c.struct_told-1.given in
-    let s = c in
-    let t = s.args.t in
-    kept_sets s.args.state.now s.args.j t _ _ _ _ s.requires
+    let t = c.args.t in
+    kept_sets c.args.state.now c.args.j t _ _ _ _ c.requires
     (again t.g2 told.0.1) (again t.u2 told.1.0.1) (again t.p2 told.1.1.0.1) (again t.u1 told.1.1.1.0.1)
 
 pub bounds-state-j-2 : goal.bounds-state-j-2

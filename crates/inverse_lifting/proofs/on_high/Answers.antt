@@ -8,17 +8,13 @@ pub returns-then-highs-k : goal.returns-then-highs-k
 returns-then-highs-k c = record { inner = λ g h. absurd (omega arith); last = λ g h. absurd (omega arith); past = λ h. to_z-of_z c.ranges.kept }
 
 pub moved_end-requires : goal.moved_end-requires
-moved_end-requires c = let s = c in (inside_read (s.requires.0.last (omega arith) (omega arith)), constant_back s.ranges.c s.requires.1)
+moved_end-requires c = (inside_read (c.requires.0.last (omega arith) (omega arith)), constant_back c.ranges.c c.requires.1)
 
 pub returns-then-lows-k : goal.returns-then-lows-k
-returns-then-lows-k c =
-    let s = c in
-    record { inner = λ g h. absurd (omega arith); last = λ g h. ended_got s.ranges.c (s.requires.0.last g h) c.moved_end.type_inv c.moved_end.ensures; past = λ h. absurd (omega arith) }
+returns-then-lows-k c = record { inner = λ g h. absurd (omega arith); last = λ g h. ended_got c.ranges.c (c.requires.0.last g h) c.moved_end.type_inv c.moved_end.ensures; past = λ h. absurd (omega arith) }
 
 pub moved-requires : goal.moved-requires
-moved-requires c = let s = c in (inside_read (s.requires.0.inner (omega arith) (omega arith)), constant_back s.ranges.c s.requires.1)
+moved-requires c = (inside_read (c.requires.0.inner (omega arith) (omega arith)), constant_back c.ranges.c c.requires.1)
 
 pub returns : goal.returns
-returns c =
-    let s = c in
-    record { inner = λ g h. moved_got s.ranges.c (s.requires.0.inner g h) c.moved.type_inv c.moved.ensures; last = λ g h. absurd (omega arith); past = λ h. absurd (omega arith) }
+returns c = record { inner = λ g h. moved_got c.ranges.c (c.requires.0.inner g h) c.moved.type_inv c.moved.ensures; last = λ g h. absurd (omega arith); past = λ h. absurd (omega arith) }

@@ -8,40 +8,37 @@ pub returns-then-lows-k : goal.returns-then-lows-k
 returns-then-lows-k c = record { first = λ z h. absurd (omega arith); inner = λ z g h. absurd (omega arith); last = λ z g h. absurd (omega arith); past = λ h. to_z-of_z c.ranges.kept }
 
 pub moved_end-requires : goal.moved_end-requires
-moved_end-requires c = let s = c in (inside_read (s.requires.0.first (omega arith) (omega arith)), constant_back s.ranges.c s.requires.1)
+moved_end-requires c = (inside_read (c.requires.0.first (omega arith) (omega arith)), constant_back c.ranges.c c.requires.1)
 
 pub returns-then-k-eq0 : goal.returns-then-k-eq0
 returns-then-k-eq0 c =
-    let s = c in
     record {
-      first = λ z h. ended_got s.ranges.c (s.requires.0.first z h) c.moved_end.type_inv c.moved_end.ensures;
+      first = λ z h. ended_got c.ranges.c (c.requires.0.first z h) c.moved_end.type_inv c.moved_end.ensures;
       inner = λ z g h. absurd (omega arith);
       last = λ z g h. absurd (omega arith);
       past = λ h. absurd (omega arith);
     }
 
 pub moved_end-requires-then-highs-k : goal.moved_end-requires-then-highs-k
-moved_end-requires-then-highs-k c = let s = c in (inside_read (s.requires.0.last (omega arith) (omega arith) (omega arith)), constant_back s.ranges.c s.requires.1)
+moved_end-requires-then-highs-k c = (inside_read (c.requires.0.last (omega arith) (omega arith) (omega arith)), constant_back c.ranges.c c.requires.1)
 
 pub returns-then-highs-k : goal.returns-then-highs-k
 returns-then-highs-k c =
-    let s = c in
     record {
       first = λ z h. absurd (omega arith);
       inner = λ z g h. absurd (omega arith);
-      last = λ z g h. ended_got s.ranges.c (s.requires.0.last z g h) c.moved_end-then-highs-k.type_inv c.moved_end-then-highs-k.ensures;
+      last = λ z g h. ended_got c.ranges.c (c.requires.0.last z g h) c.moved_end-then-highs-k.type_inv c.moved_end-then-highs-k.ensures;
       past = λ h. absurd (omega arith);
     }
 
 pub moved-requires : goal.moved-requires
-moved-requires c = let s = c in (inside_read (s.requires.0.inner (omega arith) (omega arith) (omega arith)), constant_back s.ranges.c s.requires.1)
+moved-requires c = (inside_read (c.requires.0.inner (omega arith) (omega arith) (omega arith)), constant_back c.ranges.c c.requires.1)
 
 pub returns : goal.returns
 returns c =
-    let s = c in
     record {
       first = λ z h. absurd (omega arith);
-      inner = λ z g h. moved_got s.ranges.c (s.requires.0.inner z g h) c.moved.type_inv c.moved.ensures;
+      inner = λ z g h. moved_got c.ranges.c (c.requires.0.inner z g h) c.moved.type_inv c.moved.ensures;
       last = λ z g h. absurd (omega arith);
       past = λ h. absurd (omega arith);
     }

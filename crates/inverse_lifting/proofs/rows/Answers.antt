@@ -13,33 +13,27 @@ use Rattle.inverse_lifting.proofs.rows.Goals as goal
 
 pub row-requires : goal.row-requires
 row-requires c =
-    let i = c in
-    let t = i in
-    let a = t in
-    let part = a.requires.part.0 in
-    let there = part.fits t.loop-r.r i.loop-r-test.true in record {
+    let part = c.requires.part.0 in
+    let there = part.fits c.loop-r.r c.loop-r-test.true in record {
       held = omega arith;
       room = omega arith;
       short = omega (arith, part.narrow, part.wide);
-      safe = subst (Safe node_bits node_bits a.args.w) (sym (row_kept a.args.stride a.args.w t.loop-r.r (t.loop-r.r * a.args.stride) (omega (arith, part.narrow)) _ _ _ t.loop-r.invariant.3 (omega arith))) (a.requires.by_index t.loop-r.r i.loop-r-test.true);
+      safe = subst (Safe node_bits node_bits c.args.w) (sym (row_kept c.args.stride c.args.w c.loop-r.r (c.loop-r.r * c.args.stride) (omega (arith, part.narrow)) _ _ _ c.loop-r.invariant.3 (omega arith))) (c.requires.by_index c.loop-r.r c.loop-r-test.true);
     }
 
 pub copy_run_wide-requires : goal.copy_run_wide-requires
 copy_run_wide-requires c =
-    let i = c in
-    let there = i.requires.part.0.fits i.loop-r.r i.loop-r-test.true in
+    let there = c.requires.part.0.fits c.loop-r.r c.loop-r-test.true in
     (omega arith, omega arith)
 
 pub loop-r-preserved : goal.loop-r-preserved
 loop-r-preserved c =
-    let n = c in
-    let t = n in
-    let a = t in (
+    (
       omega arith,
       omega arith,
       omega arith,
-      row_next (fixed_inverse node_bits node_bits) a.args.stride a.args.w t.loop-r.r (t.loop-r.r * a.args.stride) (omega (arith, a.requires.part.0.narrow)) (at a.args.work.now) _ _ t.loop-r.invariant.3 (omega arith)
-          (c.copy_run_wide.ensures ∙ patch_ext _ _ _ _ _ n.row.ensures.row),
+      row_next (fixed_inverse node_bits node_bits) c.args.stride c.args.w c.loop-r.r (c.loop-r.r * c.args.stride) (omega (arith, c.requires.part.0.narrow)) (at c.args.work.now) _ _ c.loop-r.invariant.3 (omega arith)
+          (c.copy_run_wide.ensures ∙ patch_ext _ _ _ _ _ c.row.ensures.row),
     )
 
 pub returns : goal.returns

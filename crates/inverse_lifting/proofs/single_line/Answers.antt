@@ -17,29 +17,28 @@ single_low-requires c =
     let q = c.requires.lies.0 in
     (omega (arith, q.in_plane 0 (omega arith)), omega (arith, q.in_work 0 (omega arith)))
 
--- the low of column j
-low : (c : goal.After-single_low) → let l = c in let a = l.args in c.single_low.result ≡ source a.a 1 (at a.plane.now) (at a.work.now) l.loop-j.j 0
-low c =
-    let l = c in
-    let a = l.args in
-    c.single_low.ensures ∙ single_now a.a a.lowbits l.loop-j.j (at a.plane.now) (at a.work.now) _ l.loop-j.invariant.2
-
-size : (c : goal.After-single_low) → nat_abs c.single_low.result ≤ limit
-size c = let l = c in subst (λ (v : ℤ). nat_abs v ≤ limit) (sym (low c)) (l.requires.by_index l.loop-j.j (omega arith))
-
 pub scaled-requires : goal.scaled-requires
-scaled-requires c = (size_read c.single_low.result (size c), lit≤ tt, omega (arith, c.requires.lies.1))
+scaled-requires c =
+    let low : let a = c.args in c.single_low.result ≡ source a.a 1 (at a.plane.now) (at a.work.now) c.loop-j.j 0 =
+        let a = c.args in
+            c.single_low.ensures ∙ single_now a.a a.lowbits c.loop-j.j (at a.plane.now) (at a.work.now) _ c.loop-j.invariant.2 in
+    let size : nat_abs c.single_low.result ≤ limit =
+        subst (λ (v : ℤ). nat_abs v ≤ limit) (sym low) (c.requires.by_index c.loop-j.j (omega arith)) in
+    (size_read c.single_low.result size, lit≤ tt, omega (arith, c.requires.lies.1))
 
 pub loop-j-preserved : goal.loop-j-preserved
 loop-j-preserved c =
-    let s = c in
-    let l = s in
-    let t = l.loop-j in
-    let a = l.args in (
+    let low : let a = c.args in c.single_low.result ≡ source a.a 1 (at a.plane.now) (at a.work.now) c.loop-j.j 0 =
+        let a = c.args in
+            c.single_low.ensures ∙ single_now a.a a.lowbits c.loop-j.j (at a.plane.now) (at a.work.now) _ c.loop-j.invariant.2 in
+    let size : nat_abs c.single_low.result ≤ limit =
+        subst (λ (v : ℤ). nat_abs v ≤ limit) (sym low) (c.requires.by_index c.loop-j.j (omega arith)) in
+    let t = c.loop-j in
+    let a = c.args in (
       omega arith,
       simp length-set t.invariant.1,
-      patch_set _ t.j _ _ t.work (pos 0) t.invariant.2 (omega (arith, l.requires.lies.0.in_work 0 (omega arith))) _
-          (again c.scaled.result c.scaled.type_inv ∙ c.scaled.ensures ∙ ap (scaled_by at_one a.lowbits) (read s.single_low.result (size c.before) ∙ low s) ∙ scaled_one a.lowbits _ l.requires.lies.1),
+      patch_set _ t.j _ _ t.work (pos 0) t.invariant.2 (omega (arith, c.requires.lies.0.in_work 0 (omega arith))) _
+          (again c.scaled.result c.scaled.type_inv ∙ c.scaled.ensures ∙ ap (scaled_by at_one a.lowbits) (read c.single_low.result size ∙ low) ∙ scaled_one a.lowbits _ c.requires.lies.1),
     )
 
 pub loop-j-init : goal.loop-j-init

@@ -4,15 +4,14 @@ use Rattle.inverse_lifting.proofs.stepped.Goals as goal
 
 pub inner_step-requires : goal.inner_step-requires
 inner_step-requires c =
-    let s = c in
-    let p = s.requires.1 c.if-inner.true in
-    (ready_read s.ranges.low s.ranges.high s.requires.0, p.0, p.1)
+    let p = c.requires.1 c.if-inner.true in
+    (ready_read c.ranges.low c.ranges.high c.requires.0, p.0, p.1)
 
 pub returns-then-inner : goal.returns-then-inner
-returns-then-inner c = let s = c in stepped_read s.ranges.low s.ranges.high c.inner_step.ensures
+returns-then-inner c = stepped_read c.ranges.low c.ranges.high c.inner_step.ensures
 
 pub end_step-requires : goal.end_step-requires
-end_step-requires c = let s = c in ready_read s.ranges.low s.ranges.high s.requires.0
+end_step-requires c = ready_read c.ranges.low c.ranges.high c.requires.0
 
 pub returns : goal.returns
-returns c = let s = c in stepped_read s.ranges.low s.ranges.high c.end_step.ensures
+returns c = stepped_read c.ranges.low c.ranges.high c.end_step.ensures

@@ -8,37 +8,31 @@ use Rattle.inverse_lifting.proofs.steps.Goals as goal
 
 pub column_step-requires : goal.column_step-requires
 column_step-requires c =
-    let l = c in
-    let t = l.loop-j in
-    let s = l in
+    let t = c.loop-j in
     let more = c.loop-j-test.true in
     record {
-      sized = sized_as s.requires.sized t.state _ t.invariant.1 t.invariant.2;
+      sized = sized_as c.requires.sized t.state _ t.invariant.1 t.invariant.2;
       among = more;
-      y = s.requires.y t.j;
-      ready = ready_now t.invariant.3 more s.requires.sized.narrow (s.requires.ready t.j more);
+      y = c.requires.y t.j;
+      ready = ready_now t.invariant.3 more c.requires.sized.narrow (c.requires.ready t.j more);
     }
 
 pub loop-j-preserved : goal.loop-j-preserved
 loop-j-preserved c =
-    let k = c in
-    let l = k in
-    let t = l.loop-j in
-    let s = l in
-    let more = k.loop-j-test.true in (
+    let t = c.loop-j in
+    let more = c.loop-j-test.true in (
       omega arith,
       omega (arith, t.invariant.1),
       omega (arith, t.invariant.2),
-      steps_more t.invariant.3 more s.requires.sized.narrow _ _ s.requires.sized.apart k.column_step.ensures,
+      steps_more t.invariant.3 more c.requires.sized.narrow _ _ c.requires.sized.apart c.column_step.ensures,
     )
 
 pub returns : goal.returns
 returns c =
     let t = c.loop-j in
-    let s = c in
-    let a = s.args in
+    let a = c.args in
     let e : t.j ≡ a.b.columns = omega (arith, t.invariant.0) in
-    steps_all s.requires.sized.narrow (subst (λ (j : ℕ). StepsDone a.plane.now a.high a.state.now t.state a.out.now t.out a.to a.gap a.b a.i j) e t.invariant.3)
+    steps_all c.requires.sized.narrow (subst (λ (j : ℕ). StepsDone a.plane.now a.high a.state.now t.state a.out.now t.out a.to a.gap a.b a.i j) e t.invariant.3)
 
 pub loop-j-init : goal.loop-j-init
 loop-j-init c = (omega arith, refl, refl, none_done _ _ _ _ _ _ _ _)

@@ -11,37 +11,33 @@ use Rattle.irreversible.proofs.columns_by.Goals as goal
 -- columns of one
 pub returns-then-h-lt2 : goal.returns-then-h-lt2
 returns-then-h-lt2 c =
-    let p = c in
-    let g = p in
-    let a = g.args in
+    let a = c.args in
     let x = at a.plane.now in
-    let q = factor_line a.table a.level (pass_of a.pass) a.h g.single_of-single.ensures (omega arith) in
-    p.scale_part.ensures ∙ (λ u. patch_lines (line_at a.from a.stride) a.w a.h (λ r j. q u (column_of a.stride a.from x j) r) x)
+    let q = factor_line a.table a.level (pass_of a.pass) a.h c.single_of-single.ensures (omega arith) in
+    c.scale_part.ensures ∙ (λ u. patch_lines (line_at a.from a.stride) a.w a.h (λ r j. q u (column_of a.stride a.from x j) r) x)
 
 -- columns of two or more
 pub returns : goal.returns
 returns c =
-    let r = c in
-    let k = r in
-    let a = k.args in
+    let a = c.args in
     let x = at a.plane.now in
-    let q = kernel_line a.table a.level (pass_of a.pass) a.h k.kernel_of.ensures (record { least = omega arith }) in
-    r.columns.ensures.plane ∙ (λ u. patch_lines (line_at a.from a.stride) a.w a.h (λ r j. q u (column_of a.stride a.from x j) r) x)
+    let q = kernel_line a.table a.level (pass_of a.pass) a.h c.kernel_of.ensures (record { least = omega arith }) in
+    c.columns.ensures.plane ∙ (λ u. patch_lines (line_at a.from a.stride) a.w a.h (λ c j. q u (column_of a.stride a.from x j) c) x)
 
 pub single_of-single-requires : goal.single_of-single-requires
 single_of-single-requires c = (c.requires.0.is_level, c.requires.1)
 
 pub scale_part-requires : goal.scale_part-requires
-scale_part-requires c = let s = c in record {
-      part = s.requires.0.part;
-      by_index = λ r j i k. c.single_of-single.ensures.safe _ ((s.requires.0.safe j k).single (omega arith) r i);
+scale_part-requires c = record {
+      part = c.requires.0.part;
+      by_index = λ r j i k. c.single_of-single.ensures.safe _ ((c.requires.0.safe j k).single (omega arith) r i);
     }
 
 pub kernel_of-requires : goal.kernel_of-requires
 kernel_of-requires c = (c.requires.0.is_level, c.requires.1)
 
 pub columns-requires : goal.columns-requires
-columns-requires c = let s = c in record {
-      part = (s.requires.0.part, record { least = omega arith }, s.requires.0.down);
-      by_index = (λ j i. c.kernel_of.ensures.safe _ _ ((s.requires.0.safe j i).long (record { least = omega arith })));
+columns-requires c = record {
+      part = (c.requires.0.part, record { least = omega arith }, c.requires.0.down);
+      by_index = (λ j i. c.kernel_of.ensures.safe _ _ ((c.requires.0.safe j i).long (record { least = omega arith })));
     }

@@ -10,18 +10,14 @@ use Rattle.irreversible.proofs.first_level.Goals as goal
 
 pub work_columns-requires : goal.work_columns-requires
 work_columns-requires c =
-    let o = c in
-    let s = o in
-    let a = s.args in
-    let f = first_ready s.requires in
-    both_ready a.table 1 a.w a.w a.h (loaded a.pixels.now (2 ^ (a.table.depth - 1)) a.w a.h (at a.plane.now)) a.plane.now _ _ f.is_level f.part (omega (arith, f.down)) f.safe (omega arith) o.pixel_rows.ensures
+    let a = c.args in
+    let f = first_ready c.requires in
+    both_ready a.table 1 a.w a.w a.h (loaded a.pixels.now (2 ^ (a.table.depth - 1)) a.w a.h (at a.plane.now)) a.plane.now _ _ f.is_level f.part (omega (arith, f.down)) f.safe (omega arith) c.pixel_rows.ensures
 
 pub returns : goal.returns
 returns c =
-    let f = c in
-    let o = f in
-    let a = o.args in
-    f.work_columns.ensures ∙ ap (columned a.table 1 a.w a.w a.h) o.pixel_rows.ensures
+    let a = c.args in
+    c.work_columns.ensures ∙ ap (columned a.table 1 a.w a.w a.h) c.pixel_rows.ensures
 
 pub pixel_rows-requires : goal.pixel_rows-requires
 pixel_rows-requires c = c.requires

@@ -25,70 +25,57 @@ use Rattle.irreversible.proofs.pixel_rows.Goals as goal
 abbrev x : goal.Start → ℕ → ℤ
 x s = loaded s.args.pixels.now (2 ^ (s.args.table.depth - 1)) s.args.w s.args.h (at s.args.plane.now)
 
--- the size of the picture
-size : (s : goal.Start) → s.args.w * s.args.h ≤ 16777216
-size s = mul-le-mul s.requires.picture.width.1 s.requires.picture.height.1
-
--- pixels as they are: the plane that holds them
-put : (c : goal.After-put_pixels) → let s = c in at c.put_pixels.new.1.1.0 ≡ x s
-put c =
-    let m = c in
-    let a = m.args in
-    c.put_pixels.ensures ∙ put_loaded a.pixels.now m.middle-middle.result a.w a.h (at a.plane.now) ∙ (λ u. loaded a.pixels.now (m.middle-middle.ensures u) a.w a.h (at a.plane.now))
-
 pub work_rows-requires : goal.work_rows-requires
 work_rows-requires c =
-    let p = c in
-    let s = p in
-    let a = s.args in
-    let f = first_ready s.requires in
+    let put : at c.put_pixels.new.1.1.0 ≡ x c =
+        let a = c.args in
+            c.put_pixels.ensures ∙ put_loaded a.pixels.now c.middle-middle.result a.w a.h (at a.plane.now) ∙ (λ u. loaded a.pixels.now (c.middle-middle.ensures u) a.w a.h (at a.plane.now)) in
+    let a = c.args in
+    let f = first_ready c.requires in
     record {
       is_level = f.is_level;
       part = part_of f.part _ (omega arith) 0 a.w (omega arith);
       across = f.across;
-      safe = λ r i. as_type (λ u. LineSafe a.table 1 Rows a.w (row_of a.w 0 (sym (put c.before.before.before) u) r)) (f.safe.on_rows r i);
+      safe = λ r i. as_type (λ u. LineSafe a.table 1 Rows a.w (row_of a.w 0 (sym put u) r)) (f.safe.on_rows r i);
     }
 
 pub returns-then-w-lt2 : goal.returns-then-w-lt2
 returns-then-w-lt2 c =
-    let r = c in
-    let p = r in
-    let a = p.args in
-    r.work_rows.ensures ∙ ap (rowed a.table 1 a.w a.w a.h) (put c.before.before.before.before.before.before)
+    let put : at c.put_pixels.new.1.1.0 ≡ x c =
+        let a = c.args in
+            c.put_pixels.ensures ∙ put_loaded a.pixels.now c.middle-middle.result a.w a.h (at a.plane.now) ∙ (λ u. loaded a.pixels.now (c.middle-middle.ensures u) a.w a.h (at a.plane.now)) in
+    let a = c.args in
+    c.work_rows.ensures ∙ ap (rowed a.table 1 a.w a.w a.h) put
 
 pub pixel_rows-requires : goal.pixel_rows-requires
 unfolding kernel_of
 pixel_rows-requires c =
-    let k = c in
-    let m = k in
-    let s = m in
-    let a = s.args in
-    let f = first_ready s.requires in record {
-      part = (f.part, record { least = omega arith }, f.across, k.kernel_of-kernel.ensures.way tt, s.requires.first);
-      by_index = (λ r i. k.kernel_of-kernel.ensures.safe _ _ (as_type (λ u. SafeKernel (kernel_of a.table 1 Rows) a.w (pixel_line a.pixels.now (sym m.middle-middle.ensures u) (r * a.w))) ((f.on_pixels r i).long (record { least = omega arith }))));
+    let a = c.args in
+    let f = first_ready c.requires in record {
+      part = (f.part, record { least = omega arith }, f.across, c.kernel_of-kernel.ensures.way tt, c.requires.first);
+      by_index = (λ r i. c.kernel_of-kernel.ensures.safe _ _ (as_type (λ u. SafeKernel (kernel_of a.table 1 Rows) a.w (pixel_line a.pixels.now (sym c.middle-middle.ensures u) (r * a.w))) ((f.on_pixels r i).long (record { least = omega arith }))));
     }
 
 pub returns : goal.returns
 returns c =
-    let p = c in
-    let k = p in
-    let m = k in
-    let s = m in
-    let a = s.args in
-    let q = kernel_line a.table 1 Rows a.w k.kernel_of-kernel.ensures (record { least = omega arith }) in
-    p.pixel_rows.ensures.plane
-    ∙ (λ u. patch_lines (line_at 0 a.w) a.w a.h (λ r. worked k.kernel_of-kernel.result a.w (pixel_line a.pixels.now (m.middle-middle.ensures u) (r * a.w))) (at a.plane.now))
-    ∙ pixel_rows_worked k.kernel_of-kernel.result a.pixels.now (2 ^ (a.table.depth - 1)) a.w a.h (at a.plane.now) s.requires.picture.width.0 (record { least = omega arith })
-    ∙ (λ u. patch_lines (line_at 0 a.w) a.w a.h (λ r. q u (row_of a.w 0 (x s) r)) (x s))
+    let a = c.args in
+    let q = kernel_line a.table 1 Rows a.w c.kernel_of-kernel.ensures (record { least = omega arith }) in
+    c.pixel_rows.ensures.plane
+    ∙ (λ u. patch_lines (line_at 0 a.w) a.w a.h (λ r. worked c.kernel_of-kernel.result a.w (pixel_line a.pixels.now (c.middle-middle.ensures u) (r * a.w))) (at a.plane.now))
+    ∙ pixel_rows_worked c.kernel_of-kernel.result a.pixels.now (2 ^ (a.table.depth - 1)) a.w a.h (at a.plane.now) c.requires.picture.width.0 (record { least = omega arith })
+    ∙ (λ u. patch_lines (line_at 0 a.w) a.w a.h (λ r. q u (row_of a.w 0 (x c) r)) (x c))
 
 pub middle-middle-requires : goal.middle-middle-requires
 middle-middle-requires c = form_depth c.args.table (promise c.args.table c.requires.accepted).form
 
 pub overflow_mul-w : goal.overflow_mul-w
-overflow_mul-w c = omega (arith, size c.before.before.before.before)
+overflow_mul-w c =
+    let size : c.args.w * c.args.h ≤ 16777216 =
+        mul-le-mul c.requires.picture.width.1 c.requires.picture.height.1 in
+    omega (arith, size)
 
 pub put_pixels-requires : goal.put_pixels-requires
-put_pixels-requires c = let s = c in (s.requires.first, s.requires.second)
+put_pixels-requires c = (c.requires.first, c.requires.second)
 
 pub kernel_of-kernel-requires : goal.kernel_of-kernel-requires
 kernel_of-kernel-requires c = ((first_ready c.requires).is_level, (omega arith, omega arith))

@@ -11,37 +11,33 @@ use Rattle.irreversible.proofs.work_rows.Goals as goal
 -- rows of one
 pub returns-then-w-lt2 : goal.returns-then-w-lt2
 returns-then-w-lt2 c =
-    let p = c in
-    let g = p in
-    let a = g.args in
+    let a = c.args in
     let x = at a.plane.now in
-    let q = factor_line a.table a.level Rows a.w g.single_of-single.ensures (omega arith) in
-    p.scale_part.ensures ∙ (λ u. patch_lines (line_at 0 a.stride) a.w a.h (λ r. q u (row_of a.stride 0 x r)) x)
+    let q = factor_line a.table a.level Rows a.w c.single_of-single.ensures (omega arith) in
+    c.scale_part.ensures ∙ (λ u. patch_lines (line_at 0 a.stride) a.w a.h (λ r. q u (row_of a.stride 0 x r)) x)
 
 -- rows of two or more
 pub returns : goal.returns
 returns c =
-    let r = c in
-    let k = r in
-    let a = k.args in
+    let a = c.args in
     let x = at a.plane.now in
-    let q = kernel_line a.table a.level Rows a.w k.kernel_of.ensures (record { least = omega arith }) in
-    r.rows.ensures.plane ∙ (λ u. patch_lines (line_at 0 a.stride) a.w a.h (λ r. q u (row_of a.stride 0 x r)) x)
+    let q = kernel_line a.table a.level Rows a.w c.kernel_of.ensures (record { least = omega arith }) in
+    c.rows.ensures.plane ∙ (λ u. patch_lines (line_at 0 a.stride) a.w a.h (λ c. q u (row_of a.stride 0 x c)) x)
 
 pub single_of-single-requires : goal.single_of-single-requires
 single_of-single-requires c = (c.requires.is_level, (omega arith, omega arith))
 
 pub scale_part-requires : goal.scale_part-requires
-scale_part-requires c = let s = c in record {
-      part = s.requires.part;
-      by_index = λ r j i k. c.single_of-single.ensures.safe _ ((s.requires.safe r i).single (omega arith) j k);
+scale_part-requires c = record {
+      part = c.requires.part;
+      by_index = λ r j i k. c.single_of-single.ensures.safe _ ((c.requires.safe r i).single (omega arith) j k);
     }
 
 pub kernel_of-requires : goal.kernel_of-requires
 kernel_of-requires c = (c.requires.is_level, (omega arith, omega arith))
 
 pub rows-requires : goal.rows-requires
-rows-requires c = let s = c in record {
-      part = (s.requires.part, record { least = omega arith }, s.requires.across);
-      by_index = (λ r i. c.kernel_of.ensures.safe _ _ ((s.requires.safe r i).long (record { least = omega arith })));
+rows-requires c = record {
+      part = (c.requires.part, record { least = omega arith }, c.requires.across);
+      by_index = (λ r i. c.kernel_of.ensures.safe _ _ ((c.requires.safe r i).long (record { least = omega arith })));
     }

@@ -10,20 +10,17 @@ use Rattle.listing.specs.InputLaws.{form_done}
 use Rattle.listing.specs.AnswerLaws.{text_form}
 use Rattle.listing.proofs.list_into.Goals as goal
 
--- the form is right
-right : (c : goal.In-Done) → copy_form c.args.bytes.now ≡ passed
-right c = sym c.form_of.ensures ∙ ap told c.in-Done.is
-
 pub head_of-requires : goal.head_of-requires
-head_of-requires c = omega (arith, (form_done _ (right c)).exact)
+head_of-requires c =
+    let right : copy_form c.args.bytes.now ≡ passed =
+        sym c.form_of.ensures ∙ ap told c.in-Done.is in
+    omega (arith, (form_done _ right).exact)
 
 pub list_picture-requires : goal.list_picture-requires
 list_picture-requires c =
-    let h = c in
-    (h.head_of.ensures, right c.before.before.before.before.before, h.requires)
+    let right : copy_form c.args.bytes.now ≡ passed =
+        sym c.form_of.ensures ∙ ap told c.in-Done.is in
+    (c.head_of.ensures, right, c.requires)
 
 pub returns-in-Refused : goal.returns-in-Refused
-returns-in-Refused c =
-    let p = c in
-    let k = p in
-    put_same _ _ p.put_refused.ensures (sym (text_form _ _ (sym k.form_of.ensures ∙ ap told k.in-Refused.is)))
+returns-in-Refused c = put_same _ _ c.put_refused.ensures (sym (text_form _ _ (sym c.form_of.ensures ∙ ap told c.in-Refused.is)))

@@ -18,8 +18,6 @@ returns-then-text-lt-MAX_TEXT c =
 
 pub returns : goal.returns
 returns c =
-    let p = c in
-    let s = p in
-    let e = listed_whole s.args.input.now s.args.text.now (omega arith) in
-    let r = p.list_into.ensures in
-    (omega (arith, r.end, ap length e), (put_over r ∙ ap (λ (t : List ℕ). over t s.args.text.now) (sym e), r.inside))
+    let e = listed_whole c.args.input.now c.args.text.now (omega arith) in
+    let r = c.list_into.ensures in
+    (omega (arith, r.end, ap length e), (put_over r ∙ ap (λ (t : List ℕ). over t c.args.text.now) (sym e), r.inside))

@@ -21,23 +21,19 @@ given c = v_arg (rd w32 c.args.z) (2 ^ 31) (subst (λ (z : ℤ). nat_abs z ≤ 2
 test : (c : goal.Start) {b : Bool} → lt_z (rd w32 c.args.z) (pos 0) ≡ b → lt_z c.args.z (pos 0) ≡ b
 test c e = ap (λ (z : ℤ). lt_z z (pos 0)) (sym (to_z-of_z c.ranges.z)) ∙ e
 
--- what its negative is read back as
-turned : (c : goal.Start) → rd w64 (pos 0 -ℤ rd w64 (rd w32 c.args.z)) ≡ pos 0 +ℤ neg_ℤ c.args.z
-turned c = auto_exact (search (given c, values) depth 40) tt ∙ ap (λ (z : ℤ). pos 0 +ℤ neg_ℤ z) (to_z-of_z c.ranges.z)
-
 size : (c : goal.Then-z-lt0) → T (non_neg (pos 0 +ℤ neg_ℤ c.args.z)) × (nat_abs (pos 0 +ℤ neg_ℤ c.args.z) ≡ nat_abs c.args.z)
 size c = negated c.args.z (test c.before c.if-z-lt0.true)
 
 pub overflow_cast-result-then-z-lt0 : goal.overflow_cast-result-then-z-lt0
 overflow_cast-result-then-z-lt0 c =
-    let s = c in
-    (subst (λ (z : ℤ). T (non_neg z)) (sym (turned c.before)) (size c).0, omega (arith, ap nat_abs (turned c.before), (size c).1, size_of_mag s.args.z s.ranges.z.sfits))
+    let turned : rd w64 (pos 0 -ℤ rd w64 (rd w32 c.args.z)) ≡ pos 0 +ℤ neg_ℤ c.args.z =
+        auto_exact (search (given c, values) depth 40) tt ∙ ap (λ (z : ℤ). pos 0 +ℤ neg_ℤ z) (to_z-of_z c.ranges.z) in
+    (subst (λ (z : ℤ). T (non_neg z)) (sym turned) (size c).0, omega (arith, ap nat_abs turned, (size c).1, size_of_mag c.args.z c.ranges.z.sfits))
 
 pub overflow_cast-result-else-z-lt0 : goal.overflow_cast-result-else-z-lt0
 overflow_cast-result-else-z-lt0 c =
-    let s = c in
-    let e = to_z-of_z s.ranges.z in
-    (subst (λ (z : ℤ). T (non_neg z)) (sym e) (not_below s.args.z (test c.before c.if-z-lt0.false)), omega (arith, ap nat_abs e, size_of_mag s.args.z s.ranges.z.sfits))
+    let e = to_z-of_z c.ranges.z in
+    (subst (λ (z : ℤ). T (non_neg z)) (sym e) (not_below c.args.z (test c.before c.if-z-lt0.false)), omega (arith, ap nat_abs e, size_of_mag c.args.z c.ranges.z.sfits))
 
 pub overflow_cast-result : goal.overflow_cast-result
 overflow_cast-result c = auto_fits (search (given c, values) depth 40) tt
@@ -46,4 +42,7 @@ pub overflow_sub-result : goal.overflow_sub-result
 overflow_sub-result c = auto_fits (search (given c, values) depth 40) tt
 
 pub returns-then-z-lt0 : goal.returns-then-z-lt0
-returns-then-z-lt0 c = ap nat_abs (turned c.before) ∙ (size c).1
+returns-then-z-lt0 c =
+    let turned : rd w64 (pos 0 -ℤ rd w64 (rd w32 c.args.z)) ≡ pos 0 +ℤ neg_ℤ c.args.z =
+        auto_exact (search (given c, values) depth 40) tt ∙ ap (λ (z : ℤ). pos 0 +ℤ neg_ℤ z) (to_z-of_z c.ranges.z) in
+    ap nat_abs turned ∙ (size c).1

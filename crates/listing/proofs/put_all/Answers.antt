@@ -11,11 +11,10 @@ use Rattle.listing.proofs.put_all.Goals as goal
 
 pub loop-i-preserved : goal.loop-i-preserved
 loop-i-preserved c =
-    let p = c in
-    let t = p.loop-i in
-    let l = p.args.bytes.now in
+    let t = c.loop-i in
+    let l = c.args.bytes.now in
     let e : drop t.i l ≡ get_or l t.i 0 ∷ drop (t.i + 1) l = drop-cons l t.i 0 (omega arith) ∙ rw add-one in
-    (omega arith, put_length p.put-next.ensures ∙ t.invariant.1, omega (arith, p.put-next.ensures.end), leads_put (get_or l t.i 0 ∷ []) _ (leads_same _ _ t.invariant.3 e) p.put-next.ensures)
+    (omega arith, put_length c.put-next.ensures ∙ t.invariant.1, omega (arith, c.put-next.ensures.end), leads_put (get_or l t.i 0 ∷ []) _ (leads_same _ _ t.invariant.3 e) c.put-next.ensures)
 
 pub returns : goal.returns
 returns c =

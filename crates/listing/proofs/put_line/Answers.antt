@@ -16,41 +16,31 @@ pub loop-i-init : goal.loop-i-init
 loop-i-init c = (omega arith, refl, omega arith, leads_start _ _ _)
 
 pub put-next-requires : goal.put-next-requires
-put-next-requires c =
-    let p = c in
-    omega (arith, p.put_number-next.ensures.1, put_length p.put_number-next.ensures.0)
+put-next-requires c = omega (arith, c.put_number-next.ensures.1, put_length c.put_number-next.ensures.0)
 
 pub loop-i-preserved : goal.loop-i-preserved
 loop-i-preserved c =
-    let p = c in
-    let d = p in
-    let t = d.loop-i in
-    let l = d.args.numbers.now in
-    let z = put_same _ _ d.put_number-next.ensures.0 (ap decimal (to_z-of_z {w = w32} (sfits_of d.put_number-arg-in-loop-i-1.given))) in (
+    let t = c.loop-i in
+    let l = c.args.numbers.now in
+    let z = put_same _ _ c.put_number-next.ensures.0 (ap decimal (to_z-of_z {w = w32} (sfits_of c.put_number-arg-in-loop-i-1.given))) in (
       omega arith,
-      put_length p.put-next.ensures ∙ put_length d.put_number-next.ensures.0 ∙ t.invariant.1,
-      omega (arith, d.put_number-next.ensures.1, p.put-next.ensures.end),
-      leads_put (space ∷ []) _ (leads_put _ _ (leads_same _ _ t.invariant.3 (line_more l t.i (omega arith))) z) p.put-next.ensures,
+      put_length c.put-next.ensures ∙ put_length c.put_number-next.ensures.0 ∙ t.invariant.1,
+      omega (arith, c.put_number-next.ensures.1, c.put-next.ensures.end),
+      leads_put (space ∷ []) _ (leads_put _ _ (leads_same _ _ t.invariant.3 (line_more l t.i (omega arith))) z) c.put-next.ensures,
     )
 
 pub put-requires : goal.put-requires
-put-requires c =
-    let p = c in
-    omega (arith, p.put_number-next-2.ensures.1, put_length p.put_number-next-2.ensures.0)
+put-requires c = omega (arith, c.put_number-next-2.ensures.1, put_length c.put_number-next-2.ensures.0)
 
 pub shape_of-text : goal.shape_of-text
-shape_of-text c =
-    let d = c in
-    put_length c.put.ensures ∙ put_length d.put_number-next-2.ensures.0 ∙ d.loop-i.invariant.1
+shape_of-text c = put_length c.put.ensures ∙ put_length c.put_number-next-2.ensures.0 ∙ c.loop-i.invariant.1
 
 pub returns : goal.returns
 returns c =
-    let p = c in
-    let d = p in
-    let t = d.loop-i in
-    let l = d.args.numbers.now in
-    let z = put_same _ _ d.put_number-next-2.ensures.0 (ap decimal (to_z-of_z {w = w32} (sfits_of d.put_number-arg-3-1.given))) in
+    let t = c.loop-i in
+    let l = c.args.numbers.now in
+    let z = put_same _ _ c.put_number-next-2.ensures.0 (ap decimal (to_z-of_z {w = w32} (sfits_of c.put_number-arg-3-1.given))) in
     let e : t.i ≡ length l - 1 = omega arith in (
-      leads_end (leads_put (newline ∷ []) [] (leads_put _ _ (leads_same _ _ t.invariant.3 (ap (λ (k : ℕ). line (drop k l)) e ∙ line_last l (length l - 1) (omega arith))) z) p.put.ensures) (omega (arith, d.put_number-next-2.ensures.1, p.put.ensures.end)),
-      omega (arith, d.put_number-next-2.ensures.1, p.put.ensures.end),
+      leads_end (leads_put (newline ∷ []) [] (leads_put _ _ (leads_same _ _ t.invariant.3 (ap (λ (k : ℕ). line (drop k l)) e ∙ line_last l (length l - 1) (omega arith))) z) c.put.ensures) (omega (arith, c.put_number-next-2.ensures.1, c.put.ensures.end)),
+      omega (arith, c.put_number-next-2.ensures.1, c.put.ensures.end),
     )

@@ -19,37 +19,37 @@ use Rattle.listing.proofs.put_number.Goals as goal
 test : (c : goal.Start) {b : Bool} → lt_z (rd w32 c.args.z) (pos 0) ≡ b → lt_z c.args.z (pos 0) ≡ b
 test c e = ap (λ (z : ℤ). lt_z z (pos 0)) (sym (to_z-of_z c.ranges.z)) ∙ e
 
--- the size that was found, and how many digits it has
-size : (c : goal.After-magnitude-n) → (c.magnitude-n.result ≡ nat_abs c.args.z) × (length (natural c.magnitude-n.result) ≤ 10)
-size c =
-    let s = c in
-    let e : c.magnitude-n.result ≡ nat_abs s.args.z = c.magnitude-n.ensures ∙ ap nat_abs (to_z-of_z s.ranges.z) in
-    (e, natural_short 9 _ (omega (arith, e, size_of_mag s.args.z s.ranges.z.sfits)))
-
 pub put_natural-requires : goal.put_natural-requires
 put_natural-requires c =
-    let p = c in
-    omega (arith, (size c.before.before.before.before.before.before).1, p.put-next.ensures.end, put_length p.put-next.ensures)
+    let size : (c.magnitude-n.result ≡ nat_abs c.args.z) × (length (natural c.magnitude-n.result) ≤ 10) =
+        let e : c.magnitude-n.result ≡ nat_abs c.args.z = c.magnitude-n.ensures ∙ ap nat_abs (to_z-of_z c.ranges.z) in
+            (e, natural_short 9 _ (omega (arith, e, size_of_mag c.args.z c.ranges.z.sfits))) in
+    omega (arith, size.1, c.put-next.ensures.end, put_length c.put-next.ensures)
 
 pub put_natural-requires-else-z-lt0 : goal.put_natural-requires-else-z-lt0
-put_natural-requires-else-z-lt0 c = omega (arith, (size c.before.before).1)
+put_natural-requires-else-z-lt0 c =
+    let size : (c.magnitude-n.result ≡ nat_abs c.args.z) × (length (natural c.magnitude-n.result) ≤ 10) =
+        let e : c.magnitude-n.result ≡ nat_abs c.args.z = c.magnitude-n.ensures ∙ ap nat_abs (to_z-of_z c.ranges.z) in
+            (e, natural_short 9 _ (omega (arith, e, size_of_mag c.args.z c.ranges.z.sfits))) in
+    omega (arith, size.1)
 
 pub returns-then-z-lt0 : goal.returns-then-z-lt0
 returns-then-z-lt0 c =
-    let n = c in
-    let p = n in
-    let m = p in
-    let e = size m in (
-      put_same _ _ (put_then p.put-next.ensures n.put_natural.ensures)
-          (ap (λ (k : ℕ). minus ∷ natural k) e.0 ∙ sym (decimal_below _ (test c.before.before.before.before.before.before.before.before.before.before.before p.if-z-lt0.true))),
-      omega (arith, e.1, p.put-next.ensures.end, n.put_natural.ensures.end),
+    let size : (c.magnitude-n.result ≡ nat_abs c.args.z) × (length (natural c.magnitude-n.result) ≤ 10) =
+        let e : c.magnitude-n.result ≡ nat_abs c.args.z = c.magnitude-n.ensures ∙ ap nat_abs (to_z-of_z c.ranges.z) in
+            (e, natural_short 9 _ (omega (arith, e, size_of_mag c.args.z c.ranges.z.sfits))) in
+    let e = size in (
+      put_same _ _ (put_then c.put-next.ensures c.put_natural.ensures)
+          (ap (λ (k : ℕ). minus ∷ natural k) e.0 ∙ sym (decimal_below _ (test c.before.before.before.before.before.before.before.before.before.before.before c.if-z-lt0.true))),
+      omega (arith, e.1, c.put-next.ensures.end, c.put_natural.ensures.end),
     )
 
 pub returns-else-z-lt0 : goal.returns-else-z-lt0
 returns-else-z-lt0 c =
-    let n = c in
-    let m = n in
-    let e = size m in (
-      put_same _ _ n.put_natural-else-z-lt0.ensures (ap natural e.0 ∙ sym (decimal_above _ (test c.before.before.before.before.before.before.before n.if-z-lt0.false))),
-      omega (arith, e.1, n.put_natural-else-z-lt0.ensures.end),
+    let size : (c.magnitude-n.result ≡ nat_abs c.args.z) × (length (natural c.magnitude-n.result) ≤ 10) =
+        let e : c.magnitude-n.result ≡ nat_abs c.args.z = c.magnitude-n.ensures ∙ ap nat_abs (to_z-of_z c.ranges.z) in
+            (e, natural_short 9 _ (omega (arith, e, size_of_mag c.args.z c.ranges.z.sfits))) in
+    let e = size in (
+      put_same _ _ c.put_natural-else-z-lt0.ensures (ap natural e.0 ∙ sym (decimal_above _ (test c.before.before.before.before.before.before.before c.if-z-lt0.false))),
+      omega (arith, e.1, c.put_natural-else-z-lt0.ensures.end),
     )

@@ -11,11 +11,8 @@ use Rattle.listing.proofs.put_plane.Goals as goal
 
 pub returns : goal.returns
 returns c =
-    let r = c in
-    let h = r in
-    let s = h in
-    let n = s.args.head in
+    let n = c.args.head in
     put_then
-    (put_same _ _ h.put_line-next.ensures.0
-    (λ i. line (pos 53 ∷ to_z_pos w32 {n = n.depth} (omega arith) i ∷ to_z_pos w32 {n = n.levels} (omega arith) i ∷ to_z_pos w32 {n = n.w} (omega arith) i ∷ to_z_pos w32 {n = n.h} (omega (arith, h.struct_known-2-1.given)) i ∷ [])))
-    r.put_rows.ensures
+    (put_same _ _ c.put_line-next.ensures.0
+    (λ i. line (pos 53 ∷ to_z_pos w32 {n = n.depth} (omega arith) i ∷ to_z_pos w32 {n = n.levels} (omega arith) i ∷ to_z_pos w32 {n = n.w} (omega arith) i ∷ to_z_pos w32 {n = n.h} (omega (arith, c.struct_known-2-1.given)) i ∷ [])))
+    c.put_rows.ensures

@@ -14,7 +14,5 @@ use Rattle.listing.proofs.put_refused.Goals as goal
 pub returns : goal.returns
 unfolding refused_line
 returns c =
-    let l = c in
-    let n = l in
-    put_then n.put_all-next.ensures
-    (put_same _ _ l.put_line.ensures.0 (ap (λ (z : ℤ). line (z ∷ [])) (to_z_pos w32 {n = n.number.result} (omega (arith, n.number.type_inv))) ∙ ap (λ (k : ℕ). line (pos k ∷ [])) n.number.ensures))
+    put_then c.put_all-next.ensures
+    (put_same _ _ c.put_line.ensures.0 (ap (λ (z : ℤ). line (z ∷ [])) (to_z_pos w32 {c = c.number.result} (omega (arith, c.number.type_inv))) ∙ ap (λ (k : ℕ). line (pos k ∷ [])) c.number.ensures))

@@ -13,33 +13,31 @@ use Rattle.listing.proofs.put_rows.Goals as goal
 pub loop-r-init : goal.loop-r-init
 loop-r-init c = (omega arith, refl, omega arith, leads_same _ _ (leads_start _ _ _) (ap (row_lines c.args.w (plane_of c.args.w c.args.plane.now) 0) (omega arith)))
 
--- the row in turn lies in the plane
-ends : (c : goal.In-loop-r) → let a = c.args in
-    (c.loop-r.r * a.w + a.w ≤ a.w * a.h) × ((c.loop-r.r + 1) * a.w ≡ c.loop-r.r * a.w + a.w)
-ends c = let a = c.args in row_end a.w a.h c.loop-r.r (omega arith)
-
 pub put_line-next-requires : goal.put_line-next-requires
 put_line-next-requires c =
-    let t = c in
-    let a = t.args in
-    let e = (ends c.before.before).0 in
-    let l = part_length (t.loop-r.r * a.w) a.w a.plane.now (omega arith) in
+    let ends : let a = c.args in
+    (c.loop-r.r * a.w + a.w ≤ a.w * a.h) × ((c.loop-r.r + 1) * a.w ≡ c.loop-r.r * a.w + a.w) =
+        let a = c.args in row_end a.w a.h c.loop-r.r (omega arith) in
+    let a = c.args in
+    let e = ends.0 in
+    let l = part_length (c.loop-r.r * a.w) a.w a.plane.now (omega arith) in
     (omega arith, omega arith)
 
 pub loop-r-preserved : goal.loop-r-preserved
 loop-r-preserved c =
-    let p = c in
-    let t = p in
-    let a = t.args in
-    let r = t.loop-r.r in
-    let n = ends t in
+    let ends : let a = c.args in
+    (c.loop-r.r * a.w + a.w ≤ a.w * a.h) × ((c.loop-r.r + 1) * a.w ≡ c.loop-r.r * a.w + a.w) =
+        let a = c.args in row_end a.w a.h c.loop-r.r (omega arith) in
+    let a = c.args in
+    let r = c.loop-r.r in
+    let n = ends in
     let l = part_length (r * a.w) a.w a.plane.now (omega (arith, n.0)) in
     let e : r * a.w + a.w - r * a.w ≡ a.w = omega arith in
-    let z = put_same _ _ p.put_line-next.ensures.0 (ap (λ (k : ℕ). line (take k (drop (r * a.w) a.plane.now))) e ∙ sym (row_line a.w r a.plane.now (omega (arith, n.0)))) in (
+    let z = put_same _ _ c.put_line-next.ensures.0 (ap (λ (k : ℕ). line (take k (drop (r * a.w) a.plane.now))) e ∙ sym (row_line a.w r a.plane.now (omega (arith, n.0)))) in (
       omega arith,
-      put_length p.put_line-next.ensures.0 ∙ t.loop-r.invariant.1,
-      omega (arith, n.1, p.put_line-next.ensures.1),
-      leads_put _ _ (leads_same _ _ t.loop-r.invariant.3 (rows_more a.w (plane_of a.w a.plane.now) r a.h (omega arith))) z,
+      put_length c.put_line-next.ensures.0 ∙ c.loop-r.invariant.1,
+      omega (arith, n.1, c.put_line-next.ensures.1),
+      leads_put _ _ (leads_same _ _ c.loop-r.invariant.3 (rows_more a.w (plane_of a.w a.plane.now) r a.h (omega arith))) z,
     )
 
 -- every row is done
@@ -52,13 +50,29 @@ returns c =
     leads_end (leads_same _ _ c.loop-r.invariant.3 (rows_none a.w (plane_of a.w a.plane.now) c.loop-r.r a.h (omega arith))) (omega (arith, mul_comm a.w a.h, ap (λ (r : ℕ). r * a.w) (all c)))
 
 pub overflow_mul-start : goal.overflow_mul-start
-overflow_mul-start c = omega (arith, (ends c).0)
+overflow_mul-start c =
+    let ends : let a = c.args in
+    (c.loop-r.r * a.w + a.w ≤ a.w * a.h) × ((c.loop-r.r + 1) * a.w ≡ c.loop-r.r * a.w + a.w) =
+        let a = c.args in row_end a.w a.h c.loop-r.r (omega arith) in
+    omega (arith, ends.0)
 
 pub overflow_add-start : goal.overflow_add-start
-overflow_add-start c = omega (arith, (ends c.before).0)
+overflow_add-start c =
+    let ends : let a = c.args in
+    (c.loop-r.r * a.w + a.w ≤ a.w * a.h) × ((c.loop-r.r + 1) * a.w ≡ c.loop-r.r * a.w + a.w) =
+        let a = c.args in row_end a.w a.h c.loop-r.r (omega arith) in
+    omega (arith, ends.0)
 
 pub offset_bounds-plane-start : goal.offset_bounds-plane-start
-offset_bounds-plane-start c = omega (arith, (ends c.before).0)
+offset_bounds-plane-start c =
+    let ends : let a = c.args in
+    (c.loop-r.r * a.w + a.w ≤ a.w * a.h) × ((c.loop-r.r + 1) * a.w ≡ c.loop-r.r * a.w + a.w) =
+        let a = c.args in row_end a.w a.h c.loop-r.r (omega arith) in
+    omega (arith, ends.0)
 
 pub slice_bounds-put_line-end : goal.slice_bounds-put_line-end
-slice_bounds-put_line-end c = omega (arith, (ends c.before).0)
+slice_bounds-put_line-end c =
+    let ends : let a = c.args in
+    (c.loop-r.r * a.w + a.w ≤ a.w * a.h) × ((c.loop-r.r + 1) * a.w ≡ c.loop-r.r * a.w + a.w) =
+        let a = c.args in row_end a.w a.h c.loop-r.r (omega arith) in
+    omega (arith, ends.0)

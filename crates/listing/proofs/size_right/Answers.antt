@@ -9,14 +9,17 @@ use Rattle.pictures.specs.Pictures.{side_answer}
 use Rattle.pictures.specs.PixelLaws.{size_fits}
 use Rattle.listing.proofs.size_right.Goals as goal
 
-sides : (c : goal.In-Done) → let a = c.args in side_answer a.w a.h ≡ passed
-sides c = sym c.sides_right.ensures ∙ ap told c.in-Done.is
-
 pub overflow_mul-w : goal.overflow_mul-w
-overflow_mul-w c = let a = c.args in omega (arith, size_fits a.w a.h (sides c))
+overflow_mul-w c =
+    let sides : let a = c.args in side_answer a.w a.h ≡ passed =
+        sym c.sides_right.ensures ∙ ap told c.in-Done.is in
+    let a = c.args in omega (arith, size_fits a.w a.h sides)
 
 pub returns-in-Refused : goal.returns-in-Refused
 returns-in-Refused c = sym (then_refused _ _ _ (sym c.sides_right.ensures ∙ ap told c.in-Refused.is))
 
 pub returns-in-Done : goal.returns-in-Done
-returns-in-Done c = c.slice_holds.ensures ∙ sym (then_right _ _ (sides c.before))
+returns-in-Done c =
+    let sides : let a = c.args in side_answer a.w a.h ≡ passed =
+        sym c.sides_right.ensures ∙ ap told c.in-Done.is in
+    c.slice_holds.ensures ∙ sym (then_right _ _ sides)

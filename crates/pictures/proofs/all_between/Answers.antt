@@ -18,8 +18,7 @@ loop-j-preserved c =
 
 pub returns : goal.returns
 returns c =
-    let s = c in
-    let a = s.args in
+    let a = c.args in
     let e : c.loop-j.j ≡ a.n = omega arith in
-    subst₂ (λ (least most : ℤ). Tells (Every (λ j. Between least most (at a.values.now (a.from + j))) a.n) c.loop-j.fits) (to_z-of_z s.ranges.least) (to_z-of_z s.ranges.most)
+    subst₂ (λ (least most : ℤ). Tells (Every (λ j. Between least most (at a.values.now (a.from + j))) a.n) c.loop-j.fits) (to_z-of_z c.ranges.least) (to_z-of_z c.ranges.most)
     (subst (λ (n : ℕ). Tells (Every (λ j. Between (rd w32 a.least) (rd w32 a.most) (at a.values.now (a.from + j))) n) c.loop-j.fits) e c.loop-j.invariant.1)

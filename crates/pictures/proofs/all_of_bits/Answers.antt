@@ -17,19 +17,17 @@ power bits few = omega (arith, pow_mono {i = bits} {j = 31} few)
 pub loop-j-preserved : goal.loop-j-preserved
 loop-j-preserved c =
     let l = c.loop-j in
-    let s = c in
-    let a = s.args in
+    let a = c.args in
     let z : ℕ → ℤ = λ j. at a.values.now (a.from + j) in
     let fits : SFits w32 (z l.j) = sfits_of c.above-arg-1.given in
     let held : rd w32 (z l.j) ≡ z l.j = to_z-of_z fits in
-    let read : c.above-gathered.result ≡ above_least (2 ^ a.bits) (z l.j) = c.above-gathered.ensures ∙ (λ i. above_least (power a.bits s.requires.0 i) (held i)) in
+    let read : c.above-gathered.result ≡ above_least (2 ^ a.bits) (z l.j) = c.above-gathered.ensures ∙ (λ i. above_least (power a.bits c.requires.0 i) (held i)) in
     (omega arith, λ few. subst (λ (m : ℕ). Gathered a.bits few z (l.j + 1) (bit_or l.gathered m)) (sym read) (gathered_more a.bits few z l.j l.gathered fits (l.invariant.1 few)))
 
 pub returns : goal.returns
 returns c =
-    let s = c in
-    let a = s.args in
-    let few = s.requires.0 in
+    let a = c.args in
+    let few = c.requires.0 in
     let l = c.loop-j in
     let z : ℕ → ℤ = λ j. at a.values.now (a.from + j) in
     let end : l.j ≡ a.n = omega arith in

@@ -8,11 +8,10 @@ use Rattle.pictures.proofs.part_between.Goals as goal
 
 pub returns : goal.returns
 returns c =
-    let s = c in
-    let a = s.args in
+    let a = c.args in
     let e : c.loop-i.i ≡ a.h = omega arith in
     let In : ℤ → ℤ → ℕ → Type 0 = λ least most n. Tells (Every (λ i. (j : ℕ) → j < a.w → Between least most (row_of a.stride a.from (at a.values.now) i j)) n) c.loop-i.fits in
-    subst₂ (λ (least most : ℤ). In least most a.h) (to_z-of_z s.ranges.least) (to_z-of_z s.ranges.most) (subst (In (rd w32 a.least) (rd w32 a.most)) e c.loop-i.invariant.1)
+    subst₂ (λ (least most : ℤ). In least most a.h) (to_z-of_z c.ranges.least) (to_z-of_z c.ranges.most) (subst (In (rd w32 a.least) (rd w32 a.most)) e c.loop-i.invariant.1)
 
 pub loop-i-init : goal.loop-i-init
 loop-i-init c = (omega arith, every_none _)

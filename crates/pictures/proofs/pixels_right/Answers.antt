@@ -7,7 +7,7 @@ pub slice_bounds-largest-end : goal.slice_bounds-largest-end
 slice_bounds-largest-end c = let a = c.args in sym (length-take-le (a.w * a.h) a.pixels.now c.requires.3)
 
 pub returns-then-most-depth : goal.returns-then-most-depth
-returns-then-most-depth c = let s = c in let e = one_shifted s.args.depth 16 (omega arith) in sym (pixels_small s.args.depth s.args.w s.args.h _ s.args.pixels.now c.largest-most.ensures (omega arith))
+returns-then-most-depth c = let e = one_shifted c.args.depth 16 (omega arith) in sym (pixels_small c.args.depth c.args.w c.args.h _ c.args.pixels.now c.largest-most.ensures (omega arith))
 
 pub returns-else-most-depth : goal.returns-else-most-depth
-returns-else-most-depth c = let s = c in let e = one_shifted s.args.depth 16 (omega arith) in sym (pixel_large s.args.depth s.args.w s.args.h _ s.args.pixels.now c.largest-most.ensures (omega arith))
+returns-else-most-depth c = let e = one_shifted c.args.depth 16 (omega arith) in sym (pixel_large c.args.depth c.args.w c.args.h _ c.args.pixels.now c.largest-most.ensures (omega arith))

@@ -10,9 +10,8 @@ loop-i-preserved c = (omega arith, ap lows c.loop-i.invariant.1 ∙ side_more _ 
 
 pub returns : goal.returns
 returns c =
-    let s = c in
-    let e : c.loop-i.i ≡ s.args.k = omega arith in
-    c.loop-i.invariant.1 ∙ ap (λ (i : ℕ). side i s.args.n) e
+    let e : c.loop-i.i ≡ c.args.k = omega arith in
+    c.loop-i.invariant.1 ∙ ap (λ (i : ℕ). side i c.args.n) e
 
 pub loop-i-init : goal.loop-i-init
 loop-i-init c = (omega arith, sym (side_none _))

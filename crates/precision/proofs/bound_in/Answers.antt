@@ -14,33 +14,17 @@ pub enter_level-rows-requires : goal.enter_level-rows-requires
 enter_level-rows-requires c = (c.requires.at.form, omega (arith, c.requires.at.level_to))
 
 pub returns-in-Refused : goal.returns-in-Refused
-returns-in-Refused c =
-    let e = c in
-    let s = e in
-    tells _ (level_refuses s.requires.at s.args.node s.requires.node _ (sym e.enter_level-rows.ensures.outcome ∙ ap told c.in-Refused.is)) c.no_bound.ensures
+returns-in-Refused c = tells _ (level_refuses c.requires.at c.args.node c.requires.node _ (sym c.enter_level-rows.ensures.outcome ∙ ap told c.in-Refused.is)) c.no_bound.ensures
 
 pub enter_pass-entered-requires : goal.enter_pass-entered-requires
 enter_pass-entered-requires c =
-    let e = c in
-    let s = e in record {
-      enters = enters_level (at_pass s.requires.at 1 (lit≤ tt, lit≤ tt)) (e.enter_level-rows.ensures.bound (ap told c.in-Done.is));
-      done_le_passes_per_level = omega (arith, s.requires.at.pass);
+    record {
+      enters = enters_level (at_pass c.requires.at 1 (lit≤ tt, lit≤ tt)) (c.enter_level-rows.ensures.bound (ap told c.in-Done.is));
+      done_le_passes_per_level = omega (arith, c.requires.at.pass);
     }
 
 pub returns-in-Refused-passes : goal.returns-in-Refused-passes
-returns-in-Refused-passes c =
-    let q = c in
-    let d = q in
-    let e = d in
-    let s = e in
-    tells _ (pass_refuses s.requires.at s.args.node s.requires.node (sym e.enter_level-rows.ensures.outcome ∙ ap told d.in-Done.is) _ (sym q.enter_pass-entered.ensures.outcome ∙ ap told c.in-Refused-passes.is)) c.no_bound-in-Refused-passes.ensures
-
--- what enters the pass
-entered : (c : goal.In-Done-passes) → Enters c.args.table c.args.level c.args.pass c.enter_pass-entered.result.bound
-entered c =
-    let q = c in
-    let s = q in
-    enters s.requires.at (q.enter_pass-entered.ensures.bound (ap told c.in-Done-passes.is))
+returns-in-Refused-passes c = tells _ (pass_refuses c.requires.at c.args.node c.requires.node (sym c.enter_level-rows.ensures.outcome ∙ ap told c.in-Done.is) _ (sym c.enter_pass-entered.ensures.outcome ∙ ap told c.in-Refused-passes.is)) c.no_bound-in-Refused-passes.ensures
 
 pub judge_nodes-requires : goal.judge_nodes-requires
 judge_nodes-requires c = record {
@@ -49,26 +33,12 @@ judge_nodes-requires c = record {
     }
 
 pub returns-in-Refused-judge_nodes : goal.returns-in-Refused-judge_nodes
-returns-in-Refused-judge_nodes c =
-    let j = c in
-    let k = j in
-    let q = k in
-    let d = q in
-    let e = d in
-    let s = e in
-    tells _ (node_answers s.requires.at s.args.node s.requires.node (sym e.enter_level-rows.ensures.outcome ∙ ap told d.in-Done.is) _ (sym q.enter_pass-entered.ensures.outcome ∙ ap told k.in-Done-passes.is) (sym j.judge_nodes.ensures ∙ ap told c.in-Refused-judge_nodes.is)) c.no_bound-in-Refused-judge_nodes.ensures
+returns-in-Refused-judge_nodes c = tells _ (node_answers c.requires.at c.args.node c.requires.node (sym c.enter_level-rows.ensures.outcome ∙ ap told c.in-Done.is) _ (sym c.enter_pass-entered.ensures.outcome ∙ ap told c.in-Done-passes.is) (sym c.judge_nodes.ensures ∙ ap told c.in-Refused-judge_nodes.is)) c.no_bound-in-Refused-judge_nodes.ensures
 
 pub returns : goal.returns
 returns c =
-    let j = c in
-    let o = j in
-    let k = o in
-    let q = k in
-    let d = q in
-    let e = d in
-    let s = e in
-    let is = c.bound_at-bound.ensures ∙ o.pass_bounds-bounds.ensures.is s.args.node s.requires.node in
-    tells _ (node_answers s.requires.at s.args.node s.requires.node (sym e.enter_level-rows.ensures.outcome ∙ ap told d.in-Done.is) passed (sym q.enter_pass-entered.ensures.outcome ∙ ap told k.in-Done-passes.is) (sym j.judge_nodes.ensures ∙ ap told c.in-Done-judge_nodes.is))
+    let is = c.bound_at-bound.ensures ∙ c.pass_bounds-bounds.ensures.is c.args.node c.requires.node in
+    tells _ (node_answers c.requires.at c.args.node c.requires.node (sym c.enter_level-rows.ensures.outcome ∙ ap told c.in-Done.is) passed (sym c.enter_pass-entered.ensures.outcome ∙ ap told c.in-Done-passes.is) (sym c.judge_nodes.ensures ∙ ap told c.in-Done-judge_nodes.is))
     (refl, (ap (λ (b : Bound). b.range) is, ap (λ (b : Bound). b.error) is))
 
 pub overflow_sub-level : goal.overflow_sub-level
@@ -78,4 +48,7 @@ pub overflow_sub-pass : goal.overflow_sub-pass
 overflow_sub-pass c = omega (arith, c.requires.at.pass)
 
 pub pass_bounds-bounds-requires : goal.pass_bounds-bounds-requires
-pass_bounds-bounds-requires c = entered c
+pass_bounds-bounds-requires c =
+    let entered : Enters c.args.table c.args.level c.args.pass c.enter_pass-entered.result.bound =
+        enters c.requires.at (c.enter_pass-entered.ensures.bound (ap told c.in-Done-passes.is)) in
+    entered

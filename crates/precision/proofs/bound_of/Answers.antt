@@ -6,30 +6,23 @@ use Rattle.precision.proofs.bound_of.Goals as goal
 
 pub returns-else-form_right : goal.returns-else-form_right
 returns-else-form_right c =
-    let f = c in
-    let a = f.args in
-    tells _ (bound_not_formed a.table a.level a.pass a.node (sym f.form_right.ensures ∙ c.if-form_right.false)) c.no_bound.ensures
+    let a = c.args in
+    tells _ (bound_not_formed a.table a.level a.pass a.node (sym c.form_right.ensures ∙ c.if-form_right.false)) c.no_bound.ensures
 
 pub returns-else-has_node : goal.returns-else-has_node
 returns-else-has_node c =
-    let n = c in
-    let f = n in
-    let a = f.args in
-    tells _ (bound_lacks a.table a.level a.pass a.node (sym f.form_right.ensures ∙ n.if-form_right.true) (sym n.has_node.ensures ∙ c.if-has_node.false)) c.no_bound-else-has_node.ensures
+    let a = c.args in
+    tells _ (bound_lacks a.table a.level a.pass a.node (sym c.form_right.ensures ∙ c.if-form_right.true) (sym c.has_node.ensures ∙ c.if-has_node.false)) c.no_bound-else-has_node.ensures
 
 pub bound_in-requires : goal.bound_in-requires
 bound_in-requires c =
-    let n = c in
-    let f = n in
-    let a = f.args in
-    let x = node_in a.table.levels a.level a.pass a.node (sym n.has_node.ensures ∙ c.if-has_node.true) in record {
-      at = record { form = subst T (sym (sym f.form_right.ensures ∙ n.if-form_right.true)) tt; level_from = x.0.0; level_to = x.0.1; pass = x.1 };
+    let a = c.args in
+    let x = node_in a.table.levels a.level a.pass a.node (sym c.has_node.ensures ∙ c.if-has_node.true) in record {
+      at = record { form = subst T (sym (sym c.form_right.ensures ∙ c.if-form_right.true)) tt; level_from = x.0.0; level_to = x.0.1; pass = x.1 };
       node = x.2;
     }
 
 pub returns : goal.returns
 returns c =
-    let n = c in
-    let f = n in
-    let a = f.args in
-    tells _ (bound_has a.table a.level a.pass a.node (sym f.form_right.ensures ∙ n.if-form_right.true) (sym n.has_node.ensures ∙ c.if-has_node.true)) c.bound_in.ensures
+    let a = c.args in
+    tells _ (bound_has a.table a.level a.pass a.node (sym c.form_right.ensures ∙ c.if-form_right.true) (sym c.has_node.ensures ∙ c.if-has_node.true)) c.bound_in.ensures

@@ -36,9 +36,7 @@ pub loop-to-init : goal.loop-to-init
 loop-to-init c = (omega arith, omega (arith, c.well_formed), ((λ i j. absurd (omega (arith, j))), (λ i j. refl)))
 
 pub times_gain_once-requires : goal.times_gain_once-requires
-times_gain_once-requires c =
-    let g = c in
-    (omega (arith, g.requires.0), subst (λ (l : List ℕ). get_or l c.loop-to.to 0 ≤ most_gain) (sym g.gains_from-gains.ensures) (gain_most g.args.from c.loop-to.to))
+times_gain_once-requires c = (omega (arith, c.requires.0), subst (λ (l : List ℕ). get_or l c.loop-to.to 0 ≤ most_gain) (sym c.gains_from-gains.ensures) (gain_most c.args.from c.loop-to.to))
 
 -- what is added
 sum : (c : goal.After-times_gain_once) → let i = c in c.times_gain_once.result ≡ times_gain i.args.x (gain_at i.args.from i.loop-to.to)
@@ -47,18 +45,14 @@ sum c =
     c.times_gain_once.ensures ∙ ap (λ (l : List ℕ). times_gain i.args.x (get_or l i.loop-to.to 0)) i.gains_from-gains.ensures
 
 pub overflow_add-carried : goal.overflow_add-carried
-overflow_add-carried c =
-    let i = c in
-    omega (arith, i.loop-to.invariant.2.1 i.loop-to.to (omega arith), i.requires.2 i.loop-to.to (omega arith), sum c, times_small i.args.x i.args.from i.loop-to.to i.requires.0)
+overflow_add-carried c = omega (arith, c.loop-to.invariant.2.1 c.loop-to.to (omega arith), c.requires.2 c.loop-to.to (omega arith), sum c, times_small c.args.x c.args.from c.loop-to.to c.requires.0)
 
 pub loop-to-preserved : goal.loop-to-preserved
 loop-to-preserved c =
-    let i = c in
-    let g = i in
-    let a = g.args in (
+    let a = c.args in (
       omega arith,
-      simp length-set i.loop-to.invariant.1,
-      added_next (λ j. times_gain a.x (gain_at a.from j)) a.sums i.loop-to.carried i.loop-to.to _ (omega arith) (ap (λ (x : ℕ). get_or i.loop-to.carried i.loop-to.to 0 + x) (sum c)) i.loop-to.invariant.2,
+      simp length-set c.loop-to.invariant.1,
+      added_next (λ j. times_gain a.x (gain_at a.from j)) a.sums c.loop-to.carried c.loop-to.to _ (omega arith) (ap (λ (x : ℕ). get_or c.loop-to.carried c.loop-to.to 0 + x) (sum c)) c.loop-to.invariant.2,
     )
 
 pub returns : goal.returns

@@ -19,32 +19,26 @@ loop-before-init c = (omega arith, enters_first c.args.table, omega arith, refl)
 
 pub enter_pass-answer-requires : goal.enter_pass-answer-requires
 enter_pass-answer-requires c =
-    let i = c in
-    let s = i in record {
-      enters = record { place = level_at s.args.table i.loop-before.before (omega arith) s.requires.0; is = i.loop-before.invariant.1; small = i.loop-before.invariant.2 };
+    record {
+      enters = record { place = level_at c.args.table c.loop-before.before (omega arith) c.requires.0; is = c.loop-before.invariant.1; small = c.loop-before.invariant.2 };
       done_le_passes_per_level = lit≤ tt;
     }
 
 pub returns-in-Refused : goal.returns-in-Refused
 returns-in-Refused c =
-    let e = c in
-    let i = e in
-    let a = i.args in
-    not_reached a.table (table_order a.done) _ _ _ (level_refused a.table _ i.loop-before.before a.done (omega arith) i.loop-before.invariant.3 (sym e.enter_pass-answer.ensures.outcome ∙ ap told c.in-Refused.is))
+    let a = c.args in
+    not_reached a.table (table_order a.done) _ _ _ (level_refused a.table _ c.loop-before.before a.done (omega arith) c.loop-before.invariant.3 (sym c.enter_pass-answer.ensures.outcome ∙ ap told c.in-Refused.is))
 
 pub loop-before-preserved : goal.loop-before-preserved
 loop-before-preserved c =
-    let e = c in
-    let i = e in
-    let t = i.args.table in
+    let t = c.args.table in
     let ok = ap told c.in-Done.is in
-    let next = e.enter_pass-answer.ensures.bound ok in
-    (omega arith, next.is ∙ enters_next t (i.loop-before.before + 1) (omega arith), next.small, level_accepted t i.loop-before.before i.loop-before.invariant.3 (sym e.enter_pass-answer.ensures.outcome ∙ ok))
+    let next = c.enter_pass-answer.ensures.bound ok in
+    (omega arith, next.is ∙ enters_next t (c.loop-before.before + 1) (omega arith), next.small, level_accepted t c.loop-before.before c.loop-before.invariant.3 (sym c.enter_pass-answer.ensures.outcome ∙ ok))
 
 pub returns : goal.returns
 returns c =
-    let i = c in
-    let a = i.args in
-    let end : i.loop-before.before ≡ a.done = omega arith in
-    subst (λ (k : ℕ). (passed ≡ first_refusal a.table (table_order k)) × (passed ≡ passed → Reached (entering a.table (k + 1)) i.loop-before.input)) end
-    (sym i.loop-before.invariant.3, λ d. record { is = i.loop-before.invariant.1; small = i.loop-before.invariant.2 })
+    let a = c.args in
+    let end : c.loop-before.before ≡ a.done = omega arith in
+    subst (λ (k : ℕ). (passed ≡ first_refusal a.table (table_order k)) × (passed ≡ passed → Reached (entering a.table (k + 1)) c.loop-before.input)) end
+    (sym c.loop-before.invariant.3, λ d. record { is = c.loop-before.invariant.1; small = c.loop-before.invariant.2 })

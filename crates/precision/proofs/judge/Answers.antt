@@ -11,6 +11,4 @@ pub enter_level-answer-requires : goal.enter_level-answer-requires
 enter_level-answer-requires c = (subst T (sym (sym c.form_right.ensures ∙ c.if-form_right.true)) tt, omega arith)
 
 pub returns : goal.returns
-returns c =
-    let f = c in
-    c.enter_level-answer.ensures.outcome ∙ sym (formed f.args.table (sym f.form_right.ensures ∙ c.if-form_right.true))
+returns c = c.enter_level-answer.ensures.outcome ∙ sym (formed c.args.table (sym c.form_right.ensures ∙ c.if-form_right.true))

@@ -6,39 +6,37 @@ use Rattle.width_table.specs.Table.{max_integer_bits}
 use Rattle.precision.specs.JudgeLaws.{too_wide, not_kept, in_error, kept_well}
 use Rattle.precision.proofs.judge_bound.Goals as goal
 
--- a step is at most 1
-step : (c : goal.After-power-step) → c.power-step.result ≤ 2 ^ 32
-step c = omega (arith, c.power-step.ensures, pow_mono {i = 32 - c.args.fraction} {j = 32} (omega arith))
-
 pub overflow_add-bound-2 : goal.overflow_add-bound-2
-overflow_add-bound-2 c = omega (arith, step c.before)
+overflow_add-bound-2 c =
+    let step : c.power-step.result ≤ 2 ^ 32 =
+        omega (arith, c.power-step.ensures, pow_mono {i = 32 - c.args.fraction} {j = 32} (omega arith)) in
+    omega (arith, step)
 
 pub overflow_mul-power : goal.overflow_mul-power
 overflow_mul-power c = omega (arith, c.power.ensures, pow_mono {i = c.args.integer - 1} {j = max_integer_bits - 1} (omega arith))
 
 pub returns-else-bound-step : goal.returns-else-bound-step
 returns-else-bound-step c =
-    let s = c in
-    let a = s.args in
+    let a = c.args in
     sym (too_wide a.bound a.integer a.fraction a.kept _ (omega arith))
 
 pub returns-else-kept : goal.returns-else-kept
 returns-else-kept c =
-    let s = c in
-    let a = s.args in
+    let a = c.args in
     sym (not_kept a.bound a.integer a.fraction a.kept _ (omega arith) c.if-kept.false)
 
 pub overflow_mul-step : goal.overflow_mul-step
-overflow_mul-step c = omega (arith, step c.before.before.before.before)
+overflow_mul-step c =
+    let step : c.power-step.result ≤ 2 ^ 32 =
+        omega (arith, c.power-step.ensures, pow_mono {i = 32 - c.args.fraction} {j = 32} (omega arith)) in
+    omega (arith, step)
 
 pub returns-then-bound-step-2 : goal.returns-then-bound-step-2
 returns-then-bound-step-2 c =
-    let s = c in
-    let a = s.args in
+    let a = c.args in
     sym (kept_well a.bound a.integer a.fraction a.kept _ (omega arith) c.if-kept.true (omega arith))
 
 pub returns-else-bound-step-2 : goal.returns-else-bound-step-2
 returns-else-bound-step-2 c =
-    let s = c in
-    let a = s.args in
+    let a = c.args in
     sym (in_error a.bound a.integer a.fraction a.kept _ (omega arith) c.if-kept.true (omega arith))

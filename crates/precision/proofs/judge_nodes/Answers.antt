@@ -22,40 +22,39 @@ loop-done-init c = (omega arith, λ t h e. refl)
 
 pub judge_bound-requires : goal.judge_bound-requires
 judge_bound-requires c =
-    let i = c in
-    let h = i.requires.bounds_of in
-    let n : ℕ = i.loop-done.done + 1 in
+    let h = c.requires.bounds_of in
+    let n : ℕ = c.loop-done.done + 1 in
     let l = limited h.widths in
     (h.small n (omega arith), (l.integer n (omega arith)).0, (l.integer n (omega arith)).1, l.fraction n (omega arith))
 
--- with the verdict on one node more
-judged-next : (c : goal.After-judge_bound) → let i = c in let a = i.args in (t : WidthTable) → BoundsOf t a.level a.pass a.t4 → a.table.levels ≡ t.levels → first_refusal t (take (i.loop-done.done + 1) (pass_nodes a.level (pass_of a.pass))) ≡ told c.judge_bound.result
-judged-next c t h e =
-    let i = c in
-    let a = i.args in
-    let n : ℕ = i.loop-done.done + 1 in
-    node_next t a.level (pass_of a.pass) i.loop-done.done (omega arith) (i.loop-done.invariant.1 t h e)
-    ∙ sym (c.judge_bound.ensures
-    ∙ (λ u. judged_as (h.is n (omega arith) u) (h.widths.integer n (omega arith) u) (h.widths.fraction n (omega arith) u) ((c.is_kept.ensures ∙ ap (λ (L : ℕ). kept_at L a.level (pass_of a.pass) (node_of n)) e) u) (a.level ∷ a.pass ∷ n ∷ []))
-    ∙ judged_is h.widths.place n (omega arith))
-
 pub returns-in-Refused : goal.returns-in-Refused
 returns-in-Refused c =
-    let n = c in
-    let more = n in
-    let s = more in
-    let a = s.args in
-    sym (stays a.table _ (pass_nodes a.level (pass_of a.pass)) (more.loop-done.done + 1) a.count (omega (arith, more.loop-done-test.true)) (judged-next c.before.before.before a.table s.requires.bounds_of refl ∙ ap told c.in-Refused.is))
+    let judged-next : let a = c.args in (t : WidthTable) → BoundsOf t a.level a.pass a.t4 → a.table.levels ≡ t.levels → first_refusal t (take (c.loop-done.done + 1) (pass_nodes a.level (pass_of a.pass))) ≡ told c.judge_bound.result =
+        λ t h e. let a = c.args in
+            let n : ℕ = c.loop-done.done + 1 in
+            node_next t a.level (pass_of a.pass) c.loop-done.done (omega arith) (c.loop-done.invariant.1 t h e)
+            ∙ sym (c.judge_bound.ensures
+            ∙ (λ u. judged_as (h.is n (omega arith) u) (h.widths.integer n (omega arith) u) (h.widths.fraction n (omega arith) u) ((c.is_kept.ensures ∙ ap (λ (L : ℕ). kept_at L a.level (pass_of a.pass) (node_of n)) e) u) (a.level ∷ a.pass ∷ n ∷ []))
+            ∙ judged_is h.widths.place n (omega arith)) in
+    let a = c.args in
+    sym (stays a.table _ (pass_nodes a.level (pass_of a.pass)) (c.loop-done.done + 1) a.count (omega (arith, c.loop-done-test.true)) (judged-next a.table c.requires.bounds_of refl ∙ ap told c.in-Refused.is))
 
 pub loop-done-preserved : goal.loop-done-preserved
-loop-done-preserved c = (omega arith, λ t h e. judged-next c.before.before t h e ∙ ap told c.in-Done.is)
+loop-done-preserved c =
+    let judged-next : let a = c.args in (t : WidthTable) → BoundsOf t a.level a.pass a.t4 → a.table.levels ≡ t.levels → first_refusal t (take (c.loop-done.done + 1) (pass_nodes a.level (pass_of a.pass))) ≡ told c.judge_bound.result =
+        λ t h e. let a = c.args in
+            let n : ℕ = c.loop-done.done + 1 in
+            node_next t a.level (pass_of a.pass) c.loop-done.done (omega arith) (c.loop-done.invariant.1 t h e)
+            ∙ sym (c.judge_bound.ensures
+            ∙ (λ u. judged_as (h.is n (omega arith) u) (h.widths.integer n (omega arith) u) (h.widths.fraction n (omega arith) u) ((c.is_kept.ensures ∙ ap (λ (L : ℕ). kept_at L a.level (pass_of a.pass) (node_of n)) e) u) (a.level ∷ a.pass ∷ n ∷ []))
+            ∙ judged_is h.widths.place n (omega arith)) in
+    (omega arith, λ t h e. judged-next t h e ∙ ap told c.in-Done.is)
 
 pub returns : goal.returns
 returns c =
-    let s = c in
-    let a = s.args in
+    let a = c.args in
     let end : c.loop-done.done ≡ a.count = omega arith in
-    sym (ap (λ (k : ℕ). first_refusal a.table (take k (pass_nodes a.level (pass_of a.pass)))) (sym end) ∙ c.loop-done.invariant.1 a.table s.requires.bounds_of refl)
+    sym (ap (λ (k : ℕ). first_refusal a.table (take k (pass_nodes a.level (pass_of a.pass)))) (sym end) ∙ c.loop-done.invariant.1 a.table c.requires.bounds_of refl)
 
 pub is_kept-requires : goal.is_kept-requires
 is_kept-requires c = record {

@@ -8,23 +8,19 @@ use Rattle.precision.specs.OrderLaws.{enters, next_refused, next_left}
 use Rattle.precision.proofs.next_pass.Goals as goal
 
 pub judge_pass-requires : goal.judge_pass-requires
-judge_pass-requires c =
-    let s = c in
-    enters s.requires.at (s.requires.after.1 (ap told c.in-Done.is))
+judge_pass-requires c = enters c.requires.at (c.requires.after.1 (ap told c.in-Done.is))
 
 pub returns-in-Refused : goal.returns-in-Refused
 returns-in-Refused c =
-    let s = c in
-    let a = s.args in
-    let e = sym s.requires.after.0 ∙ ap told c.in-Refused.is in
+    let a = c.args in
+    let e = sym c.requires.after.0 ∙ ap told c.in-Refused.is in
     let low = next_refused a.table a.level a.pass _ (bound_of a.table (node_at a.level (pass_of a.pass) G1)) a.input e in
     let high = next_refused a.table a.level a.pass _ (bound_of a.table (node_at a.level (pass_of a.pass) G2)) a.input e in
     (low.0, (low.1, high.1))
 
 pub returns-in-Done : goal.returns-in-Done
 returns-in-Done c =
-    let s = c in
-    let e = sym s.requires.after.0 ∙ ap told c.in-Done.is in
-    let low = next_left G1 s.requires.at e c.judge_pass.ensures.outcome c.judge_pass.ensures.low.0 in
-    let high = next_left G2 s.requires.at e c.judge_pass.ensures.outcome c.judge_pass.ensures.low.1 in
+    let e = sym c.requires.after.0 ∙ ap told c.in-Done.is in
+    let low = next_left G1 c.requires.at e c.judge_pass.ensures.outcome c.judge_pass.ensures.low.0 in
+    let high = next_left G2 c.requires.at e c.judge_pass.ensures.outcome c.judge_pass.ensures.low.1 in
     (low.0, (low.1, high.1))

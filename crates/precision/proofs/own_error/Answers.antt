@@ -26,41 +26,38 @@ module _ (w : Widths) (k r : ℕ) where
   unfolding own_by
   chosen_is t e = sym (ap chosen e)
 
-operand : (c : goal.After-multiplied_place) → c.multiplied_place.result < places
-operand c = let s = c in omega (arith, c.multiplied_place.ensures, multiplied_place_lem s.args.node s.requires.node.0)
-
 pub own_lift-requires : goal.own_lift-requires
 own_lift-requires c =
-    let m = c in
-    let s = m in
-    let l = s.requires.limited in
-    omega (arith, l.product s.args.node (omega arith, omega arith), l.constant s.args.node s.requires.node.0, l.fraction m.multiplied_place.result (operand c.before.before.before.before.before.before), l.fraction s.args.node (omega arith), s.requires.node.1)
+    let operand : c.multiplied_place.result < places =
+        omega (arith, c.multiplied_place.ensures, multiplied_place_lem c.args.node c.requires.node.0) in
+    let l = c.requires.limited in
+    omega (arith, l.product c.args.node (omega arith, omega arith), l.constant c.args.node c.requires.node.0, l.fraction c.multiplied_place.result operand, l.fraction c.args.node (omega arith), c.requires.node.1)
 
 pub returns-then-node-lt-G1 : goal.returns-then-node-lt-G1
 returns-then-node-lt-G1 c =
-    let o = c in
-    let m = o in
-    let a = m.args in
+    let a = c.args in
     let f : ℕ → ℕ = λ k. get_or a.t1.fractions k 0 in
     c.own_lift.ensures
-    ∙ ap₂ (λ (x y : ℕ). own_lift (cut_to (get_or a.t1.products (a.node - 1) 0)) (get_or a.t1.constants (a.node - 1) 0) (f x) (f y) (f a.node) a.total) m.multiplied_place.ensures o.other_place.ensures
-    ∙ chosen_is a.t1 a.node a.total true (ltb-true a.node (node_number G1) o.if-node-lt-G1.true)
+    ∙ ap₂ (λ (x y : ℕ). own_lift (cut_to (get_or a.t1.products (a.node - 1) 0)) (get_or a.t1.constants (a.node - 1) 0) (f x) (f y) (f a.node) a.total) c.multiplied_place.ensures c.other_place.ensures
+    ∙ chosen_is a.t1 a.node a.total true (ltb-true a.node (node_number G1) c.if-node-lt-G1.true)
 
 pub own_scale-requires : goal.own_scale-requires
 own_scale-requires c =
-    let m = c in
-    let s = m in
-    let l = s.requires.limited in
-    omega (arith, l.constant s.args.node s.requires.node.0, l.fraction m.multiplied_place.result (operand c.before.before.before), l.fraction s.args.node (omega arith), s.requires.node.1)
+    let operand : c.multiplied_place.result < places =
+        omega (arith, c.multiplied_place.ensures, multiplied_place_lem c.args.node c.requires.node.0) in
+    let l = c.requires.limited in
+    omega (arith, l.constant c.args.node c.requires.node.0, l.fraction c.multiplied_place.result operand, l.fraction c.args.node (omega arith), c.requires.node.1)
 
 pub returns : goal.returns
 returns c =
-    let m = c in
-    let a = m.args in
+    let a = c.args in
     let f : ℕ → ℕ = λ k. get_or a.t1.fractions k 0 in
     c.own_scale.ensures
-    ∙ ap (λ (x : ℕ). own_scale (get_or a.t1.constants (a.node - 1) 0) (f x) (f a.node) a.total) m.multiplied_place.ensures
+    ∙ ap (λ (x : ℕ). own_scale (get_or a.t1.constants (a.node - 1) 0) (f x) (f a.node) a.total) c.multiplied_place.ensures
     ∙ chosen_is a.t1 a.node a.total false (ltb-false a.node (node_number G1) c.if-node-lt-G1.false)
 
 pub bounds-widths-multiplied_place : goal.bounds-widths-multiplied_place
-bounds-widths-multiplied_place c = omega (arith, operand c)
+bounds-widths-multiplied_place c =
+    let operand : c.multiplied_place.result < places =
+        omega (arith, c.multiplied_place.ensures, multiplied_place_lem c.args.node c.requires.node.0) in
+    omega (arith, operand)

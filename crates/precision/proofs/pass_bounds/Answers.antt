@@ -19,34 +19,26 @@ zeros-small i h = omega (arith, get_or-replicate {A = ℕ} places i 0 0 h)
 from-zeros : (v : ℕ) (x : List ℕ) → ((i : ℕ) → i < places → get_or x i 0 ≡ get_or (replicate places 0) i 0 + times_gain v (gain_at 0 i)) → Carries v x
 from-zeros v x c i h = omega (arith, c i h, get_or-replicate {A = ℕ} places i 0 0 h)
 
--- once the pass is entered
-started : (c : goal.After-carry-errors) → let w = c in let a = w.args in Started a.table a.level a.pass a.input w.widths_of-widths.result c.carry-ranges.result c.carry-errors.result
-started c =
-    let w = c in record {
-      enters = w.requires;
-      read = w.widths_of-widths.ensures;
-      ranges_in = from-zeros w.args.input.range c.carry-ranges.result c.carry-ranges.ensures;
-      errors_in = from-zeros w.args.input.error c.carry-errors.result c.carry-errors.ensures;
-    }
-
-errors : (c : goal.At-loop-node) → let a = c.args in Errors a.table a.level a.pass c.loop-node.node c.loop-node.errors
-errors c =
-    let a = c.args in
-    c.loop-node.invariant.2 a.table a.level a.pass a.input (started c.before)
-
 -- the value that the node multiplies
 operand : (c : goal.After-multiplied_place-operand) → c.multiplied_place-operand.result < places
 operand c = omega (arith, c.multiplied_place-operand.ensures, multiplied_place_lem c.loop-node.node (omega arith))
 
-total : (c : goal.After-multiplied_place-operand) → let i = c in get_or i.carry-ranges.result c.multiplied_place-operand.result 0 + get_or i.loop-node.errors c.multiplied_place-operand.result 0 ≤ most_total
-total c =
-    let i = c in
-    let r = i in
-    let h = started i in
-    omega (arith, ranges_small h.enters r.carry-ranges.result h.ranges_in c.multiplied_place-operand.result (operand c), errors_small h.enters i.loop-node.node i.loop-node.errors (errors c.before.before) c.multiplied_place-operand.result (operand c))
-
 pub own_error-own-requires : goal.own_error-own-requires
-own_error-own-requires c = (limited (started c.before.before.before).read, (omega arith, total c))
+own_error-own-requires c =
+    let started : let a = c.args in Started a.table a.level a.pass a.input c.widths_of-widths.result c.carry-ranges.result c.carry-errors.result =
+        record {
+              enters = c.requires;
+              read = c.widths_of-widths.ensures;
+              ranges_in = from-zeros c.args.input.range c.carry-ranges.result c.carry-ranges.ensures;
+              errors_in = from-zeros c.args.input.error c.carry-errors.result c.carry-errors.ensures;
+            } in
+    let errors : let a = c.args in Errors a.table a.level a.pass c.loop-node.node c.loop-node.errors =
+        let a = c.args in
+            c.loop-node.invariant.2 a.table a.level a.pass a.input started in
+    let total : get_or c.carry-ranges.result c.multiplied_place-operand.result 0 + get_or c.loop-node.errors c.multiplied_place-operand.result 0 ≤ most_total =
+        let h = started in
+            omega (arith, ranges_small h.enters c.carry-ranges.result h.ranges_in c.multiplied_place-operand.result (operand c), errors_small h.enters c.loop-node.node c.loop-node.errors errors c.multiplied_place-operand.result (operand c)) in
+    (limited started.read, (omega arith, total))
 
 -- its own error
 module _ {t : WidthTable} {l p : ℕ} {b : Bound} where
@@ -58,22 +50,38 @@ module _ {t : WidthTable} {l p : ℕ} {b : Bound} where
 
 pub carry-errors-requires-in-loop-node : goal.carry-errors-requires-in-loop-node
 carry-errors-requires-in-loop-node c =
-    let i = c in
-    let h = started i in
-    (omega (arith, own c h, own_most h.enters i.loop-node.node (omega arith)), omega arith, λ k q. omega (arith, errors_small h.enters i.loop-node.node i.loop-node.errors (errors c.before.before.before) k q))
+    let started : let a = c.args in Started a.table a.level a.pass a.input c.widths_of-widths.result c.carry-ranges.result c.carry-errors.result =
+        record {
+              enters = c.requires;
+              read = c.widths_of-widths.ensures;
+              ranges_in = from-zeros c.args.input.range c.carry-ranges.result c.carry-ranges.ensures;
+              errors_in = from-zeros c.args.input.error c.carry-errors.result c.carry-errors.ensures;
+            } in
+    let errors : let a = c.args in Errors a.table a.level a.pass c.loop-node.node c.loop-node.errors =
+        let a = c.args in
+            c.loop-node.invariant.2 a.table a.level a.pass a.input started in
+    let h = started in
+    (omega (arith, own c h, own_most h.enters c.loop-node.node (omega arith)), omega arith, λ k q. omega (arith, errors_small h.enters c.loop-node.node c.loop-node.errors errors k q))
 
 pub loop-node-preserved : goal.loop-node-preserved
-loop-node-preserved c =
-    let i = c in
-    (omega arith, omega arith, λ t l p b h. errors_next h.enters i.loop-node.node (omega arith) i.loop-node.errors c.carry-errors-in-loop-node.result (i.loop-node.invariant.2 t l p b h) (own c.before h) c.carry-errors-in-loop-node.ensures)
+loop-node-preserved c = (omega arith, omega arith, λ t l p b h. errors_next h.enters c.loop-node.node (omega arith) c.loop-node.errors c.carry-errors-in-loop-node.result (c.loop-node.invariant.2 t l p b h) (own c.before h) c.carry-errors-in-loop-node.ensures)
 
 pub returns : goal.returns
 returns c =
-    let l = c in
-    let a = l.args in
-    let h = started l in
-    let end : l.loop-node.node ≡ places = omega arith in
-    all_held h.enters _ h.read h.ranges_in (subst (λ (k : ℕ). Errors a.table a.level a.pass k l.loop-node.errors) end (errors c.before))
+    let started : let a = c.args in Started a.table a.level a.pass a.input c.widths_of-widths.result c.carry-ranges.result c.carry-errors.result =
+        record {
+              enters = c.requires;
+              read = c.widths_of-widths.ensures;
+              ranges_in = from-zeros c.args.input.range c.carry-ranges.result c.carry-ranges.ensures;
+              errors_in = from-zeros c.args.input.error c.carry-errors.result c.carry-errors.ensures;
+            } in
+    let errors : let a = c.args in Errors a.table a.level a.pass c.loop-node.node c.loop-node.errors =
+        let a = c.args in
+            c.loop-node.invariant.2 a.table a.level a.pass a.input started in
+    let a = c.args in
+    let h = started in
+    let end : c.loop-node.node ≡ places = omega arith in
+    all_held h.enters _ h.read h.ranges_in (subst (λ (k : ℕ). Errors a.table a.level a.pass k c.loop-node.errors) end errors)
 
 pub widths_of-widths-requires : goal.widths_of-widths-requires
 widths_of-widths-requires c = c.requires.place
@@ -100,4 +108,18 @@ pub bounds-errors-operand : goal.bounds-errors-operand
 bounds-errors-operand c = omega (arith, operand c)
 
 pub overflow_add-ranges : goal.overflow_add-ranges
-overflow_add-ranges c = omega (arith, total c)
+overflow_add-ranges c =
+    let started : let a = c.args in Started a.table a.level a.pass a.input c.widths_of-widths.result c.carry-ranges.result c.carry-errors.result =
+        record {
+              enters = c.requires;
+              read = c.widths_of-widths.ensures;
+              ranges_in = from-zeros c.args.input.range c.carry-ranges.result c.carry-ranges.ensures;
+              errors_in = from-zeros c.args.input.error c.carry-errors.result c.carry-errors.ensures;
+            } in
+    let errors : let a = c.args in Errors a.table a.level a.pass c.loop-node.node c.loop-node.errors =
+        let a = c.args in
+            c.loop-node.invariant.2 a.table a.level a.pass a.input started in
+    let total : get_or c.carry-ranges.result c.multiplied_place-operand.result 0 + get_or c.loop-node.errors c.multiplied_place-operand.result 0 ≤ most_total =
+        let h = started in
+            omega (arith, ranges_small h.enters c.carry-ranges.result h.ranges_in c.multiplied_place-operand.result (operand c), errors_small h.enters c.loop-node.node c.loop-node.errors errors c.multiplied_place-operand.result (operand c)) in
+    omega (arith, total)

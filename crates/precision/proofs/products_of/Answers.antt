@@ -22,9 +22,8 @@ product_place-at-requires c =
 
 pub returns : goal.returns
 returns c =
-    let n = c in
-    let h = n.requires in
-    let e = n.if-table.true in
-    let at = n.product_place-at.result in
-    let is = n.product_place-at.ensures.0 in
+    let h = c.requires in
+    let e = c.if-table.true in
+    let at = c.product_place-at.result in
+    let is = c.product_place-at.ensures.0 in
     by_product _ (cut_held h 1 (lit≤ tt, lit≤ tt) e at (omega (arith, is))) (cut_held h 2 (lit≤ tt, lit≤ tt) e (at + 1) (omega (arith, is))) (cut_held h 3 (lit≤ tt, lit≤ tt) e (at + 2) (omega (arith, is))) (cut_held h 4 (lit≤ tt, lit≤ tt) e (at + 3) (omega (arith, is)))

@@ -7,7 +7,7 @@ use Rattle.reversible.specs.LevelLaws.{columns_one, columns_more}
 use Rattle.reversible.proofs.columns_from.Goals as goal
 
 pub returns-then-h-lt2 : goal.returns-then-h-lt2
-returns-then-h-lt2 c = let s = c in columns_one s.args.kernel s.args.stride s.args.w s.args.h (at s.args.plane.now) (omega (arith, s.requires.part.narrow)) (omega arith)
+returns-then-h-lt2 c = columns_one c.args.kernel c.args.stride c.args.w c.args.h (at c.args.plane.now) (omega (arith, c.requires.part.narrow)) (omega arith)
 
 pub columns-requires : goal.columns-requires
 columns-requires c = let p = c.requires in record {

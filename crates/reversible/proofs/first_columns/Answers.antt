@@ -13,9 +13,7 @@ use Rattle.reversible.specs.Preconditions.{first_columns_lem}
 use Rattle.reversible.proofs.first_columns.Goals as goal
 
 pub pixel_columns-requires : goal.pixel_columns-requires
-pixel_columns-requires c =
-    let m = c in
-    first_columns_lem m.requires (record { least = omega arith }) _ m.middle-middle.ensures
+pixel_columns-requires c = first_columns_lem c.requires (record { least = omega arith }) _ c.middle-middle.ensures
 
 module _ (a : goal.Start) where
   -- the plane with the pixels in it, each less m
@@ -28,18 +26,14 @@ module _ (a : goal.Start) where
 
 pub returns-then-h-lt2 : goal.returns-then-h-lt2
 returns-then-h-lt2 c =
-    let m = c in
-    let a = m in
-    gives a m.middle-middle.result m.middle-middle.ensures _ (c.put_pixels.ensures
-    ∙ patch_ext _ _ _ _ (at a.args.plane.now) (λ k i. ap (λ (n : ℕ). pos (get_or a.args.pixels.now n 0) -ℤ pos m.middle-middle.result) (omega arith))
-    ∙ columns_one forward_kernel a.args.w a.args.w a.args.h (samples a m.middle-middle.result) (omega arith) (omega arith))
+    gives c.before.before.before.before.before.before c.middle-middle.result c.middle-middle.ensures _ (c.put_pixels.ensures
+    ∙ patch_ext _ _ _ _ (at c.args.plane.now) (λ k i. ap (λ (n : ℕ). pos (get_or c.args.pixels.now n 0) -ℤ pos c.middle-middle.result) (omega arith))
+    ∙ columns_one forward_kernel c.args.w c.args.w c.args.h (samples c c.middle-middle.result) (omega arith) (omega arith))
 
 pub returns-else-h-lt2 : goal.returns-else-h-lt2
 returns-else-h-lt2 c =
-    let m = c in
-    let a = m in
-    gives a m.middle-middle.result m.middle-middle.ensures _ (c.pixel_columns.ensures
-    ∙ columns_more forward_kernel a.args.w a.args.w a.args.h (samples a m.middle-middle.result) (record { least = omega arith }))
+    gives c.before.before.before.before.before.before c.middle-middle.result c.middle-middle.ensures _ (c.pixel_columns.ensures
+    ∙ columns_more forward_kernel c.args.w c.args.w c.args.h (samples c c.middle-middle.result) (record { least = omega arith }))
 
 pub middle-middle-requires : goal.middle-middle-requires
 middle-middle-requires c = c.requires.depth

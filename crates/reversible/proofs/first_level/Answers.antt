@@ -8,9 +8,7 @@ use Rattle.reversible.specs.Preconditions.{first_rows}
 use Rattle.reversible.proofs.first_level.Goals as goal
 
 pub rows_from-requires : goal.rows_from-requires
-rows_from-requires c =
-    let f = c in
-    first_rows f.requires _ _ (omega arith) (omega arith) f.first_columns.ensures
+rows_from-requires c = first_rows c.requires _ _ (omega arith) (omega arith) c.first_columns.ensures
 
 pub returns : goal.returns
 returns c = c.rows_from.ensures ∙ ap (rows_from forward_kernel _ _ _) c.first_columns.ensures

@@ -17,18 +17,16 @@ use Rattle.reversible.proofs.high_end.Goals as goal
 
 pub predicted_end-v-requires : goal.predicted_end-v-requires
 predicted_end-v-requires c =
-    let s = c in
     let a = to_z-of_z {w = w32} (sfits_of c.centred.type_inv) ∙ c.centred.ensures in
     let x = to_z-of_z {w = w32} (sfits_of c.centred-in-loop-j.type_inv) ∙ c.centred-in-loop-j.ensures in
-    as_type (λ u. Safe Predict (sym a u) (sym x u) (sym x u)) (s.requires.by_index c.loop-j.j c.loop-j-test.true)
+    as_type (λ u. Safe Predict (sym a u) (sym x u) (sym x u)) (c.requires.by_index c.loop-j.j c.loop-j-test.true)
 
 pub loop-j-preserved : goal.loop-j-preserved
 loop-j-preserved c =
-    let b = c in
     let t = c.loop-j in
     let g = c.args in
-    let a = to_z-of_z {w = w32} (sfits_of b.centred.type_inv) ∙ b.centred.ensures in
-    let x = to_z-of_z {w = w32} (sfits_of b.centred-in-loop-j.type_inv) ∙ b.centred-in-loop-j.ensures in
+    let a = to_z-of_z {w = w32} (sfits_of c.centred.type_inv) ∙ c.centred.ensures in
+    let x = to_z-of_z {w = w32} (sfits_of c.centred-in-loop-j.type_inv) ∙ c.centred-in-loop-j.ensures in
     let v = to_z-of_z {w = w32} (sfits_of c.predicted_end-v.type_inv) ∙ c.predicted_end-v.ensures ∙ (λ u. ended Predict (a u) (x u))
     ∙ ended_is Predict (pixel_line g.pixels.now g.middle g.own t.j) (pixel_line g.pixels.now g.middle g.beside t.j) in
     (omega arith, simp length-set t.invariant.1, patch_set _ t.j _ _ t.plane (pos 0) t.invariant.2 (omega arith) _ v)

@@ -16,19 +16,17 @@ use Rattle.reversible.proofs.high_line.Goals as goal
 
 pub predicted-v-requires : goal.predicted-v-requires
 predicted-v-requires c =
-    let s = c in
     let a = to_z-of_z {w = w32} (sfits_of c.centred.type_inv) ∙ c.centred.ensures in
     let x = to_z-of_z {w = w32} (sfits_of c.centred-in-loop-j.type_inv) ∙ c.centred-in-loop-j.ensures in
     let y = to_z-of_z {w = w32} (sfits_of c.centred-in-loop-j-2.type_inv) ∙ c.centred-in-loop-j-2.ensures in
-    as_type (λ u. Safe Predict (sym a u) (sym x u) (sym y u)) (s.requires.by_index c.loop-j.j c.loop-j-test.true)
+    as_type (λ u. Safe Predict (sym a u) (sym x u) (sym y u)) (c.requires.by_index c.loop-j.j c.loop-j-test.true)
 
 pub loop-j-preserved : goal.loop-j-preserved
 loop-j-preserved c =
-    let b = c in
     let t = c.loop-j in
-    let a = to_z-of_z {w = w32} (sfits_of b.centred.type_inv) ∙ b.centred.ensures in
-    let x = to_z-of_z {w = w32} (sfits_of b.centred-in-loop-j.type_inv) ∙ b.centred-in-loop-j.ensures in
-    let y = to_z-of_z {w = w32} (sfits_of b.centred-in-loop-j-2.type_inv) ∙ b.centred-in-loop-j-2.ensures in
+    let a = to_z-of_z {w = w32} (sfits_of c.centred.type_inv) ∙ c.centred.ensures in
+    let x = to_z-of_z {w = w32} (sfits_of c.centred-in-loop-j.type_inv) ∙ c.centred-in-loop-j.ensures in
+    let y = to_z-of_z {w = w32} (sfits_of c.centred-in-loop-j-2.type_inv) ∙ c.centred-in-loop-j-2.ensures in
     let v = to_z-of_z {w = w32} (sfits_of c.predicted-v.type_inv) ∙ c.predicted-v.ensures ∙ (λ u. applied Predict (a u) (x u) (y u)) in
     (omega arith, simp length-set t.invariant.1, patch_set _ t.j _ _ t.plane (pos 0) t.invariant.2 (omega arith) _ v)
 

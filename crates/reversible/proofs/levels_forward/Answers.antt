@@ -20,21 +20,17 @@ pub first_level-requires : goal.first_level-requires
 first_level-requires c = let p = c.requires in first_room p _ _ refl p.call.room.third
 
 pub loop-k-init : goal.loop-k-init
-loop-k-init c = let s = c in (omega (arith, s.requires.call.some), refl, refl, side_one s.args.w, side_one s.args.h, λ x f. f)
-
--- the first level is done
-first_done : (c : goal.After-buffer-1) → let a = c.args in ForwardDone a.w a.h 1 (loaded a.pixels.now (2 ^ (a.depth - 1)) a.w a.h (at a.plane.now)) (at c.first_level.new.1.1.0)
-first_done c =
-    let a = c.args in
-    forward_first a.w a.h _ _ c.first_level.ensures
+loop-k-init c = (omega (arith, c.requires.call.some), refl, refl, side_one c.args.w, side_one c.args.h, λ x f. f)
 
 pub level_forward-requires : goal.level_forward-requires
 level_forward-requires c =
-    let s = c in
+    let first_done : let a = c.args in ForwardDone a.w a.h 1 (loaded a.pixels.now (2 ^ (a.depth - 1)) a.w a.h (at a.plane.now)) (at c.first_level.new.buffer) =
+        let a = c.args in
+            forward_first a.w a.h _ _ c.first_level.ensures in
     let t = c.loop-k in
-    let p = s.requires.call in
+    let p = c.requires.call in
     level_room (2 ^ 21) (levels_room p (length t.plane) (length t.buffer) (omega (arith, p.room.second)) (omega (arith, p.room.third))) t.k _ _ _ _ refl refl t.invariant.3 t.invariant.4
-    (forward_part _ _ t.k (omega (arith, p.few, t.invariant.0)) _ _ (t.invariant.5 _ (first_done c.before.before.before.before)) (loaded_small s.requires _))
+    (forward_part _ _ t.k (omega (arith, p.few, t.invariant.0)) _ _ (t.invariant.5 _ first_done) (loaded_small c.requires _))
 
 -- the sides of the level that was worked are at most those of a picture
 small-sides : (c : goal.After-buffer-in-loop-k-1) → (c.loop-k.across ≤ max_side) × (c.loop-k.down ≤ max_side)
@@ -45,23 +41,25 @@ small-sides c =
 
 pub loop-k-preserved : goal.loop-k-preserved
 loop-k-preserved c =
-    let s = c in
     let t = c.loop-k in (
       omega arith,
       omega arith,
       omega arith,
-      ap lows t.invariant.3 ∙ side_more t.k s.args.w,
-      ap lows t.invariant.4 ∙ side_more t.k s.args.h,
+      ap lows t.invariant.3 ∙ side_more t.k c.args.w,
+      ap lows t.invariant.4 ∙ side_more t.k c.args.h,
       λ x f. forward_more _ _ t.k _ _ _ (t.invariant.5 x f)
-          (c.level_forward.ensures ∙ (λ i. level_forward s.args.w (t.invariant.3 i) (t.invariant.4 i) (at t.plane))),
+          (c.level_forward.ensures ∙ (λ i. level_forward c.args.w (t.invariant.3 i) (t.invariant.4 i) (at t.plane))),
     )
 
 pub returns : goal.returns
 returns c =
+    let first_done : let a = c.args in ForwardDone a.w a.h 1 (loaded a.pixels.now (2 ^ (a.depth - 1)) a.w a.h (at a.plane.now)) (at c.first_level.new.buffer) =
+        let a = c.args in
+            forward_first a.w a.h _ _ c.first_level.ensures in
     let a = c.args in
     let e : c.loop-k.k ≡ a.levels = omega arith in
     let x : ℕ → ℤ = loaded a.pixels.now (2 ^ (a.depth - 1)) a.w a.h (at a.plane.now) in
-    subst (λ (k : ℕ). ForwardDone a.w a.h k x (at c.loop-k.plane)) e (c.loop-k.invariant.5 x (first_done c.before.before))
+    subst (λ (k : ℕ). ForwardDone a.w a.h k x (at c.loop-k.plane)) e (c.loop-k.invariant.5 x first_done)
 
 pub overflow_add-across : goal.overflow_add-across
 overflow_add-across c = omega (arith, c.requires.call.room.wide.1)

@@ -18,21 +18,18 @@ use Rattle.reversible.proofs.low_end.Goals as goal
 
 pub updated_end-v-requires : goal.updated_end-v-requires
 updated_end-v-requires c =
-    let s = c in
     let t = c.loop-j in
     let a = to_z-of_z {w = w32} (sfits_of c.centred.type_inv) ∙ c.centred.ensures in
     let x = to_z-of_z {w = w32} (sfits_of c.updated_end-arg-1.given) ∙ read_past _ _ _ _ _ _ t.invariant.2 (omega arith) in
-    as_type (λ u. Safe Update (sym a u) (sym x u) (sym x u)) (s.requires.by_index t.j c.loop-j-test.true)
+    as_type (λ u. Safe Update (sym a u) (sym x u) (sym x u)) (c.requires.by_index t.j c.loop-j-test.true)
 
 pub loop-j-preserved : goal.loop-j-preserved
 loop-j-preserved c =
-    let b = c in
-    let s = b in
-    let t = b.loop-j in
-    let a = to_z-of_z {w = w32} (sfits_of b.centred.type_inv) ∙ b.centred.ensures in
-    let x = to_z-of_z {w = w32} (sfits_of b.updated_end-arg-1.given) ∙ read_past _ _ _ _ _ _ t.invariant.2 (omega arith) in
+    let t = c.loop-j in
+    let a = to_z-of_z {w = w32} (sfits_of c.centred.type_inv) ∙ c.centred.ensures in
+    let x = to_z-of_z {w = w32} (sfits_of c.updated_end-arg-1.given) ∙ read_past _ _ _ _ _ _ t.invariant.2 (omega arith) in
     let v = to_z-of_z {w = w32} (sfits_of c.updated_end-v.type_inv) ∙ c.updated_end-v.ensures ∙ (λ u. ended Update (a u) (x u))
-    ∙ ended_is Update (pixel_line s.args.pixels.now s.args.middle s.args.own t.j) (at s.args.plane.now (s.args.beside + t.j)) in
+    ∙ ended_is Update (pixel_line c.args.pixels.now c.args.middle c.args.own t.j) (at c.args.plane.now (c.args.beside + t.j)) in
     (omega arith, simp length-set t.invariant.1, patch_set _ t.j _ _ t.plane (pos 0) t.invariant.2 (omega arith) _ v)
 
 pub loop-j-init : goal.loop-j-init

@@ -17,21 +17,18 @@ use Rattle.reversible.proofs.low_line.Goals as goal
 
 pub updated-v-requires : goal.updated-v-requires
 updated-v-requires c =
-    let s = c in
     let t = c.loop-j in
     let a = to_z-of_z {w = w32} (sfits_of c.centred.type_inv) ∙ c.centred.ensures in
     let x = to_z-of_z {w = w32} (sfits_of c.updated-arg-1.given) ∙ read_past _ _ _ _ _ _ t.invariant.2 (omega arith) in
     let y = to_z-of_z {w = w32} (sfits_of c.updated-arg-in-loop-j-1.given) ∙ read_past _ _ _ _ _ _ t.invariant.2 (omega arith) in
-    as_type (λ u. Safe Update (sym a u) (sym x u) (sym y u)) (s.requires.by_index t.j c.loop-j-test.true)
+    as_type (λ u. Safe Update (sym a u) (sym x u) (sym y u)) (c.requires.by_index t.j c.loop-j-test.true)
 
 pub loop-j-preserved : goal.loop-j-preserved
 loop-j-preserved c =
-    let b = c in
-    let s = b in
-    let t = b.loop-j in
-    let a = to_z-of_z {w = w32} (sfits_of b.centred.type_inv) ∙ b.centred.ensures in
-    let x = to_z-of_z {w = w32} (sfits_of b.updated-arg-1.given) ∙ read_past _ _ _ _ _ _ t.invariant.2 (omega arith) in
-    let y = to_z-of_z {w = w32} (sfits_of b.updated-arg-in-loop-j-1.given) ∙ read_past _ _ _ _ _ _ t.invariant.2 (omega arith) in
+    let t = c.loop-j in
+    let a = to_z-of_z {w = w32} (sfits_of c.centred.type_inv) ∙ c.centred.ensures in
+    let x = to_z-of_z {w = w32} (sfits_of c.updated-arg-1.given) ∙ read_past _ _ _ _ _ _ t.invariant.2 (omega arith) in
+    let y = to_z-of_z {w = w32} (sfits_of c.updated-arg-in-loop-j-1.given) ∙ read_past _ _ _ _ _ _ t.invariant.2 (omega arith) in
     let v = to_z-of_z {w = w32} (sfits_of c.updated-v.type_inv) ∙ c.updated-v.ensures ∙ (λ u. applied Update (a u) (x u) (y u)) in
     (omega arith, simp length-set t.invariant.1, patch_set _ t.j _ _ t.plane (pos 0) t.invariant.2 (omega arith) _ v)
 

@@ -9,62 +9,56 @@ use Rattle.reversible.specs.Columns.{LinesDone, lines_few, lines_none, high_more
 use Rattle.reversible.proofs.pixel_columns.Goals as goal
 
 pub high_at-requires : goal.high_at-requires
-high_at-requires c =
-    let s = c in
-    (room_as s.requires _ c.loop-i.invariant.1, c.loop-i-test.true)
-
--- the line of highs is there
-after-high : (c : goal.After-high_at) → let t = c.loop-i in let g = c.args in
-    LinesDone (t.i + 1) t.i g.pixels.now g.middle g.w g.h (at g.plane.now) (at c.high_at.new.1.1.0)
-after-high c =
-    let t = c.loop-i in
-    let g = c.args in
-    high_more g.pixels.now g.middle g.w g.h t.i t.i (at g.plane.now) (at t.plane) t.invariant.2 _ c.loop-i-test.true (omega arith) c.high_at.ensures
+high_at-requires c = (room_as c.requires _ c.loop-i.invariant.1, c.loop-i-test.true)
 
 pub low_at-requires : goal.low_at-requires
 low_at-requires c =
-    let b = c in
-    let t = b.loop-i in
-    let s = b in record {
-      pixel_room = (room_as s.requires _ (omega (arith, t.invariant.1)), omega arith);
-      highs_to = (after-high c.before.before).highs_stand;
+    let after-high : let t = c.loop-i in let g = c.args in
+    LinesDone (t.i + 1) t.i g.pixels.now g.middle g.w g.h (at g.plane.now) (at c.high_at.new.1.1.0) =
+        let t = c.loop-i in
+            let g = c.args in
+            high_more g.pixels.now g.middle g.w g.h t.i t.i (at g.plane.now) (at t.plane) t.invariant.2 _ c.loop-i-test.true (omega arith) c.high_at.ensures in
+    let t = c.loop-i in
+    record {
+      pixel_room = (room_as c.requires _ (omega (arith, t.invariant.1)), omega arith);
+      highs_to = after-high.highs_stand;
     }
 
 pub loop-i-preserved : goal.loop-i-preserved
 loop-i-preserved c =
-    let l = c in
-    let b = l in
-    let t = b.loop-i in
-    let g = b.args in
-    (omega arith, omega (arith, t.invariant.1), low_more g.pixels.now g.middle g.w g.h (t.i + 1) t.i (at g.plane.now) _ (after-high c.before.before.before.before) _ (omega arith) l.low_at.ensures)
+    let after-high : let t = c.loop-i in let g = c.args in
+    LinesDone (t.i + 1) t.i g.pixels.now g.middle g.w g.h (at g.plane.now) (at c.high_at.new.1.1.0) =
+        let t = c.loop-i in
+            let g = c.args in
+            high_more g.pixels.now g.middle g.w g.h t.i t.i (at g.plane.now) (at t.plane) t.invariant.2 _ c.loop-i-test.true (omega arith) c.high_at.ensures in
+    let t = c.loop-i in
+    let g = c.args in
+    (omega arith, omega (arith, t.invariant.1), low_more g.pixels.now g.middle g.w g.h (t.i + 1) t.i (at g.plane.now) _ after-high _ (omega arith) c.low_at.ensures)
 
 pub low_at-requires-then-high-h : goal.low_at-requires-then-high-h
 low_at-requires-then-high-h c =
     let t = c.loop-i in
-    let s = c in record {
-      pixel_room = (room_as s.requires _ t.invariant.1, omega arith);
+    record {
+      pixel_room = (room_as c.requires _ t.invariant.1, omega arith);
       highs_to = highs_all t.invariant.2.highs_stand (omega arith);
     }
 
 pub returns-then-high-h : goal.returns-then-high-h
 returns-then-high-h c =
-    let l = c in
-    let t = l.loop-i in
-    let s = l in
-    let g = s.args in
+    let t = c.loop-i in
+    let g = c.args in
     let e : t.i ≡ highs g.h = omega arith in
     columns_done g.pixels.now g.middle g.w g.h t.i (highs g.h + 1) (at g.plane.now) _
-    (low_more g.pixels.now g.middle g.w g.h t.i (highs g.h) (at g.plane.now) (at t.plane) (lows_to t.invariant.2 e) _ (omega arith) l.low_at-then-high-h.ensures) s.requires e (omega arith)
+    (low_more g.pixels.now g.middle g.w g.h t.i (highs g.h) (at g.plane.now) (at t.plane) (lows_to t.invariant.2 e) _ (omega arith) c.low_at-then-high-h.ensures) c.requires e (omega arith)
 
 pub returns-else-high-h : goal.returns-else-high-h
 returns-else-high-h c =
     let t = c.loop-i in
-    let s = c in
-    let g = s.args in
-    columns_done g.pixels.now g.middle g.w g.h t.i t.i (at g.plane.now) _ t.invariant.2 s.requires (omega arith) (omega arith)
+    let g = c.args in
+    columns_done g.pixels.now g.middle g.w g.h t.i t.i (at g.plane.now) _ t.invariant.2 c.requires (omega arith) (omega arith)
 
 pub loop-i-init : goal.loop-i-init
 loop-i-init c = (omega arith, refl, lines_none _ _ _ _ _)
 
 pub overflow_add-h : goal.overflow_add-h
-overflow_add-h c = let s = c in omega (arith, lines_few s.args.w s.args.h (omega (arith, s.requires.some)), s.requires.held)
+overflow_add-h c = omega (arith, lines_few c.args.w c.args.h (omega (arith, c.requires.some)), c.requires.held)

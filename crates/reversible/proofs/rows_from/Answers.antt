@@ -7,7 +7,7 @@ use Rattle.reversible.specs.LevelLaws.{rows_one, rows_more}
 use Rattle.reversible.proofs.rows_from.Goals as goal
 
 pub returns-then-w-lt2 : goal.returns-then-w-lt2
-returns-then-w-lt2 c = let s = c in rows_one s.args.kernel s.args.stride s.args.w s.args.h (at s.args.plane.now) (omega (arith, s.requires.part.narrow)) (omega arith)
+returns-then-w-lt2 c = rows_one c.args.kernel c.args.stride c.args.w c.args.h (at c.args.plane.now) (omega (arith, c.requires.part.narrow)) (omega arith)
 
 pub rows-requires : goal.rows-requires
 rows-requires c = let p = c.requires in record {

@@ -11,24 +11,21 @@ use Rattle.reversible.proofs.transform.Goals as goal
 
 pub levels_forward-requires : goal.levels_forward-requires
 levels_forward-requires c =
-    let s = c in
-    let p = s.requires.call in
-    let l = length-take-le (s.args.w * s.args.h) s.args.work.now p.room.third in
-    record { call = other_slices p _ _ _ p.room.first p.room.second (omega arith); right = s.requires.right }
+    let p = c.requires.call in
+    let l = length-take-le (c.args.w * c.args.h) c.args.work.now p.room.third in
+    record { call = other_slices p _ _ _ p.room.first p.room.second (omega arith); right = c.requires.right }
 
 pub clear-requires : goal.clear-requires
 clear-requires c =
-    let s = c in
-    let l = length-take-le (s.args.w * s.args.h) s.args.work.now s.requires.call.room.third in
-    omega (arith, s.requires.call.room.third, length_front s.args.work.now c.levels_forward.new.1.1.1.0 (s.args.w * s.args.h) (omega arith))
+    let l = length-take-le (c.args.w * c.args.h) c.args.work.now c.requires.call.room.third in
+    omega (arith, c.requires.call.room.third, length_front c.args.work.now c.levels_forward.new.1.1.1.0 (c.args.w * c.args.h) (omega arith))
 
 pub returns : goal.returns
 returns c =
-    let s = c in
     let f = c.levels_forward in
-    let l = length-take-le (s.args.w * s.args.h) s.args.work.now s.requires.call.room.third in record {
-      plane = worked_plane s.requires s.args.plane.now f.new.1.1.0 f.ensures (omega arith) (omega arith);
-      work = c.clear.ensures ∙ zeroed_part (s.args.w * s.args.h) f.new.1.1.1.0 s.args.work.now (omega arith);
+    let l = length-take-le (c.args.w * c.args.h) c.args.work.now c.requires.call.room.third in record {
+      plane = worked_plane c.requires c.args.plane.now f.new.1.1.0 f.ensures (omega arith) (omega arith);
+      work = c.clear.ensures ∙ zeroed_part (c.args.w * c.args.h) f.new.1.1.1.0 c.args.work.now (omega arith);
     }
 
 pub slice_bounds-levels_forward-end-2 : goal.slice_bounds-levels_forward-end-2

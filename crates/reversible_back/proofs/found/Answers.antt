@@ -9,13 +9,11 @@ use Rattle.reversible_back.proofs.found.Goals as goal
 
 pub returns-then-levels_back : goal.returns-then-levels_back
 returns-then-levels_back c =
-    let s = c in
     let levels = c.levels_back in
-    found_all (order_of s.args.first) s.requires s.args.plane.now _ _ (at levels.new.0) c.copy_front.ensures _ _
+    found_all (order_of c.args.first) c.requires c.args.plane.now _ _ (at levels.new.0) c.copy_front.ensures _ _
     levels.ensures (subst T (sym c.if-levels_back.true) tt) c.samples_right.ensures
 
 pub returns-else-levels_back : goal.returns-else-levels_back
 returns-else-levels_back c =
-    let s = c in
     let levels = c.levels_back in
-    found_none (order_of s.args.first) s.requires s.args.plane.now _ _ (at levels.new.0) c.copy_front.ensures _ levels.ensures c.if-levels_back.false
+    found_none (order_of c.args.first) c.requires c.args.plane.now _ _ (at levels.new.0) c.copy_front.ensures _ levels.ensures c.if-levels_back.false

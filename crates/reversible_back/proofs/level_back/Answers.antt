@@ -24,14 +24,10 @@ pub rows_from-requires-in-RowsFirst : goal.rows_from-requires-in-RowsFirst
 rows_from-requires-in-RowsFirst c = back_rows (then_back_rows c.requires _ _ (omega arith) (omega arith) c.columns_from-in-RowsFirst.ensures)
 
 pub returns-in-ColumnsFirst : goal.returns-in-ColumnsFirst
-returns-in-ColumnsFirst c =
-    let t = c in
-    gives c.before.before.before.before.before.before.before.before.before.before.before.before _ _ t.in-ColumnsFirst.is (c.columns_from.ensures ∙ ap (columns_from inverse_kernel _ _ _) c.rows_from.ensures)
+returns-in-ColumnsFirst c = gives c.before.before.before.before.before.before.before.before.before.before.before.before _ _ c.in-ColumnsFirst.is (c.columns_from.ensures ∙ ap (columns_from inverse_kernel _ _ _) c.rows_from.ensures)
 
 pub returns-in-RowsFirst : goal.returns-in-RowsFirst
-returns-in-RowsFirst c =
-    let t = c in
-    gives c.before.before.before.before.before.before.before.before.before.before.before.before _ _ t.in-RowsFirst.is (c.rows_from-in-RowsFirst.ensures ∙ ap (rows_from inverse_kernel _ _ _) c.columns_from-in-RowsFirst.ensures)
+returns-in-RowsFirst c = gives c.before.before.before.before.before.before.before.before.before.before.before.before _ _ c.in-RowsFirst.is (c.rows_from-in-RowsFirst.ensures ∙ ap (rows_from inverse_kernel _ _ _) c.columns_from-in-RowsFirst.ensures)
 
 pub rows_from-requires : goal.rows_from-requires
 rows_from-requires c = back_rows (first_back c.requires)

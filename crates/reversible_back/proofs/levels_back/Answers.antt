@@ -14,38 +14,34 @@ use Rattle.reversible_back.proofs.levels_back.Goals as goal
 
 pub part_between-requires : goal.part_between-requires
 part_between-requires c =
-    let s = c in
     let t = c.loop-k in
-    (part_here s.requires (t.k - 1) t.values _ _ (omega (arith, t.invariant.1)) c.side_after-across.ensures c.side_after-down.ensures).fits
+    (part_here c.requires (t.k - 1) t.values _ _ (omega (arith, t.invariant.1)) c.side_after-across.ensures c.side_after-down.ensures).fits
 
 pub level_back-requires : goal.level_back-requires
 level_back-requires c =
-    let s = c in
     let t = c.loop-k in
     let ea = c.side_after-across.ensures in
     let ed = c.side_after-down.ensures in
     let look = c.part_between in
-    level_room largest s.requires (t.k - 1) _ _ _ _ (omega (arith, t.invariant.1)) (omega (arith, t.invariant.2)) ea ed
-    (look_small (order_of s.args.first) s.requires (t.k - 1) (omega arith) _ (at t.values) (one_more (t.k - 1) (omega arith) t.invariant.3) _ _ ea ed _ look.ensures (subst T (sym c.if-part_between.true) tt))
+    level_room largest c.requires (t.k - 1) _ _ _ _ (omega (arith, t.invariant.1)) (omega (arith, t.invariant.2)) ea ed
+    (look_small (order_of c.args.first) c.requires (t.k - 1) (omega arith) _ (at t.values) (one_more (t.k - 1) (omega arith) t.invariant.3) _ _ ea ed _ look.ensures (subst T (sym c.if-part_between.true) tt))
 
 pub loop-k-preserved : goal.loop-k-preserved
 loop-k-preserved c =
-    let s = c in
     let t = c.loop-k in
     let ea = c.side_after-across.ensures in
     let ed = c.side_after-down.ensures in (
       omega arith,
       omega (arith, t.invariant.1),
       omega (arith, t.invariant.2),
-      back_more _ _ (order_of s.args.first) _ (t.k - 1) _ (at t.values) _ (one_more (t.k - 1) (omega arith) t.invariant.3)
-          (c.level_back.ensures ∙ (λ u. level_inverse (order_of s.args.first) s.args.w (ea u) (ed u) (at t.values))),
+      back_more _ _ (order_of c.args.first) _ (t.k - 1) _ (at t.values) _ (one_more (t.k - 1) (omega arith) t.invariant.3)
+          (c.level_back.ensures ∙ (λ u. level_inverse (order_of c.args.first) c.args.w (ea u) (ed u) (at t.values))),
     )
 
 pub returns-else-part_between : goal.returns-else-part_between
 returns-else-part_between c =
-    let s = c in
     let t = c.loop-k in
-    look_large (order_of s.args.first) s.requires (t.k - 1) (omega arith) _ _ (one_more (t.k - 1) (omega arith) t.invariant.3) _ _ c.side_after-across.ensures c.side_after-down.ensures _ c.part_between.ensures c.if-part_between.false
+    look_large (order_of c.args.first) c.requires (t.k - 1) (omega arith) _ _ (one_more (t.k - 1) (omega arith) t.invariant.3) _ _ c.side_after-across.ensures c.side_after-down.ensures _ c.part_between.ensures c.if-part_between.false
 
 pub returns : goal.returns
 returns c =

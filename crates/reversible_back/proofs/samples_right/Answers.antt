@@ -14,22 +14,27 @@ use Rattle.numbers.specs.Laws.{zero_less}
 use Rattle.pictures.specs.RangeChecks.{Tells, Between}
 use Rattle.reversible_back.proofs.samples_right.Goals as goal
 
-middle-small : (c : goal.After-middle-half) → c.middle-half.result ≤ 2048
-middle-small c = subst (λ (n : ℕ). n ≤ 2048) (sym c.middle-half.ensures) (pow_mono {i = c.args.depth - 1} {j = 11} (omega arith))
-
 pub returns : goal.returns
 returns c =
+    let middle-small : c.middle-half.result ≤ 2048 =
+        subst (λ (n : ℕ). n ≤ 2048) (sym c.middle-half.ensures) (pow_mono {i = c.args.depth - 1} {j = 11} (omega arith)) in
     let a = c.args in
     let m = c.middle-half.result in
     let is = ap pos c.middle-half.ensures in
-    let v = v_nat w32 m 2048 (middle-small c.before) in
+    let v = v_nat w32 m 2048 middle-small in
     let least : rd w32 (pos 0 -ℤ to_z w32 m) ≡ neg_ℤ (pos (2 ^ (a.depth - 1))) = auto_exact (search (values, v) depth 40) tt ∙ ap (λ (z : ℤ). pos 0 -ℤ z) is ∙ zero_less (pos (2 ^ (a.depth - 1))) in
     let most : rd w32 (to_z w32 m -ℤ pos 1) ≡ pos (2 ^ (a.depth - 1)) -ℤ pos 1 = auto_exact (search (values, v) depth 40) tt ∙ ap (λ (z : ℤ). z -ℤ pos 1) is in
     let front : (j : ℕ) → 0 + j ≡ j = λ j. omega arith in
     as_type (λ u. Tells ((j : ℕ) → j < a.n → Between (least u) (most u) (at a.values.now (front j u))) c.all_between.result) c.all_between.ensures
 
 pub overflow_sub-half : goal.overflow_sub-half
-overflow_sub-half c = auto_fits (search (values, v_nat w32 c.middle-half.result 2048 (middle-small c)) depth 40) tt
+overflow_sub-half c =
+    let middle-small : c.middle-half.result ≤ 2048 =
+        subst (λ (n : ℕ). n ≤ 2048) (sym c.middle-half.ensures) (pow_mono {i = c.args.depth - 1} {j = 11} (omega arith)) in
+    auto_fits (search (values, v_nat w32 c.middle-half.result 2048 middle-small) depth 40) tt
 
 pub overflow_sub-half-2 : goal.overflow_sub-half-2
-overflow_sub-half-2 c = auto_fits (search (values, v_nat w32 c.middle-half.result 2048 (middle-small c)) depth 40) tt
+overflow_sub-half-2 c =
+    let middle-small : c.middle-half.result ≤ 2048 =
+        subst (λ (n : ℕ). n ≤ 2048) (sym c.middle-half.ensures) (pow_mono {i = c.args.depth - 1} {j = 11} (omega arith)) in
+    auto_fits (search (values, v_nat w32 c.middle-half.result 2048 middle-small) depth 40) tt

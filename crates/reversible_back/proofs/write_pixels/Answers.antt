@@ -15,26 +15,24 @@ use Rattle.reversible_back.specs.FoundLaws.{signed_middle}
 use Rattle.pictures.specs.RangeChecks.{Between}
 use Rattle.reversible_back.proofs.write_pixels.Goals as goal
 
--- the sample that is read is the one that was there
-sample : (c : goal.After-pixel_of-arg-1) → let t = c.loop-i in at t.values t.i ≡ at c.args.values.now t.i
-sample c = let t = c.loop-i in ap (λ (f : ℕ → ℤ). f t.i) t.invariant.4 ∙ patch_above 0 t.i _ _ t.i (omega arith)
-
 pub pixel_of-requires : goal.pixel_of-requires
 pixel_of-requires c =
-    let s = c in
+    let sample : let t = c.loop-i in at t.values t.i ≡ at c.args.values.now t.i =
+        let t = c.loop-i in ap (λ (f : ℕ → ℤ). f t.i) t.invariant.4 ∙ patch_above 0 t.i _ _ t.i (omega arith) in
     let m = c.middle-half in
-    let half = signed_middle s.args.depth m.result s.requires.le_depth.0 s.requires.le_depth.1 m.ensures in
-    let v = to_z-of_z (sfits_of c.pixel_of-arg-1.given) ∙ sample c in
+    let half = signed_middle c.args.depth m.result c.requires.le_depth.0 c.requires.le_depth.1 m.ensures in
+    let v = to_z-of_z (sfits_of c.pixel_of-arg-1.given) ∙ sample in
     as_type (λ u. (nat_abs (sym half u) ≤ 2 ^ 11) × Between (neg_ℤ (sym half u)) (sym half u -ℤ pos 1) (sym v u))
-    (pow_mono {i = s.args.depth - 1} {j = 11} (omega (arith, s.requires.le_depth)), s.requires.by_index c.loop-i.i c.loop-i-test.true)
+    (pow_mono {i = c.args.depth - 1} {j = 11} (omega (arith, c.requires.le_depth)), c.requires.by_index c.loop-i.i c.loop-i-test.true)
 
 pub loop-i-preserved : goal.loop-i-preserved
 loop-i-preserved c =
+    let sample : let t = c.loop-i in at t.values t.i ≡ at c.args.values.now t.i =
+        let t = c.loop-i in ap (λ (f : ℕ → ℤ). f t.i) t.invariant.4 ∙ patch_above 0 t.i _ _ t.i (omega arith) in
     let t = c.loop-i in
-    let s = c in
     let m = c.middle-half in
-    let half = signed_middle s.args.depth m.result s.requires.le_depth.0 s.requires.le_depth.1 m.ensures in
-    let v = to_z-of_z {w = w32} {z = at t.values t.i} (sfits_of c.pixel_of-arg-1.given) ∙ sample c in (
+    let half = signed_middle c.args.depth m.result c.requires.le_depth.0 c.requires.le_depth.1 m.ensures in
+    let v = to_z-of_z {w = w32} {z = at t.values t.i} (sfits_of c.pixel_of-arg-1.given) ∙ sample in (
       omega arith,
       simp length-set t.invariant.1,
       simp length-set t.invariant.2,
@@ -45,9 +43,9 @@ loop-i-preserved c =
 pub returns : goal.returns
 returns c =
     let t = c.loop-i in
-    let s = c in record {
+    record {
       k_after = patch_to _ _ _ _ _ _ t.invariant.3 (omega arith);
-      values_after = patch_zeroed t.i s.args.n s.args.values.now t.values t.invariant.4 t.invariant.2 (omega arith) (omega arith);
+      values_after = patch_zeroed t.i c.args.n c.args.values.now t.values t.invariant.4 t.invariant.2 (omega arith) (omega arith);
     }
 
 pub loop-i-init : goal.loop-i-init

@@ -7,14 +7,14 @@ use Rattle.rolling.proofs.begin.Goals as goal
 
 pub returns-in-Done : goal.returns-in-Done
 returns-in-Done c =
-    let b = c in record {
-      outcome = b.begin_answer-outcome.ensures;
-      scan = scan_begun_lem b.args.table (sym b.begin_answer-outcome.ensures ∙ ap told c.in-Done.is);
+    record {
+      outcome = c.begin_answer-outcome.ensures;
+      scan = scan_begun_lem c.args.table (sym c.begin_answer-outcome.ensures ∙ ap told c.in-Done.is);
     }
 
 pub returns-in-Refused : goal.returns-in-Refused
 returns-in-Refused c =
-    let b = c in record {
-      outcome = b.begin_answer-outcome.ensures;
-      scan = scan_refused b.args.table (sym b.begin_answer-outcome.ensures ∙ ap told c.in-Refused.is);
+    record {
+      outcome = c.begin_answer-outcome.ensures;
+      scan = scan_refused c.args.table (sym c.begin_answer-outcome.ensures ∙ ap told c.in-Refused.is);
     }

@@ -9,16 +9,10 @@ pub returns-else-line_width_right : goal.returns-else-line_width_right
 returns-else-line_width_right c = sym (width_on c.args.scan (sym c.line_width_right.ensures ∙ c.if-line_width_right.false))
 
 pub returns-in-Done : goal.returns-in-Done
-returns-in-Done c =
-    let b = c in
-    let j = b in
-    let o = j in
-    sym (goes o.args.scan o.if-scan.false (sym j.line_width_right.ensures ∙ j.if-line_width_right.true) (sym b.begin_answer.ensures ∙ ap told c.in-Done.is))
+returns-in-Done c = sym (goes c.args.scan c.if-scan.false (sym c.line_width_right.ensures ∙ c.if-line_width_right.true) (sym c.begin_answer.ensures ∙ ap told c.in-Done.is))
 
 pub returns-in-Refused : goal.returns-in-Refused
-returns-in-Refused c =
-    let b = c in
-    sym (refused_on b.args.scan (sym b.begin_answer.ensures ∙ ap told c.in-Refused.is))
+returns-in-Refused c = sym (refused_on c.args.scan (sym c.begin_answer.ensures ∙ ap told c.in-Refused.is))
 
 pub returns-then-scan : goal.returns-then-scan
 returns-then-scan c = sym (ended_on _ c.if-scan.true)

@@ -7,28 +7,24 @@ use Rattle.rolling.specs.Calls.{line_answer}
 use Rattle.rolling.specs.AnswerLaws.{line_right, line_worked, line_kept}
 use Rattle.rolling.proofs.line.Goals as goal
 
--- the line is accepted
-passes : (c : goal.In-Done) → let a = c.args in line_answer a.scan a.pixels.now a.w a.held.now a.out.now ≡ passed
-passes c =
-    let a = c.args in
-    sym c.line_answer.ensures ∙ ap told c.in-Done.is
-
 pub work_line-lines-requires : goal.work_line-lines-requires
 work_line-lines-requires c =
-    let p = c in
-    let a = p.args in
-    line_right a.scan a.pixels.now a.w a.held.now a.out.now (passes c.before.before.before)
+    let passes : let a = c.args in line_answer a.scan a.pixels.now a.w a.held.now a.out.now ≡ passed =
+        let a = c.args in
+            sym c.line_answer.ensures ∙ ap told c.in-Done.is in
+    let a = c.args in
+    line_right a.scan a.pixels.now a.w a.held.now a.out.now passes
 
 pub returns-in-Refused : goal.returns-in-Refused
 returns-in-Refused c =
-    let q = c in
-    let a = q.args in
+    let a = c.args in
     line_kept a.scan a.pixels.now a.w a.held.now a.out.now
-    (sym q.line_answer.ensures ∙ ap told c.in-Refused.is)
+    (sym c.line_answer.ensures ∙ ap told c.in-Refused.is)
 
 pub returns-in-Done : goal.returns-in-Done
 returns-in-Done c =
-    let k = c in
-    let p = k in
-    let a = p.args in
-    line_worked a.scan a.pixels.now a.w a.held.now a.out.now (passes c.before.before.before.before.before.before.before) k.work_line-lines.ensures.count c.next.ensures k.work_line-lines.ensures.work
+    let passes : let a = c.args in line_answer a.scan a.pixels.now a.w a.held.now a.out.now ≡ passed =
+        let a = c.args in
+            sym c.line_answer.ensures ∙ ap told c.in-Done.is in
+    let a = c.args in
+    line_worked a.scan a.pixels.now a.w a.held.now a.out.now passes c.work_line-lines.ensures.count c.next.ensures c.work_line-lines.ensures.work

@@ -9,53 +9,44 @@ use Rattle.rolling_lines.specs.Program.{SecondFits, LastFits, second_done, set_u
 use Rattle.rolling_lines.specs.ProgramLaws.{U1-done, odd_U1, odd_second, odd_last, past_then, past_one, past_second}
 use Rattle.rolling_lines.proofs.end_odd.Goals as goal
 
--- U1 of the last low line
-u1-there : (c : goal.After-stage_line) → let s = c in at c.stage_line.new.0 ≡ set_u1 s.args.columns.table s.args.w 0 2 2 (at s.args.held.now)
-u1-there c =
-    let s = c in
-    U1-done s.args.columns s.requires.1 s.args.w 0 2 2 (at s.args.held.now) _ refl _ c.stage_line.ensures
-
--- P2 and U2 of the lines before it
-second-there : (c : goal.After-second_given) → let s = c in at c.second_given.new.1.0 ≡ odd_done s.args.columns.table s.args.w s.args.before (at s.args.held.now)
-second-there c =
-    let f = c in
-    let a = f.args in
-    c.second_given.ensures.held ∙ ap (second_done a.columns.table a.w 0 a.before) (u1-there c.before.before.before.before)
-
 pub stage_line-requires : goal.stage_line-requires
 stage_line-requires c =
-    let s = c in
-    let a = s.args in
-    let (lent, stages, fits, room, which) = s.requires in record {
+    let a = c.args in
+    let (lent, stages, fits, room, which) = c.requires in record {
       lent = (lent, record { one = omega arith; other = omega arith; apart = λ e. absurd (omega arith) }, record { one = omega arith; other = omega arith; apart = λ e. absurd (omega arith) });
       safe_stage = odd_U1 a.columns stages a.w (at a.held.now) fits;
     }
 
 pub second_given-requires : goal.second_given-requires
 second_given-requires c =
-    let f = c in
-    let s = f in
-    let a = s.args in
-    let (lent, stages, fits, room, which) = s.requires in
-    (record { narrow = lent.narrow; room = omega (arith, lent.room) }, stages, subst (SecondFits a.columns.table a.w 0 a.before) (sym (u1-there c.before.before.before)) (odd_second a.columns stages a.w (at a.held.now) fits a.before which), omega arith, room)
+    let u1-there : at c.stage_line.new.held ≡ set_u1 c.args.columns.table c.args.w 0 2 2 (at c.args.held.now) =
+        U1-done c.args.columns c.requires.1 c.args.w 0 2 2 (at c.args.held.now) _ refl _ c.stage_line.ensures in
+    let a = c.args in
+    let (lent, stages, fits, room, which) = c.requires in
+    (record { narrow = lent.narrow; room = omega (arith, lent.room) }, stages, subst (SecondFits a.columns.table a.w 0 a.before) (sym u1-there) (odd_second a.columns stages a.w (at a.held.now) fits a.before which), omega arith, room)
 
 pub last_given-requires : goal.last_given-requires
 last_given-requires c =
-    let d = c in
-    let s = d in
-    let a = s.args in
-    let (lent, stages, fits, room, which) = s.requires in
-    (record { narrow = lent.narrow; room = omega (arith, lent.room) }, stages, subst (LastFits a.columns.table a.w) (sym (second-there c.before.before.before.before)) (odd_last a.columns stages a.w (at a.held.now) fits a.before which), omega (arith, room))
+    let u1-there : at c.stage_line.new.held ≡ set_u1 c.args.columns.table c.args.w 0 2 2 (at c.args.held.now) =
+        U1-done c.args.columns c.requires.1 c.args.w 0 2 2 (at c.args.held.now) _ refl _ c.stage_line.ensures in
+    let second-there : at c.second_given.new.out ≡ odd_done c.args.columns.table c.args.w c.args.before (at c.args.held.now) =
+        let a = c.args in
+            c.second_given.ensures.held ∙ ap (second_done a.columns.table a.w 0 a.before) u1-there in
+    let a = c.args in
+    let (lent, stages, fits, room, which) = c.requires in
+    (record { narrow = lent.narrow; room = omega (arith, lent.room) }, stages, subst (LastFits a.columns.table a.w) (sym second-there) (odd_last a.columns stages a.w (at a.held.now) fits a.before which), omega (arith, room))
 
 pub returns : goal.returns
 returns c =
-    let e = c in
-    let d = e in
-    let f = d in
-    let a = f.args in
+    let u1-there : at c.stage_line.new.held ≡ set_u1 c.args.columns.table c.args.w 0 2 2 (at c.args.held.now) =
+        U1-done c.args.columns c.requires.1 c.args.w 0 2 2 (at c.args.held.now) _ refl _ c.stage_line.ensures in
+    let second-there : at c.second_given.new.out ≡ odd_done c.args.columns.table c.args.w c.args.before (at c.args.held.now) =
+        let a = c.args in
+            c.second_given.ensures.held ∙ ap (second_done a.columns.table a.w 0 a.before) u1-there in
+    let a = c.args in
     let m = at a.held.now in record {
-      held = subst (PastSame a.w m) (sym (e.last_given.ensures.held ∙ ap (set_u2 a.columns.table a.w 0 2 2) (second-there c.before.before.before.before.before.before.before)))
+      held = subst (PastSame a.w m) (sym (c.last_given.ensures.held ∙ ap (set_u2 a.columns.table a.w 0 2 2) second-there))
           (past_then a.w (past_then a.w (past_one a.w 0 _ m (omega arith)) (past_second a.w a.columns.table 0 a.before _)) (past_one a.w 0 _ _ (omega arith)));
-      out = e.last_given.ensures.out
-          ∙ (λ u. last_given a.columns.table a.w (second-there c.before.before.before.before.before.before.before u) ((d.second_given.ensures.out ∙ ap (λ (m : ℕ → ℤ). two_given a.columns.table a.w 0 (second_done a.columns.table a.w 0 a.before m) (at a.out.now)) (u1-there c.before.before.before.before.before.before.before.before.before.before.before)) u));
+      out = c.last_given.ensures.out
+          ∙ (λ u. last_given a.columns.table a.w (second-there u) ((c.second_given.ensures.out ∙ ap (λ (m : ℕ → ℤ). two_given a.columns.table a.w 0 (second_done a.columns.table a.w 0 a.before m) (at a.out.now)) u1-there) u));
     }

@@ -10,18 +10,12 @@ use Rattle.rolling_lines.proofs.end_one.Goals as goal
 
 pub scale_line-requires : goal.scale_line-requires
 scale_line-requires c =
-    let h = c in
-    let l = h in
-    let s = l in
-    let (level, lent, enters, room) = s.requires in record {
+    let (level, lent, enters, room) = c.requires in record {
       lent = (lent, omega arith, omega arith, room);
-      safe_scaling = single_may s.args.table s.args.w _ _ l.single_of-low.ensures h.single_of-high.ensures _ level enters;
+      safe_scaling = single_may c.args.table c.args.w _ _ c.single_of-low.ensures c.single_of-high.ensures _ level enters;
     }
 
 pub returns : goal.returns
 returns c =
-    let r = c in
-    let h = r in
-    let l = h in
-    let a = l.args in
-    r.scale_line.ensures ∙ ap (λ (x : Line). set_line a.w 0 x (at a.out.now)) (single_line_lem a.table a.w _ _ l.single_of-low.ensures h.single_of-high.ensures _)
+    let a = c.args in
+    c.scale_line.ensures ∙ ap (λ (x : Line). set_line a.w 0 x (at a.out.now)) (single_line_lem a.table a.w _ _ c.single_of-low.ensures c.single_of-high.ensures _)

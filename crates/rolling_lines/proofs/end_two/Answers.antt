@@ -10,37 +10,30 @@ use Rattle.rolling_lines.specs.Program.{FirstFits, SecondFits, first_done, secon
 use Rattle.rolling_lines.specs.ProgramLaws.{two_first, two_last, past_then, past_one, past_first, past_second, past_kept}
 use Rattle.rolling_lines.proofs.end_two.Goals as goal
 
--- the low line came once more
-low_again : (c : goal.After-first_low) → let s = c in at c.first_low.new.1.0 ≡ first_kept s.args.w (first_done s.args.columns.table s.args.w 6 (moved s.args.w 5 0 (at s.args.held.now)))
-low_again c =
-    let v = c in
-    let a = v.args in
-    c.first_low.ensures ∙ ap (λ (m : ℕ → ℤ). first_kept a.w (first_done a.columns.table a.w 6 m)) v.move_line.ensures
-
 pub first_low-requires : goal.first_low-requires
 first_low-requires c =
-    let v = c in
-    let s = v in
-    let a = s.args in
-    let (lent, stages, fits, room) = s.requires in
-    (record { narrow = lent.narrow; room = omega (arith, lent.room) }, stages, subst (FirstFits a.columns.table a.w 6) (sym v.move_line.ensures) (two_first a.columns stages a.w (at a.held.now) fits))
+    let a = c.args in
+    let (lent, stages, fits, room) = c.requires in
+    (record { narrow = lent.narrow; room = omega (arith, lent.room) }, stages, subst (FirstFits a.columns.table a.w 6) (sym c.move_line.ensures) (two_first a.columns stages a.w (at a.held.now) fits))
 
 pub second_given-requires : goal.second_given-requires
 second_given-requires c =
-    let f = c in
-    let s = f in
-    let a = s.args in
-    let (lent, stages, fits, room) = s.requires in
-    (record { narrow = lent.narrow; room = omega (arith, lent.room) }, stages, subst (SecondFits a.columns.table a.w 3 2) (sym (low_again c.before.before.before)) (two_last a.columns stages a.w (at a.held.now) fits), omega arith, room)
+    let low_again : at c.first_low.new.1.0 ≡ first_kept c.args.w (first_done c.args.columns.table c.args.w 6 (moved c.args.w 5 0 (at c.args.held.now))) =
+        let a = c.args in
+            c.first_low.ensures ∙ ap (λ (m : ℕ → ℤ). first_kept a.w (first_done a.columns.table a.w 6 m)) c.move_line.ensures in
+    let a = c.args in
+    let (lent, stages, fits, room) = c.requires in
+    (record { narrow = lent.narrow; room = omega (arith, lent.room) }, stages, subst (SecondFits a.columns.table a.w 3 2) (sym low_again) (two_last a.columns stages a.w (at a.held.now) fits), omega arith, room)
 
 pub returns : goal.returns
 returns c =
-    let g = c in
-    let f = g in
-    let a = f.args in
+    let low_again : at c.first_low.new.1.0 ≡ first_kept c.args.w (first_done c.args.columns.table c.args.w 6 (moved c.args.w 5 0 (at c.args.held.now))) =
+        let a = c.args in
+            c.first_low.ensures ∙ ap (λ (m : ℕ → ℤ). first_kept a.w (first_done a.columns.table a.w 6 m)) c.move_line.ensures in
+    let a = c.args in
     let m = at a.held.now in
-    let done = low_again f in record {
-      held = subst (PastSame a.w m) (sym (g.second_given.ensures.held ∙ ap (second_done a.columns.table a.w 3 2) done))
+    let done = low_again in record {
+      held = subst (PastSame a.w m) (sym (c.second_given.ensures.held ∙ ap (second_done a.columns.table a.w 3 2) done))
           (past_then a.w (past_then a.w (past_then a.w (past_one a.w 5 _ m (omega arith)) (past_first a.w a.columns.table 6 _)) (past_kept a.w _)) (past_second a.w a.columns.table 3 2 _));
-      out = g.second_given.ensures.out ∙ ap (λ (m : ℕ → ℤ). two_given a.columns.table a.w 0 (second_done a.columns.table a.w 3 2 m) (at a.out.now)) done;
+      out = c.second_given.ensures.out ∙ ap (λ (m : ℕ → ℤ). two_given a.columns.table a.w 0 (second_done a.columns.table a.w 3 2 m) (at a.out.now)) done;
     }

@@ -5,7 +5,4 @@ use Rattle.rolling_lines.specs.Program.{first_kept}
 use Rattle.rolling_lines.proofs.first_low.Goals as goal
 
 pub returns : goal.returns
-returns c =
-    let k = c in
-    let f = k in
-    k.keep_first.ensures ∙ ap (first_kept f.args.w) f.first_stages.ensures
+returns c = c.keep_first.ensures ∙ ap (first_kept c.args.w) c.first_stages.ensures

@@ -15,14 +15,11 @@ use Rattle.rolling_lines.proofs.first_row.Goals as goal
 
 pub returns : goal.returns
 returns c =
-    let r = c in
-    let k = r in
-    let s = k in
-    let a = s.args in
+    let a = c.args in
     let row = row_of a.table a.pixels.now a.w in
     record {
       past = kept_then (held_lines * a.w) a.held.now _ _
-          (subst (KeptFrom (held_lines * a.w) a.held.now) (sym k.clear.ensures) (past_zeros a.w a.held.now s.requires.1.room))
-          (kept_from (held_lines * a.w) _ _ (search rules) (λ p i. ap (λ (m : ℕ → ℤ). m p) r.row_to.ensures ∙ past_set a.w 0 row _ (omega arith) p i));
-      works = λ sound. zero_same a.table a.w row a.held.now k.clear.new.0 _ (λ j h. ap (λ (l : List ℤ). at l j) k.clear.ensures ∙ zero_at_lem a.w a.held.now j h) r.row_to.ensures;
+          (subst (KeptFrom (held_lines * a.w) a.held.now) (sym c.clear.ensures) (past_zeros a.w a.held.now c.requires.1.room))
+          (kept_from (held_lines * a.w) _ _ (search rules) (λ p i. ap (λ (m : ℕ → ℤ). m p) c.row_to.ensures ∙ past_set a.w 0 row _ (omega arith) p i));
+      works = λ sound. zero_same a.table a.w row a.held.now c.clear.new.work _ (λ j h. ap (λ (l : List ℤ). at l j) c.clear.ensures ∙ zero_at_lem a.w a.held.now j h) c.row_to.ensures;
     }

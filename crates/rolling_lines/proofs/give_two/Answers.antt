@@ -11,23 +11,20 @@ use Rattle.rolling_lines.proofs.give_two.Goals as goal
 
 pub returns : goal.returns
 returns c =
-    let second = c in
-    let first = second in
-    let s = first in
-    let a = s.args in
-    let (lent, stages, fits, few, room) = s.requires in
+    let a = c.args in
+    let (lent, stages, fits, few, room) = c.requires in
     let m = at a.held.now in
-    second.scale_line-2.ensures
-    ∙ (λ u. set_line a.w (a.place + 1) (G2-line a.columns stages a.w (line_in a.w m 2) u) ((first.scale_line.ensures ∙ ap (λ (l : Line). set_line a.w a.place l (at a.out.now)) (G1-line a.columns stages a.w (line_in a.w m 3))) u))
+    c.scale_line-2.ensures
+    ∙ (λ u. set_line a.w (a.place + 1) (G2-line a.columns stages a.w (line_in a.w m 2) u) ((c.scale_line.ensures ∙ ap (λ (l : Line). set_line a.w a.place l (at a.out.now)) (G1-line a.columns stages a.w (line_in a.w m 3))) u))
 
 pub scale_line-requires : goal.scale_line-requires
-scale_line-requires c = let s = c in let (lent, stages, fits, few, room) = s.requires in record {
+scale_line-requires c = let (lent, stages, fits, few, room) = c.requires in record {
       lent = (lent, omega arith, omega arith, room);
-      safe_scaling = G1-may s.args.columns stages s.args.w _ fits.u2;
+      safe_scaling = G1-may c.args.columns stages c.args.w _ fits.u2;
     }
 
 pub scale_line-requires-2 : goal.scale_line-requires-2
-scale_line-requires-2 c = let s = c in let (lent, stages, fits, few, room) = s.requires in record {
+scale_line-requires-2 c = let (lent, stages, fits, few, room) = c.requires in record {
       lent = (lent, omega arith, omega arith, omega arith);
-      safe_scaling = G2-may s.args.columns stages s.args.w _ fits.p2;
+      safe_scaling = G2-may c.args.columns stages c.args.w _ fits.p2;
     }

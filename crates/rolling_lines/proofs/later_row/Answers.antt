@@ -16,35 +16,28 @@ use Rattle.rolling_lines.proofs.later_row.Goals as goal
 
 pub later_low-requires : goal.later_low-requires
 later_low-requires c =
-    let f = c in
-    let l = f in
-    let s = l in
-    let a = s.args in
-    let (stages, table) = f.columns_of.ensures in
-    (search rules, stages, subst (λ (t : WidthTable). LaterFits t a.w a.before (at l.low_row.new.1.1.1.0)) (sym table) (later_fits a.table a.w _ l.low_row.ensures.fits l.low_row.ensures.enters a.before s.requires.3), s.requires.2)
+    let a = c.args in
+    let (stages, table) = c.columns_of.ensures in
+    (search rules, stages, subst (λ (t : WidthTable). LaterFits t a.w a.before (at c.low_row.new.1.1.1.0)) (sym table) (later_fits a.table a.w _ c.low_row.ensures.fits c.low_row.ensures.enters a.before c.requires.3), c.requires.2)
 
 pub returns : goal.returns
 returns c k turn =
-    let e = c in
-    let f = e in
-    let l = f in
-    let s = l in
-    let a = s.args in
+    let a = c.args in
     let row = row_of a.table a.pixels.now a.w in
-    let ready = l.low_row.ensures in
-    let m = at l.low_row.new.1.1.1.0 in
-    let some : 1 ≤ a.w = omega (arith, s.requires.0.side.0) in
-    let done = e.later_low.ensures.held ∙ ap (λ (t : WidthTable). later_kept t a.w a.before m) f.columns_of.ensures.1 in
-    let given = e.later_low.ensures.out ∙ ap (λ (t : WidthTable). two_given t a.w 0 (later_done t a.w a.before m) (at a.out.now)) f.columns_of.ensures.1 in (
+    let ready = c.low_row.ensures in
+    let m = at c.low_row.new.1.1.1.0 in
+    let some : 1 ≤ a.w = omega (arith, c.requires.0.side.0) in
+    let done = c.later_low.ensures.held ∙ ap (λ (t : WidthTable). later_kept t a.w a.before m) c.columns_of.ensures.1 in
+    let given = c.later_low.ensures.out ∙ ap (λ (t : WidthTable). two_given t a.w 0 (later_done t a.w a.before m) (at a.out.now)) c.columns_of.ensures.1 in (
       record {
         past = kept_then (held_lines * a.w) a.held.now _ _ ready.past (kept_from (held_lines * a.w) _ _ (search rules) (λ p i. ap (λ (m : ℕ → ℤ). m p) done ∙ past_later a.w a.table a.before m p i));
         works = λ sound. later_same a.table a.w row a.held.now turn _ (done ∙ ap (later_kept a.table a.w a.before) (ready.same (sound (later_even turn))));
       },
       record {
-        past = later_kept_lem a.table a.w row a.held.now some a.out.now _ s.requires.2 (search rules) turn (later_done a.table a.w a.before m) given;
-        works = λ sound. later_given a.table a.w row a.held.now some a.out.now _ s.requires.2 (search rules) turn (given ∙ ap (λ (m : ℕ → ℤ). two_given a.table a.w 0 (later_done a.table a.w a.before m) (at a.out.now)) (ready.same (sound (later_even turn))));
+        past = later_kept_lem a.table a.w row a.held.now some a.out.now _ c.requires.2 (search rules) turn (later_done a.table a.w a.before m) given;
+        works = λ sound. later_given a.table a.w row a.held.now some a.out.now _ c.requires.2 (search rules) turn (given ∙ ap (λ (m : ℕ → ℤ). two_given a.table a.w 0 (later_done a.table a.w a.before m) (at a.out.now)) (ready.same (sound (later_even turn))));
       },
     )
 
 pub columns_of-requires : goal.columns_of-requires
-columns_of-requires c = let s = c in record { accepted = s.requires.0.accepted; least = omega arith; most = omega (arith, s.requires.0.one) }
+columns_of-requires c = record { accepted = c.requires.0.accepted; least = omega arith; most = omega (arith, c.requires.0.one) }

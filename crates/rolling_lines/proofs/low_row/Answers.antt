@@ -15,18 +15,15 @@ use Rattle.rolling_lines.proofs.low_row.Goals as goal
 
 pub returns : goal.returns
 returns c =
-    let r = c in
-    let k = r in
-    let s = k in
-    let a = s.args in
+    let a = c.args in
     let row = row_of a.table a.pixels.now a.w in
-    let (sound, (kept, past)) = k.make_sound.ensures in
+    let (sound, (kept, past)) = c.make_sound.ensures in
     record {
-      past = kept_then (held_lines * a.w) a.held.now _ _ past (kept_from (held_lines * a.w) _ _ (search rules) (λ p i. ap (λ (m : ℕ → ℤ). m p) r.row_to.ensures ∙ past_set a.w 5 row _ (omega arith) p i));
-      fits = subst (HeldFits a.table a.w) (sym r.row_to.ensures) (low_fits a.table a.w row _ (sound_fits a.table a.w _ sound));
-      enters = subst (λ (m : ℕ → ℤ). Enters a.table a.w (line_in a.w m 5)) (sym r.row_to.ensures) (low_enters a.table a.w row _ (row_enters a.table a.pixels.now a.w s.requires.0));
-      same = λ whole. r.row_to.ensures ∙ ap (λ (l : List ℤ). set_line a.w 5 row (at l)) (kept whole);
+      past = kept_then (held_lines * a.w) a.held.now _ _ past (kept_from (held_lines * a.w) _ _ (search rules) (λ p i. ap (λ (m : ℕ → ℤ). m p) c.row_to.ensures ∙ past_set a.w 5 row _ (omega arith) p i));
+      fits = subst (HeldFits a.table a.w) (sym c.row_to.ensures) (low_fits a.table a.w row _ (sound_fits a.table a.w _ sound));
+      enters = subst (λ (m : ℕ → ℤ). Enters a.table a.w (line_in a.w m 5)) (sym c.row_to.ensures) (low_enters a.table a.w row _ (row_enters a.table a.pixels.now a.w c.requires.0));
+      same = λ whole. c.row_to.ensures ∙ ap (λ (l : List ℤ). set_line a.w 5 row (at l)) (kept whole);
     }
 
 pub make_sound-requires : goal.make_sound-requires
-make_sound-requires c = let s = c in (record { accepted = s.requires.0.accepted; least = omega arith; most = omega (arith, s.requires.0.one) }, s.requires.1)
+make_sound-requires c = (record { accepted = c.requires.0.accepted; least = omega arith; most = omega (arith, c.requires.0.one) }, c.requires.1)

@@ -11,29 +11,21 @@ use Rattle.rolling_lines.proofs.make_sound.Goals as goal
 
 pub returns-then-columns_sound-2 : goal.returns-then-columns_sound-2
 returns-then-columns_sound-2 c =
-    let q = c in
-    let a = q.args in (
-      both_sound a.table a.w a.held.now _ _ q.columns_sound.ensures q.if-columns_sound.true c.columns_sound-then-columns_sound.ensures c.if-columns_sound-2.true,
+    let a = c.args in (
+      both_sound a.table a.w a.held.now _ _ c.columns_sound.ensures c.if-columns_sound.true c.columns_sound-then-columns_sound.ensures c.if-columns_sound-2.true,
       (λ s. refl, record { length_kept = refl; past_kept = refl }),
     )
 
--- one of the two looks found another value
-unsound : (c : goal.Joined-columns_sound) → let a = c.args in Sound a.table a.w (held_in a.w a.held.now) → ⊥
-unsound c s =
-    let q = c in
-    let a = q.args in
-    ⊎_elim {C = ⊥}
-    (λ k. high_unsound a.table a.w a.held.now _ k.2.ensures k.3.left s)
-    (λ k. low_unsound a.table a.w a.held.now _ q.columns_sound.ensures k.left s)
-    c.if-columns_sound.branch
-
 pub returns : goal.returns
 returns c =
-    let k = c in
-    let j = k in
-    let s = j in
-    let a = s.args in
-    let e = k.clear.ensures in (
+    let unsound : let a = c.args in Sound a.table a.w (held_in a.w a.held.now) → ⊥ =
+        λ s. let a = c.args in
+            ⊎_elim {C = ⊥}
+            (λ k. high_unsound a.table a.w a.held.now _ k.2.ensures k.3.left s)
+            (λ k. low_unsound a.table a.w a.held.now _ c.columns_sound.ensures k.left s)
+            c.if-columns_sound.branch in
+    let a = c.args in
+    let e = c.clear.ensures in (
       subst (λ (l : List ℤ). Sound a.table a.w (held_in a.w l)) (sym e) (zeros_sound a.w a.held.now a.table),
-      (λ h. absurd (unsound c.before.before.before h), subst (KeptFrom (held_lines * a.w) a.held.now) (sym e) (past_zeros a.w a.held.now s.requires.1.room)),
+      (λ h. absurd (unsound h), subst (KeptFrom (held_lines * a.w) a.held.now) (sym e) (past_zeros a.w a.held.now c.requires.1.room)),
     )

@@ -21,59 +21,48 @@ use Rattle.rolling_lines.specs.Rows.{LineRight, row_of, pixels_sampled}
 use Rattle.rolling_lines.specs.FiveBits.{row_safe}
 use Rattle.rolling_lines.proofs.row_to.Goals as goal
 
-line_in_lem : (s : goal.Start) → s.args.line * s.args.w + s.args.w ≤ length s.args.held.now
-line_in_lem s = in_lent s.requires.1 s.args.line s.requires.2
-
 abbrev kernel : goal.After-stages_of-stages → Kernel
 kernel k = Two k.stages-of.result.first k.stages-of.result.second k.stages-of.result.low k.stages-of.result.high
 
--- the stages are the kernel of the rows of level 1
-rows-kernel : (k : goal.After-stages_of-stages) → SameKernel (kernel_of k.args.table 1 Rows) (kernel k)
-rows-kernel k = let a = k.args in stages_kernel a.table 1 Rows k.stages_of-stages.result k.stages_of-stages.ensures
-
-samples : (m : goal.After-middle-middle) → let a = m.args in pixel_line a.pixels.now m.middle-middle.result 0 ≡ sample a.pixels.now a.table.depth a.w 0
-samples m = let a = m.args in pixels_sampled a.table a.pixels.now a.w _ m.middle-middle.ensures
-
--- a line of one pixel
-one : (c : goal.Then-w-lt2) → c.args.w ≡ 1
-one c = omega (arith, c.requires.0.side.0)
-
 pub single_row-requires : goal.single_row-requires
 single_row-requires c =
-    let t = c in
-    let s = t in
-    (subst (LineRight s.args.table s.args.pixels.now) (one c.before) s.requires.0, subst (Lent s.args.held.now) (one c.before) s.requires.1, s.requires.2)
+    let one : c.args.w ≡ 1 =
+        omega (arith, c.requires.0.side.0) in
+    (subst (LineRight c.args.table c.args.pixels.now) one c.requires.0, subst (Lent c.args.held.now) one c.requires.1, c.requires.2)
 
 pub returns-then-w-lt2 : goal.returns-then-w-lt2
 returns-then-w-lt2 c =
-    let r = c in
-    let t = r in
-    let a = t.args in
-    r.single_row.ensures ∙ ap (λ (w : ℕ). set_line w a.line (row_of a.table a.pixels.now w) (at a.held.now)) (sym (one c.before.before.before))
+    let one : c.args.w ≡ 1 =
+        omega (arith, c.requires.0.side.0) in
+    let a = c.args in
+    c.single_row.ensures ∙ ap (λ (w : ℕ). set_line w a.line (row_of a.table a.pixels.now w) (at a.held.now)) (sym one)
 
 -- of two or more
 pub pixel_line-requires : goal.pixel_line-requires
 pixel_line-requires c =
-    let k = c in
-    let s = k in
-    let right = s.requires.0 in
-    let safe = row_safe s.args.table right.accepted s.args.pixels.now s.args.w right.side right.below right.one _ (λ i h. ap (λ (x : ℕ → ℤ). x i) (samples c.before.before.before.before)) in record {
-      w_bound = (omega (arith, s.requires.1.narrow), record { least = omega arith }, right.long, line_in_lem c.before.before.before.before.before.before.before);
+    let right = c.requires.0 in
+    let safe = row_safe c.args.table right.accepted c.args.pixels.now c.args.w right.side right.below right.one _ (λ i h. ap (λ (x : ℕ → ℤ). x i) (samples c.before.before.before.before)) in record {
+      w_bound = (omega (arith, c.requires.1.narrow), record { least = omega arith }, right.long, line_in_lem c.before.before.before.before.before.before.before);
       safe_kernel = (rows-kernel c.before.before.before).safe _ _ (safe.long (record { least = omega arith }));
     }
 
 pub returns : goal.returns
 unfolding set_line
 returns c =
-    let p = c in
-    let k = p in
-    let a = k.args in
-    p.pixel_line.ensures
-    ∙ (λ u. patch (a.line * a.w) a.w (worked (kernel k) a.w (samples c.before.before.before.before.before.before u)) (at a.held.now))
-    ∙ (λ u. patch (a.line * a.w) a.w (kernel_line a.table 1 Rows a.w (rows-kernel c.before.before.before.before.before) (record { least = omega arith }) u (sample a.pixels.now a.table.depth a.w 0)) (at a.held.now))
+    let rows-kernel : SameKernel (kernel_of c.args.table 1 Rows) (kernel k) =
+        let a = c.args in stages_kernel a.table 1 Rows c.stages_of-stages.result c.stages_of-stages.ensures in
+    let samples : let a = c.args in pixel_line a.pixels.now c.middle-middle.result 0 ≡ sample a.pixels.now a.table.depth a.w 0 =
+        let a = c.args in pixels_sampled a.table a.pixels.now a.w _ c.middle-middle.ensures in
+    let a = c.args in
+    c.pixel_line.ensures
+    ∙ (λ u. patch (a.line * a.w) a.w (worked (kernel c) a.w (samples u)) (at a.held.now))
+    ∙ (λ u. patch (a.line * a.w) a.w (kernel_line a.table 1 Rows a.w rows-kernel (record { least = omega arith }) u (sample a.pixels.now a.table.depth a.w 0)) (at a.held.now))
 
 pub middle-middle-requires : goal.middle-middle-requires
-middle-middle-requires c = let s = c in form_depth s.args.table (promise s.args.table s.requires.0.accepted).form
+middle-middle-requires c = form_depth c.args.table (promise c.args.table c.requires.0.accepted).form
 
 pub overflow_mul-line : goal.overflow_mul-line
-overflow_mul-line c = omega (arith, line_in_lem c.before.before.before.before.before.before.before)
+overflow_mul-line c =
+    let line_in_lem : c.args.line * c.args.w + c.args.w ≤ length c.args.held.now =
+        in_lent c.requires.1 c.args.line c.requires.2 in
+    omega (arith, line_in_lem)

@@ -11,17 +11,13 @@ use Rattle.rolling_lines.proofs.second_given.Goals as goal
 
 pub give_two-requires : goal.give_two-requires
 give_two-requires c =
-    let d = c in
-    let s = d in
-    let a = s.args in
-    let (lent, stages, fits, few, room) = s.requires in
-    (record { narrow = lent.narrow; room = omega (arith, lent.room) }, stages, subst (GiveFits a.columns.table a.w) (sym d.second_stages.ensures) (second_give a.columns stages a.w a.after a.before (at a.held.now) fits), few, room)
+    let a = c.args in
+    let (lent, stages, fits, few, room) = c.requires in
+    (record { narrow = lent.narrow; room = omega (arith, lent.room) }, stages, subst (GiveFits a.columns.table a.w) (sym c.second_stages.ensures) (second_give a.columns stages a.w a.after a.before (at a.held.now) fits), few, room)
 
 pub returns : goal.returns
 returns c =
-    let g = c in
-    let d = g in
-    let a = d.args in record {
-      held = d.second_stages.ensures;
-      out = g.give_two.ensures ∙ ap (λ (m : ℕ → ℤ). two_given a.columns.table a.w a.place m (at a.out.now)) d.second_stages.ensures;
+    let a = c.args in record {
+      held = c.second_stages.ensures;
+      out = c.give_two.ensures ∙ ap (λ (m : ℕ → ℤ). two_given a.columns.table a.w a.place m (at a.out.now)) c.second_stages.ensures;
     }

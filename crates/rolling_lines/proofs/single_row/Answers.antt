@@ -21,38 +21,29 @@ use Rattle.rolling_lines.proofs.single_row.Goals as goal
 
 pub scale_here-requires : goal.scale_here-requires
 scale_here-requires c =
-    let p = c in
-    let g = p in
-    let m = g in
-    let s = m in
-    let a = s.args in
-    let right = s.requires.0 in
-    let l = pixel_line a.pixels.now m.middle-middle.result 0 in
-    let safe = row_safe a.table right.accepted a.pixels.now 1 right.side right.below right.one l (λ k h. ap (λ (x : ℕ → ℤ). x k) (pixels_sampled a.table a.pixels.now 1 _ m.middle-middle.ensures)) in record {
-      n_in_bounds = simp length-set (omega (arith, s.requires.1.room));
-      by_index = (λ j h. subst (FactorSafe g.single_of-single.result) (sym (ap (λ (u : ℕ → ℤ). u (a.line + j)) (patch_one a.line l a.held.now (pos 0) (omega (arith, s.requires.1.room)) _ (to_z-of_z {w = w32} (sfits_of p.centred.type_inv) ∙ p.centred.ensures)) ∙ patch_in a.line 1 l (at a.held.now) j h))
-          (g.single_of-single.ensures.safe (l j) (safe.single (omega arith) j h)));
+    let a = c.args in
+    let right = c.requires.0 in
+    let l = pixel_line a.pixels.now c.middle-middle.result 0 in
+    let safe = row_safe a.table right.accepted a.pixels.now 1 right.side right.below right.one l (λ k h. ap (λ (x : ℕ → ℤ). x k) (pixels_sampled a.table a.pixels.now 1 _ c.middle-middle.ensures)) in record {
+      n_in_bounds = simp length-set (omega (arith, c.requires.1.room));
+      by_index = (λ j h. subst (FactorSafe c.single_of-single.result) (sym (ap (λ (u : ℕ → ℤ). u (a.line + j)) (patch_one a.line l a.held.now (pos 0) (omega (arith, c.requires.1.room)) _ (to_z-of_z {w = w32} (sfits_of c.centred.type_inv) ∙ c.centred.ensures)) ∙ patch_in a.line 1 l (at a.held.now) j h))
+          (c.single_of-single.ensures.safe (l j) (safe.single (omega arith) j h)));
     }
 
 pub returns : goal.returns
 unfolding set_line
 returns c =
-    let r = c in
-    let p = r in
-    let g = p in
-    let m = g in
-    let s = m in
-    let a = s.args in
-    let l = pixel_line a.pixels.now m.middle-middle.result 0 in
+    let a = c.args in
+    let l = pixel_line a.pixels.now c.middle-middle.result 0 in
     let place : a.line ≡ a.line * 1 = omega arith in
-    let line = factor_line a.table 1 Rows 1 g.single_of-single.ensures (omega arith) in
-    changed_there (scaled_by g.single_of-single.result) a.line 1 l (at a.held.now) _ _
-    (patch_one a.line l a.held.now (pos 0) (omega (arith, s.requires.1.room)) _ (to_z-of_z {w = w32} (sfits_of p.centred.type_inv) ∙ p.centred.ensures))
-    r.scale_here.ensures
-    ∙ (λ u. patch (place u) 1 (line u (pixels_sampled a.table a.pixels.now 1 _ m.middle-middle.ensures u)) (at a.held.now))
+    let line = factor_line a.table 1 Rows 1 c.single_of-single.ensures (omega arith) in
+    changed_there (scaled_by c.single_of-single.result) a.line 1 l (at a.held.now) _ _
+    (patch_one a.line l a.held.now (pos 0) (omega (arith, c.requires.1.room)) _ (to_z-of_z {w = w32} (sfits_of c.centred.type_inv) ∙ c.centred.ensures))
+    c.scale_here.ensures
+    ∙ (λ u. patch (place u) 1 (line u (pixels_sampled a.table a.pixels.now 1 _ c.middle-middle.ensures u)) (at a.held.now))
 
 pub middle-middle-requires : goal.middle-middle-requires
-middle-middle-requires c = let s = c in form_depth s.args.table (promise s.args.table s.requires.0.accepted).form
+middle-middle-requires c = form_depth c.args.table (promise c.args.table c.requires.0.accepted).form
 
 pub shape_of-held : goal.shape_of-held
 shape_of-held c = c.scale_here.auto.0 ∙ simp length-set refl

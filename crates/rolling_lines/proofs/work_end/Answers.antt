@@ -30,33 +30,30 @@ data LaterOdd : Taken → ℕ → Type 0 where
   third : LaterOdd Three 2
   odd_many : LaterOdd OddMany 4
 
-some : (s : goal.Start) → 1 ≤ s.args.w
-some s = omega (arith, s.requires.1.0)
-
 -- what is held is sound, and fits the stages
 module _ (c : goal.After-columns_of-columns) where
   abbrev start : goal.Start
   start = c
 
   abbrev sounded : List ℤ
-  sounded = c.before.before.make-sound.new.1.0
+  sounded = c.make_sound.new.1.0
 
-  table_is : c.columns_of.result.table ≡ start.args.table
-  table_is = c.columns_of.ensures.1
+  table_is : c.columns_of-columns.result.table ≡ start.args.table
+  table_is = c.columns_of-columns.ensures.1
 
   own-fits : HeldFits start.args.table start.args.w (at sounded)
-  own-fits = sound_fits start.args.table start.args.w sounded c.before.before.make-sound.ensures.0
+  own-fits = sound_fits start.args.table start.args.w sounded c.make_sound.ensures.sound
 
-  fits : HeldFits c.columns_of.result.table start.args.w (at sounded)
+  fits : HeldFits c.columns_of-columns.result.table start.args.w (at sounded)
   fits = subst (λ (t : WidthTable). HeldFits t start.args.w (at sounded)) (sym table_is) own-fits
 
   -- nothing past seven lines changes
   past_all : (held' : List ℤ) → length held' ≡ length sounded → PastSame start.args.w (at sounded) (at held') → KeptFrom (held_lines * start.args.w) start.args.held.now held'
-  past_all held' e past = kept_then (held_lines * start.args.w) start.args.held.now sounded held' c.before.before.make-sound.ensures.1.1 (kept_from (held_lines * start.args.w) sounded held' e past)
+  past_all held' e past = kept_then (held_lines * start.args.w) start.args.held.now sounded held' c.make_sound.ensures.kept.1 (kept_from (held_lines * start.args.w) sounded held' e past)
 
   -- sound memory stays as it was
   as-held : Sound start.args.table start.args.w (held_in start.args.w start.args.held.now) → sounded ≡ start.args.held.now
-  as-held = c.before.before.make-sound.ensures.1.0
+  as-held = c.make_sound.ensures.kept.0
 
   -- the lines that the end gives
   abbrev gives : Taken → List Line
@@ -64,7 +61,7 @@ module _ (c : goal.After-columns_of-columns) where
 
   -- an end that changes the output by f, which leaves what is past its lines, and gives them where what was held is sound
   ended : (k : Taken) (n : ℕ) (f : WidthTable → (ℕ → ℤ) → (ℕ → ℤ) → ℕ → ℤ) {held' out' : List ℤ}
-      → start.args.taken ≡ k → n ≡ length (gives k) → length held' ≡ length sounded → PastSame start.args.w (at sounded) (at held') → at out' ≡ f c.columns_of.result.table (at sounded) (at start.args.out.now)
+      → start.args.taken ≡ k → n ≡ length (gives k) → length held' ≡ length sounded → PastSame start.args.w (at sounded) (at held') → at out' ≡ f c.columns_of-columns.result.table (at sounded) (at start.args.out.now)
       → (at out' ≡ f start.args.table (at sounded) (at start.args.out.now) → KeptFrom (length (gives k) * start.args.w) start.args.out.now out')
       → (at out' ≡ f start.args.table (at start.args.held.now) (at start.args.out.now) → out' ≡ out_after start.args.w (gives k) start.args.out.now)
       → Said start n held' out' start.args.taken
@@ -76,13 +73,13 @@ module _ (c : goal.After-columns_of-columns) where
 
   -- after an even number of lines, from four on, and after an odd number, from three on
   even : {k : Taken} {before : ℕ} → Later k before → {held' out' : List ℤ} → start.args.taken ≡ k → length held' ≡ length sounded → length out' ≡ length start.args.out.now
-      → PastSame start.args.w (at sounded) (at held') → at out' ≡ even_ended c.columns_of.result.table start.args.w before (at sounded) (at start.args.out.now) → Said start 4 held' out' start.args.taken
+      → PastSame start.args.w (at sounded) (at held') → at out' ≡ even_ended c.columns_of-columns.result.table start.args.w before (at sounded) (at start.args.out.now) → Said start 4 held' out' start.args.taken
   unfolding end_gives line_gives
   even fifth came long same past is = ended Four 4 (λ t. even_ended t start.args.w 2) came refl long past is (even_end_kept start.args.table start.args.w start.args.held.now (some start) start.args.out.now _ start.pre.3 same 2 (at sounded)) (four_ended start.args.table start.args.w start.args.held.now (some start) start.args.out.now _ start.pre.3 same)
   even later came long same past is = ended EvenMany 4 (λ t. even_ended t start.args.w 4) came refl long past is (even_end_kept start.args.table start.args.w start.args.held.now (some start) start.args.out.now _ start.pre.3 same 4 (at sounded)) (many_ended start.args.table start.args.w start.args.held.now (some start) start.args.out.now _ start.pre.3 same)
 
   odd : {k : Taken} {before : ℕ} → LaterOdd k before → {held' out' : List ℤ} → start.args.taken ≡ k → length held' ≡ length sounded → length out' ≡ length start.args.out.now
-      → PastSame start.args.w (at sounded) (at held') → at out' ≡ odd_ended c.columns_of.result.table start.args.w before (at sounded) (at start.args.out.now) → Said start 3 held' out' start.args.taken
+      → PastSame start.args.w (at sounded) (at held') → at out' ≡ odd_ended c.columns_of-columns.result.table start.args.w before (at sounded) (at start.args.out.now) → Said start 3 held' out' start.args.taken
   unfolding end_gives line_gives
   odd third came long same past is = ended Three 3 (λ t. odd_ended t start.args.w 2) came refl long past is (odd_end_kept start.args.table start.args.w start.args.held.now (some start) start.args.out.now _ start.pre.3 same 2 (at sounded)) (three_ended start.args.table start.args.w start.args.held.now (some start) start.args.out.now _ start.pre.3 same)
   odd odd_many came long same past is = ended OddMany 3 (λ t. odd_ended t start.args.w 4) came refl long past is (odd_end_kept start.args.table start.args.w start.args.held.now (some start) start.args.out.now _ start.pre.3 same 4 (at sounded)) (odd_ended_lem start.args.table start.args.w start.args.held.now (some start) start.args.out.now _ start.pre.3 same)
@@ -90,61 +87,48 @@ module _ (c : goal.After-columns_of-columns) where
 pub returns-in-Two : goal.returns-in-Two
 unfolding end_gives line_gives
 returns-in-Two c =
-    let f = c in
-    let e = f in
-    let q = e in
-    let a = (start q).args in
-    ended q Two 2 (λ t. two_ended t a.w) e.in-Two.is refl (search rules) f.end_two.ensures.held f.end_two.ensures.out
-    (two_end_kept a.table a.w a.held.now (some (start q)) a.out.now _ (start q).requires.3 (search rules) (moved a.w 5 0 (at (sounded q))))
-    (two_ended_lem a.table a.w a.held.now (some (start q)) a.out.now _ (start q).requires.3 (search rules))
+    let some : 1 ≤ c.args.w =
+        omega (arith, c.requires.1.0) in
+    let a = (start c).args in
+    ended c.before.before.before.before.before.before.before Two 2 (λ t. two_ended t a.w) c.in-Two.is refl (search rules) c.end_two.ensures.held c.end_two.ensures.out
+    (two_end_kept a.table a.w a.held.now (some (start c)) a.out.now _ (start c).requires.3 (search rules) (moved a.w 5 0 (at (sounded c))))
+    (two_ended_lem a.table a.w a.held.now (some (start c)) a.out.now _ (start c).requires.3 (search rules))
 
 pub returns-in-Four : goal.returns-in-Four
-returns-in-Four c =
-    let f = c in
-    let e = f in
-    even e fifth e.in-Four.is (search rules) (search rules) f.end_even.ensures.held f.end_even.ensures.out
+returns-in-Four c = even c.before.before.before.before.before.before.before fifth c.in-Four.is (search rules) (search rules) c.end_even.ensures.held c.end_even.ensures.out
 
 pub returns-in-EvenMany : goal.returns-in-EvenMany
-returns-in-EvenMany c =
-    let f = c in
-    let e = f in
-    even e later e.in-EvenMany.is (search rules) (search rules) f.end_even-in-EvenMany.ensures.held f.end_even-in-EvenMany.ensures.out
+returns-in-EvenMany c = even c.before.before.before.before.before.before.before later c.in-EvenMany.is (search rules) (search rules) c.end_even-in-EvenMany.ensures.held c.end_even-in-EvenMany.ensures.out
 
 pub returns-in-Three : goal.returns-in-Three
-returns-in-Three c =
-    let f = c in
-    let e = f in
-    odd e third e.in-Three.is (search rules) (search rules) f.end_odd.ensures.held f.end_odd.ensures.out
+returns-in-Three c = odd c.before.before.before.before.before.before.before third c.in-Three.is (search rules) (search rules) c.end_odd.ensures.held c.end_odd.ensures.out
 
 pub returns-in-OddMany : goal.returns-in-OddMany
-returns-in-OddMany c =
-    let f = c in
-    let e = f in
-    odd e odd_many e.in-OddMany.is (search rules) (search rules) f.end_odd-in-OddMany.ensures.held f.end_odd-in-OddMany.ensures.out
+returns-in-OddMany c = odd c.before.before.before.before.before.before.before odd_many c.in-OddMany.is (search rules) (search rules) c.end_odd-in-OddMany.ensures.held c.end_odd-in-OddMany.ensures.out
 
 pub returns-in-One : goal.returns-in-One
 unfolding end_gives
 returns-in-One c =
-    let f = c in
-    let e = f in
-    let q = e in
-    let a = (start q).args in
+    let some : 1 ≤ c.args.w =
+        omega (arith, c.requires.1.0) in
+    let a = (start c).args in
     let out = at a.out.now in
-    subst (Said (start q) 1 _ _) (sym e.in-One.is) (
+    subst (Said (start c) 1 _ _) (sym c.in-One.is) (
       refl,
       record {
-        held_past = q.make_sound.ensures.kept.1;
-        out_past = one_end_kept a.table a.w a.held.now (some (start q)) a.out.now _ (start q).requires.3 (search rules) (at (sounded q)) f.end_one.ensures;
-        works = λ sound. one_ended_lem a.table a.w a.held.now (some (start q)) a.out.now _ (start q).requires.3 (search rules) (f.end_one.ensures ∙ ap (λ (l : List ℤ). one_ended a.table a.w (at l) out) (as-held q sound));
+        held_past = c.make_sound.ensures.kept.1;
+        out_past = one_end_kept a.table a.w a.held.now (some (start c)) a.out.now _ (start c).requires.3 (search rules) (at (sounded c)) c.end_one.ensures;
+        works = λ sound. one_ended_lem a.table a.w a.held.now (some (start c)) a.out.now _ (start c).requires.3 (search rules) (c.end_one.ensures ∙ ap (λ (l : List ℤ). one_ended a.table a.w (at l) out) (as-held c.before.before.before.before.before sound));
       },
     )
 
 pub returns-in-Zero : goal.returns-in-Zero
 unfolding end_gives
 returns-in-Zero c =
-    let q = c in
-    let a = (start q).args in
-    subst (Said (start q) 0 _ _) (sym c.in-Zero.is) (refl, quiet_end a.table a.w Zero a.held.now _ a.out.now (some (start q)) q.make_sound.ensures.kept.1 refl)
+    let some : 1 ≤ c.args.w =
+        omega (arith, c.requires.1.0) in
+    let a = (start c).args in
+    subst (Said (start c) 0 _ _) (sym c.in-Zero.is) (refl, quiet_end a.table a.w Zero a.held.now _ a.out.now (some (start c)) c.make_sound.ensures.kept.1 refl)
 
 pub make_sound-requires : goal.make_sound-requires
 make_sound-requires c = (c.requires.0, c.requires.2)
@@ -153,19 +137,19 @@ pub columns_of-columns-requires : goal.columns_of-columns-requires
 columns_of-columns-requires c = c.requires.0
 
 pub end_two-requires : goal.end_two-requires
-end_two-requires c = let q = c in (search rules, q.columns_of-columns.ensures.0, fits q, (start q).requires.3)
+end_two-requires c = (search rules, c.columns_of-columns.ensures.0, fits c.before.before.before.before, (start c).requires.3)
 
 pub end_even-requires : goal.end_even-requires
-end_even-requires c = let q = c in (search rules, q.columns_of-columns.ensures.0, fits q, (start q).requires.3, inl refl)
+end_even-requires c = (search rules, c.columns_of-columns.ensures.0, fits c.before.before.before.before, (start c).requires.3, inl refl)
 
 pub end_even-requires-in-EvenMany : goal.end_even-requires-in-EvenMany
-end_even-requires-in-EvenMany c = let q = c in (search rules, q.columns_of-columns.ensures.0, fits q, (start q).requires.3, inr refl)
+end_even-requires-in-EvenMany c = (search rules, c.columns_of-columns.ensures.0, fits c.before.before.before.before, (start c).requires.3, inr refl)
 
 pub end_odd-requires : goal.end_odd-requires
-end_odd-requires c = let q = c in (search rules, q.columns_of-columns.ensures.0, fits q, (start q).requires.3, inl refl)
+end_odd-requires c = (search rules, c.columns_of-columns.ensures.0, fits c.before.before.before.before, (start c).requires.3, inl refl)
 
 pub end_odd-requires-in-OddMany : goal.end_odd-requires-in-OddMany
-end_odd-requires-in-OddMany c = let q = c in (search rules, q.columns_of-columns.ensures.0, fits q, (start q).requires.3, inr refl)
+end_odd-requires-in-OddMany c = (search rules, c.columns_of-columns.ensures.0, fits c.before.before.before.before, (start c).requires.3, inr refl)
 
 pub end_one-requires : goal.end_one-requires
-end_one-requires c = let q = c in ((start q).requires.0, search rules, (own-fits q).low, (start q).requires.3)
+end_one-requires c = ((start c).requires.0, search rules, (own-fits c.before.before.before).low, (start c).requires.3)

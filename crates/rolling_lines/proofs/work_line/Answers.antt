@@ -25,9 +25,6 @@ Said s n held' out' k =
     let row = row_of a.table a.pixels.now a.w in
     (n ≡ length (line_gives a.table a.w k (held_in a.w a.held.now) row)) × LineWorked a.table a.w k row a.held.now a.out.now held' out'
 
-some : (s : goal.Start) → 1 ≤ s.args.w
-some s = omega (arith, s.requires.0.side.0)
-
 -- a line that is held as the last high line
 module _ (s : goal.Start) where
   abbrev row : Line
@@ -51,58 +48,38 @@ module _ (s : goal.Start) where
 pub returns-in-Zero : goal.returns-in-Zero
 unfolding line_gives
 returns-in-Zero c =
-    let f = c in
-    let e = f in
-    let s = e in
-    let a = s.args in
-    subst (Said s 0 _ _) (sym e.in-Zero.is) (refl, (f.first_row.ensures, quiet a.table a.w Zero (row s) a.held.now a.out.now (some c.before.before.before.before.before.before) refl))
+    let some : 1 ≤ c.args.w =
+        omega (arith, c.requires.0.side.0) in
+    let a = c.args in
+    subst (Said c 0 _ _) (sym c.in-Zero.is) (refl, (c.first_row.ensures, quiet a.table a.w Zero (row c) a.held.now a.out.now some refl))
 
 pub returns-in-Two : goal.returns-in-Two
 unfolding line_gives
 returns-in-Two c =
-    let f = c in
-    let e = f in
-    let s = e in
-    let a = s.args in
-    subst (Said s 0 _ _) (sym e.in-Two.is) (refl, (f.third_row.ensures, quiet a.table a.w Two (row s) a.held.now a.out.now (some c.before.before.before.before.before.before) refl))
+    let some : 1 ≤ c.args.w =
+        omega (arith, c.requires.0.side.0) in
+    let a = c.args in
+    subst (Said c 0 _ _) (sym c.in-Two.is) (refl, (c.third_row.ensures, quiet a.table a.w Two (row c) a.held.now a.out.now some refl))
 
 pub returns-in-Four : goal.returns-in-Four
 unfolding line_gives
-returns-in-Four c =
-    let f = c in
-    let e = f in
-    subst (Said e 2 _ _) (sym e.in-Four.is) (refl, f.later_row.ensures Four fifth)
+returns-in-Four c = subst (Said c 2 _ _) (sym c.in-Four.is) (refl, c.later_row.ensures Four fifth)
 
 pub returns-in-EvenMany : goal.returns-in-EvenMany
 unfolding line_gives
-returns-in-EvenMany c =
-    let f = c in
-    let e = f in
-    subst (Said e 2 _ _) (sym e.in-EvenMany.is) (refl, f.later_row-in-EvenMany.ensures EvenMany later)
+returns-in-EvenMany c = subst (Said c 2 _ _) (sym c.in-EvenMany.is) (refl, c.later_row-in-EvenMany.ensures EvenMany later)
 
 pub returns-in-One : goal.returns-in-One
 unfolding line_gives
-returns-in-One c =
-    let f = c in
-    let e = f in
-    let s = e in
-    subst (Said s 0 _ _) (sym e.in-One.is) (high_line_lem s One (search rules) f.row_to.ensures (one_same s.args.table s.args.w (row s) s.args.held.now _ f.row_to.ensures) refl)
+returns-in-One c = subst (Said c 0 _ _) (sym c.in-One.is) (high_line_lem c.before.before.before.before.before.before One (search rules) c.row_to.ensures (one_same c.args.table c.args.w (row c) c.args.held.now _ c.row_to.ensures) refl)
 
 pub returns-in-Three : goal.returns-in-Three
 unfolding line_gives
-returns-in-Three c =
-    let f = c in
-    let e = f in
-    let s = e in
-    subst (Said s 0 _ _) (sym e.in-Three.is) (high_line_lem s Three (search rules) f.row_to-in-Three.ensures (three_same s.args.table s.args.w (row s) s.args.held.now _ f.row_to-in-Three.ensures) refl)
+returns-in-Three c = subst (Said c 0 _ _) (sym c.in-Three.is) (high_line_lem c.before.before.before.before.before.before Three (search rules) c.row_to-in-Three.ensures (three_same c.args.table c.args.w (row c) c.args.held.now _ c.row_to-in-Three.ensures) refl)
 
 pub returns-in-OddMany : goal.returns-in-OddMany
 unfolding line_gives
-returns-in-OddMany c =
-    let f = c in
-    let e = f in
-    let s = e in
-    subst (Said s 0 _ _) (sym e.in-OddMany.is) (high_line_lem s OddMany (search rules) f.row_to-in-OddMany.ensures (odd_same s.args.table s.args.w (row s) s.args.held.now _ f.row_to-in-OddMany.ensures) refl)
+returns-in-OddMany c = subst (Said c 0 _ _) (sym c.in-OddMany.is) (high_line_lem c.before.before.before.before.before.before OddMany (search rules) c.row_to-in-OddMany.ensures (odd_same c.args.table c.args.w (row c) c.args.held.now _ c.row_to-in-OddMany.ensures) refl)
 
 pub later_row-requires : goal.later_row-requires
 later_row-requires c = (search rules, search rules, search rules, inl refl)

@@ -11,6 +11,4 @@ pub returns-else-table-eq1 : goal.returns-else-table-eq1
 returns-else-table-eq1 c = sym (not_one _ (omega arith))
 
 pub returns : goal.returns
-returns c =
-    let f = c in
-    sym (by_width f.args.scan (sym f.form_right.ensures ∙ f.if-form_right.true) (omega arith))
+returns c = sym (by_width c.args.scan (sym c.form_right.ensures ∙ c.if-form_right.true) (omega arith))

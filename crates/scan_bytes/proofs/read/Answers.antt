@@ -41,43 +41,30 @@ slice_bounds-all_zeros-start c =
 
 pub returns-else-all_zeros : goal.returns-else-all_zeros
 returns-else-all_zeros c =
-    let z = c in
-    let t = z in
-    let b = t.args.state.now in
-    refuses b _ (not_padded b (omega arith) (sym (left_looked b _ t.table_end-end.ensures (omega arith)) ∙ sym z.all_zeros.ensures ∙ c.if-all_zeros.false)) c.not_read-else-all_zeros.result c.not_read-else-all_zeros.ensures
+    let b = c.args.state.now in
+    refuses b _ (not_padded b (omega arith) (sym (left_looked b _ c.table_end-end.ensures (omega arith)) ∙ sym c.all_zeros.ensures ∙ c.if-all_zeros.false)) c.not_read-else-all_zeros.result c.not_read-else-all_zeros.ensures
 
 pub slice_bounds-read-end : goal.slice_bounds-read-end
 slice_bounds-read-end c =
-    let t = c in
-    let b = t.args.state.now in
-    sym (length-take-le _ b (omega (arith, t.table_end-end.ensures, end_fits b)))
+    let b = c.args.state.now in
+    sym (length-take-le _ b (omega (arith, c.table_end-end.ensures, end_fits b)))
 
 pub returns-in-Refused : goal.returns-in-Refused
 returns-in-Refused c =
-    let m = c in
-    let v = m in
-    let t = v in
-    let b = t.args.state.now in
-    refuses b _ (not_tabled b (omega arith) _ (ap (λ (n : ℕ). form (take n b)) (sym t.table_end-end.ensures) ∙ sym v.read-read.ensures.outcome ∙ ap told m.in-Refused.is)) c.not_read-in-Refused.result c.not_read-in-Refused.ensures
-
--- what the first three tests say
-passes : (e : goal.Else-state-gt1) → let b = e.args.state.now in (scan_length ≤ length b) × (get_or b (table_room + 2) 0 ≤ 6) × (get_or b (table_room + 3) 0 ≤ 1)
-passes e = (omega arith, omega arith, omega arith)
+    let b = c.args.state.now in
+    refuses b _ (not_tabled b (omega arith) _ (ap (λ (n : ℕ). form (take n b)) (sym c.table_end-end.ensures) ∙ sym c.read-read.ensures.outcome ∙ ap told c.in-Refused.is)) c.not_read-in-Refused.result c.not_read-in-Refused.ensures
 
 pub returns-in-Done : goal.returns-in-Done
 returns-in-Done c =
-    let m = c in
-    let v = m in
-    let i = v in
-    let z = i in
-    let t = z in
-    let b = t.args.state.now in
-    let long = passes t in
-    let ends = sym t.table_end-end.ensures in
-    let right : form (take (table_end b) b) ≡ passed = ap (λ (n : ℕ). form (take n b)) ends ∙ sym v.read-read.ensures.outcome ∙ ap told m.in-Done.is in
-    let table : v.read-read.result.table ≡ table_in (take (table_end b) b) = v.read-read.ensures.table ∙ ap (λ (n : ℕ). table_read (take n b)) (sym ends) ∙ table_read_lem (take (table_end b) b) right in
-    let scan = c.scan_held.ensures ∙ ap (λ (t : WidthTable). held_with t b) table in
-    let held = found b long.0 long.1 long.2 (sym (left_looked b _ t.table_end-end.ensures (omega (arith, long.0))) ∙ sym z.all_zeros.ensures ∙ i.if-all_zeros.true) right in record {
+    let passes : let b = c.args.state.now in (scan_length ≤ length b) × (get_or b (table_room + 2) 0 ≤ 6) × (get_or b (table_room + 3) 0 ≤ 1) =
+        (omega arith, omega arith, omega arith) in
+    let b = c.args.state.now in
+    let long = passes in
+    let ends = sym c.table_end-end.ensures in
+    let right : form (take (table_end b) b) ≡ passed = ap (λ (n : ℕ). form (take n b)) ends ∙ sym c.read-read.ensures.outcome ∙ ap told c.in-Done.is in
+    let table : c.read-read.result.table ≡ table_in (take (table_end b) b) = c.read-read.ensures.table ∙ ap (λ (n : ℕ). table_read (take n b)) (sym ends) ∙ table_read_lem (take (table_end b) b) right in
+    let scan = c.scan_held.ensures ∙ ap (λ (c : WidthTable). held_with c b) table in
+    let held = found b long.0 long.1 long.2 (sym (left_looked b _ c.table_end-end.ensures (omega (arith, long.0))) ∙ sym c.all_zeros.ensures ∙ c.if-all_zeros.true) right in record {
       answer = ap done scan ∙ sym held;
       scan = scan ∙ sym (scan_read_lem b held);
     }

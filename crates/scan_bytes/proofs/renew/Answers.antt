@@ -15,9 +15,8 @@ returns-then-width-gt65535 c = let a = c.args in numbers_wide a.width a.taken a.
 
 pub returns : goal.returns
 returns c =
-    let t = c in
-    let a = t.args in
-    ap₂ (λ (m n : ℕ). set (set (set (set a.state.now table_room (a.width / 256)) (table_room + 1) (a.width % 256)) (table_room + 2) m) (table_room + 3) n) t.taken_number.ensures c.ended_number.ensures
+    let a = c.args in
+    ap₂ (λ (m n : ℕ). set (set (set (set a.state.now table_room (a.width / 256)) (table_room + 1) (a.width % 256)) (table_room + 2) m) (table_room + 3) n) c.taken_number.ensures c.ended_number.ensures
     ∙ numbers_put a.width a.taken a.ended a.state.now (omega arith) (omega arith)
 
 pub bounds-state : goal.bounds-state

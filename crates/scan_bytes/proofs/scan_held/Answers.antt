@@ -9,7 +9,5 @@ use Rattle.scan_bytes.proofs.scan_held.Goals as goal
 
 pub returns : goal.returns
 returns c =
-    let t = c in
-    let w = t in
-    let a = w.args in
-    ap₂ (λ (n : ℕ) (k : Taken). record { table = a.table; width = n; taken = k; ended = eqb (get_or a.state.now (table_room + 3) 0) 1 }) w.two.ensures t.taken_of.ensures
+    let a = c.args in
+    ap₂ (λ (n : ℕ) (k : Taken). record { table = a.table; width = n; taken = k; ended = eqb (get_or a.state.now (table_room + 3) 0) 1 }) c.two.ensures c.taken_of.ensures

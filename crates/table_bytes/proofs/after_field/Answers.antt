@@ -9,9 +9,8 @@ use Rattle.table_bytes.proofs.after_field.Goals as goal
 
 pub returns : goal.returns
 returns c =
-    let v = c in
-    let b = v.args.bytes.now in
-    rest_whole (head_bytes + v.value_length-start.result) b ∙ ap (λ (n : ℕ). drop (head_bytes + n) b) v.value_length-start.ensures
+    let b = c.args.bytes.now in
+    rest_whole (head_bytes + c.value_length-start.result) b ∙ ap (λ (n : ℕ). drop (head_bytes + n) b) c.value_length-start.ensures
 
 pub overflow_add-start : goal.overflow_add-start
 overflow_add-start c = omega (arith, c.value_length-start.ensures)

@@ -15,27 +15,23 @@ returns-then-bytes-eq0 c = sym (nothing_after c.args.levels c.args.bytes.now c.i
 
 pub returns-then-bytes-ne-PRODUCTS_TAG : goal.returns-then-bytes-ne-PRODUCTS_TAG
 returns-then-bytes-ne-PRODUCTS_TAG c =
-    let i = c in
-    let s = i.args in
-    sym (other_after s.levels s.bytes.now i.if-bytes-eq0.false c.if-bytes-ne-PRODUCTS_TAG.true)
-
--- the field of tag 5 is right, and there
-done : (c : goal.In-Done) → field (field_of (fields true c.args.levels) products_tag) c.args.bytes.now ≡ passed
-done c = sym c.field.ensures ∙ ap told c.in-Done.is
+    let s = c.args in
+    sym (other_after s.levels s.bytes.now c.if-bytes-eq0.false c.if-bytes-ne-PRODUCTS_TAG.true)
 
 pub returns-in-Refused : goal.returns-in-Refused
 returns-in-Refused c =
-    let h = c in
-    let i = h in
-    let s = i.args in
-    sym (five_after s.levels s.bytes.now i.if-bytes-ne-PRODUCTS_TAG.false ∙ next_refused _ s.bytes.now [] _ (sym h.field.ensures ∙ ap told c.in-Refused.is))
+    let s = c.args in
+    sym (five_after s.levels s.bytes.now c.if-bytes-ne-PRODUCTS_TAG.false ∙ next_refused _ s.bytes.now [] _ (sym c.field.ensures ∙ ap told c.in-Refused.is))
 
 pub returns-in-Done : goal.returns-in-Done
 returns-in-Done c =
-    let d = c in
-    let i = d in
-    let s = i.args in
-    sym (five_after s.levels s.bytes.now i.if-bytes-ne-PRODUCTS_TAG.false ∙ next_read _ s.bytes.now [] (done c.before.before) ∙ ap (form_by []) (sym c.after_field.ensures) ∙ sym c.ended.ensures)
+    let done : field (field_of (fields true c.args.levels) products_tag) c.args.bytes.now ≡ passed =
+        sym c.field.ensures ∙ ap told c.in-Done.is in
+    let s = c.args in
+    sym (five_after s.levels s.bytes.now c.if-bytes-ne-PRODUCTS_TAG.false ∙ next_read _ s.bytes.now [] done ∙ ap (form_by []) (sym c.after_field.ensures) ∙ sym c.ended.ensures)
 
 pub after_field-requires : goal.after_field-requires
-after_field-requires c = ((omega arith, omega arith), field_holds _ _ (done c))
+after_field-requires c =
+    let done : field (field_of (fields true c.args.levels) products_tag) c.args.bytes.now ≡ passed =
+        sym c.field.ensures ∙ ap told c.in-Done.is in
+    ((omega arith, omega arith), field_holds _ _ done)

@@ -14,26 +14,13 @@ use Rattle.table_bytes.proofs.field.Goals as goal
 abbrev its : (s : goal.Start) → Field
 its s = field_of (fields true s.args.levels) s.args.tag
 
--- the head is judged by the field's tag and length
-judged : (h : goal.After-head) → told h.head.result ≡ headed (its h).tag (its h).size h.args.bytes.now
-judged h =
-    let v = h in
-    let s = v in
-    h.head.ensures ∙ (λ u. headed (sym (tag_is s.args.levels s.args.tag s.requires) u) (v.value_length-len.ensures u) s.args.bytes.now)
-
--- a right head leaves a value that is there
-fits : (d : goal.In-Done) → head_bytes + d.value_length-len.result ≤ length d.args.bytes.now
-fits d =
-    let h = d in
-    let s = h in
-    omega (arith, h.value_length-len.ensures, head_holds (its s) s.args.bytes.now (sym (judged c.before.before) ∙ ap told d.in-Done.is))
-
 pub returns-in-Refused : goal.returns-in-Refused
 returns-in-Refused c =
-    let w = c in
-    let h = w in
-    let s = h in
-    sym (field_head (its s) s.args.bytes.now _ (sym (judged c.before.before.before) ∙ ap told w.in-Refused.is))
+    let judged : told c.head.result ≡ headed (its h).tag (its h).size c.args.bytes.now =
+        let v = h in
+            let s = v in
+            c.head.ensures ∙ (λ u. headed (sym (tag_is s.args.levels s.args.tag s.requires) u) (v.value_length-len.ensures u) s.args.bytes.now) in
+    sym (field_head (its c) c.args.bytes.now _ (sym judged ∙ ap told c.in-Refused.is))
 
 -- the value's rule decides
 decided : (c : goal.After-value_right) (t : Bool) → c.value_right.result ≡ t → asks t 4 passed ≡ field (its c) c.args.bytes.now
@@ -52,10 +39,28 @@ decided c t e =
     ∙ e))
 
 pub overflow_add-end : goal.overflow_add-end
-overflow_add-end c = omega (arith, fits c)
+overflow_add-end c =
+    let judged : told c.head.result ≡ headed (its h).tag (its h).size c.args.bytes.now =
+        let v = h in
+            let s = v in
+            c.head.ensures ∙ (λ u. headed (sym (tag_is s.args.levels s.args.tag s.requires) u) (v.value_length-len.ensures u) s.args.bytes.now) in
+    let fits : head_bytes + c.value_length-len.result ≤ length c.args.bytes.now =
+        let h = d in
+            let s = h in
+            omega (arith, h.value_length-len.ensures, head_holds (its s) s.args.bytes.now (sym judged ∙ ap told c.in-Done.is)) in
+    omega (arith, fits)
 
 pub slice_bounds-value_right-end : goal.slice_bounds-value_right-end
-slice_bounds-value_right-end c = omega (arith, fits c)
+slice_bounds-value_right-end c =
+    let judged : told c.head.result ≡ headed (its h).tag (its h).size c.args.bytes.now =
+        let v = h in
+            let s = v in
+            c.head.ensures ∙ (λ u. headed (sym (tag_is s.args.levels s.args.tag s.requires) u) (v.value_length-len.ensures u) s.args.bytes.now) in
+    let fits : head_bytes + c.value_length-len.result ≤ length c.args.bytes.now =
+        let h = d in
+            let s = h in
+            omega (arith, h.value_length-len.ensures, head_holds (its s) s.args.bytes.now (sym judged ∙ ap told c.in-Done.is)) in
+    omega (arith, fits)
 
 pub returns-then-value_right : goal.returns-then-value_right
 returns-then-value_right c = decided c true c.if-value_right.true

@@ -10,7 +10,5 @@ use Rattle.table_bytes.proofs.has_fifth.Goals as goal
 
 pub returns : goal.returns
 returns c =
-    let l = c in
-    let s = l in
-    let b = s.args.bytes.now in
-    ap (λ (n : ℕ). ltb n (length b)) (c.table_size.ensures ∙ ap (table_size false) l.levels_in.ensures) ∙ sym (five_longer b s.requires)
+    let b = c.args.bytes.now in
+    ap (λ (n : ℕ). ltb n (length b)) (c.table_size.ensures ∙ ap (table_size false) c.levels_in.ensures) ∙ sym (five_longer b c.requires)

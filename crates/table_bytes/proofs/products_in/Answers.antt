@@ -11,28 +11,19 @@ use borrow.Author.Rules.{rules}
 use Rattle.table_bytes.proofs.products_in.Goals as goal
 
 pub returns-else-has_fifth : goal.returns-else-has_fifth
-returns-else-has_fifth c =
-    let f = c in
-    sym (ap (λ (has_products : Bool). products_in has_products f.args.bytes.now) (sym f.has_fifth.ensures ∙ c.if-has_fifth.false))
+returns-else-has_fifth c = sym (ap (λ (has_products : Bool). products_in has_products c.args.bytes.now) (sym c.has_fifth.ensures ∙ c.if-has_fifth.false))
 
 pub value_in-requires : goal.value_in-requires
-value_in-requires c =
-    let f = c in
-    ((omega arith, omega arith), f.requires, sym f.has_fifth.ensures ∙ c.if-has_fifth.true)
+value_in-requires c = ((omega arith, omega arith), c.requires, sym c.has_fifth.ensures ∙ c.if-has_fifth.true)
 
 pub put-requires : goal.put-requires
-put-requires c =
-    let s = c in
-    omega (arith, c.value_in.ensures.1, levels_most s.args.bytes.now s.requires)
+put-requires c = omega (arith, c.value_in.ensures.1, levels_most c.args.bytes.now c.requires)
 
 pub returns : goal.returns
 returns c =
-    let p = c in
-    let v = p in
-    let i = v in
-    let b = i.args.bytes.now in
-    over_zeros (product_bytes max_levels) _ _ _ _ p.put.ensures v.value_in.ensures
-    ∙ sym (ap (λ (has_products : Bool). products_in has_products b) (sym i.has_fifth.ensures ∙ i.if-has_fifth.true))
+    let b = c.args.bytes.now in
+    over_zeros (product_bytes max_levels) _ _ _ _ c.put.ensures c.value_in.ensures
+    ∙ sym (ap (λ (has_products : Bool). products_in has_products b) (sym c.has_fifth.ensures ∙ c.if-has_fifth.true))
 
 pub has_fifth-requires : goal.has_fifth-requires
 has_fifth-requires c = c.requires

@@ -11,12 +11,11 @@ loop-i-init c = (omega arith, paste-zero c.args.lent.now c.args.start c.args.fro
 
 pub loop-i-preserved : goal.loop-i-preserved
 loop-i-preserved c =
-    let l = c in
-    let a = l.args in
-    let i = l.loop-i.i in
+    let a = c.args in
+    let i = c.loop-i.i in
     let s : suc i ≡ i + 1 = omega arith in (
       omega arith,
-      ap (λ (x : List ℕ). set x (a.start + i) (get_or a.from.now i 0)) l.loop-i.invariant.1
+      ap (λ (x : List ℕ). set x (a.start + i) (get_or a.from.now i 0)) c.loop-i.invariant.1
           ∙ paste-suc a.lent.now a.start a.from.now i 0 (omega arith) (omega arith)
           ∙ ap (paste a.lent.now a.start a.from.now) s,
       simp length-set (omega arith),
@@ -24,7 +23,6 @@ loop-i-preserved c =
 
 pub returns : goal.returns
 returns c =
-    let l = c in
-    let a = l.args in
-    let e : l.loop-i.i ≡ length a.from.now = omega arith in
-    l.loop-i.invariant.1 ∙ ap (paste a.lent.now a.start a.from.now) e
+    let a = c.args in
+    let e : c.loop-i.i ≡ length a.from.now = omega arith in
+    c.loop-i.invariant.1 ∙ ap (paste a.lent.now a.start a.from.now) e

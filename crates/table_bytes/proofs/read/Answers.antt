@@ -9,20 +9,16 @@ table_of-requires c = sym c.form_of.ensures ∙ ap told c.in-Done.is
 
 pub returns-in-Refused : goal.returns-in-Refused
 returns-in-Refused c =
-    let w = c in
-    let h = w in
-    let b = h.args.bytes.now in
-    let e = sym h.form_of.ensures ∙ ap told w.in-Refused.is in record {
+    let b = c.args.bytes.now in
+    let e = sym c.form_of.ensures ∙ ap told c.in-Refused.is in record {
       outcome = sym e;
       table = c.empty.ensures ∙ sym (no_table b _ e);
     }
 
 pub returns-in-Done : goal.returns-in-Done
 returns-in-Done c =
-    let d = c in
-    let h = d in
-    let b = h.args.bytes.now in
-    let e = sym h.form_of.ensures ∙ ap told d.in-Done.is in record {
+    let b = c.args.bytes.now in
+    let e = sym c.form_of.ensures ∙ ap told c.in-Done.is in record {
       outcome = sym e;
       table = c.table_of.ensures ∙ sym (table_read_lem b e);
     }

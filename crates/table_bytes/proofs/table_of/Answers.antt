@@ -17,25 +17,17 @@ use Rattle.table_bytes.proofs.table_of.Goals as goal
 pub returns : goal.returns
 unfolding table_in
 returns c =
-    let q = c in
-    let f = q in
-    let p2 = f in
-    let v2 = p2 in
-    let p1 = v2 in
-    let v1 = p1 in
-    let l = v1 in
-    let d = l in
-    let b = d.args.bytes.now in
-    let depth : get_or b d.value_start.result 0 ≡ depth_in b = ap (λ (k : ℕ). get_or b k 0) d.value_start.ensures in
-    let constants = over_zeros nodes_per_pass nodes_per_pass _ _ _ p1.put.ensures v1.value_in.ensures ∙ append-nil _ in
-    let nodes = over_zeros (node_bytes max_levels) _ _ _ _ p2.put-2.ensures v2.value_in-2.ensures in
-    c.new.ensures ∙ (λ u. made (depth u) (l.levels_in-levels.ensures u) (constants u) (nodes u) (f.has_fifth-has_products.ensures u) (q.products_in-products.ensures u))
+    let b = c.args.bytes.now in
+    let depth : get_or b c.value_start.result 0 ≡ depth_in b = ap (λ (k : ℕ). get_or b k 0) c.value_start.ensures in
+    let constants = over_zeros nodes_per_pass nodes_per_pass _ _ _ c.put.ensures c.value_in.ensures ∙ append-nil _ in
+    let nodes = over_zeros (node_bytes max_levels) _ _ _ _ c.put-2.ensures c.value_in-2.ensures in
+    c.new.ensures ∙ (λ u. made (depth u) (c.levels_in-levels.ensures u) (constants u) (nodes u) (c.has_fifth-has_products.ensures u) (c.products_in-products.ensures u))
   where
     made : ℕ → ℕ → List ℕ → List ℕ → Bool → List ℕ → WidthTable
-    made d l k m h p = record { depth = d; levels = l; constants = k; nodes = m; has_products = h; products = p }
+    made c c k m h p = record { depth = c; levels = c; constants = k; nodes = m; has_products = h; products = p }
 
 pub bounds-bytes-value_start : goal.bounds-bytes-value_start
-bounds-bytes-value_start c = let s = c in omega (arith, c.value_start.ensures, four_there s.args.bytes.now s.requires)
+bounds-bytes-value_start c = omega (arith, c.value_start.ensures, four_there c.args.bytes.now c.requires)
 
 pub value_in-requires : goal.value_in-requires
 value_in-requires c = ((omega arith, omega arith), c.requires, refl)
@@ -47,7 +39,7 @@ pub value_in-requires-2 : goal.value_in-requires-2
 value_in-requires-2 c = ((omega arith, omega arith), c.requires, refl)
 
 pub put-requires-2 : goal.put-requires-2
-put-requires-2 c = let s = c in omega (arith, c.value_in-2.ensures.1, levels_most s.args.bytes.now s.requires)
+put-requires-2 c = omega (arith, c.value_in-2.ensures.1, levels_most c.args.bytes.now c.requires)
 
 pub has_fifth-has_products-requires : goal.has_fifth-has_products-requires
 has_fifth-has_products-requires c = c.requires

@@ -6,11 +6,7 @@ use borrow.Author.Rules.{rules}
 use Rattle.table_bytes.proofs.table_size.Goals as goal
 
 pub returns-then-has_products : goal.returns-then-has_products
-returns-then-has_products c =
-    let v = c in
-    omega (arith, v.value_start.ensures, c.value_length.ensures) ∙ sym (ap (λ (has_products : Bool). table_size has_products v.args.levels) v.if-has_products.true)
+returns-then-has_products c = omega (arith, c.value_start.ensures, c.value_length.ensures) ∙ sym (ap (λ (has_products : Bool). table_size has_products c.args.levels) c.if-has_products.true)
 
 pub returns : goal.returns
-returns c =
-    let v = c in
-    omega (arith, v.value_start-2.ensures, c.value_length-2.ensures) ∙ sym (ap (λ (has_products : Bool). table_size has_products v.args.levels) v.if-has_products.false)
+returns c = omega (arith, c.value_start-2.ensures, c.value_length-2.ensures) ∙ sym (ap (λ (has_products : Bool). table_size has_products c.args.levels) c.if-has_products.false)

@@ -14,27 +14,25 @@ place : (w : goal.In-Value-2)
     → let a = w.args in naming a.bytes.now a.tag ≡ done (w.in-Value.start, w.in-Value.len)
 place w = sym w.value_place.ensures ∙ ap told_named w.in-Value.is
 
--- what it says of the part
-part : (w : goal.In-Value-2) → Valued w.args.bytes.now w.args.tag w.in-Value.start w.in-Value.len
-part w = let a = w.args in valued a.bytes.now a.tag w.in-Value.start w.in-Value.len (place w)
-
 pub returns-in-NotNamed : goal.returns-in-NotNamed
-returns-in-NotNamed c =
-    let d = c in
-    let f = d in
-    ap (part_at f.args.bytes.now) (sym (ap told_named d.in-NotNamed.is) ∙ f.value_place.ensures)
+returns-in-NotNamed c = ap (part_at c.args.bytes.now) (sym (ap told_named c.in-NotNamed.is) ∙ c.value_place.ensures)
 
 pub returns-in-Value : goal.returns-in-Value
 returns-in-Value c =
-    let w = c in
-    let bytes = w.args.bytes.now in
-    ap (λ (k : ℕ). take k (drop w.in-Value.start bytes)) (cancel w.in-Value.start w.in-Value.len) ∙ ap (part_at bytes) (sym (place c.before.before))
+    let bytes = c.args.bytes.now in
+    ap (λ (k : ℕ). take k (drop c.in-Value.start bytes)) (cancel c.in-Value.start c.in-Value.len) ∙ ap (part_at bytes) (sym (place c.before.before))
   where
     cancel : (s n : ℕ) → s + n - s ≡ n
     cancel s n = omega arith
 
 pub overflow_add-result : goal.overflow_add-result
-overflow_add-result c = omega (arith, (part c.before).small)
+overflow_add-result c =
+    let part : Valued c.args.bytes.now c.args.tag c.in-Value.start c.in-Value.len =
+        let a = c.args in valued a.bytes.now a.tag c.in-Value.start c.in-Value.len (place w) in
+    omega (arith, part.small)
 
 pub slice_bounds-result-end-in-Value : goal.slice_bounds-result-end-in-Value
-slice_bounds-result-end-in-Value c = omega (arith, (part c.before).fits)
+slice_bounds-result-end-in-Value c =
+    let part : Valued c.args.bytes.now c.args.tag c.in-Value.start c.in-Value.len =
+        let a = c.args in valued a.bytes.now a.tag c.in-Value.start c.in-Value.len (place w) in
+    omega (arith, part.fits)

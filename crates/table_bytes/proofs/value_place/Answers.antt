@@ -20,42 +20,36 @@ returns-then-tag-gt-PRODUCTS_TAG c =
     let a = c.args in
     sym (name_wrong a.bytes.now a.tag (above_most depth_tag products_tag a.tag c.if-tag-gt-PRODUCTS_TAG.true))
 
--- a right name
-named : (i : goal.Else-tag-gt-PRODUCTS_TAG) → tag_right i.args.tag ≡ true
-named i = is_between depth_tag products_tag i.args.tag i.if-tag-lt-DEPTH_TAG.false i.if-tag-gt-PRODUCTS_TAG.false
-
--- and a right form
-formed : (d : goal.In-Done) → form d.args.bytes.now ≡ passed
-formed d = sym d.form_of.ensures ∙ ap told d.in-Done.is
-
 pub returns-else-has_tag : goal.returns-else-has_tag
 returns-else-has_tag c =
-    let h = c in
-    let d = h in
-    let i = d in
-    let a = i.args in
-    sym (name_lacking a.bytes.now a.tag (named c.before.before.before.before.before) (formed c.before.before) (sym h.has_tag.ensures ∙ c.if-has_tag.false))
+    let named : tag_right c.args.tag ≡ true =
+        is_between depth_tag products_tag c.args.tag c.if-tag-lt-DEPTH_TAG.false c.if-tag-gt-PRODUCTS_TAG.false in
+    let formed : form c.args.bytes.now ≡ passed =
+        sym c.form_of.ensures ∙ ap told c.in-Done.is in
+    let a = c.args in
+    sym (name_lacking a.bytes.now a.tag named formed (sym c.has_tag.ensures ∙ c.if-has_tag.false))
 
 pub returns-in-Refused : goal.returns-in-Refused
 returns-in-Refused c =
-    let w = c in
-    let f = w in
-    let i = f in
-    let a = i.args in
-    sym (name_refused a.bytes.now a.tag (named c.before.before.before.before) _ (sym f.form_of.ensures ∙ ap told w.in-Refused.is))
+    let named : tag_right c.args.tag ≡ true =
+        is_between depth_tag products_tag c.args.tag c.if-tag-lt-DEPTH_TAG.false c.if-tag-gt-PRODUCTS_TAG.false in
+    let a = c.args in
+    sym (name_refused a.bytes.now a.tag named _ (sym c.form_of.ensures ∙ ap told c.in-Refused.is))
 
 pub returns-then-has_tag : goal.returns-then-has_tag
 returns-then-has_tag c =
-    let l = c in
-    let t = l in
-    let h = t in
-    let d = h in
-    let i = d in
-    let a = i.args in
-    let levels : l.levels_in-levels.result ≡ levels_in a.bytes.now = l.levels_in-levels.ensures in
+    let named : tag_right c.args.tag ≡ true =
+        is_between depth_tag products_tag c.args.tag c.if-tag-lt-DEPTH_TAG.false c.if-tag-gt-PRODUCTS_TAG.false in
+    let formed : form c.args.bytes.now ≡ passed =
+        sym c.form_of.ensures ∙ ap told c.in-Done.is in
+    let a = c.args in
+    let levels : c.levels_in-levels.result ≡ levels_in a.bytes.now = c.levels_in-levels.ensures in
     (λ u. done (c.value_start-start.ensures u, c.value_length-len.ensures u))
     ∙ ap (λ (L : ℕ). done (value_start L a.tag, value_length L a.tag)) levels
-    ∙ sym (name_right a.bytes.now a.tag (named c.before.before.before.before.before.before.before.before) (formed c.before.before.before.before.before) (sym h.has_tag.ensures ∙ t.if-has_tag.true))
+    ∙ sym (name_right a.bytes.now a.tag named formed (sym c.has_tag.ensures ∙ c.if-has_tag.true))
 
 pub has_tag-requires : goal.has_tag-requires
-has_tag-requires c = formed c
+has_tag-requires c =
+    let formed : form c.args.bytes.now ≡ passed =
+        sym c.form_of.ensures ∙ ap told c.in-Done.is in
+    formed

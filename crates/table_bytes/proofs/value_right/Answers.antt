@@ -11,9 +11,7 @@ rule : (s : goal.Start) (k : ℕ) → s.args.tag ≡ k → (field_of (fields tru
 rule s k e = ap (λ (n : ℕ). (field_of (fields true 0) n).right s.args.value.now) (sym e)
 
 pub returns : goal.returns
-returns c =
-    let s = c in
-    c.all_between-2.ensures ∙ rule s products_tag (omega arith)
+returns c = c.all_between-2.ensures ∙ rule c products_tag (omega arith)
 
 pub returns-then-tag-eq-DEPTH_TAG : goal.returns-then-tag-eq-DEPTH_TAG
 returns-then-tag-eq-DEPTH_TAG c = c.all_between.ensures ∙ rule c depth_tag c.if-tag-eq-DEPTH_TAG.true

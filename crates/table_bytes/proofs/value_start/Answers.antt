@@ -6,25 +6,18 @@ use Rattle.table_bytes.specs.ReadLaws.{start_next, value_ends}
 use Rattle.table_bytes.proofs.value_start.Goals as goal
 
 pub overflow_add-start : goal.overflow_add-start
-overflow_add-start c =
-    let l = c in
-    omega (arith, c.value_length.ensures, l.loop-before.invariant, value_ends l.args.levels l.loop-before.before (omega arith, omega arith))
+overflow_add-start c = omega (arith, c.value_length.ensures, c.loop-before.invariant, value_ends c.args.levels c.loop-before.before (omega arith, omega arith))
 
 pub overflow_add-start-in-loop-before : goal.overflow_add-start-in-loop-before
-overflow_add-start-in-loop-before c =
-    let l = c in
-    omega (arith, c.value_length.ensures, l.loop-before.invariant, value_ends l.args.levels l.loop-before.before (omega arith, omega arith))
+overflow_add-start-in-loop-before c = omega (arith, c.value_length.ensures, c.loop-before.invariant, value_ends c.args.levels c.loop-before.before (omega arith, omega arith))
 
 pub loop-before-preserved : goal.loop-before-preserved
-loop-before-preserved c =
-    let l = c in
-    (omega arith, omega arith, (λ u. l.loop-before.invariant.2 u + c.value_length.ensures u + head_bytes) ∙ sym (start_next l.args.levels l.loop-before.before (omega arith, omega arith) (omega arith)))
+loop-before-preserved c = (omega arith, omega arith, (λ u. c.loop-before.invariant.2 u + c.value_length.ensures u + head_bytes) ∙ sym (start_next c.args.levels c.loop-before.before (omega arith, omega arith) (omega arith)))
 
 pub returns : goal.returns
 returns c =
-    let l = c in
-    let e : l.loop-before.before ≡ l.args.tag = omega arith in
-    l.loop-before.invariant.2 ∙ ap (value_start l.args.levels) e
+    let e : c.loop-before.before ≡ c.args.tag = omega arith in
+    c.loop-before.invariant.2 ∙ ap (value_start c.args.levels) e
 
 pub loop-before-init : goal.loop-before-init
 loop-before-init c = (omega arith, omega arith, refl)

@@ -13,23 +13,16 @@ returns-else-form_right c =
 
 pub returns-then-lent-n : goal.returns-then-lent-n
 returns-then-lent-n c =
-    let i = c in
-    let a = i.args in
-    too_short a.table a.lent.now (sym i.form_right.ensures ∙ i.if-form_right.true) (omega (arith, c.table_size-n.ensures))
+    let a = c.args in
+    too_short a.table a.lent.now (sym c.form_right.ensures ∙ c.if-form_right.true) (omega (arith, c.table_size-n.ensures))
 
 pub put_table-requires : goal.put_table-requires
-put_table-requires c =
-    let n = c in
-    let i = n in
-    (few_levels i.args.table (sym i.form_right.ensures ∙ i.if-form_right.true), omega (arith, n.table_size-n.ensures))
+put_table-requires c = (few_levels c.args.table (sym c.form_right.ensures ∙ c.if-form_right.true), omega (arith, c.table_size-n.ensures))
 
 pub returns : goal.returns
 returns c =
-    let p = c in
-    let n = p in
-    let i = n in
-    let a = i.args in
-    let w = table_written_lem a.table a.lent.now (sym i.form_right.ensures ∙ i.if-form_right.true) (omega (arith, n.table_size-n.ensures)) in record {
-      answer = ap done n.table_size-n.ensures ∙ w.0;
-      bytes = p.put_table.ensures ∙ w.1;
+    let a = c.args in
+    let w = table_written_lem a.table a.lent.now (sym c.form_right.ensures ∙ c.if-form_right.true) (omega (arith, c.table_size-n.ensures)) in record {
+      answer = ap done c.table_size-n.ensures ∙ w.0;
+      bytes = c.put_table.ensures ∙ w.1;
     }

@@ -10,4 +10,4 @@ returns-in-Refused c = unread _ c.read-read.ensures c.in-Refused.is _
 
 pub returns-in-Done : goal.returns-in-Done
 unfolding check_answer
-returns-in-Done c = let t = c in read _ t.read-read.ensures t.in-Done.is verdict c.judge.ensures
+returns-in-Done c = read _ c.read-read.ensures c.in-Done.is verdict c.judge.ensures

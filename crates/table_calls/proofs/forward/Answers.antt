@@ -15,14 +15,12 @@ returns-in-Refused c =
 pub returns-in-Done : goal.returns-in-Done
 unfolding answer97 plane97 work97
 returns-in-Done c =
-    let f = c in
-    let t = f in
-    let a = t.args in
-    let v = t.read-read.ensures in
-    let e = t.in-Done.is in (
-      read _ v e (λ (t : WidthTable). fixed_answer t a.width a.height a.pixels.now a.plane.now a.work.now) f.forward.ensures.answer,
+    let a = c.args in
+    let v = c.read-read.ensures in
+    let e = c.in-Done.is in (
+      read _ v e (λ (c : WidthTable). fixed_answer c a.width a.height a.pixels.now a.plane.now a.work.now) c.forward.ensures.answer,
       (
-        read_leaves _ v e (λ (t : WidthTable). fixed_plane_after t a.width a.height a.pixels.now a.plane.now a.work.now) _ f.forward.ensures.plane.0,
-        read_leaves _ v e (λ (t : WidthTable). fixed_work t a.width a.height a.pixels.now a.plane.now a.work.now) _ f.forward.ensures.plane.1,
+        read_leaves _ v e (λ (c : WidthTable). fixed_plane_after c a.width a.height a.pixels.now a.plane.now a.work.now) _ c.forward.ensures.plane.0,
+        read_leaves _ v e (λ (c : WidthTable). fixed_work c a.width a.height a.pixels.now a.plane.now a.work.now) _ c.forward.ensures.plane.1,
       ),
     )

@@ -10,23 +10,22 @@ use Rattle.view_precision.proofs.distance.Goals as goal
 
 pub returns-in-Refused : goal.returns-in-Refused
 returns-in-Refused c =
-    let j = c in
-    let e = sym j.judge.ensures ∙ ap told c.in-Refused.is in record {
+    let e = sym c.judge.ensures ∙ ap told c.in-Refused.is in record {
       outcome = sym e;
-      distance = sym (answered_refused (view_distance j.args.table) 0 e);
+      distance = sym (answered_refused (view_distance c.args.table) 0 e);
     }
-
-passes : (c : goal.In-Done) → view_verdict c.args.table ≡ passed
-passes c = sym c.judge.ensures ∙ ap told c.in-Done.is
 
 pub returns : goal.returns
 returns c =
-    let w = c in
-    let e = w in
-    let t = e.args.table in record {
-      outcome = sym (passes c.before.before);
-      distance = distance_told t (passes c.before.before) _ w.work_levels-pixels.ensures.bound;
+    let passes : view_verdict c.args.table ≡ passed =
+        sym c.judge.ensures ∙ ap told c.in-Done.is in
+    let t = c.args.table in record {
+      outcome = sym passes;
+      distance = distance_told t passes _ c.work_levels-pixels.ensures.bound;
     }
 
 pub work_levels-pixels-requires : goal.work_levels-pixels-requires
-work_levels-pixels-requires c = let t = c.args.table in (accepted_form t (viewable_accepted t (passes c)), omega arith)
+work_levels-pixels-requires c =
+    let passes : view_verdict c.args.table ≡ passed =
+        sym c.judge.ensures ∙ ap told c.in-Done.is in
+    let t = c.args.table in (accepted_form t (viewable_accepted t passes), omega arith)

@@ -11,45 +11,46 @@ use Rattle.view_precision.specs.LevelLaws.{judge_refuses, accepted_form, node_re
 use Rattle.view_precision.proofs.judge.Goals as goal
 
 pub returns-in-Refused : goal.returns-in-Refused
-returns-in-Refused c =
-    let j = c in
-    sym (judge_refuses j.args.table _ (sym j.judge.ensures ∙ ap told c.in-Refused.is))
-
-accepted : (c : goal.In-Done) → verdict c.args.table ≡ passed
-accepted c = sym c.judge.ensures ∙ ap told c.in-Done.is
+returns-in-Refused c = sym (judge_refuses c.args.table _ (sym c.judge.ensures ∙ ap told c.in-Refused.is))
 
 pub returns-else-pixels : goal.returns-else-pixels
 returns-else-pixels c =
-    let w = c in
-    let e = w in
-    sym (node_refuses e.args.table (accepted c.before.before) w.work_levels-pixels.result.right _ w.work_levels-pixels.ensures.right w.work_levels-pixels.ensures.bound c.if-pixels.false)
+    let accepted : verdict c.args.table ≡ passed =
+        sym c.judge.ensures ∙ ap told c.in-Done.is in
+    sym (node_refuses c.args.table accepted c.work_levels-pixels.result.right _ c.work_levels-pixels.ensures.right c.work_levels-pixels.ensures.bound c.if-pixels.false)
 
 pub returns-then-bound-power : goal.returns-then-bound-power
 returns-then-bound-power c =
-    let p = c in
-    let i = p in
-    let w = i in
-    let e = w in
-    let t = e.args.table in
-    sym (view_passes t (accepted c.before.before.before.before.before.before.before) w.work_levels-pixels.result.right _ w.work_levels-pixels.ensures.right w.work_levels-pixels.ensures.bound i.if-pixels.true (subst (λ (x : ℕ). w.work_levels-pixels.result.bound.error < x) p.power.ensures c.if-bound-power.true))
+    let accepted : verdict c.args.table ≡ passed =
+        sym c.judge.ensures ∙ ap told c.in-Done.is in
+    let t = c.args.table in
+    sym (view_passes t accepted c.work_levels-pixels.result.right _ c.work_levels-pixels.ensures.right c.work_levels-pixels.ensures.bound c.if-pixels.true (subst (λ (x : ℕ). c.work_levels-pixels.result.bound.error < x) c.power.ensures c.if-bound-power.true))
 
 pub returns-else-bound-power : goal.returns-else-bound-power
 returns-else-bound-power c =
-    let p = c in
-    let w = p in
-    let e = w in
-    let t = e.args.table in
-    sym (pixel_refuses t (accepted c.before.before.before.before.before.before.before) w.work_levels-pixels.result.right _ w.work_levels-pixels.ensures.right w.work_levels-pixels.ensures.bound (subst (λ (x : ℕ). x ≤ w.work_levels-pixels.result.bound.error) p.power.ensures c.if-bound-power.false))
-
--- the depth is small
-depth : (c : goal.In-Done) → c.args.table.depth ≤ max_depth
-depth c = (form_depth c.args.table (accepted_form c.args.table (accepted c))).1
+    let accepted : verdict c.args.table ≡ passed =
+        sym c.judge.ensures ∙ ap told c.in-Done.is in
+    let t = c.args.table in
+    sym (pixel_refuses t accepted c.work_levels-pixels.result.right _ c.work_levels-pixels.ensures.right c.work_levels-pixels.ensures.bound (subst (λ (x : ℕ). x ≤ c.work_levels-pixels.result.bound.error) c.power.ensures c.if-bound-power.false))
 
 pub work_levels-pixels-requires : goal.work_levels-pixels-requires
-work_levels-pixels-requires c = (accepted_form c.args.table (accepted c), omega arith)
+work_levels-pixels-requires c =
+    let accepted : verdict c.args.table ≡ passed =
+        sym c.judge.ensures ∙ ap told c.in-Done.is in
+    (accepted_form c.args.table accepted, omega arith)
 
 pub overflow_add-table : goal.overflow_add-table
-overflow_add-table c = omega (arith, depth c.before.before.before.before)
+overflow_add-table c =
+    let accepted : verdict c.args.table ≡ passed =
+        sym c.judge.ensures ∙ ap told c.in-Done.is in
+    let depth : c.args.table.depth ≤ max_depth =
+        (form_depth c.args.table (accepted_form c.args.table accepted)).1 in
+    omega (arith, depth)
 
 pub overflow_sub-table : goal.overflow_sub-table
-overflow_sub-table c = omega (arith, depth c.before.before.before.before)
+overflow_sub-table c =
+    let accepted : verdict c.args.table ≡ passed =
+        sym c.judge.ensures ∙ ap told c.in-Done.is in
+    let depth : c.args.table.depth ≤ max_depth =
+        (form_depth c.args.table (accepted_form c.args.table accepted)).1 in
+    omega (arith, depth)

@@ -16,15 +16,12 @@ is-node s x e =
 
 pub returns-then-stage-eq-EVEN : goal.returns-then-stage-eq-EVEN
 returns-then-stage-eq-EVEN c =
-    let i = c in
-    let s = i in
-    let a = s.args in
-    is-node c.before.before.before _ (c.larger_bound.ensures ∙ ap (λ (x : Bound). larger x (as_bound a.low)) i.bound_at-bound.ensures ∙ node_even (as_bound a.low) (as_bound a.high) a.own a.stage i.if-stage-eq-EVEN.true)
+    let a = c.args in
+    is-node c.before.before.before _ (c.larger_bound.ensures ∙ ap (λ (x : Bound). larger x (as_bound a.low)) c.bound_at-bound.ensures ∙ node_even (as_bound a.low) (as_bound a.high) a.own a.stage c.if-stage-eq-EVEN.true)
 
 pub returns-else-stage-eq-EVEN : goal.returns-else-stage-eq-EVEN
 returns-else-stage-eq-EVEN c =
-    let s = c in
-    let a = s.args in
+    let a = c.args in
     is-node c.before.before _ (c.bound_at-bound.ensures ∙ node_other (as_bound a.low) (as_bound a.high) a.own a.stage c.if-stage-eq-EVEN.false)
 
 pub bound_at-bound-requires : goal.bound_at-bound-requires

@@ -10,52 +10,80 @@ use Rattle.view_precision.specs.Places.{AtMostStored}
 use Rattle.view_precision.specs.LevelLaws.{stored_within}
 use Rattle.view_precision.proofs.stored_bound.Goals as goal
 
--- the bits that are read
-integer : (c : goal.After-integer_bits-integer) → (c.integer_bits-integer.result ≡ integer_bits c.args.table c.args.level (pass_of c.args.pass) (node_of c.args.node)) × (1 ≤ c.integer_bits-integer.result) × (c.integer_bits-integer.result ≤ max_integer_bits)
-integer c =
-    let s = c in
-    let a = s.args in
-    let r = integer_read a.table s.requires.at.form a.level s.requires.at.level_from s.requires.at.level_to a.pass a.node s.requires.at.pass s.requires.node.0 in
-    (c.integer_bits-integer.ensures ∙ r.0, omega (arith, c.integer_bits-integer.ensures, r), omega (arith, c.integer_bits-integer.ensures, r))
-
-fraction : (c : goal.After-fraction_bits-fraction) → (c.fraction_bits-fraction.result ≡ fraction_bits c.args.table c.args.level (pass_of c.args.pass) (node_of c.args.node)) × (c.fraction_bits-fraction.result ≤ max_fraction_bits)
-fraction c =
-    let s = c in
-    let a = s.args in
-    let r = fraction_read a.table s.requires.at.form a.level s.requires.at.level_from s.requires.at.level_to a.pass a.node s.requires.at.pass s.requires.node.0 in
-    (c.fraction_bits-fraction.ensures ∙ r.0, omega (arith, c.fraction_bits-fraction.ensures, r))
-
--- range and error as the definition has them
-range : (c : goal.After-power) → c.power.result * 2 ^ 32 ≡ (stored c.args.table c.args.steps c.args.level (pass_of c.args.pass) (node_of c.args.node)).range
-unfolding stored
-range c = ap (λ (x : ℕ). x * 2 ^ 32) (c.power.ensures ∙ ap (λ (n : ℕ). 2 ^ (n - 1)) (integer c.before.before).0)
-
-error : (c : goal.After-power-2) → c.args.steps * c.power-2.result ≡ (stored c.args.table c.args.steps c.args.level (pass_of c.args.pass) (node_of c.args.node)).error
-unfolding stored
-error c = ap (λ (x : ℕ). c.args.steps * x) (c.power-2.ensures ∙ ap (λ (n : ℕ). 2 ^ (32 - n)) (fraction c.before.before).0)
-
-within : (s : goal.Start) → AtMostStored 1 (stored s.args.table s.args.steps s.args.level (pass_of s.args.pass) (node_of s.args.node))
-within s = stored_within s.args.table s.requires.at.form s.args.steps s.requires.node.1 s.args.level s.requires.at.level_from s.requires.at.level_to (pass_of s.args.pass) (node_of s.args.node)
-
 pub returns : goal.returns
+unfolding stored
 returns c =
-    let e = ap₂ {C = Bound} (λ (r e : ℕ). record { range = r; error = e }) (range c.before) (error c) in
-    (e, subst (AtMostStored 1) (sym e) (within c.before.before.before.before))
+    let integer : (c.integer_bits-integer.result ≡ integer_bits c.args.table c.args.level (pass_of c.args.pass) (node_of c.args.node)) × (1 ≤ c.integer_bits-integer.result) × (c.integer_bits-integer.result ≤ max_integer_bits) =
+        let a = c.args in
+            let r = integer_read a.table c.requires.at.form a.level c.requires.at.level_from c.requires.at.level_to a.pass a.node c.requires.at.pass c.requires.node.0 in
+            (c.integer_bits-integer.ensures ∙ r.0, omega (arith, c.integer_bits-integer.ensures, r), omega (arith, c.integer_bits-integer.ensures, r)) in
+    let fraction : (c.fraction_bits-fraction.result ≡ fraction_bits c.args.table c.args.level (pass_of c.args.pass) (node_of c.args.node)) × (c.fraction_bits-fraction.result ≤ max_fraction_bits) =
+        let a = c.args in
+            let r = fraction_read a.table c.requires.at.form a.level c.requires.at.level_from c.requires.at.level_to a.pass a.node c.requires.at.pass c.requires.node.0 in
+            (c.fraction_bits-fraction.ensures ∙ r.0, omega (arith, c.fraction_bits-fraction.ensures, r)) in
+    let range : c.power.result * 2 ^ 32 ≡ (stored c.args.table c.args.steps c.args.level (pass_of c.args.pass) (node_of c.args.node)).range =
+        ap (λ (x : ℕ). x * 2 ^ 32) (c.power.ensures ∙ ap (λ (n : ℕ). 2 ^ (n - 1)) integer.0) in
+    let error : c.args.steps * c.power-2.result ≡ (stored c.args.table c.args.steps c.args.level (pass_of c.args.pass) (node_of c.args.node)).error =
+        ap (λ (x : ℕ). c.args.steps * x) (c.power-2.ensures ∙ ap (λ (n : ℕ). 2 ^ (32 - n)) fraction.0) in
+    let within : AtMostStored 1 (stored c.args.table c.args.steps c.args.level (pass_of c.args.pass) (node_of c.args.node)) =
+        stored_within c.args.table c.requires.at.form c.args.steps c.requires.node.1 c.args.level c.requires.at.level_from c.requires.at.level_to (pass_of c.args.pass) (node_of c.args.node) in
+    let e = ap₂ {C = Bound} (λ (r e : ℕ). record { range = r; error = e }) range error in
+    (e, subst (AtMostStored 1) (sym e) within)
 
 pub overflow_sub-integer : goal.overflow_sub-integer
-overflow_sub-integer c = omega (arith, integer c.before)
+overflow_sub-integer c =
+    let integer : (c.integer_bits-integer.result ≡ integer_bits c.args.table c.args.level (pass_of c.args.pass) (node_of c.args.node)) × (1 ≤ c.integer_bits-integer.result) × (c.integer_bits-integer.result ≤ max_integer_bits) =
+        let a = c.args in
+            let r = integer_read a.table c.requires.at.form a.level c.requires.at.level_from c.requires.at.level_to a.pass a.node c.requires.at.pass c.requires.node.0 in
+            (c.integer_bits-integer.ensures ∙ r.0, omega (arith, c.integer_bits-integer.ensures, r), omega (arith, c.integer_bits-integer.ensures, r)) in
+    omega (arith, integer)
 
 pub overflow_cast-integer : goal.overflow_cast-integer
-overflow_cast-integer c = omega (arith, integer c.before)
+overflow_cast-integer c =
+    let integer : (c.integer_bits-integer.result ≡ integer_bits c.args.table c.args.level (pass_of c.args.pass) (node_of c.args.node)) × (1 ≤ c.integer_bits-integer.result) × (c.integer_bits-integer.result ≤ max_integer_bits) =
+        let a = c.args in
+            let r = integer_read a.table c.requires.at.form a.level c.requires.at.level_from c.requires.at.level_to a.pass a.node c.requires.at.pass c.requires.node.0 in
+            (c.integer_bits-integer.ensures ∙ r.0, omega (arith, c.integer_bits-integer.ensures, r), omega (arith, c.integer_bits-integer.ensures, r)) in
+    omega (arith, integer)
 
 pub power-requires : goal.power-requires
-power-requires c = omega (arith, integer c.before)
+power-requires c =
+    let integer : (c.integer_bits-integer.result ≡ integer_bits c.args.table c.args.level (pass_of c.args.pass) (node_of c.args.node)) × (1 ≤ c.integer_bits-integer.result) × (c.integer_bits-integer.result ≤ max_integer_bits) =
+        let a = c.args in
+            let r = integer_read a.table c.requires.at.form a.level c.requires.at.level_from c.requires.at.level_to a.pass a.node c.requires.at.pass c.requires.node.0 in
+            (c.integer_bits-integer.ensures ∙ r.0, omega (arith, c.integer_bits-integer.ensures, r), omega (arith, c.integer_bits-integer.ensures, r)) in
+    omega (arith, integer)
 
 pub overflow_mul-result : goal.overflow_mul-result
-overflow_mul-result c = omega (arith, range c, (within c.before.before.before).range)
+unfolding stored
+overflow_mul-result c =
+    let integer : (c.integer_bits-integer.result ≡ integer_bits c.args.table c.args.level (pass_of c.args.pass) (node_of c.args.node)) × (1 ≤ c.integer_bits-integer.result) × (c.integer_bits-integer.result ≤ max_integer_bits) =
+        let a = c.args in
+            let r = integer_read a.table c.requires.at.form a.level c.requires.at.level_from c.requires.at.level_to a.pass a.node c.requires.at.pass c.requires.node.0 in
+            (c.integer_bits-integer.ensures ∙ r.0, omega (arith, c.integer_bits-integer.ensures, r), omega (arith, c.integer_bits-integer.ensures, r)) in
+    let range : c.power.result * 2 ^ 32 ≡ (stored c.args.table c.args.steps c.args.level (pass_of c.args.pass) (node_of c.args.node)).range =
+        ap (λ (x : ℕ). x * 2 ^ 32) (c.power.ensures ∙ ap (λ (n : ℕ). 2 ^ (n - 1)) integer.0) in
+    let within : AtMostStored 1 (stored c.args.table c.args.steps c.args.level (pass_of c.args.pass) (node_of c.args.node)) =
+        stored_within c.args.table c.requires.at.form c.args.steps c.requires.node.1 c.args.level c.requires.at.level_from c.requires.at.level_to (pass_of c.args.pass) (node_of c.args.node) in
+    omega (arith, range, within.range)
 
 pub overflow_sub-fraction : goal.overflow_sub-fraction
-overflow_sub-fraction c = omega (arith, fraction c.before)
+overflow_sub-fraction c =
+    let fraction : (c.fraction_bits-fraction.result ≡ fraction_bits c.args.table c.args.level (pass_of c.args.pass) (node_of c.args.node)) × (c.fraction_bits-fraction.result ≤ max_fraction_bits) =
+        let a = c.args in
+            let r = fraction_read a.table c.requires.at.form a.level c.requires.at.level_from c.requires.at.level_to a.pass a.node c.requires.at.pass c.requires.node.0 in
+            (c.fraction_bits-fraction.ensures ∙ r.0, omega (arith, c.fraction_bits-fraction.ensures, r)) in
+    omega (arith, fraction)
 
 pub overflow_mul-result-2 : goal.overflow_mul-result-2
-overflow_mul-result-2 c = omega (arith, error c, (within c.before.before.before.before).error)
+unfolding stored
+overflow_mul-result-2 c =
+    let fraction : (c.fraction_bits-fraction.result ≡ fraction_bits c.args.table c.args.level (pass_of c.args.pass) (node_of c.args.node)) × (c.fraction_bits-fraction.result ≤ max_fraction_bits) =
+        let a = c.args in
+            let r = fraction_read a.table c.requires.at.form a.level c.requires.at.level_from c.requires.at.level_to a.pass a.node c.requires.at.pass c.requires.node.0 in
+            (c.fraction_bits-fraction.ensures ∙ r.0, omega (arith, c.fraction_bits-fraction.ensures, r)) in
+    let error : c.args.steps * c.power-2.result ≡ (stored c.args.table c.args.steps c.args.level (pass_of c.args.pass) (node_of c.args.node)).error =
+        ap (λ (x : ℕ). c.args.steps * x) (c.power-2.ensures ∙ ap (λ (n : ℕ). 2 ^ (32 - n)) fraction.0) in
+    let within : AtMostStored 1 (stored c.args.table c.args.steps c.args.level (pass_of c.args.pass) (node_of c.args.node)) =
+        stored_within c.args.table c.requires.at.form c.args.steps c.requires.node.1 c.args.level c.requires.at.level_from c.requires.at.level_to (pass_of c.args.pass) (node_of c.args.node) in
+    omega (arith, error, within.error)

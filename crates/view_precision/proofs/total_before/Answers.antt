@@ -17,20 +17,13 @@ is-total s x e =
     (e, subst (λ (y : ℕ). y ≤ most_total) (sym e) (total_small (as_bound a.low) (as_bound a.high) s.requires.2 s.requires.3 a.own s.requires.1 a.stage))
 
 pub returns-then-stage-eq0 : goal.returns-then-stage-eq0
-returns-then-stage-eq0 c =
-    let s = c in
-    is-total c.before.before _ (sym (ap (total_from (as_bound s.args.low) (as_bound s.args.high) s.args.own) c.if-stage-eq0.true))
+returns-then-stage-eq0 c = is-total c.before.before _ (sym (ap (total_from (as_bound c.args.low) (as_bound c.args.high) c.args.own) c.if-stage-eq0.true))
 
 pub returns-then-stage-eq1 : goal.returns-then-stage-eq1
-returns-then-stage-eq1 c =
-    let s = c in
-    is-total c.before.before.before _ (sym (ap (total_from (as_bound s.args.low) (as_bound s.args.high) s.args.own) c.if-stage-eq1.true))
+returns-then-stage-eq1 c = is-total c.before.before.before _ (sym (ap (total_from (as_bound c.args.low) (as_bound c.args.high) c.args.own) c.if-stage-eq1.true))
 
 pub returns : goal.returns
-returns c =
-    let b = c in
-    let s = b in
-    is-total c.before.before.before.before _ (ap total b.node_at-bound.ensures.0 ∙ sym (total_later (as_bound s.args.low) (as_bound s.args.high) s.args.own s.args.stage (omega arith)))
+returns c = is-total c.before.before.before.before _ (ap total c.node_at-bound.ensures.0 ∙ sym (total_later (as_bound c.args.low) (as_bound c.args.high) c.args.own c.args.stage (omega arith)))
 
 pub node_at-bound-requires : goal.node_at-bound-requires
-node_at-bound-requires c = let s = c in (omega arith, s.requires.1, s.requires.2, s.requires.3)
+node_at-bound-requires c = (omega arith, c.requires.1, c.requires.2, c.requires.3)

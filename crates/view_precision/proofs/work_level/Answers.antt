@@ -12,41 +12,29 @@ use Rattle.view_precision.proofs.work_level.Goals as goal
 pub work_pass-low_columns-requires : goal.work_pass-low_columns-requires
 work_pass-low_columns-requires c = (within_small (omega arith) c.requires.steps_le_steps_allowed.1, within_small (lit≤ tt) c.stored_bound-low_high.ensures.1)
 
--- what the columns give
-low : (c : goal.After-work_pass-low_columns) → as_bound c.work_pass-low_columns.result.bound ≡ from_low c.args.table c.args.steps c.args.level (as_bound c.args.entering)
-low c =
-    let s1 = c in
-    let a = s1.args in
-    low_is_lem a.table a.steps a.level (as_bound a.entering) s1.stored_bound-low_high.ensures.0 c.work_pass-low_columns.ensures.bound
-
-high : (c : goal.After-work_pass-high_columns) → as_bound c.work_pass-high_columns.result.bound ≡ from_high c.args.table c.args.steps c.args.level (as_bound c.args.entering)
-high c =
-    let s3 = c in
-    let s2 = s3 in
-    let a = s2.args in
-    high_is_lem a.table a.steps a.level (as_bound a.entering) s2.stored_bound-high_low.ensures.0 s3.stored_bound-high_high.ensures.0 c.work_pass-high_columns.ensures.bound
-
 pub work_pass-rows-requires : goal.work_pass-rows-requires
 work_pass-rows-requires c =
-    let w2 = c in
-    let w = w2 in
-    let s = w in
-    let a = s.args in
-    let at = s.requires.at in
-    (subst SmallFed (sym (low c.before.before.before)) (within_small (lit≤ tt) (low_within a.table at.form a.steps s.requires.steps_le_steps_allowed.0 a.level at.level_from at.level_to (as_bound a.entering) most_entering (lit≤ tt) s.requires.steps_le_steps_allowed.1)), subst SmallFed (sym (high c.before.before)) (within_small (lit≤ tt) (high_within a.table at.form a.steps s.requires.steps_le_steps_allowed.0 a.level at.level_from at.level_to (as_bound a.entering) most_entering (lit≤ tt) s.requires.steps_le_steps_allowed.1)))
+    let low : as_bound c.work_pass-low_columns.result.bound ≡ from_low c.args.table c.args.steps c.args.level (as_bound c.args.entering) =
+        let a = c.args in
+            low_is_lem a.table a.steps a.level (as_bound a.entering) c.stored_bound-low_high.ensures.0 c.work_pass-low_columns.ensures.bound in
+    let high : as_bound c.work_pass-high_columns.result.bound ≡ from_high c.args.table c.args.steps c.args.level (as_bound c.args.entering) =
+        let a = c.args in
+            high_is_lem a.table a.steps a.level (as_bound a.entering) c.stored_bound-high_low.ensures.0 c.stored_bound-high_high.ensures.0 c.work_pass-high_columns.ensures.bound in
+    let a = c.args in
+    let at = c.requires.at in
+    (subst SmallFed (sym low) (within_small (lit≤ tt) (low_within a.table at.form a.steps c.requires.steps_le_steps_allowed.0 a.level at.level_from at.level_to (as_bound a.entering) most_entering (lit≤ tt) c.requires.steps_le_steps_allowed.1)), subst SmallFed (sym high) (within_small (lit≤ tt) (high_within a.table at.form a.steps c.requires.steps_le_steps_allowed.0 a.level at.level_from at.level_to (as_bound a.entering) most_entering (lit≤ tt) c.requires.steps_le_steps_allowed.1)))
 
 pub returns : goal.returns
 returns c =
-    let both1 = c in
-    let w3 = both1 in
-    let w2 = w3 in
-    let w = w2 in
-    let s3 = w in
-    let s2 = s3 in
-    let s1 = s2 in
-    let a = s1.args in record {
-      right = c.both-2.ensures ∙ ap (λ (x : Bool). x && w3.work_pass-rows.result.right) both1.both.ensures ∙ right_is a.table a.steps a.level (as_bound a.entering) s1.stored_bound-low_high.ensures.0 w.work_pass-low_columns.ensures.right s2.stored_bound-high_low.ensures.0 s3.stored_bound-high_high.ensures.0 w2.work_pass-high_columns.ensures.right (low c.before.before.before.before.before.before.before) (high c.before.before.before.before.before.before) w3.work_pass-rows.ensures.right;
-      bound = gives_is a.table a.steps a.level (as_bound a.entering) (low c.before.before.before.before.before.before.before) (high c.before.before.before.before.before.before) w3.work_pass-rows.ensures.bound;
+    let low : as_bound c.work_pass-low_columns.result.bound ≡ from_low c.args.table c.args.steps c.args.level (as_bound c.args.entering) =
+        let a = c.args in
+            low_is_lem a.table a.steps a.level (as_bound a.entering) c.stored_bound-low_high.ensures.0 c.work_pass-low_columns.ensures.bound in
+    let high : as_bound c.work_pass-high_columns.result.bound ≡ from_high c.args.table c.args.steps c.args.level (as_bound c.args.entering) =
+        let a = c.args in
+            high_is_lem a.table a.steps a.level (as_bound a.entering) c.stored_bound-high_low.ensures.0 c.stored_bound-high_high.ensures.0 c.work_pass-high_columns.ensures.bound in
+    let a = c.args in record {
+      right = c.both-2.ensures ∙ ap (λ (x : Bool). x && c.work_pass-rows.result.right) c.both.ensures ∙ right_is a.table a.steps a.level (as_bound a.entering) c.stored_bound-low_high.ensures.0 c.work_pass-low_columns.ensures.right c.stored_bound-high_low.ensures.0 c.stored_bound-high_high.ensures.0 c.work_pass-high_columns.ensures.right low high c.work_pass-rows.ensures.right;
+      bound = gives_is a.table a.steps a.level (as_bound a.entering) low high c.work_pass-rows.ensures.bound;
     }
 
 pub stored_bound-low_high-requires : goal.stored_bound-low_high-requires

@@ -15,22 +15,13 @@ loop-level-init c = reached_first c.args.table c.args.steps c.requires.0 c.requi
 
 pub work_level-given-requires : goal.work_level-given-requires
 work_level-given-requires c =
-    let i = c in
-    let s = i in record {
-      at = record { form = s.requires.0; level_from = c.loop-level-test.true; level_to = i.loop-level.invariant.level; pass = (lit≤ tt, lit≤ tt) };
-      steps_le_steps_allowed = (s.requires.1, reached_small s.args.table s.args.steps i.loop-level.invariant);
+    record {
+      at = record { form = c.requires.0; level_from = c.loop-level-test.true; level_to = c.loop-level.invariant.level; pass = (lit≤ tt, lit≤ tt) };
+      steps_le_steps_allowed = (c.requires.1, reached_small c.args.table c.args.steps c.loop-level.invariant);
     }
 
 pub loop-level-preserved : goal.loop-level-preserved
-loop-level-preserved c =
-    let both1 = c in
-    let w = both1 in
-    let i = w in
-    let s = i in
-    reached_next s.args.table s.args.steps s.requires.0 s.requires.1 i.loop-level.level w.loop-level-test.true i.loop-level.invariant (both1.both-right.ensures ∙ ap (λ x. i.loop-level.right && x) w.work_level-given.ensures.right) w.work_level-given.ensures.bound
+loop-level-preserved c = reached_next c.args.table c.args.steps c.requires.0 c.requires.1 c.loop-level.level c.loop-level-test.true c.loop-level.invariant (c.both-right.ensures ∙ ap (λ x. c.loop-level.right && x) c.work_level-given.ensures.right) c.work_level-given.ensures.bound
 
 pub returns : goal.returns
-returns c =
-    let i = c in
-    let s = i in
-    reached_last s.args.table s.args.steps (omega arith) i.loop-level.invariant
+returns c = reached_last c.args.table c.args.steps (omega arith) c.loop-level.invariant

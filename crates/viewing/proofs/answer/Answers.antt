@@ -13,34 +13,27 @@ use Rattle.viewing.proofs.answer.Goals as goal
 
 pub coefficients_right-requires : goal.coefficients_right-requires
 coefficients_right-requires c =
-    let m = c in
-    let j = m in
-    let a = j.args in
-    lookable a.table a.w a.h a.plane.now a.first a.third (sym j.judge.ensures ∙ ap told m.in-Done.is) (sym m.room_right.ensures ∙ ap told c.in-Done-room_right.is)
+    let a = c.args in
+    lookable a.table a.w a.h a.plane.now a.first a.third (sym c.judge.ensures ∙ ap told c.in-Done.is) (sym c.room_right.ensures ∙ ap told c.in-Done-room_right.is)
 
 pub returns-in-Refused : goal.returns-in-Refused
 returns-in-Refused c =
-    let j = c in
-    let a = j.args in
-    sym (table_first a.table a.w a.h a.plane.now a.first a.third _ (sym j.judge.ensures ∙ ap told c.in-Refused.is))
+    let a = c.args in
+    sym (table_first a.table a.w a.h a.plane.now a.first a.third _ (sym c.judge.ensures ∙ ap told c.in-Refused.is))
 
 pub returns-in-Refused-room_right : goal.returns-in-Refused-room_right
 unfolding view_answer_of
 returns-in-Refused-room_right c =
-    let m = c in
-    let j = m in
-    let a = j.args in
-    sym (then_right (view_verdict a.table) _ (sym j.judge.ensures ∙ ap told m.in-Done.is)
+    let a = c.args in
+    sym (then_right (view_verdict a.table) _ (sym c.judge.ensures ∙ ap told c.in-Done.is)
     ∙ sized_then a.w a.h a.first (length a.plane.now) a.third _
-    ∙ then_refused (room_answer a.w a.h a.first (length a.plane.now) a.third) _ _ (sym m.room_right.ensures ∙ ap told c.in-Refused-room_right.is))
+    ∙ then_refused (room_answer a.w a.h a.first (length a.plane.now) a.third) _ _ (sym c.room_right.ensures ∙ ap told c.in-Refused-room_right.is))
 
 pub returns-in-Done-room_right : goal.returns-in-Done-room_right
 unfolding view_answer_of
 returns-in-Done-room_right c =
-    let m = c in
-    let j = m in
-    let a = j.args in
+    let a = c.args in
     c.coefficients_right.ensures
-    ∙ sym (then_right (view_verdict a.table) _ (sym j.judge.ensures ∙ ap told m.in-Done.is)
+    ∙ sym (then_right (view_verdict a.table) _ (sym c.judge.ensures ∙ ap told c.in-Done.is)
     ∙ sized_then a.w a.h a.first (length a.plane.now) a.third _
-    ∙ then_right (room_answer a.w a.h a.first (length a.plane.now) a.third) _ (sym m.room_right.ensures ∙ ap told c.in-Done-room_right.is))
+    ∙ then_right (room_answer a.w a.h a.first (length a.plane.now) a.third) _ (sym c.room_right.ensures ∙ ap told c.in-Done-room_right.is))

@@ -9,60 +9,42 @@ use Rattle.viewing.specs.WidthLaws.{RightOutside, right_none, last_level, look_p
 use Rattle.viewing.proofs.coefficients_right.Goals as goal
 
 pub details_fit-requires : goal.details_fit-requires
-details_fit-requires c =
-    let l = c in
-    let s = l in
-    look_ready s.args.table s.args.w s.args.h s.args.plane.now s.requires l.loop-k.k _ _ l.loop-k.invariant.1 l.loop-k.invariant.2 c.loop-k-test.true
+details_fit-requires c = look_ready c.args.table c.args.w c.args.h c.args.plane.now c.requires c.loop-k.k _ _ c.loop-k.invariant.1 c.loop-k.invariant.2 c.loop-k-test.true
 
 pub returns-else-details_fit : goal.returns-else-details_fit
-returns-else-details_fit c =
-    let l = c in
-    let s = l in
-    details_wrong s.args.table s.args.w s.args.h s.args.plane.now s.requires l.loop-k.k _ _ l.loop-k.invariant.1 l.loop-k.invariant.2 c.loop-k-test.true _ c.details_fit.ensures c.if-details_fit.false
+returns-else-details_fit c = details_wrong c.args.table c.args.w c.args.h c.args.plane.now c.requires c.loop-k.k _ _ c.loop-k.invariant.1 c.loop-k.invariant.2 c.loop-k-test.true _ c.details_fit.ensures c.if-details_fit.false
 
 pub overflow_add-across : goal.overflow_add-across
-overflow_add-across c =
-    let l = c in
-    let s = l in
-    omega (arith, (look_part s.args.table s.args.w s.args.h s.args.plane.now s.requires l.loop-k.k _ _ l.loop-k.invariant.1 l.loop-k.invariant.2).narrow, s.requires.width.1)
+overflow_add-across c = omega (arith, (look_part c.args.table c.args.w c.args.h c.args.plane.now c.requires c.loop-k.k _ _ c.loop-k.invariant.1 c.loop-k.invariant.2).narrow, c.requires.width.1)
 
 pub overflow_add-down : goal.overflow_add-down
-overflow_add-down c =
-    let l = c in
-    let s = l in
-    omega (arith, (look_part s.args.table s.args.w s.args.h s.args.plane.now s.requires l.loop-k.k _ _ l.loop-k.invariant.1 l.loop-k.invariant.2).few)
+overflow_add-down c = omega (arith, (look_part c.args.table c.args.w c.args.h c.args.plane.now c.requires c.loop-k.k _ _ c.loop-k.invariant.1 c.loop-k.invariant.2).few)
 
 pub loop-k-preserved : goal.loop-k-preserved
 loop-k-preserved c =
-    let l = c in
-    let s = l in (
+    (
       omega arith,
-      ap lows l.loop-k.invariant.1 ∙ side_more _ _,
-      ap lows l.loop-k.invariant.2 ∙ side_more _ _,
-      right_next s.args.table s.args.w s.args.h s.args.plane.now s.requires l.loop-k.k _ _ l.loop-k.invariant.1 l.loop-k.invariant.2 c.loop-k-test.true _ c.details_fit.ensures c.if-details_fit.true l.loop-k.invariant.3,
+      ap lows c.loop-k.invariant.1 ∙ side_more _ _,
+      ap lows c.loop-k.invariant.2 ∙ side_more _ _,
+      right_next c.args.table c.args.w c.args.h c.args.plane.now c.requires c.loop-k.k _ _ c.loop-k.invariant.1 c.loop-k.invariant.2 c.loop-k-test.true _ c.details_fit.ensures c.if-details_fit.true c.loop-k.invariant.3,
     )
 
 pub part_fits-requires : goal.part_fits-requires
 part_fits-requires c =
-    let l = c in
-    let s = l in record {
-      level = (last_level s.args.table s.args.w s.args.h s.args.plane.now s.requires, (omega arith, omega arith), (omega arith, omega arith));
-      by_index = (look_part s.args.table s.args.w s.args.h s.args.plane.now s.requires l.loop-k.k _ _ l.loop-k.invariant.1 l.loop-k.invariant.2).fits;
+    record {
+      level = (last_level c.args.table c.args.w c.args.h c.args.plane.now c.requires, (omega arith, omega arith), (omega arith, omega arith));
+      by_index = (look_part c.args.table c.args.w c.args.h c.args.plane.now c.requires c.loop-k.k _ _ c.loop-k.invariant.1 c.loop-k.invariant.2).fits;
     }
 
 pub returns-then-part_fits : goal.returns-then-part_fits
 returns-then-part_fits c =
-    let l = c in
-    let s = l in
-    let last : l.loop-k.k ≡ s.args.table.levels = omega arith in
-    low_low_done s.args.table s.args.w s.args.h s.args.plane.now s.requires l.loop-k.k _ _ l.loop-k.invariant.1 l.loop-k.invariant.2 last _ c.part_fits.ensures c.if-part_fits.true l.loop-k.invariant.3
+    let last : c.loop-k.k ≡ c.args.table.levels = omega arith in
+    low_low_done c.args.table c.args.w c.args.h c.args.plane.now c.requires c.loop-k.k _ _ c.loop-k.invariant.1 c.loop-k.invariant.2 last _ c.part_fits.ensures c.if-part_fits.true c.loop-k.invariant.3
 
 pub returns-else-part_fits : goal.returns-else-part_fits
 returns-else-part_fits c =
-    let l = c in
-    let s = l in
-    let last : l.loop-k.k ≡ s.args.table.levels = omega arith in
-    low_low_wrong s.args.table s.args.w s.args.h s.args.plane.now s.requires l.loop-k.k _ _ l.loop-k.invariant.1 l.loop-k.invariant.2 last _ c.part_fits.ensures c.if-part_fits.false
+    let last : c.loop-k.k ≡ c.args.table.levels = omega arith in
+    low_low_wrong c.args.table c.args.w c.args.h c.args.plane.now c.requires c.loop-k.k _ _ c.loop-k.invariant.1 c.loop-k.invariant.2 last _ c.part_fits.ensures c.if-part_fits.false
 
 pub loop-k-init : goal.loop-k-init
 loop-k-init c = (omega arith, sym (side_none _), sym (side_none _), right_none _ _ _ _)

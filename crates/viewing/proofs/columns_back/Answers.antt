@@ -11,61 +11,57 @@ use Rattle.viewing.proofs.columns_back.Goals as goal
 
 pub columns-requires : goal.columns-requires
 columns-requires c =
-    let s = c in
-    let a = s.args in
+    let a = c.args in
     let low = c.low_low_bits.ensures in
     let high = c.stored_bits.ensures in record {
       lies = (
         record {
-          few = s.requires.part.few;
-          narrow = omega (arith, s.requires.part.narrow);
-          in_plane = λ r i. omega (arith, s.requires.in_plane r i);
-          in_work = λ r i. omega (arith, s.requires.part.fits r i);
+          few = c.requires.part.few;
+          narrow = omega (arith, c.requires.part.narrow);
+          in_plane = λ r i. omega (arith, c.requires.in_plane r i);
+          in_work = λ r i. omega (arith, c.requires.part.fits r i);
         },
-        s.requires.some,
-        s.requires.spare,
+        c.requires.some,
+        c.requires.spare,
         low.1,
         high.1,
       );
-      by_index = (λ j i. as_type (λ u. Safe (sym low.0 u) (sym high.0 u) a.h (source (low_site a.table a.level a.width a.stride a.w) a.h (at a.plane.now) (at a.work.now) j)) (s.requires.safe.on_low_columns j i));
+      by_index = (λ j i. as_type (λ u. Safe (sym low.0 u) (sym high.0 u) a.h (source (low_site a.table a.level a.width a.stride a.w) a.h (at a.plane.now) (at a.work.now) j)) (c.requires.safe.on_low_columns j i));
     }
-
--- after the columns of row-low
-once : (c : goal.After-columns) → let a = c.args in at c.columns.new.1.0 ≡ lowed a.table a.level a.width a.stride a.w a.h (at a.plane.now) (at a.work.now)
-once c =
-    let a = c.args in
-    c.columns.ensures.work
-    ∙ (λ u. inverted (low_site a.table a.level a.width a.stride a.w) (c.low_low_bits.ensures.0 u) (c.stored_bits.ensures.0 u) (lows a.w) a.h (at a.plane.now) (at a.work.now))
 
 pub columns-requires-2 : goal.columns-requires-2
 columns-requires-2 c =
-    let o = c in
-    let s = o in
-    let a = s.args in
+    let once : let a = c.args in at c.columns.new.work ≡ lowed a.table a.level a.width a.stride a.w a.h (at a.plane.now) (at a.work.now) =
+        let a = c.args in
+            c.columns.ensures.work
+            ∙ (λ u. inverted (low_site a.table a.level a.width a.stride a.w) (c.low_low_bits.ensures.0 u) (c.stored_bits.ensures.0 u) (lows a.w) a.h (at a.plane.now) (at a.work.now)) in
+    let a = c.args in
     let low = c.stored_bits-2.ensures in
     let high = c.stored_bits-3.ensures in record {
       lies = (
         record {
-          few = s.requires.part.few;
-          narrow = omega (arith, s.requires.part.narrow);
-          in_plane = λ r i. omega (arith, s.requires.in_plane r i);
-          in_work = λ r i. omega (arith, s.requires.part.fits r i);
+          few = c.requires.part.few;
+          narrow = omega (arith, c.requires.part.narrow);
+          in_plane = λ r i. omega (arith, c.requires.in_plane r i);
+          in_work = λ r i. omega (arith, c.requires.part.fits r i);
         },
-        omega (arith, s.requires.some),
-        omega (arith, s.requires.spare),
+        omega (arith, c.requires.some),
+        omega (arith, c.requires.spare),
         low.1,
         high.1,
       );
-      by_index = (λ j i. as_type (λ u. Safe (sym low.0 u) (sym high.0 u) a.h (source (high_site a.table a.level a.width a.stride a.w) a.h (at a.plane.now) (sym (once c.before.before.before.before.before.before.before.before) u) j)) (s.requires.safe.on_high_columns j i));
+      by_index = (λ j i. as_type (λ u. Safe (sym low.0 u) (sym high.0 u) a.h (source (high_site a.table a.level a.width a.stride a.w) a.h (at a.plane.now) (sym once u) j)) (c.requires.safe.on_high_columns j i));
     }
 
 pub returns : goal.returns
 returns c =
-    let l = c in
-    let o = l in
-    let a = o.args in
-    l.columns-2.ensures.work
-    ∙ (λ u. inverted (high_site a.table a.level a.width a.stride a.w) (l.stored_bits-2.ensures.0 u) (l.stored_bits-3.ensures.0 u) (highs a.w) a.h (at a.plane.now) (once c.before.before.before.before.before.before.before.before.before.before.before.before u))
+    let once : let a = c.args in at c.columns.new.work ≡ lowed a.table a.level a.width a.stride a.w a.h (at a.plane.now) (at a.work.now) =
+        let a = c.args in
+            c.columns.ensures.work
+            ∙ (λ u. inverted (low_site a.table a.level a.width a.stride a.w) (c.low_low_bits.ensures.0 u) (c.stored_bits.ensures.0 u) (lows a.w) a.h (at a.plane.now) (at a.work.now)) in
+    let a = c.args in
+    c.columns-2.ensures.work
+    ∙ (λ u. inverted (high_site a.table a.level a.width a.stride a.w) (c.stored_bits-2.ensures.0 u) (c.stored_bits-3.ensures.0 u) (highs a.w) a.h (at a.plane.now) (once u))
 
 pub overflow_add-low : goal.overflow_add-low
 overflow_add-low c = omega (arith, c.requires.part.narrow, c.requires.part.wide)

@@ -9,18 +9,15 @@ use Rattle.viewing.proofs.finish_row.Goals as goal
 
 pub show_row-requires : goal.show_row-requires
 show_row-requires c =
-    let o = c in
-    let s = o in record {
-      le_depth = (s.requires.depth.0, s.requires.depth.1, omega (arith, s.requires.row.room), s.requires.room);
-      by_index = taken_small s.requires o.row.new.1.0 o.row.ensures.row;
+    record {
+      le_depth = (c.requires.depth.0, c.requires.depth.1, omega (arith, c.requires.row.room), c.requires.room);
+      by_index = taken_small c.requires c.row.new.line c.row.ensures.row;
     }
 
 pub returns : goal.returns
 returns c =
-    let q = c in
-    let o = q in
-    let a = o.args in record {
-      pixels = q.show_row.ensures ∙ patch_ext a.from a.w _ _ (λ k. get_or a.pixels.now k 0) (λ j h. ap (pixel a.depth) (o.row.ensures.row j h));
+    let a = c.args in record {
+      pixels = c.show_row.ensures ∙ patch_ext a.from a.w _ _ (λ k. get_or a.pixels.now k 0) (λ j h. ap (pixel a.depth) (c.row.ensures.row j h));
       work = c.clear_row.ensures;
     }
 

@@ -9,31 +9,24 @@ use Rattle.viewing.specs.RowSteps.{shown_rows, cleared_rows, row_ready, shown_mo
 use Rattle.viewing.proofs.finish_rows.Goals as goal
 
 pub finish_row-requires : goal.finish_row-requires
-finish_row-requires c =
-    let l = c in
-    let s = l in
-    row_ready s.requires l.loop-r.r c.loop-r-test.true l.loop-r.work l.loop-r.invariant.1 l.loop-r.invariant.5 _ _ l.loop-r.invariant.3 l.loop-r.invariant.2
+finish_row-requires c = row_ready c.requires c.loop-r.r c.loop-r-test.true c.loop-r.work c.loop-r.invariant.1 c.loop-r.invariant.5 _ _ c.loop-r.invariant.3 c.loop-r.invariant.2
 
 pub loop-r-preserved : goal.loop-r-preserved
 loop-r-preserved c =
-    let f = c in
-    let l = f in
-    let s = l in
-    let more = f.loop-r-test.true in (
+    let more = c.loop-r-test.true in (
       omega arith,
-      omega (arith, l.loop-r.invariant.1),
-      omega (arith, l.loop-r.invariant.2),
-      omega (arith, l.loop-r.invariant.3),
-      shown_more s.requires l.loop-r.r more l.loop-r.work l.loop-r.invariant.1 l.loop-r.invariant.5 _ _ _ l.loop-r.invariant.4 f.finish_row.ensures.pixels,
-      cleared_more s.requires l.loop-r.r more l.loop-r.work l.loop-r.invariant.1 l.loop-r.invariant.5 _ f.finish_row.ensures.work,
+      omega (arith, c.loop-r.invariant.1),
+      omega (arith, c.loop-r.invariant.2),
+      omega (arith, c.loop-r.invariant.3),
+      shown_more c.requires c.loop-r.r more c.loop-r.work c.loop-r.invariant.1 c.loop-r.invariant.5 _ _ _ c.loop-r.invariant.4 c.finish_row.ensures.pixels,
+      cleared_more c.requires c.loop-r.r more c.loop-r.work c.loop-r.invariant.1 c.loop-r.invariant.5 _ c.finish_row.ensures.work,
     )
 
 pub returns : goal.returns
 returns c =
-    let l = c in
-    let e : l.loop-r.r ≡ l.args.h = omega arith in record {
-      pixels = lines_to _ _ _ _ _ _ _ l.loop-r.invariant.4 e;
-      work = lines_to _ _ _ _ _ _ _ l.loop-r.invariant.5 e;
+    let e : c.loop-r.r ≡ c.args.h = omega arith in record {
+      pixels = lines_to _ _ _ _ _ _ _ c.loop-r.invariant.4 e;
+      work = lines_to _ _ _ _ _ _ _ c.loop-r.invariant.5 e;
     }
 
 pub loop-r-init : goal.loop-r-init

@@ -23,32 +23,38 @@ sum_is c =
     auto_exact (search (values, v_arg c.args.v 34359738368 c.requires.2, v_arg c.signed_power-half.result 524288 (half-size c)) depth 40) tt
     ∙ ap (λ (z : ℤ). c.args.v +ℤ z) c.signed_power-half.ensures
 
--- the wholes
-whole_is : (c : goal.After-floor_shifted-whole) → c.floor_shifted-whole.result ≡ floor_div (c.args.v +ℤ pos (2 ^ (node_bits - c.args.depth - 1))) (2 ^ (node_bits - c.args.depth))
-whole_is c = c.floor_shifted-whole.ensures ∙ ap (λ (z : ℤ). floor_div z (2 ^ (node_bits - c.args.depth))) (sum_is c.before)
-
-whole-size : (c : goal.After-floor_shifted-whole) → nat_abs c.floor_shifted-whole.result ≤ 2 ^ 37
-whole-size c =
-    let a = c.args in
-    let half = 2 ^ (node_bits - a.depth - 1) in
-    let small : half ≤ 2 ^ 19 = pow_mono {i = node_bits - a.depth - 1} {j = 19} (omega arith) in
-    let size : nat_abs (a.v +ℤ pos half) ≤ 2 ^ 36 = omega (arith, abs_add a.v (pos half), c.requires.2) in
-    subst (λ (z : ℤ). nat_abs z ≤ 2 ^ 37) (sym (whole_is c))
-    (le_trans (floor_abs (a.v +ℤ pos half) (2 ^ (node_bits - a.depth)) (2 ^ 36) (pow_pos (node_bits - a.depth)) size) (omega (arith, div-le_self (2 ^ 36) (2 ^ (node_bits - a.depth)))))
-
 -- the middle
 middle-size : (c : goal.After-signed_power) → nat_abs c.signed_power.result ≤ 4096
 middle-size c = subst (λ (z : ℤ). nat_abs z ≤ 4096) (sym c.signed_power.ensures) (power_small (c.args.depth - 1) (omega arith))
 
 pub returns : goal.returns
 returns c =
+    let whole_is : c.floor_shifted-whole.result ≡ floor_div (c.args.v +ℤ pos (2 ^ (node_bits - c.args.depth - 1))) (2 ^ (node_bits - c.args.depth)) =
+        c.floor_shifted-whole.ensures ∙ ap (λ (z : ℤ). floor_div z (2 ^ (node_bits - c.args.depth))) (sum_is c.before) in
+    let whole-size : nat_abs c.floor_shifted-whole.result ≤ 2 ^ 37 =
+        let a = c.args in
+            let half = 2 ^ (node_bits - a.depth - 1) in
+            let small : half ≤ 2 ^ 19 = pow_mono {i = node_bits - a.depth - 1} {j = 19} (omega arith) in
+            let size : nat_abs (a.v +ℤ pos half) ≤ 2 ^ 36 = omega (arith, abs_add a.v (pos half), c.requires.2) in
+            subst (λ (z : ℤ). nat_abs z ≤ 2 ^ 37) (sym whole_is)
+            (le_trans (floor_abs (a.v +ℤ pos half) (2 ^ (node_bits - a.depth)) (2 ^ 36) (pow_pos (node_bits - a.depth)) size) (omega (arith, div-le_self (2 ^ 36) (2 ^ (node_bits - a.depth))))) in
     let a = c.args in
-    auto_exact (search (values, v_arg c.floor_shifted-whole.result 137438953472 (whole-size c.before), v_arg c.signed_power.result 4096 (middle-size c)) depth 40) tt
-    ∙ (λ u. whole_is c.before u +ℤ c.signed_power.ensures u)
+    auto_exact (search (values, v_arg c.floor_shifted-whole.result 137438953472 whole-size, v_arg c.signed_power.result 4096 (middle-size c)) depth 40) tt
+    ∙ (λ u. whole_is u +ℤ c.signed_power.ensures u)
     ∙ grey_cut a.depth a.v (omega arith) (omega arith)
 
 pub overflow_add-v : goal.overflow_add-v
 overflow_add-v c = auto_fits (search (values, v_arg c.args.v 34359738368 c.requires.2, v_arg c.signed_power-half.result 524288 (half-size c)) depth 40) tt
 
 pub overflow_add-result : goal.overflow_add-result
-overflow_add-result c = auto_fits (search (values, v_arg c.floor_shifted-whole.result 137438953472 (whole-size c.before), v_arg c.signed_power.result 4096 (middle-size c)) depth 40) tt
+overflow_add-result c =
+    let whole_is : c.floor_shifted-whole.result ≡ floor_div (c.args.v +ℤ pos (2 ^ (node_bits - c.args.depth - 1))) (2 ^ (node_bits - c.args.depth)) =
+        c.floor_shifted-whole.ensures ∙ ap (λ (z : ℤ). floor_div z (2 ^ (node_bits - c.args.depth))) (sum_is c.before) in
+    let whole-size : nat_abs c.floor_shifted-whole.result ≤ 2 ^ 37 =
+        let a = c.args in
+            let half = 2 ^ (node_bits - a.depth - 1) in
+            let small : half ≤ 2 ^ 19 = pow_mono {i = node_bits - a.depth - 1} {j = 19} (omega arith) in
+            let size : nat_abs (a.v +ℤ pos half) ≤ 2 ^ 36 = omega (arith, abs_add a.v (pos half), c.requires.2) in
+            subst (λ (z : ℤ). nat_abs z ≤ 2 ^ 37) (sym whole_is)
+            (le_trans (floor_abs (a.v +ℤ pos half) (2 ^ (node_bits - a.depth)) (2 ^ 36) (pow_pos (node_bits - a.depth)) size) (omega (arith, div-le_self (2 ^ 36) (2 ^ (node_bits - a.depth))))) in
+    auto_fits (search (values, v_arg c.floor_shifted-whole.result 137438953472 whole-size, v_arg c.signed_power.result 4096 (middle-size c)) depth 40) tt

@@ -19,53 +19,44 @@ last-left {t} {w} {h} {p} {x₀} {x} k more left =
 
 pub level_back-requires : goal.level_back-requires
 level_back-requires c =
-    let b = c in
-    let l = b in
-    let s = l in
-    let a = s.args in
-    let t = l.loop-k in
+    let a = c.args in
+    let t = c.loop-k in
     let j : ℕ = t.k - 1 in
-    as_type (λ u. LevelReady a.table (sym (add-one j) u) a.plane.now t.work (length t.state) (length t.line) a.w (sym c.spread.ensures u) (sym b.side_after-across.ensures u) (sym b.side_after-down.ensures u))
-    (level_ready s.requires j (omega (arith, t.invariant.1)) _ _ (last-left t.k b.loop-k-test.true t.invariant.5) t.work _ _ (omega (arith, t.invariant.2)) (omega (arith, t.invariant.3)) (omega (arith, t.invariant.4)) refl)
+    as_type (λ u. LevelReady a.table (sym (add-one j) u) a.plane.now t.work (length t.state) (length t.line) a.w (sym c.spread.ensures u) (sym c.side_after-across.ensures u) (sym c.side_after-down.ensures u))
+    (level_ready c.requires j (omega (arith, t.invariant.1)) _ _ (last-left t.k c.loop-k-test.true t.invariant.5) t.work _ _ (omega (arith, t.invariant.2)) (omega (arith, t.invariant.3)) (omega (arith, t.invariant.4)) refl)
 
 pub loop-k-preserved : goal.loop-k-preserved
 loop-k-preserved c =
-    let v = c in
-    let d = v in
-    let b = d in
-    let l = b in
-    let s = l in
-    let a = s.args in
-    let t = l.loop-k in
+    let a = c.args in
+    let t = c.loop-k in
     let j : ℕ = t.k - 1 in
-    let more = b.loop-k-test.true in (
+    let more = c.loop-k-test.true in (
       omega arith,
       omega (arith, t.invariant.1),
       omega (arith, t.invariant.2),
       omega (arith, t.invariant.3),
       omega (arith, t.invariant.4),
-      left_less s.requires j (omega (arith, t.invariant.1)) _ _ (last-left t.k more t.invariant.5) _
-          (v.level_back.ensures ∙ (λ u. level_inverse a.table (add-one j u) a.w (d.spread.ensures u) (b.side_after-across.ensures u) (b.side_after-down.ensures u) (at a.plane.now) (at t.work))),
+      left_less c.requires j (omega (arith, t.invariant.1)) _ _ (last-left t.k more t.invariant.5) _
+          (c.level_back.ensures ∙ (λ u. level_inverse a.table (add-one j u) a.w (c.spread.ensures u) (c.side_after-across.ensures u) (c.side_after-down.ensures u) (at a.plane.now) (at t.work))),
     )
 
 pub returns : goal.returns
 returns c =
-    let l = c in
-    let a = l.args in
-    let e : l.loop-k.k ≡ 1 = omega (arith, l.loop-k.invariant.0) in
-    subst (λ (k : ℕ). LevelsLeft a.table a.w a.h k (at a.plane.now) (at a.work.now) (at l.loop-k.work)) e l.loop-k.invariant.5
+    let a = c.args in
+    let e : c.loop-k.k ≡ 1 = omega (arith, c.loop-k.invariant.0) in
+    subst (λ (k : ℕ). LevelsLeft a.table a.w a.h k (at a.plane.now) (at a.work.now) (at c.loop-k.work)) e c.loop-k.invariant.5
 
 pub loop-k-init : goal.loop-k-init
 loop-k-init c = (levels_some c.requires, omega arith, refl, refl, refl, left_all c.requires _)
 
 pub side_after-across-requires : goal.side_after-across-requires
-side_after-across-requires c = let s = c in (omega (arith, s.requires.stored.width.0), s.requires.stored.width.1)
+side_after-across-requires c = (omega (arith, c.requires.stored.width.0), c.requires.stored.width.1)
 
 pub side_after-down-requires : goal.side_after-down-requires
-side_after-down-requires c = let s = c in (omega (arith, s.requires.stored.height.0), s.requires.stored.height.1)
+side_after-down-requires c = (omega (arith, c.requires.stored.height.0), c.requires.stored.height.1)
 
 pub spread-requires : goal.spread-requires
-spread-requires c = let l = c in (l.requires.stored.width.1, omega (arith, l.loop-k.invariant.1, levels_few l.requires))
+spread-requires c = (c.requires.stored.width.1, omega (arith, c.loop-k.invariant.1, levels_few c.requires))
 
 pub shape_of-work : goal.shape_of-work
 shape_of-work c = omega (arith, c.loop-k.invariant.2)

@@ -8,7 +8,7 @@ pub stored_bits-requires : goal.stored_bits-requires
 stored_bits-requires c = (c.requires, (omega arith, omega arith), (omega arith, omega arith))
 
 pub returns-then-level-table : goal.returns-then-level-table
-returns-then-level-table c = let s = c in (c.stored_bits.ensures.0 ∙ low_stored s.args.table s.args.level c.if-level-table.true, c.stored_bits.ensures.1)
+returns-then-level-table c = (c.stored_bits.ensures.0 ∙ low_stored c.args.table c.args.level c.if-level-table.true, c.stored_bits.ensures.1)
 
 pub returns-else-level-table : goal.returns-else-level-table
-returns-else-level-table c = let s = c in (low_left s.args.table s.args.level c.if-level-table.false, omega arith)
+returns-else-level-table c = (low_left c.args.table c.args.level c.if-level-table.false, omega arith)

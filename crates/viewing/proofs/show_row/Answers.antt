@@ -14,16 +14,13 @@ use Rattle.viewing.proofs.show_row.Goals as goal
 
 pub shown-requires : goal.shown-requires
 shown-requires c =
-    let s = c in
-    let e = to_z-of_z {w = w64} {z = at s.args.values.now (s.args.first + c.loop-i.i)} (sfits_of c.shown-arg-1.given) in
-    (s.requires.le_depth.0, s.requires.le_depth.1, subst (λ (z : ℤ). nat_abs z ≤ limit) (sym e) (s.requires.by_index c.loop-i.i c.loop-i-test.true))
+    let e = to_z-of_z {w = w64} {z = at c.args.values.now (c.args.first + c.loop-i.i)} (sfits_of c.shown-arg-1.given) in
+    (c.requires.le_depth.0, c.requires.le_depth.1, subst (λ (z : ℤ). nat_abs z ≤ limit) (sym e) (c.requires.by_index c.loop-i.i c.loop-i-test.true))
 
 pub loop-i-preserved : goal.loop-i-preserved
 loop-i-preserved c =
-    let l = c in
-    let s = l in
-    let e = to_z-of_z {w = w64} {z = at s.args.values.now (s.args.first + l.loop-i.i)} (sfits_of c.shown-arg-1.given) in
-    (omega arith, simp length-set l.loop-i.invariant.1, patch_set s.args.from l.loop-i.i _ _ l.loop-i.pixels 0 l.loop-i.invariant.2 (omega arith) _ (c.shown.ensures ∙ ap (pixel s.args.depth) e))
+    let e = to_z-of_z {w = w64} {z = at c.args.values.now (c.args.first + c.loop-i.i)} (sfits_of c.shown-arg-1.given) in
+    (omega arith, simp length-set c.loop-i.invariant.1, patch_set c.args.from c.loop-i.i _ _ c.loop-i.pixels 0 c.loop-i.invariant.2 (omega arith) _ (c.shown.ensures ∙ ap (pixel c.args.depth) e))
 
 pub loop-i-init : goal.loop-i-init
 loop-i-init c = (omega arith, refl, patch_none _ 0 _ _ refl)

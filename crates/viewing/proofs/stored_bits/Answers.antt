@@ -4,6 +4,4 @@ use Rattle.fixed_stages.specs.LevelBits.{fraction_is}
 use Rattle.viewing.proofs.stored_bits.Goals as goal
 
 pub returns : goal.returns
-returns c =
-    let s = c in
-    fraction_is s.args.table s.args.level s.requires.0 s.args.pass s.requires.1 s.args.node s.requires.2 c.fraction_bits.ensures
+returns c = fraction_is c.args.table c.args.level c.requires.0 c.args.pass c.requires.1 c.args.node c.requires.2 c.fraction_bits.ensures

@@ -9,30 +9,26 @@ use Rattle.viewing.specs.CallLaws.{call_room}
 use Rattle.viewing.specs.CallSteps.{pixels_kept, work_kept, pixels_done, work_done, view_ready}
 use Rattle.viewing.proofs.view.Goals as goal
 
--- the call is not refused
-done : (c : goal.In-Done) → let a = c.args in view_answer a.table a.w a.h a.plane.now a.pixels.now a.work.now ≡ passed
-done c =
-    let a = c.args in
-    sym c.answer.ensures ∙ ap told c.in-Done.is
-
 pub show-requires : goal.show-requires
 show-requires c =
-    let d = c in
-    let a = d.args in
-    (view_ready a.table a.w a.h a.plane.now a.pixels.now a.work.now (done c.before.before.before.before) _ _ (omega arith) (omega arith) (omega arith), (call_room a.table a.w a.h a.plane.now a.pixels.now a.work.now (done c.before.before.before.before)).first)
+    let done : let a = c.args in view_answer a.table a.w a.h a.plane.now a.pixels.now a.work.now ≡ passed =
+        let a = c.args in
+            sym c.answer.ensures ∙ ap told c.in-Done.is in
+    let a = c.args in
+    (view_ready a.table a.w a.h a.plane.now a.pixels.now a.work.now done _ _ (omega arith) (omega arith) (omega arith), (call_room a.table a.w a.h a.plane.now a.pixels.now a.work.now done).first)
 
 pub returns-in-Refused : goal.returns-in-Refused
 returns-in-Refused c =
-    let m = c in
-    let a = m.args in
-    let e = sym m.answer.ensures ∙ ap told c.in-Refused.is in
+    let a = c.args in
+    let e = sym c.answer.ensures ∙ ap told c.in-Refused.is in
     (sym e, (pixels_kept a.table a.w a.h a.plane.now a.pixels.now a.work.now e, work_kept a.table a.w a.h a.plane.now a.pixels.now a.work.now e))
 
 pub returns-in-Done : goal.returns-in-Done
 returns-in-Done c =
-    let s = c in
-    let d = s in
-    let a = d.args in (
-      sym (done c.before.before.before.before.before.before.before.before.before.before),
-      (s.show.ensures.pixels ∙ pixels_done a.table a.w a.h a.plane.now a.pixels.now a.work.now (done c.before.before.before.before.before.before.before.before.before.before), s.show.ensures.work ∙ work_done a.table a.w a.h a.plane.now a.pixels.now a.work.now (done c.before.before.before.before.before.before.before.before.before.before)),
+    let done : let a = c.args in view_answer a.table a.w a.h a.plane.now a.pixels.now a.work.now ≡ passed =
+        let a = c.args in
+            sym c.answer.ensures ∙ ap told c.in-Done.is in
+    let a = c.args in (
+      sym done,
+      (c.show.ensures.pixels ∙ pixels_done a.table a.w a.h a.plane.now a.pixels.now a.work.now done, c.show.ensures.work ∙ work_done a.table a.w a.h a.plane.now a.pixels.now a.work.now done),
     )

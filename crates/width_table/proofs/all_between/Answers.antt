@@ -9,21 +9,18 @@ use Rattle.width_table.proofs.all_between.Goals as goal
 
 pub returns-else-in_between : goal.returns-else-in_between
 returns-else-in_between c =
-    let l = c in
-    let a = l.args in
-    sym (l.loop-i.invariant.1 ∙ every_stops (between a.least a.most) a.numbers.now 0 l.loop-i.i (omega arith) (sym c.in_between.ensures ∙ c.if-in_between.false))
+    let a = c.args in
+    sym (c.loop-i.invariant.1 ∙ every_stops (between a.least a.most) a.numbers.now 0 c.loop-i.i (omega arith) (sym c.in_between.ensures ∙ c.if-in_between.false))
 
 pub loop-i-preserved : goal.loop-i-preserved
 loop-i-preserved c =
-    let l = c in
-    let a = l.args in
-    (omega arith, l.loop-i.invariant.1 ∙ every_next (between a.least a.most) a.numbers.now 0 l.loop-i.i (omega arith) (sym c.in_between.ensures ∙ c.if-in_between.true))
+    let a = c.args in
+    (omega arith, c.loop-i.invariant.1 ∙ every_next (between a.least a.most) a.numbers.now 0 c.loop-i.i (omega arith) (sym c.in_between.ensures ∙ c.if-in_between.true))
 
 pub returns : goal.returns
 returns c =
-    let l = c in
-    let a = l.args in
-    sym (l.loop-i.invariant.1 ∙ every_ends (between a.least a.most) a.numbers.now l.loop-i.i (omega arith))
+    let a = c.args in
+    sym (c.loop-i.invariant.1 ∙ every_ends (between a.least a.most) a.numbers.now c.loop-i.i (omega arith))
 
 pub loop-i-init : goal.loop-i-init
 loop-i-init c = (omega arith, refl)

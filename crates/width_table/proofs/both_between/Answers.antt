@@ -11,6 +11,5 @@ returns-else-in_between c =
 
 pub returns : goal.returns
 returns c =
-    let i = c in
-    let a = i.args in
-    c.in_between-2.ensures ∙ sym (ap (λ (t : Bool). t && between a.bottom a.top a.b) (sym i.in_between.ensures ∙ i.if-in_between.true))
+    let a = c.args in
+    c.in_between-2.ensures ∙ sym (ap (λ (t : Bool). t && between a.bottom a.top a.b) (sym c.in_between.ensures ∙ c.if-in_between.true))

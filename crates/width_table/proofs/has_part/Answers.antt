@@ -11,6 +11,5 @@ returns-else-has_pass c =
 
 pub returns : goal.returns
 returns c =
-    let i = c in
-    let a = i.args in
-    c.in_between.ensures ∙ sym (ap (λ (t : Bool). t && between 1 a.parts a.part) (sym i.has_pass.ensures ∙ i.if-has_pass.true))
+    let a = c.args in
+    c.in_between.ensures ∙ sym (ap (λ (t : Bool). t && between 1 a.parts a.part) (sym c.has_pass.ensures ∙ c.if-has_pass.true))

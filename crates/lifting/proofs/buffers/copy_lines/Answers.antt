@@ -9,17 +9,15 @@ use Rattle.lifting.proofs.buffers.copy_lines.Goals as goal
 
 pub returns-then-leap-m : goal.returns-then-leap-m
 returns-then-leap-m c =
-    let t = c in
-    let a = t in
-    let e = t.if-step-m.true in
-    c.copy_run.ensures ∙ packed_is a.args.to a.args.m a.args.n a.args.leap _ _ _ t.if-leap-m.true
-    (λ i j p g. ap (at a.args.src.now) (omega (arith, ap (λ (u : ℕ). i * u) e)))
+    let e = c.if-step-m.true in
+    c.copy_run.ensures ∙ packed_is c.args.to c.args.m c.args.n c.args.leap _ _ _ c.if-leap-m.true
+    (λ i j p g. ap (at c.args.src.now) (omega (arith, ap (λ (u : ℕ). i * u) e)))
 
 pub overflow_mul-n : goal.overflow_mul-n
 overflow_mul-n c = omega (arith, packed_fits c.requires.0 c.if-step-m.true)
 
 pub copy_run-requires : goal.copy_run-requires
-copy_run-requires c = let a = c in omega (arith, packed_fits a.requires.0 c.if-step-m.true, packed_fits a.requires.1 c.if-leap-m.true)
+copy_run-requires c = omega (arith, packed_fits c.requires.0 c.if-step-m.true, packed_fits c.requires.1 c.if-leap-m.true)
 
 pub loop-i-init : goal.loop-i-init
 loop-i-init c = lines_filling_none _ _ _ _ _ _

@@ -7,7 +7,5 @@ use Rattle.lifting.proofs.buffers.copy_pair.Goals as goal
 
 pub returns : goal.returns
 returns c =
-    let g = c in
-    let f = g in
-    let a = f.args in
-    g.copy_run-2.ensures ∙ ap (patch a.d a.m (λ j. at a.src.now (a.b + j))) f.copy_run.ensures
+    let a = c.args in
+    c.copy_run-2.ensures ∙ ap (patch a.d a.m (λ j. at a.src.now (a.b + j))) c.copy_run.ensures

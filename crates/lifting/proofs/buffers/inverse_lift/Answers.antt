@@ -12,10 +12,10 @@ on_lows-requires c = record {
     }
 
 pub on_highs-requires : goal.on_highs-requires
-on_highs-requires c = let f = c in let a = f in record {
-      buffer = buffer_as a.requires.buffer _ (omega arith);
-      at_highs = subst (AtHighs (Safe a.args.pair.highs) a.args.s a.args.n) (sym f.on_lows.ensures) a.requires.inverse_lift_safe.on_highs_lem;
+on_highs-requires c = record {
+      buffer = buffer_as c.requires.buffer _ (omega arith);
+      at_highs = subst (AtHighs (Safe c.args.pair.highs) c.args.s c.args.n) (sym c.on_lows.ensures) c.requires.inverse_lift_safe.on_highs_lem;
     }
 
 pub returns : goal.returns
-returns c = let g = c in let f = g in let a = f in g.on_highs.ensures ∙ ap (highs_done (applied a.args.pair.highs) a.args.s a.args.n) f.on_lows.ensures
+returns c = c.on_highs.ensures ∙ ap (highs_done (applied c.args.pair.highs) c.args.s c.args.n) c.on_lows.ensures

@@ -12,10 +12,10 @@ on_highs-requires c = record {
     }
 
 pub on_lows-requires : goal.on_lows-requires
-on_lows-requires c = let f = c in let a = f in record {
-      buffer = buffer_as a.requires.buffer _ (omega arith);
-      at_lows = subst (AtLows (Safe a.args.pair.lows) a.args.s a.args.n) (sym f.on_highs.ensures) a.requires.lift_safe.on_lows_lem;
+on_lows-requires c = record {
+      buffer = buffer_as c.requires.buffer _ (omega arith);
+      at_lows = subst (AtLows (Safe c.args.pair.lows) c.args.s c.args.n) (sym c.on_highs.ensures) c.requires.lift_safe.on_lows_lem;
     }
 
 pub returns : goal.returns
-returns c = let g = c in let f = g in let a = f in g.on_lows.ensures ∙ ap (lows_done (applied a.args.pair.lows) a.args.s a.args.n) f.on_highs.ensures
+returns c = c.on_lows.ensures ∙ ap (lows_done (applied c.args.pair.lows) c.args.s c.args.n) c.on_highs.ensures

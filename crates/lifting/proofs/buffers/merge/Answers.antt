@@ -6,10 +6,8 @@ use Rattle.lifting.proofs.buffers.merge.Goals as goal
 
 pub returns-then-stride-eq1 : goal.returns-then-stride-eq1
 returns-then-stride-eq1 c =
-    let f = c in
-    let a = f in
-    let e = f.if-stride-eq1.true in
-    woven_row _ _ _ _ (at a.args.buffer.now) _ e (one_column a.requires e) _ f.merge_lines.ensures
+    let e = c.if-stride-eq1.true in
+    woven_row _ _ _ _ (at c.args.buffer.now) _ e (one_column c.requires e) _ c.merge_lines.ensures
 
 pub merge_lines-requires : goal.merge_lines-requires
 merge_lines-requires c = as_row c.requires c.if-stride-eq1.true

@@ -17,15 +17,10 @@ pub loop-i-init : goal.loop-i-init
 loop-i-init c = (omega arith, refl, lines_none _ _ _ _)
 
 pub loop-i-preserved : goal.loop-i-preserved
-loop-i-preserved c =
-    let t = c in
-    (omega arith, omega arith, woven_pair _ _ _ _ (at t.args.buffer.now) _ _ _ _ t.loop-i.invariant.2 c.copy_pair.ensures)
+loop-i-preserved c = (omega arith, omega arith, woven_pair _ _ _ _ (at c.args.buffer.now) _ _ _ _ c.loop-i.invariant.2 c.copy_pair.ensures)
 
 pub returns-then-high-low : goal.returns-then-high-low
-returns-then-high-low c =
-    let t = c in
-    let a = t in
-    woven_last _ _ _ _ (at a.args.buffer.now) _ c.if-high-low.true _ _ (lines_to _ _ _ (2 * highs a.args.n) _ _ _ t.loop-i.invariant.2 (omega arith)) c.copy_run.ensures
+returns-then-high-low c = woven_last _ _ _ _ (at c.args.buffer.now) _ c.if-high-low.true _ _ (lines_to _ _ _ (2 * highs c.args.n) _ _ _ c.loop-i.invariant.2 (omega arith)) c.copy_run.ensures
 
 pub returns-else-high-low : goal.returns-else-high-low
 returns-else-high-low c = lines_to _ _ _ _ _ _ _ c.loop-i.invariant.2 (omega arith)

@@ -17,72 +17,81 @@ f a = applied a.args.step
 abbrev P : goal.Start → ℤ → ℤ → ℤ → Type 0
 P a = Safe a.args.step
 
-counts : (a : goal.Start) → Sizes a.args.s a.args.n
-counts a = sizes a.args.s a.args.n a.requires.buffer.two
-
 pub end_run-requires : goal.end_run-requires
 end_run-requires c =
-    let a = c in record {
-      runs = first_low_runs a.requires.buffer _ refl;
-      safe_run = first_low_asks (f a) (P a) a.requires.buffer a.requires.at_lows;
+    record {
+      runs = first_low_runs c.requires.buffer _ refl;
+      safe_run = first_low_asks (f c) (P c) c.requires.buffer c.requires.at_lows;
     }
-
-one : (c : goal.After-end_run) → let a = c in at c.end_run.new.0 ≡ some_lows (f a) a.requires.buffer a.args.s
-one c = let a = c in first_lows_lem (f a) (P a) a.requires.buffer _ c.end_run.ensures
 
 pub lift_run-requires : goal.lift_run-requires
 lift_run-requires c =
-    let g = c in
-    let a = g in record {
-      runs = middle_low_runs a.requires.buffer _ (omega arith);
-      safe_run = middle_low_asks (f a) (P a) a.requires.buffer _ (one c.before.before) a.requires.at_lows;
+    let one : at c.end_run.new.buf ≡ some_lows (f c) c.requires.buffer c.args.s =
+        first_lows_lem (f c) (P c) c.requires.buffer _ c.end_run.ensures in
+    record {
+      runs = middle_low_runs c.requires.buffer _ (omega arith);
+      safe_run = middle_low_asks (f c) (P c) c.requires.buffer _ one c.requires.at_lows;
     }
-
-most : (c : goal.After-lift_run) → let a = c in
-    at c.lift_run.new.0 ≡ some_lows (f a) a.requires.buffer (highs a.args.n * a.args.s)
-most c =
-    let g = c in
-    let a = g in
-    middle_lows (f a) (P a) a.requires.buffer _ (one c.before.before.before) _ c.lift_run.ensures
 
 pub end_run-requires-then-high-low : goal.end_run-requires-then-high-low
 end_run-requires-then-high-low c =
-    let g = c in
-    let a = g in
+    let one : at c.end_run.new.buf ≡ some_lows (f c) c.requires.buffer c.args.s =
+        first_lows_lem (f c) (P c) c.requires.buffer _ c.end_run.ensures in
+    let most : at c.lift_run.new.buf ≡ some_lows (f c) c.requires.buffer (highs c.args.n * c.args.s) =
+        middle_lows (f c) (P c) c.requires.buffer _ one _ c.lift_run.ensures in
     let odd = c.if-high-low.true in record {
-      runs = last_low_runs a.requires.buffer _ (omega arith) odd;
-      safe_run = last_low_asks (f a) (P a) a.requires.buffer _ (most c.before.before.before) odd a.requires.at_lows;
+      runs = last_low_runs c.requires.buffer _ (omega arith) odd;
+      safe_run = last_low_asks (f c) (P c) c.requires.buffer _ most odd c.requires.at_lows;
     }
 
 pub returns-then-high-low : goal.returns-then-high-low
 returns-then-high-low c =
-    let g = c in
-    let a = g in
-    all_lows (f a) (P a) a.requires.buffer _ (most c.before.before.before.before.before) c.if-high-low.true _ c.end_run-then-high-low.ensures
+    let one : at c.end_run.new.buf ≡ some_lows (f c) c.requires.buffer c.args.s =
+        first_lows_lem (f c) (P c) c.requires.buffer _ c.end_run.ensures in
+    let most : at c.lift_run.new.buf ≡ some_lows (f c) c.requires.buffer (highs c.args.n * c.args.s) =
+        middle_lows (f c) (P c) c.requires.buffer _ one _ c.lift_run.ensures in
+    all_lows (f c) (P c) c.requires.buffer _ most c.if-high-low.true _ c.end_run-then-high-low.ensures
 
 pub returns-else-high-low : goal.returns-else-high-low
 returns-else-high-low c =
-    let g = c in
-    let a = g in
-    no_last_low (f a) (P a) a.requires.buffer _ (most c.before.before) (λ h. omega arith)
+    let one : at c.end_run.new.buf ≡ some_lows (f c) c.requires.buffer c.args.s =
+        first_lows_lem (f c) (P c) c.requires.buffer _ c.end_run.ensures in
+    let most : at c.lift_run.new.buf ≡ some_lows (f c) c.requires.buffer (highs c.args.n * c.args.s) =
+        middle_lows (f c) (P c) c.requires.buffer _ one _ c.lift_run.ensures in
+    no_last_low (f c) (P c) c.requires.buffer _ most (λ h. omega arith)
 
 pub overflow_add-low : goal.overflow_add-low
 overflow_add-low c = omega (arith, c.requires.buffer.few, c.requires.buffer.two)
 
 pub overflow_mul-top : goal.overflow_mul-top
-overflow_mul-top c = let z = counts c in omega arith
+overflow_mul-top c =
+    let counts : Sizes c.args.s c.args.n =
+        sizes c.args.s c.args.n c.requires.buffer.two in
+    let z = counts in omega arith
 
 pub overflow_sub-most : goal.overflow_sub-most
 overflow_sub-most c = omega (arith, c.requires.buffer.few, c.requires.buffer.two)
 
 pub overflow_mul-most : goal.overflow_mul-most
-overflow_mul-most c = let z = counts c in omega arith
+overflow_mul-most c =
+    let counts : Sizes c.args.s c.args.n =
+        sizes c.args.s c.args.n c.requires.buffer.two in
+    let z = counts in omega arith
 
 pub overflow_add-top : goal.overflow_add-top
-overflow_add-top c = let z = counts c.before.before.before.before in omega arith
+overflow_add-top c =
+    let counts : Sizes c.args.s c.args.n =
+        sizes c.args.s c.args.n c.requires.buffer.two in
+    let z = counts in omega arith
 
 pub overflow_mul-high : goal.overflow_mul-high
-overflow_mul-high c = let z = counts c.before.before.before.before.before.before.before.before in omega arith
+overflow_mul-high c =
+    let counts : Sizes c.args.s c.args.n =
+        sizes c.args.s c.args.n c.requires.buffer.two in
+    let z = counts in omega arith
 
 pub overflow_add-top-then-high-low : goal.overflow_add-top-then-high-low
-overflow_add-top-then-high-low c = let z = counts c.before.before.before.before.before.before.before.before in omega arith
+overflow_add-top-then-high-low c =
+    let counts : Sizes c.args.s c.args.n =
+        sizes c.args.s c.args.n c.requires.buffer.two in
+    let z = counts in omega arith

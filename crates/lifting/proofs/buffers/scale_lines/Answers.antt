@@ -11,18 +11,15 @@ use Rattle.lifting.proofs.buffers.scale_lines.Goals as goal
 
 pub scale_run-requires : goal.scale_run-requires
 scale_run-requires c =
-    let a = c in
-    let x = at a.args.src.now in record {
-      n_in_bounds = omega (arith, packed_fits a.requires.lying.0 refl, packed_fits a.requires.lying.1 c.if-leap-m.true);
-      by_index = by_line (λ p. FactorSafe a.args.g (x (a.args.from + p))) a.args.m a.args.n (λ i j h g. subst (λ (u : ℕ). FactorSafe a.args.g (x u)) (omega arith) (a.requires.by_index i j h g));
+    let x = at c.args.src.now in record {
+      n_in_bounds = omega (arith, packed_fits c.requires.lying.0 refl, packed_fits c.requires.lying.1 c.if-leap-m.true);
+      by_index = by_line (λ p. FactorSafe c.args.g (x (c.args.from + p))) c.args.m c.args.n (λ i j h g. subst (λ (u : ℕ). FactorSafe c.args.g (x u)) (omega arith) (c.requires.by_index i j h g));
     }
 
 pub returns-then-leap-m : goal.returns-then-leap-m
 returns-then-leap-m c =
-    let t = c in
-    let a = t in
-    c.scale_run.ensures ∙ packed_is a.args.to a.args.m a.args.n a.args.leap _ _ _ t.if-leap-m.true
-    (λ i j p g. ap (λ (u : ℕ). scaled_by a.args.g (at a.args.src.now u)) (omega arith))
+    c.scale_run.ensures ∙ packed_is c.args.to c.args.m c.args.n c.args.leap _ _ _ c.if-leap-m.true
+    (λ i j p g. ap (λ (u : ℕ). scaled_by c.args.g (at c.args.src.now u)) (omega arith))
 
 pub overflow_mul-n : goal.overflow_mul-n
 overflow_mul-n c = omega (arith, packed_fits c.requires.lying.0 refl)

@@ -25,54 +25,47 @@ kept from stride w r narrow new x y is j h = ap (λ (g : ℕ → ℤ). g (line_a
     ∙ lines_out (line_at from stride) w new x r _ (λ u v a b. lines_apart from stride w u r narrow (omega arith) v j b h)
 
 pub overflow_mul-h : goal.overflow_mul-h
-overflow_mul-h c = let a = c in omega (arith, one-run a.args.h a.requires.part c.if-stride-w.true)
+overflow_mul-h c = omega (arith, one-run c.args.h c.requires.part c.if-stride-w.true)
 
 pub scale_here-requires : goal.scale_here-requires
 scale_here-requires c =
-    let a = c in
     let e = c.if-stride-w.true in
-    let x = at a.args.plane.now in record {
-      n_in_bounds = one-run a.args.h a.requires.part e;
-      by_index = by_line (λ p. FactorSafe a.args.g (x (a.args.from + p))) a.args.w a.args.h
-          (λ r j p q. subst (λ (u : ℕ). FactorSafe a.args.g (x u)) (omega (arith, ap (λ (t : ℕ). r * t) e)) (a.requires.by_index r j p q));
+    let x = at c.args.plane.now in record {
+      n_in_bounds = one-run c.args.h c.requires.part e;
+      by_index = by_line (λ p. FactorSafe c.args.g (x (c.args.from + p))) c.args.w c.args.h
+          (λ r j p q. subst (λ (u : ℕ). FactorSafe c.args.g (x u)) (omega (arith, ap (λ (t : ℕ). r * t) e)) (c.requires.by_index r j p q));
     }
 
 pub returns-then-stride-w : goal.returns-then-stride-w
 returns-then-stride-w c =
-    let t = c in
-    let a = t in
-    let e = t.if-stride-w.true in
-    c.scale_here.ensures ∙ packed_is a.args.from a.args.w a.args.h a.args.stride _ _ _ e
-    (λ r j p q. ap (λ (u : ℕ). scaled_by a.args.g (at a.args.plane.now u)) (omega (arith, ap (λ (t : ℕ). r * t) e)))
+    let e = c.if-stride-w.true in
+    c.scale_here.ensures ∙ packed_is c.args.from c.args.w c.args.h c.args.stride _ _ _ e
+    (λ r j p q. ap (λ (u : ℕ). scaled_by c.args.g (at c.args.plane.now u)) (omega (arith, ap (λ (c : ℕ). r * c) e)))
 
 pub loop-r-init : goal.loop-r-init
 loop-r-init c = (omega arith, refl, lines_none _ _ _ _)
 
 pub overflow_mul-r : goal.overflow_mul-r
-overflow_mul-r c = let t = c in omega (arith, t.requires.part.fits t.loop-r.r c.loop-r-test.true)
+overflow_mul-r c = omega (arith, c.requires.part.fits c.loop-r.r c.loop-r-test.true)
 
 pub overflow_add-from : goal.overflow_add-from
-overflow_add-from c = let t = c in omega (arith, t.requires.part.fits t.loop-r.r c.loop-r-test.true)
+overflow_add-from c = omega (arith, c.requires.part.fits c.loop-r.r c.loop-r-test.true)
 
 pub scale_here-requires-in-loop-r : goal.scale_here-requires-in-loop-r
 scale_here-requires-in-loop-r c =
-    let t = c in
-    let a = t in
-    let r = t.loop-r.r in
+    let r = c.loop-r.r in
     let p = c.loop-r-test.true in record {
-      n_in_bounds = omega (arith, a.requires.part.fits r p);
-      by_index = λ j q. subst (FactorSafe a.args.g) (sym (kept a.args.from a.args.stride a.args.w r (omega (arith, a.requires.part.narrow)) _ _ _ t.loop-r.invariant.2 j q)) (a.requires.by_index r j p q);
+      n_in_bounds = omega (arith, c.requires.part.fits r p);
+      by_index = λ j q. subst (FactorSafe c.args.g) (sym (kept c.args.from c.args.stride c.args.w r (omega (arith, c.requires.part.narrow)) _ _ _ c.loop-r.invariant.2 j q)) (c.requires.by_index r j p q);
     }
 
 pub loop-r-preserved : goal.loop-r-preserved
 loop-r-preserved c =
-    let t = c in
-    let a = t in
-    let r = t.loop-r.r in (
+    let r = c.loop-r.r in (
       omega arith,
       omega arith,
-      lines_more _ _ _ _ r _ _ _ t.loop-r.invariant.2 c.scale_here-in-loop-r.ensures
-          (λ j q. ap (scaled_by a.args.g) (kept a.args.from a.args.stride a.args.w r (omega (arith, a.requires.part.narrow)) _ _ _ t.loop-r.invariant.2 j q)),
+      lines_more _ _ _ _ r _ _ _ c.loop-r.invariant.2 c.scale_here-in-loop-r.ensures
+          (λ j q. ap (scaled_by c.args.g) (kept c.args.from c.args.stride c.args.w r (omega (arith, c.requires.part.narrow)) _ _ _ c.loop-r.invariant.2 j q)),
     )
 
 pub returns : goal.returns

@@ -11,11 +11,9 @@ use Rattle.lifting.proofs.buffers.split.Goals as goal
 
 pub returns-then-stride-eq1 : goal.returns-then-stride-eq1
 returns-then-stride-eq1 c =
-    let f = c in
-    let a = f in
-    let e = f.if-stride-eq1.true in
-    let x = at a.args.plane.now in
-    as_type (λ u. BufferHolds (sym (one_column a.requires e) u) a.args.n (λ j. evens (column_of (sym e u) a.args.from x j)) (λ j. odds (column_of (sym e u) a.args.from x j)) (at f.split_lines.new.1.0)) f.split_lines.ensures
+    let e = c.if-stride-eq1.true in
+    let x = at c.args.plane.now in
+    as_type (λ u. BufferHolds (sym (one_column c.requires e) u) c.args.n (λ j. evens (column_of (sym e u) c.args.from x j)) (λ j. odds (column_of (sym e u) c.args.from x j)) (at c.split_lines.new.buffer)) c.split_lines.ensures
 
 pub split_lines-requires : goal.split_lines-requires
 split_lines-requires c = as_row c.requires c.if-stride-eq1.true

@@ -19,25 +19,20 @@ loop-i-init c = (omega arith, refl, filled_none _ _ _ _ _)
 
 pub loop-i-preserved : goal.loop-i-preserved
 loop-i-preserved c =
-    let f = c in
-    let t = f in
-    let a = t in
-    let i = t.loop-i.i in
-    let z = two_lines_lem a.requires i t.loop-i-test.true in
-    let x = at a.args.plane.now in (
+    let i = c.loop-i.i in
+    let z = two_lines_lem c.requires i c.loop-i-test.true in
+    let x = at c.args.plane.now in (
       omega arith,
       omega arith,
-      filled_high (filled_low t.loop-i.invariant.2 _ _ refl (λ j g. ap x (omega (arith, z.even))) (omega (arith, z.low))) _ _ f.copy_pair.ensures (λ j g. ap x (omega (arith, z.odd))) (omega (arith, z.low)),
+      filled_high (filled_low c.loop-i.invariant.2 _ _ refl (λ j g. ap x (omega (arith, z.even))) (omega (arith, z.low))) _ _ c.copy_pair.ensures (λ j g. ap x (omega (arith, z.odd))) (omega (arith, z.low)),
     )
 
 pub returns-then-high-low : goal.returns-then-high-low
 returns-then-high-low c =
-    let t = c in
-    let a = t in
-    let z = last_line a.requires c.if-high-low.true in
-    let x = at a.args.plane.now in
-    let n = a.args.n in
-    filled_to (filled_low {a = highs n} {b = highs n} (filled_to t.loop-i.invariant.2 (omega arith) (omega arith)) _ _ c.copy_run.ensures (λ j g. ap x (omega arith)) (omega (arith, z.low))) (omega arith) (omega arith)
+    let z = last_line c.requires c.if-high-low.true in
+    let x = at c.args.plane.now in
+    let n = c.args.n in
+    filled_to (filled_low {c = highs n} {b = highs n} (filled_to c.loop-i.invariant.2 (omega arith) (omega arith)) _ _ c.copy_run.ensures (λ j g. ap x (omega arith)) (omega (arith, z.low))) (omega arith) (omega arith)
 
 pub returns-else-high-low : goal.returns-else-high-low
 returns-else-high-low c = filled_to c.loop-i.invariant.2 (omega arith) (omega arith)

@@ -6,12 +6,6 @@ use lib.Pow.{pow_mono}
 use Rattle.lifting.specs.Bias.{Padded, padded, combined_same}
 use Rattle.lifting.proofs.forms.combined.Goals as goal
 
--- the own value's factor
-factor : (c : goal.After-power) → c.power.result ≤ 1073741824
-factor c =
-    let l : 2 ^ c.args.k ≤ 1073741824 = pow_mono {i = c.args.k} {j = 30} (omega arith) in
-    omega (arith, c.power.ensures)
-
 pads : (c : goal.After-power-2) → Padded ((c.power.result + c.args.c) * 2147483648) c.multiple-base.result c.power-2.result c.args.cut
 pads c = padded _ _ _ _ (omega arith) c.power-2.ensures c.multiple-base.ensures
 
@@ -19,16 +13,32 @@ pub returns : goal.returns
 returns c = combined_same _ _ _ _ _ _ (omega arith) (omega arith) (omega arith) (omega arith) (omega (arith, (pads c).little)) (omega (arith, (pads c).tied, c.power.ensures))
 
 pub overflow_add-total : goal.overflow_add-total
-overflow_add-total c = omega (arith, factor c)
+overflow_add-total c =
+    let factor : c.power.result ≤ 1073741824 =
+        let l : 2 ^ c.args.k ≤ 1073741824 = pow_mono {i = c.args.k} {j = 30} (omega arith) in
+            omega (arith, c.power.ensures) in
+    omega (arith, factor)
 
 pub overflow_mul-total : goal.overflow_mul-total
-overflow_mul-total c = omega (arith, factor c)
+overflow_mul-total c =
+    let factor : c.power.result ≤ 1073741824 =
+        let l : 2 ^ c.args.k ≤ 1073741824 = pow_mono {i = c.args.k} {j = 30} (omega arith) in
+            omega (arith, c.power.ensures) in
+    omega (arith, factor)
 
 pub multiple-base-requires : goal.multiple-base-requires
-multiple-base-requires c = omega (arith, factor c)
+multiple-base-requires c =
+    let factor : c.power.result ≤ 1073741824 =
+        let l : 2 ^ c.args.k ≤ 1073741824 = pow_mono {i = c.args.k} {j = 30} (omega arith) in
+            omega (arith, c.power.ensures) in
+    omega (arith, factor)
 
 pub overflow_mul-result : goal.overflow_mul-result
-overflow_mul-result c = omega (arith, factor c.before.before, pads c)
+overflow_mul-result c =
+    let factor : c.power.result ≤ 1073741824 =
+        let l : 2 ^ c.args.k ≤ 1073741824 = pow_mono {i = c.args.k} {j = 30} (omega arith) in
+            omega (arith, c.power.ensures) in
+    omega (arith, factor, pads c)
 
 pub overflow_sub-result : goal.overflow_sub-result
 overflow_sub-result c = (pads c).enough

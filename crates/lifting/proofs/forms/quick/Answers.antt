@@ -14,21 +14,19 @@ use Rattle.lifting.specs.Bias.{signed_is}
 use Rattle.slices.specs.SignedRuns.{back}
 use Rattle.lifting.proofs.forms.quick.Goals as goal
 
--- the constant by its size and its sign
-constant : (s : goal.After-size-f) → s.size-f.result < 2147483648 → signed (lt_z (back w64 s.args.c) (pos 0)) s.size-f.result ≡ s.args.c
-constant s h = signed_is (back w64 s.args.c) s.size-f.result (s.size-f.ensures h) ∙ to_z-of_z s.ranges.c
-
 pub returns-then-k-cut : goal.returns-then-k-cut
 returns-then-k-cut c =
-    let s = c in
-    let a = s.args in
-    let e = constant s (omega arith) in
+    let constant : c.size-f.result < 2147483648 → signed (lt_z (back w64 c.args.c) (pos 0)) c.size-f.result ≡ c.args.c =
+        λ h. signed_is (back w64 c.args.c) c.size-f.result (c.size-f.ensures h) ∙ to_z-of_z c.ranges.c in
+    let a = c.args in
+    let e = constant (omega arith) in
     as_type (λ u. SameStep (Scaled a.k (e u) a.cut) c.combined.result) c.combined.ensures
 
 pub returns : goal.returns
 returns c =
-    let s = c in
-    let a = s.args in
-    let e = constant s (omega arith) in
+    let constant : c.size-f.result < 2147483648 → signed (lt_z (back w64 c.args.c) (pos 0)) c.size-f.result ≡ c.args.c =
+        λ h. signed_is (back w64 c.args.c) c.size-f.result (c.size-f.ensures h) ∙ to_z-of_z c.ranges.c in
+    let a = c.args in
+    let e = constant (omega arith) in
     let k : a.cut + (a.k - a.cut) ≡ a.k = omega arith in
     as_type (λ u. SameStep (Scaled (k u) (e u) a.cut) c.separate.result) c.separate.ensures

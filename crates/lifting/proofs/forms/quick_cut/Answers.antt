@@ -14,13 +14,10 @@ use Rattle.lifting.specs.Bias.{signed_is}
 use Rattle.slices.specs.SignedRuns.{back}
 use Rattle.lifting.proofs.forms.quick_cut.Goals as goal
 
--- the constant by its size and its sign
-constant : (s : goal.After-size-f) → s.size-f.result < 2147483648 → signed (lt_z (back w64 s.args.c) (pos 0)) s.size-f.result ≡ s.args.c
-constant s h = signed_is (back w64 s.args.c) s.size-f.result (s.size-f.ensures h) ∙ to_z-of_z s.ranges.c
-
 pub returns-then-first-cut : goal.returns-then-first-cut
 returns-then-first-cut c =
-    let s = c in
-    let a = s.args in
-    let e = constant s (omega arith) in
+    let constant : c.size-f.result < 2147483648 → signed (lt_z (back w64 c.args.c) (pos 0)) c.size-f.result ≡ c.args.c =
+        λ h. signed_is (back w64 c.args.c) c.size-f.result (c.size-f.ensures h) ∙ to_z-of_z c.ranges.c in
+    let a = c.args in
+    let e = constant (omega arith) in
     as_type (λ u. SameStep (Cut a.k (e u) a.first a.up a.cut) c.biased_cut.result) c.biased_cut.ensures

@@ -25,10 +25,9 @@ constant c =
 
 pub returns : goal.returns
 returns c =
-    let s = c in
     let base = c.multiple-base.result in
-    let offset = base * c.power.result - s.size-f.result * 2147483648 in
-    as_type (λ u. SameFactor (Plain (constant c u) s.args.cut) (Biased s.size-f.result offset base s.args.cut))
+    let offset = base * c.power.result - c.size-f.result * 2147483648 in
+    as_type (λ u. SameFactor (Plain (constant c u) c.args.cut) (Biased c.size-f.result offset base c.args.cut))
     (biased_same _ _ _ _ (omega arith) (omega arith) (omega arith) (omega (arith, (pads c).little)) (omega (arith, (pads c).tied)))
 
 pub overflow_mul-result : goal.overflow_mul-result

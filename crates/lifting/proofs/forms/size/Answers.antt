@@ -33,9 +33,8 @@ overflow_cast-result c = let l = negated c in subst (λ (z : ℤ). T (non_neg z)
 
 pub overflow_cast-result-else-z-lt0 : goal.overflow_cast-result-else-z-lt0
 overflow_cast-result-else-z-lt0 c =
-    let a = c in
-    let e = to_z-of_z a.ranges.z in
-    let l = above_zero a.args.z (subst (λ (z : ℤ). lt_z z (pos 0) ≡ false) e c.if-z-lt0.false) (subst (λ (z : ℤ). lt_z (pos 2147483647) z ≡ false) e c.if-z-gt2147483647.false) in
+    let e = to_z-of_z c.ranges.z in
+    let l = above_zero c.args.z (subst (λ (z : ℤ). lt_z z (pos 0) ≡ false) e c.if-z-lt0.false) (subst (λ (z : ℤ). lt_z (pos 2147483647) z ≡ false) e c.if-z-gt2147483647.false) in
     subst (λ (z : ℤ). T (non_neg z) × Fits w32 (nat_abs z)) (sym (e ∙ l.0)) (tt, record { fits = omega arith })
 
 pub returns-then-z-lt0 : goal.returns-then-z-lt0

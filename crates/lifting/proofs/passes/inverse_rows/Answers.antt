@@ -15,38 +15,33 @@ pub loop-r-init : goal.loop-r-init
 loop-r-init c = (omega arith, refl, refl, lines_none _ _ _ _)
 
 pub overflow_mul-r : goal.overflow_mul-r
-overflow_mul-r c =
-    let t = c in
-    omega (arith, t.requires.part.0.fits t.loop-r.r c.loop-r-test.true)
+overflow_mul-r c = omega (arith, c.requires.part.0.fits c.loop-r.r c.loop-r-test.true)
 
 pub strip_inverse-requires : goal.strip_inverse-requires
 strip_inverse-requires c =
-    let t = c in
-    let a = t in
-    let part = a.requires.part.0 in
+    let part = c.requires.part.0 in
     let h = c.loop-r-test.true in
-    let there = part.fits t.loop-r.r h in
-    let b = t.loop-r.r * a.args.stride in
-    let kernel = Inverse a.args.pair in
-    let y = at t.loop-r.plane in record {
+    let there = part.fits c.loop-r.r h in
+    let b = c.loop-r.r * c.args.stride in
+    let kernel = Inverse c.args.pair in
+    let y = at c.loop-r.plane in record {
       strip_room = record {
         lines = record { some = omega arith; few = omega (arith, part.narrow, part.wide); narrow = omega arith; fits = λ i p. omega arith };
         some = omega arith;
-        two = a.requires.part.1;
+        two = c.requires.part.1;
         room = omega arith;
       };
-      by_index = λ j g. subst (λ (u : ℕ). SafeKernel kernel a.args.w (column_of 1 b y u)) (omega arith)
-          (subst (SafeKernel kernel a.args.w) (sym (row_as_was a.args.stride a.args.w t.loop-r.r b (omega (arith, part.narrow)) _ _ _ t.loop-r.invariant.3 (omega arith))) (a.requires.by_index t.loop-r.r h));
+      by_index = λ j g. subst (λ (u : ℕ). SafeKernel kernel c.args.w (column_of 1 b y u)) (omega arith)
+          (subst (SafeKernel kernel c.args.w) (sym (row_as_was c.args.stride c.args.w c.loop-r.r b (omega (arith, part.narrow)) _ _ _ c.loop-r.invariant.3 (omega arith))) (c.requires.by_index c.loop-r.r h));
     }
 
 pub loop-r-preserved : goal.loop-r-preserved
 loop-r-preserved c =
-    let t = c in
-    let a = t in (
+    (
       omega arith,
       omega arith,
       omega arith,
-      row_done (worked (Inverse a.args.pair)) a.args.stride a.args.w t.loop-r.r (t.loop-r.r * a.args.stride) (omega (arith, a.requires.part.0.narrow)) (at a.args.plane.now) _ _ t.loop-r.invariant.3 (omega arith) c.strip_inverse.ensures,
+      row_done (worked (Inverse c.args.pair)) c.args.stride c.args.w c.loop-r.r (c.loop-r.r * c.args.stride) (omega (arith, c.requires.part.0.narrow)) (at c.args.plane.now) _ _ c.loop-r.invariant.3 (omega arith) c.strip_inverse.ensures,
     )
 
 pub returns : goal.returns

@@ -8,8 +8,6 @@ use Rattle.lifting.proofs.passes.pixel_line.Goals as goal
 
 pub returns : goal.returns
 returns c =
-    let p = c in
-    let a = p in
     patch_to _ _ _ _ _ _
-    (patch_part a.args.from (a.args.from + a.args.w - a.args.from) _ a.args.plane.now p.pixel_row.new.1.1.0 (pos 0) (omega arith) (omega arith) (λ j h. p.pixel_row.ensures j (omega arith)))
+    (patch_part c.args.from (c.args.from + c.args.w - c.args.from) _ c.args.plane.now c.pixel_row.new.1.1.0 (pos 0) (omega arith) (omega arith) (λ j h. c.pixel_row.ensures j (omega arith)))
     (omega arith)

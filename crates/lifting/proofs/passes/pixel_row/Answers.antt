@@ -30,51 +30,48 @@ before-lift2 c = before-lift c.before.before.before
 abbrev before-scale : goal.After-scale_here → goal.Start
 before-scale c = before-lift2 c.before.before.before
 
-once : (c : goal.After-lift) → let a = before-lift c in BufferHolds 1 a.args.w (λ j. first_lows a.args.first a.args.second a.args.w (line a)) (λ j. first_highs a.args.first a.args.second a.args.w (line a)) (at c.lift.new.0)
-once c = let a = before-lift c in lift_held a.args.first a.pre.0.1 c.split_pixels.ensures _ c.lift.ensures
-
-twice : (c : goal.After-lift-2) → let a = before-lift2 c in BufferHolds 1 a.args.w (λ j. lowLine a) (λ j. highLine a) (at c.lift-2.new.0)
-twice c = let a = before-lift2 c in lift_held a.args.second a.pre.0.1 (once c.before.before.before) _ c.lift-2.ensures
-
-lows-scaled : (c : goal.After-scale_here) → let a = before-scale c in BufferHolds 1 a.args.w (λ j i. scaled_by a.args.low (lowLine a i)) (λ j. highLine a) (at c.scale_here.new.0)
-lows-scaled c = let a = before-scale c in lows_each a.args.w (twice c.before.before.before) (scaled_by a.args.low) _ c.scale_here.ensures
-
 pub lift-requires : goal.lift-requires
 lift-requires c =
-    let f = c in
-    let a = f in record {
-      buffer = record { two = a.requires.w_bound.1; few = omega arith; room = omega arith };
-      lift_safe = lift_asked a.args.first a.requires.w_bound.1 f.split_pixels.ensures (λ j g. a.requires.safe_kernel.at_first);
+    record {
+      buffer = record { two = c.requires.w_bound.1; few = omega arith; room = omega arith };
+      lift_safe = lift_asked c.args.first c.requires.w_bound.1 c.split_pixels.ensures (λ j g. c.requires.safe_kernel.at_first);
     }
 
 pub lift-requires-2 : goal.lift-requires-2
 lift-requires-2 c =
-    let f = c in
-    let a = before-lift f in record {
+    let once : let a = before-lift c in BufferHolds 1 a.args.w (λ j. first_lows a.args.first a.args.second a.args.w (line a)) (λ j. first_highs a.args.first a.args.second a.args.w (line a)) (at c.lift.new.buffer) =
+        let a = before-lift c in lift_held a.args.first a.pre.0.1 c.split_pixels.ensures _ c.lift.ensures in
+    let a = before-lift c in record {
       buffer = record { two = a.pre.0.1; few = omega arith; room = omega arith };
-      lift_safe = lift_asked a.args.second a.pre.0.1 (once c.before.before) (λ j g. a.pre.1.at_second);
+      lift_safe = lift_asked a.args.second a.pre.0.1 once (λ j g. a.pre.1.at_second);
     }
 
 pub scale_here-requires : goal.scale_here-requires
 scale_here-requires c =
-    let f = c in
-    let a = before-lift2 f in record {
+    let once : let a = before-lift c in BufferHolds 1 a.args.w (λ j. first_lows a.args.first a.args.second a.args.w (line a)) (λ j. first_highs a.args.first a.args.second a.args.w (line a)) (at c.lift.new.buffer) =
+        let a = before-lift c in lift_held a.args.first a.pre.0.1 c.split_pixels.ensures _ c.lift.ensures in
+    let twice : let a = before-lift2 c in BufferHolds 1 a.args.w (λ j. lowLine a) (λ j. highLine a) (at c.lift-2.new.buffer) =
+        let a = before-lift2 c in lift_held a.args.second a.pre.0.1 once _ c.lift-2.ensures in
+    let a = before-lift2 c in record {
       n_in_bounds = omega arith;
-      by_index = λ j h. subst (FactorSafe a.args.low) (sym (row_low a.args.w (twice c.before.before) j h)) (a.pre.1.at_lows j h);
+      by_index = λ j h. subst (FactorSafe a.args.low) (sym (row_low a.args.w twice j h)) (a.pre.1.at_lows j h);
     }
 
 pub scale_here-requires-2 : goal.scale_here-requires-2
 scale_here-requires-2 c =
-    let f = c in
-    let a = before-scale f in record {
+    let once : let a = before-lift c in BufferHolds 1 a.args.w (λ j. first_lows a.args.first a.args.second a.args.w (line a)) (λ j. first_highs a.args.first a.args.second a.args.w (line a)) (at c.lift.new.buffer) =
+        let a = before-lift c in lift_held a.args.first a.pre.0.1 c.split_pixels.ensures _ c.lift.ensures in
+    let twice : let a = before-lift2 c in BufferHolds 1 a.args.w (λ j. lowLine a) (λ j. highLine a) (at c.lift-2.new.buffer) =
+        let a = before-lift2 c in lift_held a.args.second a.pre.0.1 once _ c.lift-2.ensures in
+    let lows-scaled : let a = before-scale c in BufferHolds 1 a.args.w (λ j i. scaled_by a.args.low (lowLine a i)) (λ j. highLine a) (at c.scale_here.new.buf) =
+        let a = before-scale c in lows_each a.args.w twice (scaled_by a.args.low) _ c.scale_here.ensures in
+    let a = before-scale c in record {
       n_in_bounds = omega arith;
-      by_index = λ j h. subst (FactorSafe a.args.high) (sym (row_high a.args.w (lows-scaled c.before.before) j h)) (a.pre.1.at_highs j h);
+      by_index = λ j h. subst (FactorSafe a.args.high) (sym (row_high a.args.w lows-scaled j h)) (a.pre.1.at_highs j h);
     }
 
 pub returns : goal.returns
 unfolding worked
 returns c i h =
-    let f = c in
-    let s = f in
-    let a = before-scale s in
-    row_at a.args.w (highs_each a.args.w (lows-scaled c.before.before.before.before) (scaled_by a.args.high) _ f.scale_here-2.ensures) i h
+    let a = before-scale c in
+    row_at a.args.w (highs_each a.args.w (lows-scaled c.before.before.before.before) (scaled_by a.args.high) _ c.scale_here-2.ensures) i h

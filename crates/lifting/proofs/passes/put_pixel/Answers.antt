@@ -13,9 +13,8 @@ use Rattle.lifting.proofs.passes.put_pixel.Goals as goal
 
 pub returns : goal.returns
 returns c =
-    let a = c in
-    patch_one a.args.to (pixel_line a.args.pixels.now a.args.middle a.args.from) a.args.buffer.now (pos 0) a.requires.1 _
-    (to_z-of_z {w = w32} (sfits_of c.centred.type_inv) ∙ c.centred.ensures ∙ ap (λ (k : ℕ). pos (get_or a.args.pixels.now k 0) -ℤ pos a.args.middle) (let e : a.args.from ≡ a.args.from + 0 = omega arith in e))
+    patch_one c.args.to (pixel_line c.args.pixels.now c.args.middle c.args.from) c.args.buffer.now (pos 0) c.requires.1 _
+    (to_z-of_z {w = w32} (sfits_of c.centred.type_inv) ∙ c.centred.ensures ∙ ap (λ (k : ℕ). pos (get_or c.args.pixels.now k 0) -ℤ pos c.args.middle) (let e : c.args.from ≡ c.args.from + 0 = omega arith in e))
 
 pub shape_of-buffer : goal.shape_of-buffer
 shape_of-buffer c = simp length-set refl

@@ -17,12 +17,11 @@ loop-j-init c = (omega arith, refl, patch_none _ 0 _ _ refl)
 pub loop-j-preserved : goal.loop-j-preserved
 loop-j-preserved c =
     let t = c.loop-j in
-    let a = c in
     let e : t.j ≡ 0 + t.j = omega arith in (
       omega arith,
       simp length-set t.invariant.1,
       ap (λ (k : ℕ). at (set t.plane k (back w32 c.centred.result))) e
-          ∙ patch_set 0 t.j _ _ t.plane (pos 0) t.invariant.2 (omega arith) _ (got w32 c.centred.type_inv (c.centred.ensures ∙ ap (λ (k : ℕ). pos (get_or a.args.pixels.now k 0) -ℤ pos a.args.middle) e)),
+          ∙ patch_set 0 t.j _ _ t.plane (pos 0) t.invariant.2 (omega arith) _ (got w32 c.centred.type_inv (c.centred.ensures ∙ ap (λ (k : ℕ). pos (get_or c.args.pixels.now k 0) -ℤ pos c.args.middle) e)),
     )
 
 pub returns : goal.returns

@@ -25,23 +25,26 @@ gives : (a : goal.Start) (k : Kernel) (y : ℕ → ℤ) → a.args.kernel ≡ k 
 gives a k y e is = is ∙ ap (done a) (sym e)
 
 pub inverse_rows-requires : goal.inverse_rows-requires
-inverse_rows-requires c = let a = c in record {
-      part = a.requires.part;
-      by_index = subst (Safe a) c.in-Inverse.is a.requires.by_index;
+inverse_rows-requires c = record {
+      part = c.requires.part;
+      by_index = subst (Safe c) c.in-Inverse.is c.requires.by_index;
     }
 
-forward-asks : (a : goal.Start) → Forward a.args.kernel → (Part a.args.plane.now a.args.stride 0 a.args.w a.args.h × Liftable a.args.w × (a.args.w ≤ length a.args.buffer.now) × Forward a.args.kernel) × Safe a a.args.kernel
-forward-asks a h = ((a.requires.part.0, a.requires.part.1, a.requires.part.2, h), a.requires.by_index)
-
 pub forward_rows-requires : goal.forward_rows-requires
-forward_rows-requires c = forward-asks c (subst Forward (sym c.in-One.is) tt)
+forward_rows-requires c =
+    let forward-asks : Forward c.args.kernel → (Part c.args.plane.now c.args.stride 0 c.args.w c.args.h × Liftable c.args.w × (c.args.w ≤ length c.args.buffer.now) × Forward c.args.kernel) × Safe a c.args.kernel =
+        λ h. ((c.requires.part.0, c.requires.part.1, c.requires.part.2, h), c.requires.by_index) in
+    forward-asks (subst Forward (sym c.in-One.is) tt)
 
 pub forward_rows-requires-in-Two : goal.forward_rows-requires-in-Two
-forward_rows-requires-in-Two c = forward-asks c (subst Forward (sym c.in-Two.is) tt)
+forward_rows-requires-in-Two c =
+    let forward-asks : Forward c.args.kernel → (Part c.args.plane.now c.args.stride 0 c.args.w c.args.h × Liftable c.args.w × (c.args.w ≤ length c.args.buffer.now) × Forward c.args.kernel) × Safe a c.args.kernel =
+        λ h. ((c.requires.part.0, c.requires.part.1, c.requires.part.2, h), c.requires.by_index) in
+    forward-asks (subst Forward (sym c.in-Two.is) tt)
 
 pub returns-in-Inverse : goal.returns-in-Inverse
-returns-in-Inverse c = let f = c in record {
-      plane = gives c.before.before.before.before.before.before.before.before _ _ f.in-Inverse.is f.inverse_rows.ensures;
+returns-in-Inverse c = record {
+      plane = gives c.before.before.before.before.before.before.before.before _ _ c.in-Inverse.is c.inverse_rows.ensures;
       buffer = omega arith;
     }
 

@@ -21,26 +21,19 @@ loop-i-init c = (omega arith, refl, filled_none _ _ _ _ _)
 
 pub loop-i-preserved : goal.loop-i-preserved
 loop-i-preserved c =
-    let g = c in
-    let f = g in
-    let t = f in
-    let a = t in
-    let i = t.loop-i.i in
-    let n = a.args.n in (
+    let i = c.loop-i.i in
+    let n = c.args.n in (
       omega arith,
       omega arith,
       filled_high
-          (filled_low t.loop-i.invariant.2 _ _ (line-of-one i (i * 1) _ _ _ (omega arith) f.put_pixel.ensures) (λ j h. pixel_at_lem a.args.pixels.now a.args.middle (a.args.from + 2 * i) a.args.from j (2 * i) (omega arith)) (omega arith))
-          _ _ (line-of-one (lows n + i) (lows n * 1 + i * 1) _ _ _ (omega arith) g.put_pixel-in-loop-i.ensures) (λ j h. pixel_at_lem a.args.pixels.now a.args.middle (a.args.from + 2 * i + 1) a.args.from j (2 * i + 1) (omega arith)) (omega arith),
+          (filled_low c.loop-i.invariant.2 _ _ (line-of-one i (i * 1) _ _ _ (omega arith) c.put_pixel.ensures) (λ j h. pixel_at_lem c.args.pixels.now c.args.middle (c.args.from + 2 * i) c.args.from j (2 * i) (omega arith)) (omega arith))
+          _ _ (line-of-one (lows n + i) (lows n * 1 + i * 1) _ _ _ (omega arith) c.put_pixel-in-loop-i.ensures) (λ j h. pixel_at_lem c.args.pixels.now c.args.middle (c.args.from + 2 * i + 1) c.args.from j (2 * i + 1) (omega arith)) (omega arith),
     )
 
 pub returns-then-high-low : goal.returns-then-high-low
 returns-then-high-low c =
-    let f = c in
-    let t = f in
-    let a = t in
-    let n = a.args.n in
-    filled_to (filled_low {a = highs n} {b = highs n} (filled_to t.loop-i.invariant.2 (omega arith) (omega arith)) _ _ (line-of-one (highs n) (highs n * 1) _ _ _ (omega arith) f.put_pixel-then-high-low.ensures) (λ j h. pixel_at_lem a.args.pixels.now a.args.middle (a.args.from + 2 * highs n) a.args.from j (2 * highs n) (omega arith)) (omega arith)) (omega arith) (omega arith)
+    let n = c.args.n in
+    filled_to (filled_low {c = highs n} {b = highs n} (filled_to c.loop-i.invariant.2 (omega arith) (omega arith)) _ _ (line-of-one (highs n) (highs n * 1) _ _ _ (omega arith) c.put_pixel-then-high-low.ensures) (λ j h. pixel_at_lem c.args.pixels.now c.args.middle (c.args.from + 2 * highs n) c.args.from j (2 * highs n) (omega arith)) (omega arith)) (omega arith) (omega arith)
 
 pub returns-else-high-low : goal.returns-else-high-low
 returns-else-high-low c = filled_to c.loop-i.invariant.2 (omega arith) (omega arith)

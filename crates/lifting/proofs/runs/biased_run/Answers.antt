@@ -16,10 +16,10 @@ pub loop-j-init : goal.loop-j-init
 loop-j-init c = filling_none _ _ _ _
 
 pub biased_of-v-requires : goal.biased_of-v-requires
-biased_of-v-requires c = let i = c in let s = i in step_asks (step s) s.requires.runs i.loop-j.invariant i.loop-j-test.true c.biased_of-arg-1.given c.biased_of-arg-in-loop-j-1.given c.biased_of-arg-in-loop-j-2-1.given s.requires.safe_run
+biased_of-v-requires c = step_asks (step c) c.requires.runs c.loop-j.invariant c.loop-j-test.true c.biased_of-arg-1.given c.biased_of-arg-in-loop-j-1.given c.biased_of-arg-in-loop-j-2-1.given c.requires.safe_run
 
 pub loop-j-preserved : goal.loop-j-preserved
-loop-j-preserved c = let g = c in let i = g in let s = i in step_done (step s) s.requires.runs i.loop-j.invariant i.loop-j-test.true g.biased_of-arg-1.given g.biased_of-arg-in-loop-j-1.given g.biased_of-arg-in-loop-j-2-1.given c.biased_of-v.type_inv c.biased_of-v.ensures
+loop-j-preserved c = step_done (step c) c.requires.runs c.loop-j.invariant c.loop-j-test.true c.biased_of-arg-1.given c.biased_of-arg-in-loop-j-1.given c.biased_of-arg-in-loop-j-2-1.given c.biased_of-v.type_inv c.biased_of-v.ensures
 
 pub returns : goal.returns
 returns c = filling_all c.loop-j.invariant (omega arith)

@@ -20,26 +20,26 @@ module _ (s : goal.Start) {k cut : ℕ} (d : s.args.form.k ≡ k) (e : s.args.fo
   same = λ u. step (d u) (e u)
 
   asks : Runs s.args.buf.now s.args.t s.args.a s.args.b s.args.n × SafeRun (step k cut) s.args.t s.args.a s.args.b s.args.n (at s.args.buf.now)
-  asks = (s.pre.0, run_asks s.args.t s.args.a s.args.b s.args.n (at s.args.buf.now) same s.pre.1)
+  asks = (s.requires.runs, run_asks s.args.t s.args.a s.args.b s.args.n (at s.args.buf.now) same s.requires.safe_run)
 
   gives : {y : ℕ → ℤ} → y ≡ ran (applied (step k cut)) s.args.t s.args.a s.args.b s.args.n (at s.args.buf.now)
       → y ≡ ran (applied (step s.args.form.k s.args.form.cut)) s.args.t s.args.a s.args.b s.args.n (at s.args.buf.now)
   gives = run_gives s.args.t s.args.a s.args.b s.args.n (at s.args.buf.now) same
 
 pub signed_cut_run-requires : goal.signed_cut_run-requires
-signed_cut_run-requires c = let i = c in asks i i.if-form-eq0-2.true i.if-form-eq0.true
+signed_cut_run-requires c = asks c c.if-form-eq0-2.true c.if-form-eq0.true
 
 pub signed_cut_run-requires-else-form-eq0-2 : goal.signed_cut_run-requires-else-form-eq0-2
-signed_cut_run-requires-else-form-eq0-2 c = let i = c in asks i refl i.if-form-eq0.true
+signed_cut_run-requires-else-form-eq0-2 c = asks c refl c.if-form-eq0.true
 
 pub signed_cut_run-requires-else-form-eq0 : goal.signed_cut_run-requires-else-form-eq0
-signed_cut_run-requires-else-form-eq0 c = let s = c in asks s refl refl
+signed_cut_run-requires-else-form-eq0 c = asks c refl refl
 
 pub returns-then-form-eq0-2 : goal.returns-then-form-eq0-2
-returns-then-form-eq0-2 c = let i = c in gives i i.if-form-eq0-2.true i.if-form-eq0.true c.signed_cut_run.ensures
+returns-then-form-eq0-2 c = gives c c.if-form-eq0-2.true c.if-form-eq0.true c.signed_cut_run.ensures
 
 pub returns-else-form-eq0-2 : goal.returns-else-form-eq0-2
-returns-else-form-eq0-2 c = let i = c in gives i refl i.if-form-eq0.true c.signed_cut_run-else-form-eq0-2.ensures
+returns-else-form-eq0-2 c = gives c refl c.if-form-eq0.true c.signed_cut_run-else-form-eq0-2.ensures
 
 pub returns-else-form-eq0 : goal.returns-else-form-eq0
-returns-else-form-eq0 c = let s = c in gives s refl refl c.signed_cut_run-else-form-eq0.ensures
+returns-else-form-eq0 c = gives c refl refl c.signed_cut_run-else-form-eq0.ensures

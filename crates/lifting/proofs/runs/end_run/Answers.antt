@@ -13,10 +13,10 @@ pub loop-j-init : goal.loop-j-init
 loop-j-init c = filling_none _ _ _ _
 
 pub apply_end-v-requires : goal.apply_end-v-requires
-apply_end-v-requires c = let i = c in let s = i in step_asks s.args.step s.requires.runs i.loop-j.invariant i.loop-j-test.true c.apply_end-arg-1.given c.apply_end-arg-in-loop-j-1.given c.apply_end-arg-in-loop-j-1.given s.requires.safe_run
+apply_end-v-requires c = step_asks c.args.step c.requires.runs c.loop-j.invariant c.loop-j-test.true c.apply_end-arg-1.given c.apply_end-arg-in-loop-j-1.given c.apply_end-arg-in-loop-j-1.given c.requires.safe_run
 
 pub loop-j-preserved : goal.loop-j-preserved
-loop-j-preserved c = let g = c in let i = g in let s = i in step_done s.args.step s.requires.runs i.loop-j.invariant i.loop-j-test.true g.apply_end-arg-1.given g.apply_end-arg-in-loop-j-1.given g.apply_end-arg-in-loop-j-1.given c.apply_end-v.type_inv (c.apply_end-v.ensures ∙ ended_is s.args.step _ _)
+loop-j-preserved c = step_done c.args.step c.requires.runs c.loop-j.invariant c.loop-j-test.true c.apply_end-arg-1.given c.apply_end-arg-in-loop-j-1.given c.apply_end-arg-in-loop-j-1.given c.apply_end-v.type_inv (c.apply_end-v.ensures ∙ ended_is c.args.step _ _)
 
 pub returns : goal.returns
 returns c = filling_all c.loop-j.invariant (omega arith)

@@ -76,18 +76,20 @@ combined_run-requires c = asks c c.in-Combined.is
 pub returns-in-Combined : goal.returns-in-Combined
 returns-in-Combined c = gives c c.in-Combined.is c.combined_run.ensures
 
--- the step, made anew
-made : (c : goal.After-cut_step) → c.args.step ≡ c.cut_step.result
-made c = cut_back (search rules) c.in-Cut.is ∙ sym c.cut_step.ensures
-
 pub run-requires-in-Cut : goal.run-requires-in-Cut
-run-requires-in-Cut c = let h = asks c.before.before.before.before.before (made c) in record {
+run-requires-in-Cut c =
+    let made : c.args.step ≡ c.cut_step.result =
+        cut_back (search rules) c.in-Cut.is ∙ sym c.cut_step.ensures in
+    let h = asks c.before.before.before.before.before made in record {
       plain_step = (subst PlainStep (sym c.cut_step.ensures) tt, h.0);
       safe_run = h.1;
     }
 
 pub returns-in-Cut : goal.returns-in-Cut
-returns-in-Cut c = gives c (made c.before.before) c.run-in-Cut.ensures
+returns-in-Cut c =
+    let made : c.args.step ≡ c.cut_step.result =
+        cut_back (search rules) c.in-Cut.is ∙ sym c.cut_step.ensures in
+    gives c made c.run-in-Cut.ensures
 
 pub cut_run-requires : goal.cut_run-requires
 cut_run-requires c = asks c c.in-BiasedCut.is

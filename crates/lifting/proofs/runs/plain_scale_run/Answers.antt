@@ -21,10 +21,10 @@ pub loop-j-init : goal.loop-j-init
 loop-j-init c = filling_none _ _ _ _
 
 pub scaled_by-v-requires : goal.scaled_by-v-requires
-scaled_by-v-requires c = let s = c in value_safe w32 (at s.args.src.now (s.args.from + c.loop-j.j)) c.scaled_by-arg-1.given refl (FactorSafe (factor s)) (subst (λ (z : ℤ). FactorSafe (Plain z s.args.cut) (at s.args.src.now (s.args.from + c.loop-j.j))) (sym (to_z-of_z s.ranges.c)) (s.requires.by_index c.loop-j.j c.loop-j-test.true))
+scaled_by-v-requires c = value_safe w32 (at c.args.src.now (c.args.from + c.loop-j.j)) c.scaled_by-arg-1.given refl (FactorSafe (factor c)) (subst (λ (z : ℤ). FactorSafe (Plain z c.args.cut) (at c.args.src.now (c.args.from + c.loop-j.j))) (sym (to_z-of_z c.ranges.c)) (c.requires.by_index c.loop-j.j c.loop-j-test.true))
 
 pub loop-j-preserved : goal.loop-j-preserved
-loop-j-preserved c = let s = c in filling_more c.loop-j.invariant (omega arith) (omega arith) _ (value_gives w32 (at s.args.src.now (s.args.from + c.loop-j.j)) c.scaled_by-arg-1.given refl (scaled_by (factor s)) c.scaled_by-v.type_inv c.scaled_by-v.ensures)
+loop-j-preserved c = filling_more c.loop-j.invariant (omega arith) (omega arith) _ (value_gives w32 (at c.args.src.now (c.args.from + c.loop-j.j)) c.scaled_by-arg-1.given refl (scaled_by (factor c)) c.scaled_by-v.type_inv c.scaled_by-v.ensures)
 
 pub returns : goal.returns
-returns c = let s = c in filling_all c.loop-j.invariant (omega arith) ∙ (λ u. patch s.args.to s.args.n (λ j. scaled_by (Plain (to_z-of_z s.ranges.c u) s.args.cut) (at s.args.src.now (s.args.from + j))) (at s.args.dst.now))
+returns c = filling_all c.loop-j.invariant (omega arith) ∙ (λ u. patch c.args.to c.args.n (λ j. scaled_by (Plain (to_z-of_z c.ranges.c u) c.args.cut) (at c.args.src.now (c.args.from + j))) (at c.args.dst.now))

@@ -6,19 +6,19 @@ use Rattle.lifting.proofs.Turn.{scale_asks, scale_gives}
 use Rattle.lifting.proofs.runs.scale_here.Goals as goal
 
 pub plain_scale_here-requires : goal.plain_scale_here-requires
-plain_scale_here-requires c = let i = c in let s = i in record {
-      n_in_bounds = s.requires.n_in_bounds;
-      by_index = scale_asks s.args.from s.args.n (at s.args.buf.now) (plain_back (search rules) i.in-Plain.is) s.requires.by_index;
+plain_scale_here-requires c = record {
+      n_in_bounds = c.requires.n_in_bounds;
+      by_index = scale_asks c.args.from c.args.n (at c.args.buf.now) (plain_back (search rules) c.in-Plain.is) c.requires.by_index;
     }
 
 pub biased_scale_here-requires : goal.biased_scale_here-requires
-biased_scale_here-requires c = let i = c in let s = i in record {
-      n_in_bounds = s.requires.n_in_bounds;
-      by_index = scale_asks s.args.from s.args.n (at s.args.buf.now) i.in-Biased.is s.requires.by_index;
+biased_scale_here-requires c = record {
+      n_in_bounds = c.requires.n_in_bounds;
+      by_index = scale_asks c.args.from c.args.n (at c.args.buf.now) c.in-Biased.is c.requires.by_index;
     }
 
 pub returns-in-Plain : goal.returns-in-Plain
-returns-in-Plain c = let i = c in let s = i in scale_gives s.args.from s.args.n (at s.args.buf.now) (plain_back (search rules) i.in-Plain.is) s.args.from (at s.args.buf.now) c.plain_scale_here.ensures
+returns-in-Plain c = scale_gives c.args.from c.args.n (at c.args.buf.now) (plain_back (search rules) c.in-Plain.is) c.args.from (at c.args.buf.now) c.plain_scale_here.ensures
 
 pub returns-in-Biased : goal.returns-in-Biased
-returns-in-Biased c = let i = c in let s = i in scale_gives s.args.from s.args.n (at s.args.buf.now) i.in-Biased.is s.args.from (at s.args.buf.now) c.biased_scale_here.ensures
+returns-in-Biased c = scale_gives c.args.from c.args.n (at c.args.buf.now) c.in-Biased.is c.args.from (at c.args.buf.now) c.biased_scale_here.ensures

@@ -21,32 +21,32 @@ module _ (s : goal.Start) {down : Bool} {rise : ℕ} (d : s.args.down ≡ down) 
   same = λ k. step (d k) (e k)
 
   asks : Runs s.args.buf.now s.args.t s.args.a s.args.b s.args.n × SafeRun (step down rise) s.args.t s.args.a s.args.b s.args.n (at s.args.buf.now)
-  asks = (s.pre.0, run_asks s.args.t s.args.a s.args.b s.args.n (at s.args.buf.now) same s.pre.1)
+  asks = (s.requires.runs, run_asks s.args.t s.args.a s.args.b s.args.n (at s.args.buf.now) same s.requires.safe_run)
 
   gives : {y : ℕ → ℤ} → y ≡ ran (applied (step down rise)) s.args.t s.args.a s.args.b s.args.n (at s.args.buf.now)
       → y ≡ ran (applied (step s.args.down s.args.form.by)) s.args.t s.args.a s.args.b s.args.n (at s.args.buf.now)
   gives = run_gives s.args.t s.args.a s.args.b s.args.n (at s.args.buf.now) same
 
 pub biased_run-requires : goal.biased_run-requires
-biased_run-requires c = let i = c in asks i i.if-down.true i.if-form-eq0.true
+biased_run-requires c = asks c c.if-down.true c.if-form-eq0.true
 
 pub biased_run-requires-else-down : goal.biased_run-requires-else-down
-biased_run-requires-else-down c = let i = c in asks i i.if-down.false i.if-form-eq0.true
+biased_run-requires-else-down c = asks c c.if-down.false c.if-form-eq0.true
 
 pub biased_run-requires-then-down-2 : goal.biased_run-requires-then-down-2
-biased_run-requires-then-down-2 c = let i = c in asks i i.if-down-2.true refl
+biased_run-requires-then-down-2 c = asks c c.if-down-2.true refl
 
 pub biased_run-requires-else-down-2 : goal.biased_run-requires-else-down-2
-biased_run-requires-else-down-2 c = let i = c in asks i i.if-down-2.false refl
+biased_run-requires-else-down-2 c = asks c c.if-down-2.false refl
 
 pub returns-then-down : goal.returns-then-down
-returns-then-down c = let i = c in gives i i.if-down.true i.if-form-eq0.true c.biased_run.ensures
+returns-then-down c = gives c c.if-down.true c.if-form-eq0.true c.biased_run.ensures
 
 pub returns-else-down : goal.returns-else-down
-returns-else-down c = let i = c in gives i i.if-down.false i.if-form-eq0.true c.biased_run-else-down.ensures
+returns-else-down c = gives c c.if-down.false c.if-form-eq0.true c.biased_run-else-down.ensures
 
 pub returns-then-down-2 : goal.returns-then-down-2
-returns-then-down-2 c = let i = c in gives i i.if-down-2.true refl c.biased_run-then-down-2.ensures
+returns-then-down-2 c = gives c c.if-down-2.true refl c.biased_run-then-down-2.ensures
 
 pub returns-else-down-2 : goal.returns-else-down-2
-returns-else-down-2 c = let i = c in gives i i.if-down-2.false refl c.biased_run-else-down-2.ensures
+returns-else-down-2 c = gives c c.if-down-2.false refl c.biased_run-else-down-2.ensures

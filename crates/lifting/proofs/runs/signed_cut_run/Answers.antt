@@ -12,19 +12,19 @@ abbrev step : goal.Start → Bool → Step
 step s down = cut_step down s.args.form
 
 pub biased_cut_run-requires : goal.biased_cut_run-requires
-biased_cut_run-requires c = let s = c in record {
-      runs = s.requires.runs;
-      safe_run = run_asks s.args.t s.args.a s.args.b s.args.n (at s.args.buf.now) (ap (step s) c.if-down.true) s.requires.safe_run;
+biased_cut_run-requires c = record {
+      runs = c.requires.runs;
+      safe_run = run_asks c.args.t c.args.a c.args.b c.args.n (at c.args.buf.now) (ap (step c) c.if-down.true) c.requires.safe_run;
     }
 
 pub biased_cut_run-requires-else-down : goal.biased_cut_run-requires-else-down
-biased_cut_run-requires-else-down c = let s = c in record {
-      runs = s.requires.runs;
-      safe_run = run_asks s.args.t s.args.a s.args.b s.args.n (at s.args.buf.now) (ap (step s) c.if-down.false) s.requires.safe_run;
+biased_cut_run-requires-else-down c = record {
+      runs = c.requires.runs;
+      safe_run = run_asks c.args.t c.args.a c.args.b c.args.n (at c.args.buf.now) (ap (step c) c.if-down.false) c.requires.safe_run;
     }
 
 pub returns-then-down : goal.returns-then-down
-returns-then-down c = let i = c in let s = i in run_gives s.args.t s.args.a s.args.b s.args.n (at s.args.buf.now) (ap (step s) i.if-down.true) c.biased_cut_run.ensures
+returns-then-down c = run_gives c.args.t c.args.a c.args.b c.args.n (at c.args.buf.now) (ap (step c) c.if-down.true) c.biased_cut_run.ensures
 
 pub returns-else-down : goal.returns-else-down
-returns-else-down c = let i = c in let s = i in run_gives s.args.t s.args.a s.args.b s.args.n (at s.args.buf.now) (ap (step s) i.if-down.false) c.biased_cut_run-else-down.ensures
+returns-else-down c = run_gives c.args.t c.args.a c.args.b c.args.n (at c.args.buf.now) (ap (step c) c.if-down.false) c.biased_cut_run-else-down.ensures

@@ -11,13 +11,13 @@ abbrev form : goal.Start → Bool → Step
 form a separate = biased_step separate a.args.down a.args.form
 
 pub separate_of-requires : goal.separate_of-requires
-separate_of-requires c = let a = c in safe_back w32 a.ranges.own a.ranges.x a.ranges.y (ap (form a) c.if-separate.true) a.requires
+separate_of-requires c = safe_back w32 c.ranges.own c.ranges.x c.ranges.y (ap (form c) c.if-separate.true) c.requires
 
 pub combined_of-requires : goal.combined_of-requires
-combined_of-requires c = let a = c in safe_back w32 a.ranges.own a.ranges.x a.ranges.y (ap (form a) c.if-separate.false) a.requires
+combined_of-requires c = safe_back w32 c.ranges.own c.ranges.x c.ranges.y (ap (form c) c.if-separate.false) c.requires
 
 pub returns-then-separate : goal.returns-then-separate
-returns-then-separate c = let a = c in applied_back w32 a.ranges.own a.ranges.x a.ranges.y (ap (form a) c.if-separate.true) c.separate_of.type_inv c.separate_of.ensures
+returns-then-separate c = applied_back w32 c.ranges.own c.ranges.x c.ranges.y (ap (form c) c.if-separate.true) c.separate_of.type_inv c.separate_of.ensures
 
 pub returns-else-separate : goal.returns-else-separate
-returns-else-separate c = let a = c in applied_back w32 a.ranges.own a.ranges.x a.ranges.y (ap (form a) c.if-separate.false) c.combined_of.type_inv c.combined_of.ensures
+returns-else-separate c = applied_back w32 c.ranges.own c.ranges.x c.ranges.y (ap (form c) c.if-separate.false) c.combined_of.type_inv c.combined_of.ensures

@@ -25,22 +25,17 @@ whole c =
     ap₂ ◌*ℤ◌ (got w64 t.times.type_inv (t.times.ensures ∙ constant t)) (got w64 c.wide.type_inv (c.wide.ensures ∙ to_z-of_z t.ranges.x))
 
 pub times-requires-2 : goal.times-requires-2
-times-requires-2 c =
-    let s = c in
-    fits_at (whole c ∙ twice_times s.args.c s.args.x) s.requires.whole
-
-part : (c : goal.After-shifted-part) → let a = c.args in back w64 c.shifted-part.result ≡ shr_z (pos 2 *ℤ a.c *ℤ a.x) (2 ^ a.first)
-part c =
-    let t = c in
-    got w64 c.shifted-part.type_inv (c.shifted-part.ensures ∙ ap (λ (z : ℤ). shr_z z (2 ^ t.args.first)) (got w64 t.times-2.type_inv (t.times-2.ensures ∙ whole t)))
+times-requires-2 c = fits_at (whole c ∙ twice_times c.args.c c.args.x) c.requires.whole
 
 pub join-requires : goal.join-requires
 join-requires c =
-    let s = c in
-    let a = s.args in
-    as_type (λ u. JoinSafe a.k a.up a.cut (sym (to_z-of_z s.ranges.own) u) (sym (part c) u)) (end_joins a.k a.c a.first a.up a.cut a.own a.x s.requires)
+    let part : let a = c.args in back w64 c.shifted-part.result ≡ shr_z (pos 2 *ℤ a.c *ℤ a.x) (2 ^ a.first) =
+        got w64 c.shifted-part.type_inv (c.shifted-part.ensures ∙ ap (λ (z : ℤ). shr_z z (2 ^ c.args.first)) (got w64 c.times-2.type_inv (c.times-2.ensures ∙ whole c))) in
+    let a = c.args in
+    as_type (λ u. JoinSafe a.k a.up a.cut (sym (to_z-of_z c.ranges.own) u) (sym part u)) (end_joins a.k a.c a.first a.up a.cut a.own a.x c.requires)
 
 pub returns : goal.returns
 returns c =
-    let s = c in
-    got w32 c.join.type_inv (c.join.ensures ∙ (λ u. joined s.args.k s.args.up s.args.cut (to_z-of_z s.ranges.own u) (part c.before u)))
+    let part : let a = c.args in back w64 c.shifted-part.result ≡ shr_z (pos 2 *ℤ a.c *ℤ a.x) (2 ^ a.first) =
+        got w64 c.shifted-part.type_inv (c.shifted-part.ensures ∙ ap (λ (z : ℤ). shr_z z (2 ^ c.args.first)) (got w64 c.times-2.type_inv (c.times-2.ensures ∙ whole c))) in
+    got w32 c.join.type_inv (c.join.ensures ∙ (λ u. joined c.args.k c.args.up c.args.cut (to_z-of_z c.ranges.own u) (part u)))

@@ -27,17 +27,14 @@ whole c = ap₂ ◌*ℤ◌ (to_z-of_z c.ranges.c) (got w64 c.plus.type_inv (c.pl
 pub times-requires : goal.times-requires
 times-requires c = fits_at (whole c) c.requires.whole
 
-part : (c : goal.After-shifted-part) → let a = c.args in back w64 c.shifted-part.result ≡ product a.c a.first a.x a.y
-part c =
-    let t = c in
-    got w64 c.shifted-part.type_inv (c.shifted-part.ensures ∙ ap (λ (z : ℤ). shr_z z (2 ^ t.args.first)) (got w64 t.times.type_inv (t.times.ensures ∙ whole t)))
-
 pub join-requires : goal.join-requires
 join-requires c =
-    let s = c in
-    as_type (λ u. JoinSafe s.args.k s.args.up s.args.cut (sym (to_z-of_z s.ranges.own) u) (sym (part c) u)) (cut_joins s.requires)
+    let part : let a = c.args in back w64 c.shifted-part.result ≡ product a.c a.first a.x a.y =
+        got w64 c.shifted-part.type_inv (c.shifted-part.ensures ∙ ap (λ (z : ℤ). shr_z z (2 ^ c.args.first)) (got w64 c.times.type_inv (c.times.ensures ∙ whole c))) in
+    as_type (λ u. JoinSafe c.args.k c.args.up c.args.cut (sym (to_z-of_z c.ranges.own) u) (sym part u)) (cut_joins c.requires)
 
 pub returns : goal.returns
 returns c =
-    let s = c in
-    got w32 c.join.type_inv (c.join.ensures ∙ (λ u. joined s.args.k s.args.up s.args.cut (to_z-of_z s.ranges.own u) (part c.before u)))
+    let part : let a = c.args in back w64 c.shifted-part.result ≡ product a.c a.first a.x a.y =
+        got w64 c.shifted-part.type_inv (c.shifted-part.ensures ∙ ap (λ (z : ℤ). shr_z z (2 ^ c.args.first)) (got w64 c.times.type_inv (c.times.ensures ∙ whole c))) in
+    got w32 c.join.type_inv (c.join.ensures ∙ (λ u. joined c.args.k c.args.up c.args.cut (to_z-of_z c.ranges.own u) (part u)))

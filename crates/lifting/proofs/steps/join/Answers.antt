@@ -39,18 +39,20 @@ both c =
 pub plus-requires : goal.plus-requires
 plus-requires c = fits_at (both c) c.requires.both
 
-sum : (c : goal.After-plus) → let a = c.args in shr_z (back w64 c.plus.result) (2 ^ a.cut) ≡ joined a.k a.up a.cut a.own a.part
-sum c = ap (λ (z : ℤ). shr_z z (2 ^ c.args.cut)) (got w64 c.plus.type_inv (c.plus.ensures ∙ both c))
-
 pub narrowed-requires : goal.narrowed-requires
 narrowed-requires c =
+    let sum : let a = c.args in shr_z (back w64 c.plus.result) (2 ^ a.cut) ≡ joined a.k a.up a.cut a.own a.part =
+        ap (λ (z : ℤ). shr_z z (2 ^ c.args.cut)) (got w64 c.plus.type_inv (c.plus.ensures ∙ both c)) in
     let p = c.requires in record {
       cut_bound = p.short;
-      sfits = fits_at (sum c) p.result;
+      sfits = fits_at sum p.result;
     }
 
 pub returns : goal.returns
-returns c = got w32 c.narrowed.type_inv (c.narrowed.ensures ∙ sum c)
+returns c =
+    let sum : let a = c.args in shr_z (back w64 c.plus.result) (2 ^ a.cut) ≡ joined a.k a.up a.cut a.own a.part =
+        ap (λ (z : ℤ). shr_z z (2 ^ c.args.cut)) (got w64 c.plus.type_inv (c.plus.ensures ∙ both c)) in
+    got w32 c.narrowed.type_inv (c.narrowed.ensures ∙ sum)
 
 pub overflow_cast-power : goal.overflow_cast-power
 overflow_cast-power c = record { sfits = small c }

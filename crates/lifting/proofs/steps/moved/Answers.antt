@@ -17,5 +17,4 @@ overflow_cast-result-2 c =
     c.requires
 
 pub returns : goal.returns
-returns c =
-    rw (to_z-of_z c.ranges.own, to_z-of_z {w = w64} (sfits_widen tt c.ranges.own), to_z-of_z c.ranges.z, to_z-of_z {w = w64} (sfits_widen tt c.requires), to_z-of_z c.requires)
+returns c = rw (to_z-of_z c.ranges.own, to_z-of_z {w = w64} (sfits_widen tt c.ranges.own), to_z-of_z c.ranges.z, to_z-of_z {w = w64} (sfits_widen tt c.requires), to_z-of_z c.requires)

@@ -37,9 +37,7 @@ right c =
     ap₂ ◌*ℤ◌ (got w64 t.times.type_inv (t.times.ensures ∙ constant t)) (got w64 c.wide-2.type_inv (c.wide-2.ensures ∙ to_z-of_z t.ranges.x))
 
 pub times-right-requires : goal.times-right-requires
-times-right-requires c =
-    let a = c in
-    fits_at (right c ∙ twice_times a.args.c a.args.x) a.requires.right
+times-right-requires c = fits_at (right c ∙ twice_times c.args.c c.args.x) c.requires.right
 
 both : (c : goal.After-times-right) → let a = c.args in
     back w64 c.times-left.result +ℤ back w64 c.times-right.result ≡ pos (2 ^ a.k) *ℤ a.own +ℤ pos 2 *ℤ a.c *ℤ a.x
@@ -48,23 +46,22 @@ both c =
     ap₂ ◌+ℤ◌ (got w64 t.times-left.type_inv (t.times-left.ensures ∙ left t)) (got w64 c.times-right.type_inv (c.times-right.ensures ∙ right c))
 
 pub plus-requires : goal.plus-requires
-plus-requires c =
-    let a = c in
-    fits_at (both c ∙ ap (λ (z : ℤ). pos (2 ^ a.args.k) *ℤ a.args.own +ℤ z) (twice_times a.args.c a.args.x)) a.requires.both
-
-shifted : (c : goal.After-plus) → let a = c.args in shr_z (back w64 c.plus.result) (2 ^ a.cut) ≡ scaled_end a.k a.c a.cut a.own a.x
-shifted c = ap (λ (z : ℤ). shr_z z (2 ^ c.args.cut)) (got w64 c.plus.type_inv (c.plus.ensures ∙ both c))
+plus-requires c = fits_at (both c ∙ ap (λ (z : ℤ). pos (2 ^ c.args.k) *ℤ c.args.own +ℤ z) (twice_times c.args.c c.args.x)) c.requires.both
 
 pub narrowed-requires : goal.narrowed-requires
 narrowed-requires c =
-    let a = c in
-    let v = a.args in record {
-      cut_bound = a.requires.short;
-      sfits = fits_at (shifted c) (ended_fits (Scaled v.k v.c v.cut) v.own v.x a.requires.result);
+    let shifted : let a = c.args in shr_z (back w64 c.plus.result) (2 ^ a.cut) ≡ scaled_end a.k a.c a.cut a.own a.x =
+        ap (λ (z : ℤ). shr_z z (2 ^ c.args.cut)) (got w64 c.plus.type_inv (c.plus.ensures ∙ both c)) in
+    let v = c.args in record {
+      cut_bound = c.requires.short;
+      sfits = fits_at shifted (ended_fits (Scaled v.k v.c v.cut) v.own v.x c.requires.result);
     }
 
 pub returns : goal.returns
-returns c = got w32 c.narrowed.type_inv (c.narrowed.ensures ∙ shifted c)
+returns c =
+    let shifted : let a = c.args in shr_z (back w64 c.plus.result) (2 ^ a.cut) ≡ scaled_end a.k a.c a.cut a.own a.x =
+        ap (λ (z : ℤ). shr_z z (2 ^ c.args.cut)) (got w64 c.plus.type_inv (c.plus.ensures ∙ both c)) in
+    got w32 c.narrowed.type_inv (c.narrowed.ensures ∙ shifted)
 
 pub overflow_cast-power : goal.overflow_cast-power
 overflow_cast-power c = record { sfits = small c }

@@ -44,18 +44,20 @@ both c =
 pub plus-requires-2 : goal.plus-requires-2
 plus-requires-2 c = fits_at (both c) c.requires.both
 
-shifted : (c : goal.After-plus-2) → let a = c.args in shr_z (back w64 c.plus-2.result) (2 ^ a.cut) ≡ scaled a.k a.c a.cut a.own a.x a.y
-shifted c = ap (λ (z : ℤ). shr_z z (2 ^ c.args.cut)) (got w64 c.plus-2.type_inv (c.plus-2.ensures ∙ both c))
-
 pub narrowed-requires : goal.narrowed-requires
 narrowed-requires c =
+    let shifted : let a = c.args in shr_z (back w64 c.plus-2.result) (2 ^ a.cut) ≡ scaled a.k a.c a.cut a.own a.x a.y =
+        ap (λ (z : ℤ). shr_z z (2 ^ c.args.cut)) (got w64 c.plus-2.type_inv (c.plus-2.ensures ∙ both c)) in
     let p = c.requires in record {
       cut_bound = p.short;
-      sfits = fits_at (shifted c) p.result;
+      sfits = fits_at shifted p.result;
     }
 
 pub returns : goal.returns
-returns c = got w32 c.narrowed.type_inv (c.narrowed.ensures ∙ shifted c)
+returns c =
+    let shifted : let a = c.args in shr_z (back w64 c.plus-2.result) (2 ^ a.cut) ≡ scaled a.k a.c a.cut a.own a.x a.y =
+        ap (λ (z : ℤ). shr_z z (2 ^ c.args.cut)) (got w64 c.plus-2.type_inv (c.plus-2.ensures ∙ both c)) in
+    got w32 c.narrowed.type_inv (c.narrowed.ensures ∙ shifted)
 
 pub overflow_cast-power : goal.overflow_cast-power
 overflow_cast-power c = record { sfits = small c }

@@ -9,15 +9,14 @@ use Rattle.lifting.specs.Steps.{signed_sum}
 use Rattle.slices.specs.SignedRuns.{back}
 use Rattle.lifting.proofs.steps.signed_sum.Goals as goal
 
-sum : (a : goal.Start) → back w32 (back w32 a.args.x +ℤ back w32 a.args.y) ≡ a.args.x +ℤ a.args.y
-sum a = ap (back w32) (ap₂ ◌+ℤ◌ (to_z-of_z a.ranges.x) (to_z-of_z a.ranges.y)) ∙ to_z-of_z a.requires.sum
-
 pub returns-then-down : goal.returns-then-down
 returns-then-down c =
-    let a = c in
-    ap (λ (z : ℤ). back w32 (pos 0 -ℤ z)) (sum c.before) ∙ to_z-of_z a.requires.negated ∙ sym (ap (λ (down : Bool). signed_sum down a.args.x a.args.y) c.if-down.true)
+    let sum : back w32 (back w32 c.args.x +ℤ back w32 c.args.y) ≡ c.args.x +ℤ c.args.y =
+        ap (back w32) (ap₂ ◌+ℤ◌ (to_z-of_z c.ranges.x) (to_z-of_z c.ranges.y)) ∙ to_z-of_z c.requires.sum in
+    ap (λ (z : ℤ). back w32 (pos 0 -ℤ z)) sum ∙ to_z-of_z c.requires.negated ∙ sym (ap (λ (down : Bool). signed_sum down c.args.x c.args.y) c.if-down.true)
 
 pub returns-else-down : goal.returns-else-down
 returns-else-down c =
-    let a = c in
-    sum c.before ∙ sym (ap (λ (down : Bool). signed_sum down a.args.x a.args.y) c.if-down.false)
+    let sum : back w32 (back w32 c.args.x +ℤ back w32 c.args.y) ≡ c.args.x +ℤ c.args.y =
+        ap (back w32) (ap₂ ◌+ℤ◌ (to_z-of_z c.ranges.x) (to_z-of_z c.ranges.y)) ∙ to_z-of_z c.requires.sum in
+    sum ∙ sym (ap (λ (down : Bool). signed_sum down c.args.x c.args.y) c.if-down.false)

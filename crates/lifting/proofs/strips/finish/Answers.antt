@@ -27,10 +27,10 @@ pub finish_two-requires : goal.finish_two-requires
 finish_two-requires c = asks c _ c.in-Two.is
 
 pub returns-in-One : goal.returns-in-One
-returns-in-One c = let f = c in gives f _ f.in-One.is _ f.finish_one.ensures
+returns-in-One c = gives c _ c.in-One.is _ c.finish_one.ensures
 
 pub returns-in-Two : goal.returns-in-Two
-returns-in-Two c = let f = c in gives f _ f.in-Two.is _ f.finish_two.ensures
+returns-in-Two c = gives c _ c.in-Two.is _ c.finish_two.ensures
 
 pub returns-in-Inverse : goal.returns-in-Inverse
 returns-in-Inverse c line held = absurd (subst (λ (k : Kernel). T (forwards k)) c.in-Inverse.is c.requires.strip_room.1)

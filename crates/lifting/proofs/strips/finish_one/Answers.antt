@@ -9,19 +9,15 @@ use Rattle.lifting.proofs.strips.finish_one.Goals as goal
 
 pub lift-requires : goal.lift-requires
 lift-requires c =
-    let a = c in record {
-      buffer = buffer_of a.requires.strip_room _ (omega arith);
-      lift_safe = lift_asked a.args.pair a.requires.strip_room.two a.requires.ready.held a.requires.ready.safe;
+    record {
+      buffer = buffer_of c.requires.strip_room _ (omega arith);
+      lift_safe = lift_asked c.args.pair c.requires.strip_room.two c.requires.ready.held c.requires.ready.safe;
     }
 
 pub copy_lines-requires : goal.copy_lines-requires
-copy_lines-requires c =
-    let a = c in
-    (buffer_lines a.requires.strip_room _ (omega arith), plane_lines a.requires.strip_room _ (omega arith))
+copy_lines-requires c = (buffer_lines c.requires.strip_room _ (omega arith), plane_lines c.requires.strip_room _ (omega arith))
 
 pub returns : goal.returns
 unfolding worked
 returns c line held =
-    let l = c in
-    let a = l in
-    c.copy_lines.ensures ∙ lines_ext _ _ _ _ _ a.args.n (held_at (lift_held a.args.pair a.requires.strip_room.two held _ l.lift.ensures))
+    c.copy_lines.ensures ∙ lines_ext _ _ _ _ _ c.args.n (held_at (lift_held c.args.pair c.requires.strip_room.two held _ c.lift.ensures))

@@ -28,17 +28,20 @@ gives a k y e is = is ∙ ap (done a) (sym e)
 pub strip_inverse-requires : goal.strip_inverse-requires
 strip_inverse-requires c = asks c _ c.in-Inverse.is
 
-forward-asks : (a : goal.Start) → Forward a.args.kernel → (StripRoom a.args.plane.now a.args.buffer.now a.args.stride a.args.from a.args.s a.args.n × Forward a.args.kernel) × Safe a a.args.kernel
-forward-asks a h = ((a.requires.strip_room, h), a.requires.by_index)
-
 pub strip_forward-requires : goal.strip_forward-requires
-strip_forward-requires c = forward-asks c (subst Forward (sym c.in-One.is) tt)
+strip_forward-requires c =
+    let forward-asks : Forward c.args.kernel → (StripRoom c.args.plane.now c.args.buffer.now c.args.stride c.args.from c.args.s c.args.n × Forward c.args.kernel) × Safe a c.args.kernel =
+        λ h. ((c.requires.strip_room, h), c.requires.by_index) in
+    forward-asks (subst Forward (sym c.in-One.is) tt)
 
 pub strip_forward-requires-in-Two : goal.strip_forward-requires-in-Two
-strip_forward-requires-in-Two c = forward-asks c (subst Forward (sym c.in-Two.is) tt)
+strip_forward-requires-in-Two c =
+    let forward-asks : Forward c.args.kernel → (StripRoom c.args.plane.now c.args.buffer.now c.args.stride c.args.from c.args.s c.args.n × Forward c.args.kernel) × Safe a c.args.kernel =
+        λ h. ((c.requires.strip_room, h), c.requires.by_index) in
+    forward-asks (subst Forward (sym c.in-Two.is) tt)
 
 pub returns-in-Inverse : goal.returns-in-Inverse
-returns-in-Inverse c = let f = c in gives f _ _ f.in-Inverse.is f.strip_inverse.ensures
+returns-in-Inverse c = gives c _ _ c.in-Inverse.is c.strip_inverse.ensures
 
 pub returns-in-One : goal.returns-in-One
 returns-in-One c = c.strip_forward.ensures

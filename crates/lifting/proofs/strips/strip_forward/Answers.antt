@@ -7,17 +7,13 @@ use Rattle.lifting.proofs.strips.strip_forward.Goals as goal
 
 pub finish-requires : goal.finish-requires
 finish-requires c =
-    let f = c in
-    let a = f in record {
-      strip_room = (strip_of a.requires.strip_room.0 _ _ (omega arith) (omega arith), a.requires.strip_room.1);
-      ready = record { line = column_of a.args.stride a.args.from (at a.args.plane.now); held = f.split.ensures; safe = a.requires.by_index };
+    record {
+      strip_room = (strip_of c.requires.strip_room.0 _ _ (omega arith) (omega arith), c.requires.strip_room.1);
+      ready = record { line = column_of c.args.stride c.args.from (at c.args.plane.now); held = c.split.ensures; safe = c.requires.by_index };
     }
 
 pub returns : goal.returns
-returns c =
-    let g = c in
-    let f = g in
-    g.finish.ensures _ f.split.ensures
+returns c = c.finish.ensures _ c.split.ensures
 
 pub split-requires : goal.split-requires
 split-requires c = c.requires.strip_room.0

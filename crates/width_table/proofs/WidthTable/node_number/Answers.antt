@@ -22,7 +22,6 @@ node_place-requires c =
 
 pub returns : goal.returns
 returns c =
-    let i = c in
-    let a = i.args in
+    let a = c.args in
     ap (λ (n : ℕ). get_or a.t1.nodes (n + a.after) 0) c.node_place.ensures.0
-    ∙ sym (ap (λ (x : Bool). or_zero x (get_or a.t1.nodes (node_place a.level a.pass a.node + a.after) 0)) (sym i.has_node.ensures ∙ i.if-has_node.true))
+    ∙ sym (ap (λ (x : Bool). or_zero x (get_or a.t1.nodes (node_place a.level a.pass a.node + a.after) 0)) (sym c.has_node.ensures ∙ c.if-has_node.true))

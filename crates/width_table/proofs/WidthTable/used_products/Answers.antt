@@ -6,6 +6,5 @@ use Rattle.width_table.proofs.WidthTable.used_products.Goals as goal
 
 pub returns-then-self : goal.returns-then-self
 returns-then-self c =
-    let i = c in
-    let a = i.args in
-    sym (ap (λ (x : Bool). elim x [ true ↦ product_bytes a.self.levels | false ↦ 0 ]) i.if-self.true)
+    let a = c.args in
+    sym (ap (λ (x : Bool). elim x [ true ↦ product_bytes a.self.levels | false ↦ 0 ]) c.if-self.true)

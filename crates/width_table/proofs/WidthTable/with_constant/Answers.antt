@@ -22,18 +22,12 @@ returns-else-in_between-2 c =
     gives_back c.not_changed-else-in_between-2.ensures (no_bits a.t1 a.node a.bits (sym c.in_between-2.ensures ∙ c.if-in_between-2.false))
 
 pub overflow_sub-self : goal.overflow_sub-self
-overflow_sub-self c =
-    let j = c in
-    omega (arith, in_limits 1 nodes_per_pass j.args.node (sym j.in_between.ensures ∙ j.if-in_between.true))
+overflow_sub-self c = omega (arith, in_limits 1 nodes_per_pass c.args.node (sym c.in_between.ensures ∙ c.if-in_between.true))
 
 pub bounds-self-node : goal.bounds-self-node
-bounds-self-node c =
-    let j = c in
-    omega (arith, in_limits 1 nodes_per_pass j.args.node (sym j.in_between.ensures ∙ j.if-in_between.true))
+bounds-self-node c = omega (arith, in_limits 1 nodes_per_pass c.args.node (sym c.in_between.ensures ∙ c.if-in_between.true))
 
 pub returns : goal.returns
 returns c =
-    let j = c in
-    let i = j in
-    let a = i.args in
-    constant_changes a.t1 a.node a.bits (sym i.form_right.ensures ∙ i.if-form_right.true) (sym j.in_between.ensures ∙ j.if-in_between.true) (sym c.in_between-2.ensures ∙ c.if-in_between-2.true)
+    let a = c.args in
+    constant_changes a.t1 a.node a.bits (sym c.form_right.ensures ∙ c.if-form_right.true) (sym c.in_between.ensures ∙ c.if-in_between.true) (sym c.in_between-2.ensures ∙ c.if-in_between-2.true)

@@ -30,22 +30,16 @@ returns-else-in_between c =
 
 pub product_place-at-requires : goal.product_place-at-requires
 product_place-at-requires c =
-    let k = c in
-    let i = k in
-    let a = i.args in
-    let few = few_levels a.t1 (sym i.form_right.ensures ∙ i.if-form_right.true) in
-    let n = product_in a.t1.levels a.level a.pass a.product (sym k.has_product.ensures ∙ k.if-has_product.true) in
+    let a = c.args in
+    let few = few_levels a.t1 (sym c.form_right.ensures ∙ c.if-form_right.true) in
+    let n = product_in a.t1.levels a.level a.pass a.product (sym c.has_product.ensures ∙ c.if-has_product.true) in
     omega (arith, few, n.0.0, n.0.1, n.1.0, n.1.1, n.2.0, n.2.1)
 
 pub returns : goal.returns
 returns c =
-    let l = c in
-    let k = l in
-    let j = k in
-    let i = j in
-    let a = i.args in
-    let w = product_changes a.t1 a.level a.pass a.product a.bits (sym i.form_right.ensures ∙ i.if-form_right.true) j.if-self.true (sym k.has_product.ensures ∙ k.if-has_product.true) (sym l.in_between.ensures ∙ l.if-in_between.true) in
+    let a = c.args in
+    let w = product_changes a.t1 a.level a.pass a.product a.bits (sym c.form_right.ensures ∙ c.if-form_right.true) c.if-self.true (sym c.has_product.ensures ∙ c.if-has_product.true) (sym c.in_between.ensures ∙ c.if-in_between.true) in
     (w.0, ap (λ (n : ℕ). changed a.t1 (set a.t1.products n a.bits)) c.product_place-at.ensures.0 ∙ w.1)
   where
     changed : WidthTable → List ℕ → WidthTable
-    changed t l = record { depth = t.depth; levels = t.levels; constants = t.constants; nodes = t.nodes; has_products = t.has_products; products = l }
+    changed t c = record { depth = t.depth; levels = t.levels; constants = t.constants; nodes = t.nodes; has_products = t.has_products; products = c }

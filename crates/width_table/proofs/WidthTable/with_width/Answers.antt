@@ -25,20 +25,15 @@ returns-else-width_right c =
 
 pub node_place-at-requires : goal.node_place-at-requires
 node_place-at-requires c =
-    let j = c in
-    let i = j in
-    let a = i.args in
-    let few = few_levels a.t1 (sym i.form_right.ensures ∙ i.if-form_right.true) in
-    let n = node_in a.t1.levels a.level a.pass a.node (sym j.has_node.ensures ∙ j.if-has_node.true) in
+    let a = c.args in
+    let few = few_levels a.t1 (sym c.form_right.ensures ∙ c.if-form_right.true) in
+    let n = node_in a.t1.levels a.level a.pass a.node (sym c.has_node.ensures ∙ c.if-has_node.true) in
     omega (arith, few, n.0.0, n.0.1, n.1.0, n.1.1, n.2.0, n.2.1)
 
 pub returns : goal.returns
 returns c =
-    let k = c in
-    let j = k in
-    let i = j in
-    let a = i.args in
-    let w = width_changes a.t1 a.level a.pass a.node a.integer a.fraction (sym i.form_right.ensures ∙ i.if-form_right.true) (sym j.has_node.ensures ∙ j.if-has_node.true) (sym k.width_right.ensures ∙ k.if-width_right.true) in
+    let a = c.args in
+    let w = width_changes a.t1 a.level a.pass a.node a.integer a.fraction (sym c.form_right.ensures ∙ c.if-form_right.true) (sym c.has_node.ensures ∙ c.if-has_node.true) (sym c.width_right.ensures ∙ c.if-width_right.true) in
     (w.0, ap (λ (n : ℕ). changed a.t1 (set (set a.t1.nodes n a.integer) (n + 1) a.fraction)) c.node_place-at.ensures.0 ∙ w.1)
   where
     changed : WidthTable → List ℕ → WidthTable

@@ -9,17 +9,14 @@ use Rattle.slices.specs.Filling.{filling_none, filling_all}
 use Rattle.slices.specs.SignedRuns.{Running}
 use Rattle.lifting.proofs.runs.biased_run.Goals as goal
 
-abbrev step : goal.Start → Step
-step s = biased_step s.args.separate s.args.down s.args.form
-
 pub loop-j-init : goal.loop-j-init
 loop-j-init c = filling_none _ _ _ _
 
 pub biased_of-v-requires : goal.biased_of-v-requires
-biased_of-v-requires c = step_asks (step c) c.requires.runs c.loop-j.invariant c.loop-j-test.true c.biased_of-arg-1.given c.biased_of-arg-in-loop-j-1.given c.biased_of-arg-in-loop-j-2-1.given c.requires.safe_run
+biased_of-v-requires c = step_asks (biased_step c.args.separate c.args.down c.args.form) c.requires.runs c.loop-j.invariant c.loop-j-test.true (omega arith) (omega arith) (omega arith) c.requires.safe_run
 
 pub loop-j-preserved : goal.loop-j-preserved
-loop-j-preserved c = step_done (step c) c.requires.runs c.loop-j.invariant c.loop-j-test.true c.biased_of-arg-1.given c.biased_of-arg-in-loop-j-1.given c.biased_of-arg-in-loop-j-2-1.given c.biased_of-v.type_inv c.biased_of-v.ensures
+loop-j-preserved c = step_done (biased_step c.args.separate c.args.down c.args.form) c.requires.runs c.loop-j.invariant c.loop-j-test.true (omega arith) (omega arith) (omega arith) c.biased_of-v.type_inv c.biased_of-v.ensures
 
 pub returns : goal.returns
 returns c = filling_all c.loop-j.invariant (omega arith)

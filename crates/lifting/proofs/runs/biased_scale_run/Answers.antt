@@ -11,17 +11,14 @@ use Rattle.slices.specs.Filling.{Filling, filling_none, filling_more, filling_al
 use Rattle.slices.specs.SignedRuns.{value_safe, value_gives}
 use Rattle.lifting.proofs.runs.biased_scale_run.Goals as goal
 
-abbrev factor : goal.Start → Factor
-factor s = biased_factor s.args.form
-
 pub loop-j-init : goal.loop-j-init
 loop-j-init c = filling_none _ _ _ _
 
 pub biased_by-v-requires : goal.biased_by-v-requires
-biased_by-v-requires c = value_safe w32 (at c.args.src.now (c.args.from + c.loop-j.j)) c.biased_by-arg-1.given refl (FactorSafe (factor c)) (c.requires.by_index c.loop-j.j c.loop-j-test.true)
+biased_by-v-requires c = value_safe w32 (at c.args.src.now (c.args.from + c.loop-j.j)) (omega arith) refl (FactorSafe (biased_factor c.args.form)) (c.requires.by_index c.loop-j.j c.loop-j-test.true)
 
 pub loop-j-preserved : goal.loop-j-preserved
-loop-j-preserved c = filling_more c.loop-j.invariant (omega arith) (omega arith) _ (value_gives w32 (at c.args.src.now (c.args.from + c.loop-j.j)) c.biased_by-arg-1.given refl (scaled_by (factor c)) c.biased_by-v.type_inv c.biased_by-v.ensures)
+loop-j-preserved c = filling_more c.loop-j.invariant (omega arith) (omega arith) _ (value_gives w32 (at c.args.src.now (c.args.from + c.loop-j.j)) (omega arith) refl (scaled_by (biased_factor c.args.form)) c.biased_by-v.type_inv c.biased_by-v.ensures)
 
 pub returns : goal.returns
 returns c = filling_all c.loop-j.invariant (omega arith)

@@ -13,10 +13,10 @@ pub loop-j-init : goal.loop-j-init
 loop-j-init c = filling_none _ _ _ _
 
 pub apply_end-v-requires : goal.apply_end-v-requires
-apply_end-v-requires c = step_asks c.args.step c.requires.runs c.loop-j.invariant c.loop-j-test.true c.apply_end-arg-1.given c.apply_end-arg-in-loop-j-1.given c.apply_end-arg-in-loop-j-1.given c.requires.safe_run
+apply_end-v-requires c = step_asks c.args.step c.requires.runs c.loop-j.invariant c.loop-j-test.true (omega arith) (omega arith) (omega arith) c.requires.safe_run
 
 pub loop-j-preserved : goal.loop-j-preserved
-loop-j-preserved c = step_done c.args.step c.requires.runs c.loop-j.invariant c.loop-j-test.true c.apply_end-arg-1.given c.apply_end-arg-in-loop-j-1.given c.apply_end-arg-in-loop-j-1.given c.apply_end-v.type_inv (c.apply_end-v.ensures ∙ ended_is c.args.step _ _)
+loop-j-preserved c = step_done c.args.step c.requires.runs c.loop-j.invariant c.loop-j-test.true (omega arith) (omega arith) (omega arith) c.apply_end-v.type_inv (c.apply_end-v.ensures ∙ ended_is c.args.step _ _)
 
 pub returns : goal.returns
 returns c = filling_all c.loop-j.invariant (omega arith)

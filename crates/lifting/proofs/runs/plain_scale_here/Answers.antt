@@ -14,17 +14,14 @@ use Rattle.slices.specs.Filling.{Filling, filling_none, filling_more, filling_al
 use Rattle.slices.specs.SignedRuns.{back, value_safe, value_gives}
 use Rattle.lifting.proofs.runs.plain_scale_here.Goals as goal
 
-abbrev factor : goal.Start → Factor
-factor s = Plain (back w64 s.args.c) s.args.cut
-
 pub loop-j-init : goal.loop-j-init
 loop-j-init c = filling_none _ _ _ _
 
 pub scaled_by-v-requires : goal.scaled_by-v-requires
-scaled_by-v-requires c = value_safe w32 (at c.args.buf.now (c.args.from + c.loop-j.j)) c.scaled_by-arg-1.given (filling_own c.loop-j.invariant) (FactorSafe (factor c)) (subst (λ (z : ℤ). FactorSafe (Plain z c.args.cut) (at c.args.buf.now (c.args.from + c.loop-j.j))) (sym (to_z-of_z c.ranges.c)) (c.requires.by_index c.loop-j.j c.loop-j-test.true))
+scaled_by-v-requires c = value_safe w32 (at c.args.buf.now (c.args.from + c.loop-j.j)) (omega arith) (filling_own c.loop-j.invariant) (FactorSafe (Plain (back w64 c.args.c) c.args.cut)) (subst (λ (z : ℤ). FactorSafe (Plain z c.args.cut) (at c.args.buf.now (c.args.from + c.loop-j.j))) (sym (to_z-of_z c.ranges.c)) (c.requires.by_index c.loop-j.j c.loop-j-test.true))
 
 pub loop-j-preserved : goal.loop-j-preserved
-loop-j-preserved c = filling_more c.loop-j.invariant (omega arith) (omega arith) _ (value_gives w32 (at c.args.buf.now (c.args.from + c.loop-j.j)) c.scaled_by-arg-1.given (filling_own c.loop-j.invariant) (scaled_by (factor c)) c.scaled_by-v.type_inv c.scaled_by-v.ensures)
+loop-j-preserved c = filling_more c.loop-j.invariant (omega arith) (omega arith) _ (value_gives w32 (at c.args.buf.now (c.args.from + c.loop-j.j)) (omega arith) (filling_own c.loop-j.invariant) (scaled_by (Plain (back w64 c.args.c) c.args.cut)) c.scaled_by-v.type_inv c.scaled_by-v.ensures)
 
 pub returns : goal.returns
 returns c = filling_all c.loop-j.invariant (omega arith) ∙ (λ u. patch c.args.from c.args.n (λ j. scaled_by (Plain (to_z-of_z c.ranges.c u) c.args.cut) (at c.args.buf.now (c.args.from + j))) (at c.args.buf.now))

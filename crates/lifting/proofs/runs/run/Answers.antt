@@ -11,10 +11,10 @@ pub loop-j-init : goal.loop-j-init
 loop-j-init c = filling_none _ _ _ _
 
 pub apply-v-requires : goal.apply-v-requires
-apply-v-requires c = (c.requires.plain_step.0, step_asks c.args.step c.requires.plain_step.1 c.loop-j.invariant c.loop-j-test.true c.apply-arg-1.given c.apply-arg-in-loop-j-1.given c.apply-arg-in-loop-j-2-1.given c.requires.safe_run)
+apply-v-requires c = (c.requires.plain_step.0, step_asks c.args.step c.requires.plain_step.1 c.loop-j.invariant c.loop-j-test.true (omega arith) (omega arith) (omega arith) c.requires.safe_run)
 
 pub loop-j-preserved : goal.loop-j-preserved
-loop-j-preserved c = step_done c.args.step c.requires.plain_step.1 c.loop-j.invariant c.loop-j-test.true c.apply-arg-1.given c.apply-arg-in-loop-j-1.given c.apply-arg-in-loop-j-2-1.given c.apply-v.type_inv c.apply-v.ensures
+loop-j-preserved c = step_done c.args.step c.requires.plain_step.1 c.loop-j.invariant c.loop-j-test.true (omega arith) (omega arith) (omega arith) c.apply-v.type_inv c.apply-v.ensures
 
 pub returns : goal.returns
 returns c = filling_all c.loop-j.invariant (omega arith)

@@ -1,27 +1,27 @@
 -- `lifting::steps::apply` meets its contract: in each arm the step is the one that the arm takes.
-use mathlib.Core.List.{[], ◌∷◌}
+use mathlib.Core.Path.{◌≡◌, refl}
+use Prim.Native.Nat.{ℕ}
 use borrow.Author.Rules.{rules}
-use denote.Enum.Declared.{tag_of}
-use types.Run.{OneOf, miss}
+use lib.IntN.{ℤ}
 use mir.Syntax.{w32}
 use Rattle.lifting.specs.declared.Step.{Step}
 use Rattle.lifting.specs.declared.Step.TheVariants.{Predict, Update, InversePredict, InverseUpdate, Scaled, Separate, Combined, Cut, BiasedCut}
 use Rattle.lifting.specs.Steps.{PlainStep}
-use Rattle.lifting.specs.contracts.Step.{the_type}
 use Rattle.lifting.proofs.Read.{safe_back, applied_back, scaled_back, cut_back}
 use Rattle.lifting.proofs.steps.apply.Goals as goal
 
--- no plain step is in a biased form
-not-biased : (s : Step) → PlainStep s → OneOf (5 ∷ 6 ∷ 8 ∷ []) (tag_of the_type s) → ⊥
-not-biased Predict p h = miss (5 ∷ 6 ∷ 8 ∷ []) _ tt h
-not-biased Update p h = miss (5 ∷ 6 ∷ 8 ∷ []) _ tt h
-not-biased InversePredict p h = miss (5 ∷ 6 ∷ 8 ∷ []) _ tt h
-not-biased InverseUpdate p h = miss (5 ∷ 6 ∷ 8 ∷ []) _ tt h
-not-biased (Scaled k c cut) p h = miss (5 ∷ 6 ∷ 8 ∷ []) _ tt h
-not-biased (Separate down rise c base cut) p h = p
-not-biased (Combined down k c offset base cut) p h = p
-not-biased (Cut k c first up cut) p h = miss (5 ∷ 6 ∷ 8 ∷ []) _ tt h
-not-biased (BiasedCut down k c offset first up base cut) p h = p
+-- a plain step is in an arm of its own
+in_arm : (s : Step) → PlainStep s → (s ≡ Predict → ⊥) → (s ≡ Update → ⊥) → (s ≡ InversePredict → ⊥) → (s ≡ InverseUpdate → ⊥)
+    → ((k : ℕ) (c : ℤ) (cut : ℕ) → s ≡ Scaled k c cut → ⊥) → ((k : ℕ) (c : ℤ) (first up cut : ℕ) → s ≡ Cut k c first up cut → ⊥) → ⊥
+in_arm Predict p e1 e2 e3 e4 e5 e6 = e1 refl
+in_arm Update p e1 e2 e3 e4 e5 e6 = e2 refl
+in_arm InversePredict p e1 e2 e3 e4 e5 e6 = e3 refl
+in_arm InverseUpdate p e1 e2 e3 e4 e5 e6 = e4 refl
+in_arm (Scaled k c cut) p e1 e2 e3 e4 e5 e6 = e5 k c cut refl
+in_arm (Separate down rise c base cut) p e1 e2 e3 e4 e5 e6 = p
+in_arm (Combined down k c offset base cut) p e1 e2 e3 e4 e5 e6 = p
+in_arm (Cut k c first up cut) p e1 e2 e3 e4 e5 e6 = e6 k c first up cut refl
+in_arm (BiasedCut down k c offset first up base cut) p e1 e2 e3 e4 e5 e6 = p
 
 pub predicted-requires : goal.predicted-requires
 predicted-requires c = safe_back w32 c.ranges.own c.ranges.x c.ranges.y c.in-Predict.is c.requires.1
@@ -60,4 +60,6 @@ pub returns-in-Cut : goal.returns-in-Cut
 returns-in-Cut c = applied_back w32 c.ranges.own c.ranges.x c.ranges.y (cut_back (search rules) c.in-Cut.is) c.cut_of.type_inv c.cut_of.ensures
 
 pub returns-in_default : goal.returns-in_default
-returns-in_default c = absurd (not-biased c.args.step c.requires.0 c.in-Predict.keys7)
+returns-in_default c =
+    let d = c.in_default in
+    absurd (in_arm c.args.step c.requires.0 d.not-Predict d.not-Update d.not-InversePredict d.not-InverseUpdate d.not-Scaled d.not-Cut)

@@ -1,7 +1,6 @@
 -- `lifting::steps::cut_end` meets its contract: each call's result is the number that `cut_first_end` has at its place.
 use mathlib.Core.Path.{◌≡◌, sym, ap, ap₂, ◌∙◌}
 use Prim.Native.Nat.{◌^◌}
-use borrow.Author.Rules.{rules}
 use lib.IntN.{ℤ, pos, ◌*ℤ◌}
 use lib.Signed.{shr_z}
 use mir.Syntax.{w32, w64}
@@ -20,22 +19,20 @@ pub times-requires : goal.times-requires
 times-requires c = fits_at (constant c) c.requires.doubled
 
 whole : (c : goal.After-wide) → let a = c.args in back w64 c.times.result *ℤ back w64 c.wide.result ≡ pos 2 *ℤ a.c *ℤ a.x
-whole c =
-    let t = c in
-    ap₂ ◌*ℤ◌ (got w64 t.times.type_inv (t.times.ensures ∙ constant t)) (got w64 c.wide.type_inv (c.wide.ensures ∙ to_z-of_z t.ranges.x))
+whole c = ap₂ ◌*ℤ◌ (got w64 c.times.type_inv (c.times.ensures ∙ constant c.before.before)) (got w64 c.wide.type_inv (c.wide.ensures ∙ to_z-of_z c.ranges.x))
 
 pub times-requires-2 : goal.times-requires-2
 times-requires-2 c = fits_at (whole c ∙ twice_times c.args.c c.args.x) c.requires.whole
 
+part : (c : goal.After-shifted-part) → let a = c.args in back w64 c.shifted-part.result ≡ shr_z (pos 2 *ℤ a.c *ℤ a.x) (2 ^ a.first)
+part c =
+    got w64 c.shifted-part.type_inv
+    (c.shifted-part.ensures ∙ ap (λ (z : ℤ). shr_z z (2 ^ c.args.first)) (got w64 c.times-2.type_inv (c.times-2.ensures ∙ whole c.before.before)))
+
 pub join-requires : goal.join-requires
 join-requires c =
-    let part : let a = c.args in back w64 c.shifted-part.result ≡ shr_z (pos 2 *ℤ a.c *ℤ a.x) (2 ^ a.first) =
-        got w64 c.shifted-part.type_inv (c.shifted-part.ensures ∙ ap (λ (z : ℤ). shr_z z (2 ^ c.args.first)) (got w64 c.times-2.type_inv (c.times-2.ensures ∙ whole c))) in
     let a = c.args in
-    as_type (λ u. JoinSafe a.k a.up a.cut (sym (to_z-of_z c.ranges.own) u) (sym part u)) (end_joins a.k a.c a.first a.up a.cut a.own a.x c.requires)
+    as_type (λ u. JoinSafe a.k a.up a.cut (sym (to_z-of_z c.ranges.own) u) (sym (part c) u)) (end_joins a.k a.c a.first a.up a.cut a.own a.x c.requires)
 
 pub returns : goal.returns
-returns c =
-    let part : let a = c.args in back w64 c.shifted-part.result ≡ shr_z (pos 2 *ℤ a.c *ℤ a.x) (2 ^ a.first) =
-        got w64 c.shifted-part.type_inv (c.shifted-part.ensures ∙ ap (λ (z : ℤ). shr_z z (2 ^ c.args.first)) (got w64 c.times-2.type_inv (c.times-2.ensures ∙ whole c))) in
-    got w32 c.join.type_inv (c.join.ensures ∙ (λ u. joined c.args.k c.args.up c.args.cut (to_z-of_z c.ranges.own u) (part u)))
+returns c = got w32 c.join.type_inv (c.join.ensures ∙ (λ u. joined c.args.k c.args.up c.args.cut (to_z-of_z c.ranges.own u) (part c.before u)))

@@ -1,7 +1,6 @@
 -- `lifting::steps::join` meets its contract: each call's result is the number that `joined` has at its place.
 use mathlib.Core.Path.{◌≡◌, ap, ap₂, ◌∙◌}
 use Prim.Native.Nat.{◌^◌, ◌<◌}
-use borrow.Author.Rules.{rules}
 use lib.IntN.{ℤ, pos, ◌+ℤ◌, ◌*ℤ◌}
 use lib.Signed.{shr_z}
 use mir.Syntax.{w32, w64}
@@ -18,6 +17,9 @@ small c = power_small c.requires.few c.power.ensures
 left : (c : goal.After-wide) → let a = c.args in to_z w64 c.power.result *ℤ back w64 c.wide.result ≡ pos (2 ^ a.k) *ℤ a.own
 left c = ap₂ ◌*ℤ◌ (to_z_pos w64 (small c.before) ∙ ap pos c.power.ensures) (got w64 c.wide.type_inv (c.wide.ensures ∙ to_z-of_z c.ranges.own))
 
+pub overflow_cast-power : goal.overflow_cast-power
+overflow_cast-power c = record { sfits = small c }
+
 pub times-left-requires : goal.times-left-requires
 times-left-requires c = fits_at (left c) c.requires.left
 
@@ -27,35 +29,26 @@ small-2 c = power_small c.requires.rises c.power-2.ensures
 right : (c : goal.After-power-2) → let a = c.args in to_z w64 c.power-2.result *ℤ back w64 a.part ≡ pos (2 ^ a.up) *ℤ a.part
 right c = ap₂ ◌*ℤ◌ (to_z_pos w64 (small-2 c) ∙ ap pos c.power-2.ensures) (to_z-of_z c.ranges.part)
 
+pub overflow_cast-power-2 : goal.overflow_cast-power-2
+overflow_cast-power-2 c = record { sfits = small-2 c }
+
 pub times-right-requires : goal.times-right-requires
 times-right-requires c = fits_at (right c) c.requires.right
 
 both : (c : goal.After-times-right) → let a = c.args in
     back w64 c.times-left.result +ℤ back w64 c.times-right.result ≡ pos (2 ^ a.k) *ℤ a.own +ℤ pos (2 ^ a.up) *ℤ a.part
 both c =
-    let t = c in
-    ap₂ ◌+ℤ◌ (got w64 t.times-left.type_inv (t.times-left.ensures ∙ left t)) (got w64 c.times-right.type_inv (c.times-right.ensures ∙ right c))
+    ap₂ ◌+ℤ◌ (got w64 c.times-left.type_inv (c.times-left.ensures ∙ left c.before.before.before))
+    (got w64 c.times-right.type_inv (c.times-right.ensures ∙ right c.before))
 
 pub plus-requires : goal.plus-requires
 plus-requires c = fits_at (both c) c.requires.both
 
+sum : (c : goal.After-plus) → let a = c.args in shr_z (back w64 c.plus.result) (2 ^ a.cut) ≡ joined a.k a.up a.cut a.own a.part
+sum c = ap (λ (z : ℤ). shr_z z (2 ^ c.args.cut)) (got w64 c.plus.type_inv (c.plus.ensures ∙ both c.before))
+
 pub narrowed-requires : goal.narrowed-requires
-narrowed-requires c =
-    let sum : let a = c.args in shr_z (back w64 c.plus.result) (2 ^ a.cut) ≡ joined a.k a.up a.cut a.own a.part =
-        ap (λ (z : ℤ). shr_z z (2 ^ c.args.cut)) (got w64 c.plus.type_inv (c.plus.ensures ∙ both c)) in
-    let p = c.requires in record {
-      cut_bound = p.short;
-      sfits = fits_at sum p.result;
-    }
+narrowed-requires c = record { cut_bound = c.requires.short; sfits = fits_at (sum c) c.requires.result }
 
 pub returns : goal.returns
-returns c =
-    let sum : let a = c.args in shr_z (back w64 c.plus.result) (2 ^ a.cut) ≡ joined a.k a.up a.cut a.own a.part =
-        ap (λ (z : ℤ). shr_z z (2 ^ c.args.cut)) (got w64 c.plus.type_inv (c.plus.ensures ∙ both c)) in
-    got w32 c.narrowed.type_inv (c.narrowed.ensures ∙ sum)
-
-pub overflow_cast-power : goal.overflow_cast-power
-overflow_cast-power c = record { sfits = small c }
-
-pub overflow_cast-power-2 : goal.overflow_cast-power-2
-overflow_cast-power-2 c = record { sfits = small-2 c }
+returns c = got w32 c.narrowed.type_inv (c.narrowed.ensures ∙ sum c.before)

@@ -1,7 +1,6 @@
 -- `lifting::steps::scaled_by` meets its contract: each call's result is the number that `scaled_by` has at its place.
 use mathlib.Core.Path.{◌≡◌, ap, ap₂, ◌∙◌}
 use Prim.Native.Nat.{◌^◌}
-use borrow.Author.Rules.{rules}
 use lib.IntN.{ℤ, ◌*ℤ◌}
 use lib.Signed.{shr_z}
 use mir.Syntax.{w32, w64}
@@ -15,17 +14,11 @@ product c = ap₂ ◌*ℤ◌ (to_z-of_z c.ranges.c) (got w64 c.wide.type_inv (c.
 pub times-requires : goal.times-requires
 times-requires c = fits_at (product c) c.requires.product
 
+shifted : (c : goal.After-times) → let a = c.args in shr_z (back w64 c.times.result) (2 ^ a.cut) ≡ shr_z (a.c *ℤ a.x) (2 ^ a.cut)
+shifted c = ap (λ (z : ℤ). shr_z z (2 ^ c.args.cut)) (got w64 c.times.type_inv (c.times.ensures ∙ product c.before))
+
 pub narrowed-requires : goal.narrowed-requires
-narrowed-requires c =
-    let shifted : let a = c.args in shr_z (back w64 c.times.result) (2 ^ a.cut) ≡ shr_z (a.c *ℤ a.x) (2 ^ a.cut) =
-        ap (λ (z : ℤ). shr_z z (2 ^ c.args.cut)) (got w64 c.times.type_inv (c.times.ensures ∙ product c)) in
-    let p = c.requires in record {
-      cut_bound = p.short;
-      sfits = fits_at shifted p.result;
-    }
+narrowed-requires c = record { cut_bound = c.requires.short; sfits = fits_at (shifted c) c.requires.result }
 
 pub returns : goal.returns
-returns c =
-    let shifted : let a = c.args in shr_z (back w64 c.times.result) (2 ^ a.cut) ≡ shr_z (a.c *ℤ a.x) (2 ^ a.cut) =
-        ap (λ (z : ℤ). shr_z z (2 ^ c.args.cut)) (got w64 c.times.type_inv (c.times.ensures ∙ product c)) in
-    got w32 c.narrowed.type_inv (c.narrowed.ensures ∙ shifted)
+returns c = got w32 c.narrowed.type_inv (c.narrowed.ensures ∙ shifted c.before)

@@ -1,7 +1,6 @@
 -- `lifting::steps::scaled_end` meets its contract: each call's result is the number that `scaled_end` has at its place.
 use mathlib.Core.Path.{◌≡◌, ap, ap₂, ◌∙◌}
 use Prim.Native.Nat.{◌^◌, ◌<◌}
-use borrow.Author.Rules.{rules}
 use lib.IntN.{ℤ, pos, ◌+ℤ◌, ◌*ℤ◌}
 use lib.Signed.{shr_z}
 use mir.Syntax.{w32, w64}
@@ -21,6 +20,9 @@ small c = power_small c.requires.few c.power.ensures
 left : (c : goal.After-wide) → let a = c.args in to_z w64 c.power.result *ℤ back w64 c.wide.result ≡ pos (2 ^ a.k) *ℤ a.own
 left c = ap₂ ◌*ℤ◌ (to_z_pos w64 (small c.before) ∙ ap pos c.power.ensures) (got w64 c.wide.type_inv (c.wide.ensures ∙ to_z-of_z c.ranges.own))
 
+pub overflow_cast-power : goal.overflow_cast-power
+overflow_cast-power c = record { sfits = small c }
+
 pub times-left-requires : goal.times-left-requires
 times-left-requires c = fits_at (left c) c.requires.left
 
@@ -33,8 +35,7 @@ times-requires c = fits_at (constant c) c.requires.doubled
 
 right : (c : goal.After-wide-2) → let a = c.args in back w64 c.times.result *ℤ back w64 c.wide-2.result ≡ pos 2 *ℤ a.c *ℤ a.x
 right c =
-    let t = c in
-    ap₂ ◌*ℤ◌ (got w64 t.times.type_inv (t.times.ensures ∙ constant t)) (got w64 c.wide-2.type_inv (c.wide-2.ensures ∙ to_z-of_z t.ranges.x))
+    ap₂ ◌*ℤ◌ (got w64 c.times.type_inv (c.times.ensures ∙ constant c.before.before)) (got w64 c.wide-2.type_inv (c.wide-2.ensures ∙ to_z-of_z c.ranges.x))
 
 pub times-right-requires : goal.times-right-requires
 times-right-requires c = fits_at (right c ∙ twice_times c.args.c c.args.x) c.requires.right
@@ -42,26 +43,19 @@ times-right-requires c = fits_at (right c ∙ twice_times c.args.c c.args.x) c.r
 both : (c : goal.After-times-right) → let a = c.args in
     back w64 c.times-left.result +ℤ back w64 c.times-right.result ≡ pos (2 ^ a.k) *ℤ a.own +ℤ pos 2 *ℤ a.c *ℤ a.x
 both c =
-    let t = c in
-    ap₂ ◌+ℤ◌ (got w64 t.times-left.type_inv (t.times-left.ensures ∙ left t)) (got w64 c.times-right.type_inv (c.times-right.ensures ∙ right c))
+    ap₂ ◌+ℤ◌ (got w64 c.times-left.type_inv (c.times-left.ensures ∙ left c.before.before.before.before))
+    (got w64 c.times-right.type_inv (c.times-right.ensures ∙ right c.before))
 
 pub plus-requires : goal.plus-requires
 plus-requires c = fits_at (both c ∙ ap (λ (z : ℤ). pos (2 ^ c.args.k) *ℤ c.args.own +ℤ z) (twice_times c.args.c c.args.x)) c.requires.both
 
+shifted : (c : goal.After-plus) → let a = c.args in shr_z (back w64 c.plus.result) (2 ^ a.cut) ≡ scaled_end a.k a.c a.cut a.own a.x
+shifted c = ap (λ (z : ℤ). shr_z z (2 ^ c.args.cut)) (got w64 c.plus.type_inv (c.plus.ensures ∙ both c.before))
+
 pub narrowed-requires : goal.narrowed-requires
 narrowed-requires c =
-    let shifted : let a = c.args in shr_z (back w64 c.plus.result) (2 ^ a.cut) ≡ scaled_end a.k a.c a.cut a.own a.x =
-        ap (λ (z : ℤ). shr_z z (2 ^ c.args.cut)) (got w64 c.plus.type_inv (c.plus.ensures ∙ both c)) in
-    let v = c.args in record {
-      cut_bound = c.requires.short;
-      sfits = fits_at shifted (ended_fits (Scaled v.k v.c v.cut) v.own v.x c.requires.result);
-    }
+    let v = c.args in
+    record { cut_bound = c.requires.short; sfits = fits_at (shifted c) (ended_fits (Scaled v.k v.c v.cut) v.own v.x c.requires.result) }
 
 pub returns : goal.returns
-returns c =
-    let shifted : let a = c.args in shr_z (back w64 c.plus.result) (2 ^ a.cut) ≡ scaled_end a.k a.c a.cut a.own a.x =
-        ap (λ (z : ℤ). shr_z z (2 ^ c.args.cut)) (got w64 c.plus.type_inv (c.plus.ensures ∙ both c)) in
-    got w32 c.narrowed.type_inv (c.narrowed.ensures ∙ shifted)
-
-pub overflow_cast-power : goal.overflow_cast-power
-overflow_cast-power c = record { sfits = small c }
+returns c = got w32 c.narrowed.type_inv (c.narrowed.ensures ∙ shifted c.before)

@@ -32,7 +32,7 @@ returns-then-high-low c =
     let z = last_line c.requires c.if-high-low.true in
     let x = at c.args.plane.now in
     let n = c.args.n in
-    filled_to (filled_low {c = highs n} {b = highs n} (filled_to c.loop-i.invariant.2 (omega arith) (omega arith)) _ _ c.copy_run.ensures (λ j g. ap x (omega arith)) (omega (arith, z.low))) (omega arith) (omega arith)
+    filled_to (filled_low {a = highs n} {b = highs n} (filled_to c.loop-i.invariant.2 (omega arith) (omega arith)) _ _ c.copy_run.ensures (λ j g. ap x (omega arith)) (omega (arith, z.low))) (omega arith) (omega arith)
 
 pub returns-else-high-low : goal.returns-else-high-low
 returns-else-high-low c = filled_to c.loop-i.invariant.2 (omega arith) (omega arith)

@@ -26,7 +26,7 @@ pub overflow_sub-result : goal.overflow_sub-result
 overflow_sub-result c = let l = negated c in subst (SFits w64) (sym l.0) (record { sfits = omega arith })
 
 same : (c : goal.Then-z-lt0) → let z = c.args.z in back w64 (pos 0 -ℤ back w64 z) ≡ pos (nat_abs z)
-same c = let l = negated c in to_z-of_z (sub-result c) ∙ l.0
+same c = let l = negated c in to_z-of_z (overflow_sub-result c) ∙ l.0
 
 pub overflow_cast-result : goal.overflow_cast-result
 overflow_cast-result c = let l = negated c in subst (λ (z : ℤ). T (non_neg z) × Fits w32 (nat_abs z)) (sym (same c)) (tt, record { fits = omega arith })

@@ -33,7 +33,7 @@ loop-i-preserved c =
 pub returns-then-high-low : goal.returns-then-high-low
 returns-then-high-low c =
     let n = c.args.n in
-    filled_to (filled_low {c = highs n} {b = highs n} (filled_to c.loop-i.invariant.2 (omega arith) (omega arith)) _ _ (line-of-one (highs n) (highs n * 1) _ _ _ (omega arith) c.put_pixel-then-high-low.ensures) (λ j h. pixel_at_lem c.args.pixels.now c.args.middle (c.args.from + 2 * highs n) c.args.from j (2 * highs n) (omega arith)) (omega arith)) (omega arith) (omega arith)
+    filled_to (filled_low {a = highs n} {b = highs n} (filled_to c.loop-i.invariant.2 (omega arith) (omega arith)) _ _ (line-of-one (highs n) (highs n * 1) _ _ _ (omega arith) c.put_pixel-then-high-low.ensures) (λ j h. pixel_at_lem c.args.pixels.now c.args.middle (c.args.from + 2 * highs n) c.args.from j (2 * highs n) (omega arith)) (omega arith)) (omega arith) (omega arith)
 
 pub returns-else-high-low : goal.returns-else-high-low
 returns-else-high-low c = filled_to c.loop-i.invariant.2 (omega arith) (omega arith)

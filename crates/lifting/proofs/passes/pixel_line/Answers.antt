@@ -9,5 +9,5 @@ use Rattle.lifting.proofs.passes.pixel_line.Goals as goal
 pub returns : goal.returns
 returns c =
     patch_to _ _ _ _ _ _
-    (patch_part c.args.from (c.args.from + c.args.w - c.args.from) _ c.args.plane.now c.pixel_row.new.1.1.0 (pos 0) (omega arith) (omega arith) (λ j h. c.pixel_row.ensures j (omega arith)))
+    (patch_part c.args.from (c.args.from + c.args.w - c.args.from) _ c.args.plane.now c.pixel_row.new.row (pos 0) (omega arith) (omega arith) (λ j h. c.pixel_row.ensures j (omega arith)))
     (omega arith)

@@ -17,7 +17,7 @@ copy_lines-requires c = (plane_lines c.requires.strip_room _ (omega arith), buff
 pub inverse_lift-requires : goal.inverse_lift-requires
 inverse_lift-requires c =
     let loaded : let col = column_of c.args.stride c.args.from (at c.args.plane.now) in
-    BufferHolds c.args.s c.args.n col (λ j i. col j (lows c.args.n + i)) (at c.copy_lines.new.1.1.1.0) =
+    BufferHolds c.args.s c.args.n col (λ j i. col j (lows c.args.n + i)) (at c.copy_lines.new.dst) =
         whole_held _ _ _ _ _ c.copy_lines.ensures in
     record {
       buffer = buffer_of c.requires.strip_room _ (omega arith);
@@ -31,6 +31,6 @@ pub returns : goal.returns
 unfolding worked
 returns c =
     let loaded : let col = column_of c.args.stride c.args.from (at c.args.plane.now) in
-    BufferHolds c.args.s c.args.n col (λ j i. col j (lows c.args.n + i)) (at c.copy_lines.new.1.1.1.0) =
+    BufferHolds c.args.s c.args.n col (λ j i. col j (lows c.args.n + i)) (at c.copy_lines.new.dst) =
         whole_held _ _ _ _ _ c.copy_lines.ensures in
     c.merge.ensures ∙ lines_ext _ _ _ _ _ c.args.n (held_woven (inverse_lift_held c.args.pair c.requires.strip_room.two loaded _ c.inverse_lift.ensures))

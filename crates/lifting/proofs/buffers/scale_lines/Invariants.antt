@@ -10,6 +10,3 @@ use Rattle.lifting.proofs.buffers.scale_lines.Given as goal
 
 abbrev pub invariant-loop-i : goal.invariant-loop-i
 invariant-loop-i l = FillingLines l.to l.leap l.m l.n (λ k j. scaled_by l.g (at l.src (line_at l.from l.m k + j))) l.initial.dst l.dst l.i
-
-abbrev pub decreases-loop-i : goal.decreases-loop-i
-decreases-loop-i l = l.n - l.i

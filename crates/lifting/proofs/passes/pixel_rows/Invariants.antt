@@ -13,6 +13,3 @@ use Rattle.lifting.proofs.passes.pixel_rows.Given as goal
 abbrev pub invariant-loop-r : goal.invariant-loop-r
 invariant-loop-r l =
     (l.r ≤ l.h) × (length l.plane ≡ length l.initial.plane) × (length l.buffer ≡ length l.initial.buffer) × (at l.plane ≡ patch_lines (line_at 0 l.w) l.w l.r (λ r. worked l.kernel l.w (pixel_line l.pixels l.middle (r * l.w))) (at l.initial.plane))
-
-abbrev pub decreases-loop-r : goal.decreases-loop-r
-decreases-loop-r l = l.h - l.r

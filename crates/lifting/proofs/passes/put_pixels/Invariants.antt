@@ -12,6 +12,3 @@ use Rattle.lifting.proofs.passes.put_pixels.Given as goal
 
 abbrev pub invariant-loop-j : goal.invariant-loop-j
 invariant-loop-j l = (l.j ≤ l.n) × (length l.plane ≡ length l.initial.plane) × (at l.plane ≡ patch 0 l.j (pixel_line l.pixels l.middle 0) (at l.initial.plane))
-
-abbrev pub decreases-loop-j : goal.decreases-loop-j
-decreases-loop-j l = l.n - l.j

@@ -14,6 +14,3 @@ use Rattle.lifting.proofs.passes.split_pixels.Given as goal
 abbrev pub invariant-loop-i : goal.invariant-loop-i
 invariant-loop-i l =
     (l.i ≤ highs l.n) × (length l.buffer ≡ length l.initial.buffer) × Filled 1 (lows l.n * 1) l.i l.i (λ j. evens (pixel_line l.pixels l.middle l.from)) (λ j. odds (pixel_line l.pixels l.middle l.from)) (at l.buffer)
-
-abbrev pub decreases-loop-i : goal.decreases-loop-i
-decreases-loop-i l = highs l.n - l.i

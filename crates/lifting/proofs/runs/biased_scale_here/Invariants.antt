@@ -11,6 +11,3 @@ use Rattle.lifting.proofs.runs.biased_scale_here.Given as goal
 
 abbrev pub invariant-loop-j : goal.invariant-loop-j
 invariant-loop-j l = Filling l.from l.n (λ i. scaled_by (biased_factor l.form) (at l.initial.buf (l.from + i))) l.initial.buf l.buf l.j
-
-abbrev pub decreases-loop-j : goal.decreases-loop-j
-decreases-loop-j l = l.n - l.j

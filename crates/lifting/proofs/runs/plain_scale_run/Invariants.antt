@@ -15,6 +15,3 @@ use Rattle.lifting.proofs.runs.plain_scale_run.Given as goal
 
 abbrev pub invariant-loop-j : goal.invariant-loop-j
 invariant-loop-j l = Filling l.to l.n (λ i. scaled_by (Plain l.c l.cut) (at l.src (l.from + i))) l.initial.dst l.dst l.j
-
-abbrev pub decreases-loop-j : goal.decreases-loop-j
-decreases-loop-j l = l.n - l.j

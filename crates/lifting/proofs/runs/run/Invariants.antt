@@ -8,6 +8,3 @@ use Rattle.lifting.proofs.runs.run.Given as goal
 
 abbrev pub invariant-loop-j : goal.invariant-loop-j
 invariant-loop-j l = Running (applied l.step) l.t l.a l.b l.n l.initial.buf l.buf l.j
-
-abbrev pub decreases-loop-j : goal.decreases-loop-j
-decreases-loop-j l = l.n - l.j

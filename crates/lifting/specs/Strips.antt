@@ -1,5 +1,5 @@
 -- A strip's lines in the plane and in the line buffer, and a plane that is worked row by row or strip by strip. A row is a strip of one column whose stride is 1.
-use Rattle.std.specs.Prelude.{◌≡◌, refl, List, ℕ, suc, ◌+◌, ◌*◌, ◌-◌, ◌/◌, ◌<◌, ◌≤◌, ℤ, length}
+use Rattle.std.specs.Prelude.{◌≡◌, refl, List, ℕ, suc, ◌+◌, ◌*◌, ◌/◌, ◌<◌, ◌≤◌, ℤ, length}
 use Rattle.std.proofs.Common.{sym, ap, ◌∙◌, mul-le-mul_left, mul-le-mul_right, mul_comm, add-mul, div-mul-le_self, le-div_iff_mul-le, arith}
 use Rattle.lines.specs.Lines.{lows, highs, interleaved}
 use Rattle.lines.specs.LineLaws.{even_place_lem, odd_place}

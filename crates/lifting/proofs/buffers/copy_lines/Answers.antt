@@ -1,10 +1,10 @@
 -- `lifting::buffers::copy_lines` meets its contract: one run, or a loop that fills line by line.
 use mathlib.Core.Path.{refl, ap, ◌∙◌}
-use Prim.Native.Nat.{ℕ, ◌+◌, ◌*◌, ◌-◌}
+use Prim.Native.Nat.{ℕ, ◌*◌}
 use native.Mathlib.Omega.{arith}
 use Rattle.slices.specs.Patch.{at}
-use Rattle.slices.specs.PatchLines.{line_at, packed_is, packed_fits}
-use Rattle.slices.specs.Filling.{FillingLines, lines_filling_none, lines_filling_more, lines_filling_all}
+use Rattle.slices.specs.PatchLines.{packed_is, packed_fits}
+use Rattle.slices.specs.Filling.{lines_filling_none, lines_filling_more, lines_filling_all}
 use Rattle.lifting.proofs.buffers.copy_lines.Goals as goal
 
 pub returns-then-leap-m : goal.returns-then-leap-m

@@ -1,7 +1,6 @@
 -- `lifting::buffers::copy_pair` meets its contract.
 use mathlib.Core.Path.{ap, ◌∙◌}
 use Prim.Native.Nat.{◌+◌}
-use native.Mathlib.Omega.{arith}
 use Rattle.slices.specs.Patch.{at, patch}
 use Rattle.lifting.proofs.buffers.copy_pair.Goals as goal
 

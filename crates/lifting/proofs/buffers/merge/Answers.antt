@@ -1,5 +1,4 @@
 -- `lifting::buffers::merge` meets its contract.
-use native.Mathlib.Omega.{arith}
 use Rattle.slices.specs.Patch.{at}
 use Rattle.lifting.specs.Strips.{as_row, one_column, woven_row}
 use Rattle.lifting.proofs.buffers.merge.Goals as goal

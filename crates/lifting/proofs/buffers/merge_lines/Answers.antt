@@ -1,13 +1,12 @@
 -- `lifting::buffers::merge_lines` meets its contract. The loop's invariant: the first 2 i lines are there.
-use mathlib.Core.Path.{◌≡◌, refl}
-use Prim.Native.Nat.{◌*◌, ◌-◌, ◌≤◌}
+use mathlib.Core.Path.{refl}
+use Prim.Native.Nat.{◌*◌}
 use native.Mathlib.Omega.{arith}
-use lib.ListN.{length}
 use Rattle.lines.specs.Lines.{highs}
 use Rattle.slices.specs.Patch.{at}
-use Rattle.slices.specs.PatchLines.{line_at, patch_lines, lines_none, lines_to}
+use Rattle.slices.specs.PatchLines.{lines_none, lines_to}
 use Rattle.lifting.specs.Buffers.{sizes}
-use Rattle.lifting.specs.Strips.{two_lines_lem, last_line, woven, woven_pair, woven_last}
+use Rattle.lifting.specs.Strips.{two_lines_lem, last_line, woven_pair, woven_last}
 use Rattle.lifting.proofs.buffers.merge_lines.Goals as goal
 
 pub overflow_mul-top : goal.overflow_mul-top

@@ -1,11 +1,11 @@
 -- `lifting::buffers::scale_lines` meets its contract: one run, or a loop that fills line by line.
 use mathlib.Core.Path.{refl, ap, subst, ◌∙◌}
-use Prim.Native.Nat.{ℕ, ◌+◌, ◌-◌}
+use Prim.Native.Nat.{ℕ, ◌+◌}
 use native.Mathlib.Omega.{arith}
 use Rattle.lifting.specs.Steps.{scaled_by, FactorSafe}
 use Rattle.slices.specs.Patch.{at}
-use Rattle.slices.specs.PatchLines.{line_at, packed_is, packed_fits}
-use Rattle.slices.specs.Filling.{FillingLines, lines_filling_none, lines_filling_more, lines_filling_all}
+use Rattle.slices.specs.PatchLines.{packed_is, packed_fits}
+use Rattle.slices.specs.Filling.{lines_filling_none, lines_filling_more, lines_filling_all}
 use Rattle.lifting.specs.Buffers.{by_line}
 use Rattle.lifting.proofs.buffers.scale_lines.Goals as goal
 

@@ -1,11 +1,8 @@
-use mathlib.Core.Path.{refl, ap, subst, ◌∙◌}
-use Prim.Native.Nat.{ℕ, ◌+◌, ◌-◌}
-use native.Mathlib.Omega.{arith}
-use Rattle.lifting.specs.Steps.{scaled_by, FactorSafe}
+use Prim.Native.Nat.{◌+◌}
+use Rattle.lifting.specs.Steps.{scaled_by}
 use Rattle.slices.specs.Patch.{at}
-use Rattle.slices.specs.PatchLines.{line_at, packed_is, packed_fits}
-use Rattle.slices.specs.Filling.{FillingLines, lines_filling_none, lines_filling_more, lines_filling_all}
-use Rattle.lifting.specs.Buffers.{by_line}
+use Rattle.slices.specs.PatchLines.{line_at}
+use Rattle.slices.specs.Filling.{FillingLines}
 use Rattle.lifting.proofs.buffers.scale_lines.Given as goal
 
 abbrev pub invariant-loop-i : goal.invariant-loop-i

@@ -1,14 +1,9 @@
-use mathlib.Core.Path.{◌≡◌, refl, sym, ap, subst, ◌∙◌}
-use mathlib.Core.List.{List}
-use Prim.Native.Nat.{ℕ, zero, suc, ◌+◌, ◌*◌, ◌-◌, ◌<◌, ◌≤◌}
-use native.Mathlib.Omega.{arith}
-use lib.IntN.{ℤ}
+use mathlib.Core.Path.{◌≡◌}
+use Prim.Native.Nat.{◌+◌, ◌≤◌}
 use lib.ListN.{length}
-use Rattle.lifting.specs.Steps.{scaled_by, FactorSafe}
+use Rattle.lifting.specs.Steps.{scaled_by}
 use Rattle.slices.specs.Patch.{at}
-use Rattle.slices.specs.PatchLines.{line_at, patch_lines, lines_apart, lines_out, lines_none, lines_more, lines_to, packed_is}
-use Rattle.lifting.specs.Buffers.{by_line}
-use Rattle.slices.specs.Parts.{Part}
+use Rattle.slices.specs.PatchLines.{line_at, patch_lines}
 use Rattle.lifting.proofs.buffers.scale_part.Given as goal
 
 abbrev pub invariant-loop-r : goal.invariant-loop-r

@@ -1,6 +1,5 @@
 -- `lifting::buffers::split` meets its contract.
 use mathlib.Core.Path.{sym}
-use native.Mathlib.Omega.{arith}
 use Rattle.slices.specs.Patch.{at}
 use Rattle.slices.specs.Runs.{as_type}
 use Rattle.lifting.specs.Passes.{evens, odds}

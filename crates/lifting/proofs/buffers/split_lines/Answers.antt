@@ -1,13 +1,9 @@
 -- `lifting::buffers::split_lines` meets its contract. The loop's invariant: i lines of the lows and i of the highs are there.
-use mathlib.Core.Path.{◌≡◌, refl, ap}
-use Prim.Native.Nat.{◌*◌, ◌-◌, ◌≤◌}
+use mathlib.Core.Path.{refl, ap}
 use native.Mathlib.Omega.{arith}
-use lib.ListN.{length}
-use Rattle.lines.specs.Lines.{lows, highs}
+use Rattle.lines.specs.Lines.{highs}
 use Rattle.slices.specs.Patch.{at}
-use Rattle.lifting.specs.Passes.{evens, odds}
-use Rattle.slices.specs.Parts.{column_of}
-use Rattle.lifting.specs.Buffers.{Filled, filled_none, filled_low, filled_high, filled_to, sizes}
+use Rattle.lifting.specs.Buffers.{filled_none, filled_low, filled_high, filled_to, sizes}
 use Rattle.lifting.specs.Strips.{two_lines_lem, last_line}
 use Rattle.lifting.proofs.buffers.split_lines.Goals as goal
 

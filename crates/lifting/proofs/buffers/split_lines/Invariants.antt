@@ -1,13 +1,11 @@
-use mathlib.Core.Path.{◌≡◌, refl, ap}
-use Prim.Native.Nat.{◌*◌, ◌-◌, ◌≤◌}
-use native.Mathlib.Omega.{arith}
+use mathlib.Core.Path.{◌≡◌}
+use Prim.Native.Nat.{◌*◌, ◌≤◌}
 use lib.ListN.{length}
 use Rattle.lines.specs.Lines.{lows, highs}
 use Rattle.slices.specs.Patch.{at}
 use Rattle.lifting.specs.Passes.{evens, odds}
 use Rattle.slices.specs.Parts.{column_of}
-use Rattle.lifting.specs.Buffers.{Filled, filled_none, filled_low, filled_high, filled_to, sizes}
-use Rattle.lifting.specs.Strips.{two_lines_lem, last_line}
+use Rattle.lifting.specs.Buffers.{Filled}
 use Rattle.lifting.proofs.buffers.split_lines.Given as goal
 
 abbrev pub invariant-loop-i : goal.invariant-loop-i

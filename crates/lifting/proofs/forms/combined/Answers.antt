@@ -1,7 +1,6 @@
 -- `lifting::forms::combined` meets its contract: the offset makes the total a multiple of 2 ^ cut.
 use Prim.Native.Nat.{◌+◌, ◌*◌, ◌^◌, ◌≤◌}
 use native.Mathlib.Omega.{arith}
-use borrow.Author.Rules.{rules}
 use lib.Pow.{pow_mono}
 use Rattle.lifting.specs.Bias.{Padded, padded, combined_same}
 use Rattle.lifting.proofs.forms.combined.Goals as goal

@@ -1,6 +1,5 @@
 -- `lifting::passes::centred` meets its contract: two numbers below 2^16 differ by less than 2^31.
 use native.Mathlib.Omega.{arith}
-use borrow.Author.Rules.{rules}
 use mir.Syntax.{w32}
 use Rattle.numbers.specs.Auto.{values, v_nat, auto_fits, auto_exact}
 use Rattle.lifting.proofs.passes.centred.Goals as goal

@@ -1,11 +1,8 @@
-use mathlib.Core.Path.{◌≡◌, refl, sym, ap, subst, ◌∙◌}
-use Prim.Native.Nat.{ℕ, ◌+◌, ◌*◌, ◌-◌, ◌≤◌}
-use native.Mathlib.Omega.{arith}
+use mathlib.Core.Path.{◌≡◌}
+use Prim.Native.Nat.{◌-◌, ◌≤◌}
 use lib.ListN.{length}
 use Rattle.slices.specs.Patch.{at}
-use Rattle.lifting.specs.Kernels.{worked, SafeKernel, columns_worked}
-use Rattle.slices.specs.PartLaws.{column_as_was, columns_more, columns_none}
-use Rattle.lifting.specs.Strips.{some_width, enough_room, part_strip}
+use Rattle.lifting.specs.Kernels.{columns_worked}
 use Rattle.lifting.proofs.passes.columns.Given as goal
 
 abbrev pub invariant-loop-done : goal.invariant-loop-done

@@ -1,11 +1,10 @@
 -- `lifting::passes::forward_rows` meets its contract. The loop's invariant: the first r rows are done.
-use mathlib.Core.Path.{◌≡◌, refl, sym, subst}
-use Prim.Native.Nat.{ℕ, ◌*◌, ◌-◌, ◌≤◌}
+use mathlib.Core.Path.{refl, sym, subst}
+use Prim.Native.Nat.{ℕ, ◌*◌}
 use native.Mathlib.Omega.{arith}
-use lib.ListN.{length}
 use Rattle.slices.specs.Patch.{at}
 use Rattle.slices.specs.PatchLines.{lines_none, lines_to}
-use Rattle.lifting.specs.Kernels.{worked, SafeKernel, rows_worked}
+use Rattle.lifting.specs.Kernels.{worked, SafeKernel}
 use Rattle.slices.specs.Parts.{column_of}
 use Rattle.slices.specs.PartLaws.{row_as_was, row_done}
 use Rattle.lifting.proofs.passes.forward_rows.Goals as goal

@@ -1,13 +1,9 @@
-use mathlib.Core.Path.{◌≡◌, refl, sym, subst}
-use Prim.Native.Nat.{ℕ, ◌*◌, ◌-◌, ◌≤◌}
-use native.Mathlib.Omega.{arith}
+use mathlib.Core.Path.{◌≡◌}
+use Prim.Native.Nat.{◌≤◌}
 use lib.ListN.{length}
 use Rattle.lifting.specs.declared.Kernel.TheVariants.{Inverse}
 use Rattle.slices.specs.Patch.{at}
-use Rattle.slices.specs.PatchLines.{lines_none, lines_to}
-use Rattle.lifting.specs.Kernels.{worked, SafeKernel, rows_worked}
-use Rattle.slices.specs.Parts.{column_of}
-use Rattle.slices.specs.PartLaws.{row_as_was, row_done}
+use Rattle.lifting.specs.Kernels.{rows_worked}
 use Rattle.lifting.proofs.passes.inverse_rows.Given as goal
 
 abbrev pub invariant-loop-r : goal.invariant-loop-r

@@ -1,7 +1,6 @@
 -- `lifting::passes::pixel_line` meets its contract: the row is a part of the plane, which comes back with the row in its place.
 use Prim.Native.Nat.{◌+◌, ◌-◌}
 use native.Mathlib.Omega.{arith}
-use borrow.Author.Rules.{rules}
 use lib.IntN.{pos}
 use Rattle.slices.specs.Patch.{patch_part, patch_to}
 use Rattle.lifting.proofs.passes.pixel_line.Goals as goal

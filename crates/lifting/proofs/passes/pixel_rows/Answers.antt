@@ -1,12 +1,10 @@
 -- `lifting::passes::pixel_rows` meets its contract. The loop's invariant: the first r rows are done.
-use mathlib.Core.Path.{◌≡◌, refl}
-use Prim.Native.Nat.{suc, ◌*◌, ◌-◌, ◌≤◌}
+use mathlib.Core.Path.{refl}
+use Prim.Native.Nat.{suc, ◌*◌}
 use native.Mathlib.Nat.{mul-le-mul_right}
 use native.Mathlib.Omega.{arith}
-use lib.ListN.{length}
 use Rattle.slices.specs.Patch.{at}
-use Rattle.slices.specs.PatchLines.{line_at, patch_lines, lines_none, lines_to}
-use Rattle.lifting.specs.Kernels.{worked}
+use Rattle.slices.specs.PatchLines.{lines_none, lines_to}
 use Rattle.slices.specs.Pixels.{pixel_line}
 use Rattle.slices.specs.PartLaws.{row_put}
 use Rattle.lifting.proofs.passes.pixel_rows.Goals as goal

@@ -1,13 +1,11 @@
 -- `lifting::passes::put_pixels` meets its contract. The loop's invariant: the first j pixels are there.
 use mathlib.Core.Path.{◌≡◌, refl, ap, ◌∙◌}
-use Prim.Native.Nat.{ℕ, ◌+◌, ◌-◌, ◌≤◌}
+use Prim.Native.Nat.{ℕ, ◌+◌}
 use native.Mathlib.Omega.{arith}
-use borrow.Author.Rules.{rules}
 use lib.IntN.{pos, ◌-ℤ◌}
-use lib.ListN.{length, get_or, set, length-set}
+use lib.ListN.{get_or, set, length-set}
 use mir.Syntax.{w32}
-use Rattle.slices.specs.Patch.{at, patch, patch_none, patch_set, patch_to}
-use Rattle.slices.specs.Pixels.{pixel_line}
+use Rattle.slices.specs.Patch.{at, patch_none, patch_set, patch_to}
 use Rattle.slices.specs.SignedRuns.{back, got}
 use Rattle.lifting.proofs.passes.put_pixels.Goals as goal
 

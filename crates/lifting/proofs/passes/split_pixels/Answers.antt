@@ -1,14 +1,11 @@
 -- `lifting::passes::split_pixels` meets its contract. The loop's invariant: i lows and i highs are there.
 use mathlib.Core.Path.{◌≡◌, refl, ap, ◌∙◌}
-use Prim.Native.Nat.{ℕ, ◌+◌, ◌*◌, ◌-◌, ◌≤◌}
+use Prim.Native.Nat.{ℕ, ◌+◌, ◌*◌}
 use native.Mathlib.Omega.{arith}
 use lib.IntN.{ℤ}
-use lib.ListN.{length}
 use Rattle.lines.specs.Lines.{lows, highs}
-use Rattle.slices.specs.Patch.{at, patch}
-use Rattle.lifting.specs.Passes.{evens, odds}
-use Rattle.lifting.specs.Buffers.{Filled, filled_none, filled_low, filled_high, filled_to}
-use Rattle.slices.specs.Pixels.{pixel_line}
+use Rattle.slices.specs.Patch.{patch}
+use Rattle.lifting.specs.Buffers.{filled_none, filled_low, filled_high, filled_to}
 use Rattle.lifting.specs.PixelLaws.{pixel_at_lem}
 use Rattle.lifting.proofs.passes.split_pixels.Goals as goal
 

@@ -1,14 +1,11 @@
-use mathlib.Core.Path.{◌≡◌, refl, ap, ◌∙◌}
-use Prim.Native.Nat.{ℕ, ◌+◌, ◌*◌, ◌-◌, ◌≤◌}
-use native.Mathlib.Omega.{arith}
-use lib.IntN.{ℤ}
+use mathlib.Core.Path.{◌≡◌}
+use Prim.Native.Nat.{◌*◌, ◌≤◌}
 use lib.ListN.{length}
 use Rattle.lines.specs.Lines.{lows, highs}
-use Rattle.slices.specs.Patch.{at, patch}
+use Rattle.slices.specs.Patch.{at}
 use Rattle.lifting.specs.Passes.{evens, odds}
-use Rattle.lifting.specs.Buffers.{Filled, filled_none, filled_low, filled_high, filled_to}
+use Rattle.lifting.specs.Buffers.{Filled}
 use Rattle.slices.specs.Pixels.{pixel_line}
-use Rattle.lifting.specs.PixelLaws.{pixel_at_lem}
 use Rattle.lifting.proofs.passes.split_pixels.Given as goal
 
 abbrev pub invariant-loop-i : goal.invariant-loop-i

@@ -1,12 +1,8 @@
 -- `lifting::runs::biased_run` meets its contract.
-use Prim.Native.Nat.{◌-◌}
 use native.Mathlib.Omega.{arith}
-use Rattle.lifting.specs.declared.Step.{Step}
-use Rattle.lifting.specs.Steps.{applied}
 use Rattle.lifting.specs.Forms.{biased_step}
 use Rattle.lifting.specs.SafeRuns.{step_asks, step_done}
 use Rattle.slices.specs.Filling.{filling_none, filling_all}
-use Rattle.slices.specs.SignedRuns.{Running}
 use Rattle.lifting.proofs.runs.biased_run.Goals as goal
 
 pub loop-j-init : goal.loop-j-init

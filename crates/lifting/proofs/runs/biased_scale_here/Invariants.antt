@@ -1,12 +1,8 @@
-use Prim.Native.Nat.{◌+◌, ◌-◌}
-use native.Mathlib.Omega.{arith}
-use mir.Syntax.{w32}
-use Rattle.lifting.specs.declared.Factor.{Factor}
-use Rattle.lifting.specs.Steps.{scaled_by, FactorSafe}
+use Prim.Native.Nat.{◌+◌}
+use Rattle.lifting.specs.Steps.{scaled_by}
 use Rattle.lifting.specs.Forms.{biased_factor}
 use Rattle.slices.specs.Patch.{at}
-use Rattle.slices.specs.Filling.{Filling, filling_none, filling_more, filling_all, filling_own}
-use Rattle.slices.specs.SignedRuns.{value_safe, value_gives}
+use Rattle.slices.specs.Filling.{Filling}
 use Rattle.lifting.proofs.runs.biased_scale_here.Given as goal
 
 abbrev pub invariant-loop-j : goal.invariant-loop-j

@@ -1,8 +1,6 @@
 -- `lifting::runs::combined_run` meets its contract: in each branch the step is the one that is handed on.
 use mathlib.Core.Path.{ap}
 use mathlib.Core.Bool.{Bool}
-use borrow.Author.Rules.{rules}
-use Rattle.lifting.specs.declared.Step.{Step}
 use Rattle.lifting.specs.Forms.{combined_step}
 use Rattle.slices.specs.Patch.{at}
 use Rattle.lifting.proofs.Turn.{run_asks, run_gives}

@@ -1,10 +1,7 @@
 -- `lifting::runs::run` meets its contract.
-use Prim.Native.Nat.{◌-◌}
 use native.Mathlib.Omega.{arith}
-use Rattle.lifting.specs.Steps.{applied}
 use Rattle.lifting.specs.SafeRuns.{step_asks, step_done}
 use Rattle.slices.specs.Filling.{filling_none, filling_all}
-use Rattle.slices.specs.SignedRuns.{Running}
 use Rattle.lifting.proofs.runs.run.Goals as goal
 
 pub loop-j-init : goal.loop-j-init

@@ -1,6 +1,5 @@
 -- `lifting::steps::inverse_predicted` meets its contract.
 use Rattle.lifting.proofs.Signed.{signed}
-use borrow.Author.Rules.{rules}
 use Rattle.lifting.proofs.steps.inverse_predicted.Goals as goal
 
 pub overflow_add-result-2 : goal.overflow_add-result-2

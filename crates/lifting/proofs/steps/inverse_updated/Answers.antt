@@ -1,6 +1,5 @@
 -- `lifting::steps::inverse_updated` meets its contract.
 use Rattle.lifting.proofs.Signed.{signed}
-use borrow.Author.Rules.{rules}
 use Rattle.lifting.proofs.steps.inverse_updated.Goals as goal
 
 pub overflow_sub-result : goal.overflow_sub-result

@@ -1,6 +1,5 @@
 -- `lifting::steps::narrowed` meets its contract.
 use Rattle.lifting.proofs.Signed.{signed}
-use borrow.Author.Rules.{rules}
 use Rattle.lifting.proofs.steps.narrowed.Goals as goal
 
 pub overflow_cast-result-2 : goal.overflow_cast-result-2

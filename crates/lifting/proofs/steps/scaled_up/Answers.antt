@@ -1,6 +1,5 @@
 -- `lifting::steps::scaled_up` meets its contract.
 use Prim.Native.Nat.{◌^◌}
-use borrow.Author.Rules.{rules}
 use lib.Pow.{pow_pos}
 use mir.Syntax.{w32}
 use Rattle.lifting.proofs.Signed.{shl_back}

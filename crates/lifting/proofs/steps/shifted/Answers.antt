@@ -1,6 +1,5 @@
 -- `lifting::steps::shifted` meets its contract.
 use Rattle.lifting.proofs.Signed.{signed}
-use borrow.Author.Rules.{rules}
 use Rattle.lifting.proofs.steps.shifted.Goals as goal
 
 pub returns : goal.returns

@@ -1,6 +1,5 @@
 -- `lifting::steps::shifted_unbiased` meets its contract.
 use Prim.Native.Nat.{◌/◌, ◌^◌}
-use native.Mathlib.Omega.{arith}
 use mir.Syntax.{w64}
 use mir.Facts.{to_z-of_z, to_z_pos}
 use Rattle.lifting.specs.Bias.{difference_fits}

@@ -1,6 +1,5 @@
 -- `lifting::steps::updated` meets its contract.
 use Rattle.lifting.proofs.Signed.{signed}
-use borrow.Author.Rules.{rules}
 use Rattle.lifting.proofs.steps.updated.Goals as goal
 
 pub overflow_add-result-3 : goal.overflow_add-result-3

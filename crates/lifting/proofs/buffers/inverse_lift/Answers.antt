@@ -7,15 +7,15 @@ use Rattle.lifting.proofs.buffers.inverse_lift.Goals as goal
 
 pub on_lows-requires : goal.on_lows-requires
 on_lows-requires c = record {
-      buffer = c.requires.buffer;
-      at_lows = c.requires.inverse_lift_safe.on_lows_lem;
-    }
+  buffer = c.requires.buffer;
+  at_lows = c.requires.inverse_lift_safe.on_lows_lem;
+}
 
 pub on_highs-requires : goal.on_highs-requires
 on_highs-requires c = record {
-      buffer = buffer_as c.requires.buffer _ (omega arith);
-      at_highs = subst (AtHighs (Safe c.args.pair.highs) c.args.s c.args.n) (sym c.on_lows.ensures) c.requires.inverse_lift_safe.on_highs_lem;
-    }
+  buffer = buffer_as c.requires.buffer _ (omega arith);
+  at_highs = subst (AtHighs (Safe c.args.pair.highs) c.args.s c.args.n) (sym c.on_lows.ensures) c.requires.inverse_lift_safe.on_highs_lem;
+}
 
 pub returns : goal.returns
 returns c = c.on_highs.ensures ∙ ap (highs_done (applied c.args.pair.highs) c.args.s c.args.n) c.on_lows.ensures

@@ -41,9 +41,9 @@ overflow_add-to c = omega (arith, c.requires.lying.1.fits _ c.loop-i-test.true)
 
 pub scale_run-requires-in-loop-i : goal.scale_run-requires-in-loop-i
 scale_run-requires-in-loop-i c = let p = c.requires in let h = c.loop-i-test.true in record {
-      n_in_bounds = omega (arith, p.lying.0.fits _ h, p.lying.1.fits _ h);
-      by_index = λ j g. p.by_index _ j h g;
-    }
+  n_in_bounds = omega (arith, p.lying.0.fits _ h, p.lying.1.fits _ h);
+  by_index = λ j g. p.by_index _ j h g;
+}
 
 pub loop-i-preserved : goal.loop-i-preserved
 loop-i-preserved c = lines_filling_more c.loop-i.invariant (omega arith) _ (omega arith) _ c.scale_run-in-loop-i.ensures (λ j h. refl)

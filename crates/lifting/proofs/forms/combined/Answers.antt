@@ -14,29 +14,29 @@ returns c = combined_same _ _ _ _ _ _ (omega arith) (omega arith) (omega arith) 
 pub overflow_add-total : goal.overflow_add-total
 overflow_add-total c =
     let factor : c.power.result ≤ 1073741824 =
-        let l : 2 ^ c.args.k ≤ 1073741824 = pow_mono {i = c.args.k} {j = 30} (omega arith) in
-            omega (arith, c.power.ensures) in
+    let l : 2 ^ c.args.k ≤ 1073741824 = pow_mono {i = c.args.k} {j = 30} (omega arith) in
+    omega (arith, c.power.ensures) in
     omega (arith, factor)
 
 pub overflow_mul-total : goal.overflow_mul-total
 overflow_mul-total c =
     let factor : c.power.result ≤ 1073741824 =
-        let l : 2 ^ c.args.k ≤ 1073741824 = pow_mono {i = c.args.k} {j = 30} (omega arith) in
-            omega (arith, c.power.ensures) in
+    let l : 2 ^ c.args.k ≤ 1073741824 = pow_mono {i = c.args.k} {j = 30} (omega arith) in
+    omega (arith, c.power.ensures) in
     omega (arith, factor)
 
 pub multiple-base-requires : goal.multiple-base-requires
 multiple-base-requires c =
     let factor : c.power.result ≤ 1073741824 =
-        let l : 2 ^ c.args.k ≤ 1073741824 = pow_mono {i = c.args.k} {j = 30} (omega arith) in
-            omega (arith, c.power.ensures) in
+    let l : 2 ^ c.args.k ≤ 1073741824 = pow_mono {i = c.args.k} {j = 30} (omega arith) in
+    omega (arith, c.power.ensures) in
     omega (arith, factor)
 
 pub overflow_mul-result : goal.overflow_mul-result
 overflow_mul-result c =
     let factor : c.power.result ≤ 1073741824 =
-        let l : 2 ^ c.args.k ≤ 1073741824 = pow_mono {i = c.args.k} {j = 30} (omega arith) in
-            omega (arith, c.power.ensures) in
+    let l : 2 ^ c.args.k ≤ 1073741824 = pow_mono {i = c.args.k} {j = 30} (omega arith) in
+    omega (arith, c.power.ensures) in
     omega (arith, factor, pads c)
 
 pub overflow_sub-result : goal.overflow_sub-result

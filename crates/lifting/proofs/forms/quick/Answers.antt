@@ -16,7 +16,7 @@ use Rattle.lifting.proofs.forms.quick.Goals as goal
 pub returns-then-k-cut : goal.returns-then-k-cut
 returns-then-k-cut c =
     let constant : c.size-f.result < 2147483648 → signed (lt_z (back w64 c.args.c) (pos 0)) c.size-f.result ≡ c.args.c =
-        λ h. signed_is (back w64 c.args.c) c.size-f.result (c.size-f.ensures h) ∙ to_z-of_z c.ranges.c in
+    λ h. signed_is (back w64 c.args.c) c.size-f.result (c.size-f.ensures h) ∙ to_z-of_z c.ranges.c in
     let a = c.args in
     let e = constant (omega arith) in
     as_type (λ u. SameStep (Scaled a.k (e u) a.cut) c.combined.result) c.combined.ensures
@@ -24,7 +24,7 @@ returns-then-k-cut c =
 pub returns : goal.returns
 returns c =
     let constant : c.size-f.result < 2147483648 → signed (lt_z (back w64 c.args.c) (pos 0)) c.size-f.result ≡ c.args.c =
-        λ h. signed_is (back w64 c.args.c) c.size-f.result (c.size-f.ensures h) ∙ to_z-of_z c.ranges.c in
+    λ h. signed_is (back w64 c.args.c) c.size-f.result (c.size-f.ensures h) ∙ to_z-of_z c.ranges.c in
     let a = c.args in
     let e = constant (omega arith) in
     let k : a.cut + (a.k - a.cut) ≡ a.k = omega arith in

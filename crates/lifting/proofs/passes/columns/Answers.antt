@@ -26,7 +26,7 @@ pub strip-requires : goal.strip-requires
 strip-requires c =
     let a = c.args in
     let wide : (1 ≤ c.smaller-s.result) × (c.smaller-s.result ≤ a.w - c.loop-done.done) × (a.h * c.smaller-s.result ≤ length a.buffer.now) =
-        width (length a.buffer.now) a.h c.smaller-most.result (a.w - c.loop-done.done) c.smaller-s.result (omega arith) (omega arith) c.smaller-most.ensures (omega arith) c.smaller-s.ensures in
+    width (length a.buffer.now) a.h c.smaller-most.result (a.w - c.loop-done.done) c.smaller-s.result (omega arith) (omega arith) c.smaller-most.ensures (omega arith) c.smaller-s.ensures in
     let p = c.requires.part.0 in
     record {
       strip_room = part_strip p c.requires.part.1 _ _ (omega arith) c.loop-done.done _ wide.0 (omega arith) (omega arith);
@@ -39,24 +39,25 @@ pub overflow_add-done : goal.overflow_add-done
 overflow_add-done c =
     let a = c.args in
     let wide : (1 ≤ c.smaller-s.result) × (c.smaller-s.result ≤ a.w - c.loop-done.done) × (a.h * c.smaller-s.result ≤ length a.buffer.now) =
-        width (length a.buffer.now) a.h c.smaller-most.result (a.w - c.loop-done.done) c.smaller-s.result (omega arith) (omega arith) c.smaller-most.ensures (omega arith) c.smaller-s.ensures in
+    width (length a.buffer.now) a.h c.smaller-most.result (a.w - c.loop-done.done) c.smaller-s.result (omega arith) (omega arith) c.smaller-most.ensures (omega arith) c.smaller-s.ensures in
     omega arith
 
 pub loop-done-preserved : goal.loop-done-preserved
 loop-done-preserved c =
     let a = c.args in
     let wide : (1 ≤ c.smaller-s.result) × (c.smaller-s.result ≤ a.w - c.loop-done.done) × (a.h * c.smaller-s.result ≤ length a.buffer.now) =
-        width (length a.buffer.now) a.h c.smaller-most.result (a.w - c.loop-done.done) c.smaller-s.result (omega arith) (omega arith) c.smaller-most.ensures (omega arith) c.smaller-s.ensures in
-    (omega arith,
-    omega arith,
-    omega arith,
-    columns_more (worked a.kernel) a.stride a.from c.loop-done.done c.smaller-s.result a.h (omega (arith, c.requires.part.0.narrow)) (at a.plane.now) _ c.loop-done.invariant.3 _ c.strip.ensures)
+    width (length a.buffer.now) a.h c.smaller-most.result (a.w - c.loop-done.done) c.smaller-s.result (omega arith) (omega arith) c.smaller-most.ensures (omega arith) c.smaller-s.ensures in (
+      omega arith,
+      omega arith,
+      omega arith,
+      columns_more (worked a.kernel) a.stride a.from c.loop-done.done c.smaller-s.result a.h (omega (arith, c.requires.part.0.narrow)) (at a.plane.now) _ c.loop-done.invariant.3 _ c.strip.ensures,
+    )
 
 pub loop-done-smaller : goal.loop-done-smaller
 loop-done-smaller c =
     let a = c.args in
     let wide : (1 ≤ c.smaller-s.result) × (c.smaller-s.result ≤ a.w - c.loop-done.done) × (a.h * c.smaller-s.result ≤ length a.buffer.now) =
-        width (length a.buffer.now) a.h c.smaller-most.result (a.w - c.loop-done.done) c.smaller-s.result (omega arith) (omega arith) c.smaller-most.ensures (omega arith) c.smaller-s.ensures in
+    width (length a.buffer.now) a.h c.smaller-most.result (a.w - c.loop-done.done) c.smaller-s.result (omega arith) (omega arith) c.smaller-most.ensures (omega arith) c.smaller-s.ensures in
     omega arith
 
 pub returns : goal.returns

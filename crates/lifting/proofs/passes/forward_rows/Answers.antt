@@ -37,13 +37,12 @@ strip_forward-requires c =
     }
 
 pub loop-r-preserved : goal.loop-r-preserved
-loop-r-preserved c =
-    (
-      omega arith,
-      omega arith,
-      omega arith,
-      row_done (worked c.args.kernel) c.args.stride c.args.w c.loop-r.r (c.loop-r.r * c.args.stride) (omega (arith, c.requires.part.0.narrow)) (at c.args.plane.now) _ _ c.loop-r.invariant.3 (omega arith) c.strip_forward.ensures,
-    )
+loop-r-preserved c = (
+  omega arith,
+  omega arith,
+  omega arith,
+  row_done (worked c.args.kernel) c.args.stride c.args.w c.loop-r.r (c.loop-r.r * c.args.stride) (omega (arith, c.requires.part.0.narrow)) (at c.args.plane.now) _ _ c.loop-r.invariant.3 (omega arith) c.strip_forward.ensures,
+)
 
 pub returns : goal.returns
 returns c = lines_to _ _ _ _ _ _ _ c.loop-r.invariant.3 (omega arith)

@@ -35,13 +35,12 @@ strip_inverse-requires c =
     }
 
 pub loop-r-preserved : goal.loop-r-preserved
-loop-r-preserved c =
-    (
-      omega arith,
-      omega arith,
-      omega arith,
-      row_done (worked (Inverse c.args.pair)) c.args.stride c.args.w c.loop-r.r (c.loop-r.r * c.args.stride) (omega (arith, c.requires.part.0.narrow)) (at c.args.plane.now) _ _ c.loop-r.invariant.3 (omega arith) c.strip_inverse.ensures,
-    )
+loop-r-preserved c = (
+  omega arith,
+  omega arith,
+  omega arith,
+  row_done (worked (Inverse c.args.pair)) c.args.stride c.args.w c.loop-r.r (c.loop-r.r * c.args.stride) (omega (arith, c.requires.part.0.narrow)) (at c.args.plane.now) _ _ c.loop-r.invariant.3 (omega arith) c.strip_inverse.ensures,
+)
 
 pub returns : goal.returns
 returns c = lines_to _ _ _ _ _ _ _ c.loop-r.invariant.3 (omega arith)

@@ -46,6 +46,6 @@ loop-r-preserved c =
 
 pub returns : goal.returns
 returns c = record {
-      plane = lines_to _ _ _ _ _ _ _ c.loop-r.invariant.3 (omega arith);
-      buffer = c.loop-r.invariant.2;
-    }
+  plane = lines_to _ _ _ _ _ _ _ c.loop-r.invariant.3 (omega arith);
+  buffer = c.loop-r.invariant.2;
+}

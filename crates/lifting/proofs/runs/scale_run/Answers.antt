@@ -7,15 +7,15 @@ use Rattle.lifting.proofs.runs.scale_run.Goals as goal
 
 pub plain_scale_run-requires : goal.plain_scale_run-requires
 plain_scale_run-requires c = record {
-      n_in_bounds = c.requires.n_in_bounds;
-      by_index = scale_asks c.args.from c.args.n (at c.args.src.now) (plain_back (search rules) c.in-Plain.is) c.requires.by_index;
-    }
+  n_in_bounds = c.requires.n_in_bounds;
+  by_index = scale_asks c.args.from c.args.n (at c.args.src.now) (plain_back (search rules) c.in-Plain.is) c.requires.by_index;
+}
 
 pub biased_scale_run-requires : goal.biased_scale_run-requires
 biased_scale_run-requires c = record {
-      n_in_bounds = c.requires.n_in_bounds;
-      by_index = scale_asks c.args.from c.args.n (at c.args.src.now) c.in-Biased.is c.requires.by_index;
-    }
+  n_in_bounds = c.requires.n_in_bounds;
+  by_index = scale_asks c.args.from c.args.n (at c.args.src.now) c.in-Biased.is c.requires.by_index;
+}
 
 pub returns-in-Plain : goal.returns-in-Plain
 returns-in-Plain c = scale_gives c.args.from c.args.n (at c.args.src.now) (plain_back (search rules) c.in-Plain.is) c.args.to (at c.args.dst.now) c.plain_scale_run.ensures

@@ -8,15 +8,15 @@ use Rattle.lifting.proofs.runs.signed_cut_run.Goals as goal
 
 pub biased_cut_run-requires : goal.biased_cut_run-requires
 biased_cut_run-requires c = record {
-      runs = c.requires.runs;
-      safe_run = run_asks c.args.t c.args.a c.args.b c.args.n (at c.args.buf.now) (ap (λ (down : Bool). cut_step down c.args.form) c.if-down.true) c.requires.safe_run;
-    }
+  runs = c.requires.runs;
+  safe_run = run_asks c.args.t c.args.a c.args.b c.args.n (at c.args.buf.now) (ap (λ (down : Bool). cut_step down c.args.form) c.if-down.true) c.requires.safe_run;
+}
 
 pub biased_cut_run-requires-else-down : goal.biased_cut_run-requires-else-down
 biased_cut_run-requires-else-down c = record {
-      runs = c.requires.runs;
-      safe_run = run_asks c.args.t c.args.a c.args.b c.args.n (at c.args.buf.now) (ap (λ (down : Bool). cut_step down c.args.form) c.if-down.false) c.requires.safe_run;
-    }
+  runs = c.requires.runs;
+  safe_run = run_asks c.args.t c.args.a c.args.b c.args.n (at c.args.buf.now) (ap (λ (down : Bool). cut_step down c.args.form) c.if-down.false) c.requires.safe_run;
+}
 
 pub returns-then-down : goal.returns-then-down
 returns-then-down c = run_gives c.args.t c.args.a c.args.b c.args.n (at c.args.buf.now) (ap (λ (down : Bool). cut_step down c.args.form) c.if-down.true) c.biased_cut_run.ensures

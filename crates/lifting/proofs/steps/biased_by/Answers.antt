@@ -20,15 +20,15 @@ shifted_unbiased-requires c = (c.requires.short, cut_small c.fused.result c.args
 pub narrow-requires : goal.narrow-requires
 narrow-requires c =
     let value : let a = c.args in c.shifted_unbiased.result ≡ shr_z (pos a.form.c *ℤ a.x) (2 ^ a.form.cut) =
-        c.shifted_unbiased.ensures
-            ∙ ap (λ (n : ℕ). pos (n / 2 ^ c.args.form.cut) -ℤ pos c.args.form.base) (c.fused.ensures ∙ ap (λ (n : ℕ). c.args.form.c * n + c.args.form.offset) (c.bias.ensures ∙ ap biased (to_z-of_z c.ranges.x)))
-            ∙ sym (padded_is c.args.form.c c.args.form.offset c.args.form.base c.args.form.cut c.requires.tied c.args.x c.ranges.x) in
+    c.shifted_unbiased.ensures
+    ∙ ap (λ (n : ℕ). pos (n / 2 ^ c.args.form.cut) -ℤ pos c.args.form.base) (c.fused.ensures ∙ ap (λ (n : ℕ). c.args.form.c * n + c.args.form.offset) (c.bias.ensures ∙ ap biased (to_z-of_z c.ranges.x)))
+    ∙ sym (padded_is c.args.form.c c.args.form.offset c.args.form.base c.args.form.cut c.requires.tied c.args.x c.ranges.x) in
     fits_at (got w64 c.shifted_unbiased.type_inv value) c.requires.result
 
 pub returns : goal.returns
 returns c =
     let value : let a = c.args in c.shifted_unbiased.result ≡ shr_z (pos a.form.c *ℤ a.x) (2 ^ a.form.cut) =
-        c.shifted_unbiased.ensures
-            ∙ ap (λ (n : ℕ). pos (n / 2 ^ c.args.form.cut) -ℤ pos c.args.form.base) (c.fused.ensures ∙ ap (λ (n : ℕ). c.args.form.c * n + c.args.form.offset) (c.bias.ensures ∙ ap biased (to_z-of_z c.ranges.x)))
-            ∙ sym (padded_is c.args.form.c c.args.form.offset c.args.form.base c.args.form.cut c.requires.tied c.args.x c.ranges.x) in
+    c.shifted_unbiased.ensures
+    ∙ ap (λ (n : ℕ). pos (n / 2 ^ c.args.form.cut) -ℤ pos c.args.form.base) (c.fused.ensures ∙ ap (λ (n : ℕ). c.args.form.c * n + c.args.form.offset) (c.bias.ensures ∙ ap biased (to_z-of_z c.ranges.x)))
+    ∙ sym (padded_is c.args.form.c c.args.form.offset c.args.form.base c.args.form.cut c.requires.tied c.args.x c.ranges.x) in
     got w32 c.narrow.type_inv (c.narrow.ensures ∙ got w64 c.shifted_unbiased.type_inv value)

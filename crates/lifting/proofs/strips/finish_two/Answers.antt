@@ -43,9 +43,10 @@ scale_lines-requires c =
     let two = room.two in
     let n = c.args.n in
     let held = lift_held c.args.by.second two (lift_held c.args.by.first two c.requires.ready.held _ c.lift.ensures) _ c.lift-2.ensures in record {
-      lying =
-        (some_lines (buffer_lines room c.lift-2.new.buffer (omega arith)) 0 (lows n) 0 (omega arith) (omega arith) (omega arith),
-        some_lines (plane_lines room _ (omega arith)) 0 (lows n) c.args.from (omega arith) (omega arith) (omega arith));
+      lying = (
+        some_lines (buffer_lines room c.lift-2.new.buffer (omega arith)) 0 (lows n) 0 (omega arith) (omega arith) (omega arith),
+        some_lines (plane_lines room _ (omega arith)) 0 (lows n) c.args.from (omega arith) (omega arith) (omega arith),
+      );
       by_index = λ i j p g. subst (FactorSafe c.args.by.low) (sym (low_at_lem n held i j p g)) ((c.requires.ready.safe j g).at_lows i p);
     }
 
@@ -64,9 +65,10 @@ scale_lines-requires-2 c =
     let two = room.two in
     let n = c.args.n in
     let held = lift_held c.args.by.second two (lift_held c.args.by.first two c.requires.ready.held _ c.lift.ensures) _ c.lift-2.ensures in record {
-      lying =
-        (some_lines (buffer_lines room c.lift-2.new.buffer (omega arith)) (lows n) (highs n) _ (omega arith) (omega arith) (omega arith),
-        some_lines (plane_lines room _ (omega arith)) (lows n) (highs n) _ (omega arith) (omega arith) (omega arith));
+      lying = (
+        some_lines (buffer_lines room c.lift-2.new.buffer (omega arith)) (lows n) (highs n) _ (omega arith) (omega arith) (omega arith),
+        some_lines (plane_lines room _ (omega arith)) (lows n) (highs n) _ (omega arith) (omega arith) (omega arith),
+      );
       by_index = λ i j p g. subst (FactorSafe c.args.by.high) (sym (high_at_lem n held i j p g)) ((c.requires.ready.safe j g).at_highs i p);
     }
 

@@ -18,7 +18,7 @@ pub inverse_lift-requires : goal.inverse_lift-requires
 inverse_lift-requires c =
     let loaded : let col = column_of c.args.stride c.args.from (at c.args.plane.now) in
     BufferHolds c.args.s c.args.n col (λ j i. col j (lows c.args.n + i)) (at c.copy_lines.new.dst) =
-        whole_held _ _ _ _ _ c.copy_lines.ensures in
+    whole_held _ _ _ _ _ c.copy_lines.ensures in
     record {
       buffer = buffer_of c.requires.strip_room _ (omega arith);
       inverse_lift_safe = inverse_lift_asked c.args.pair c.requires.strip_room.two loaded (λ i j p g. (c.requires.by_index j g).on_lows_lem i p) (λ i j p g. (c.requires.by_index j g).on_highs_lem i p);
@@ -32,5 +32,5 @@ unfolding worked
 returns c =
     let loaded : let col = column_of c.args.stride c.args.from (at c.args.plane.now) in
     BufferHolds c.args.s c.args.n col (λ j i. col j (lows c.args.n + i)) (at c.copy_lines.new.dst) =
-        whole_held _ _ _ _ _ c.copy_lines.ensures in
+    whole_held _ _ _ _ _ c.copy_lines.ensures in
     c.merge.ensures ∙ lines_ext _ _ _ _ _ c.args.n (held_woven (inverse_lift_held c.args.pair c.requires.strip_room.two loaded _ c.inverse_lift.ensures))

@@ -1,54 +1,40 @@
 -- `lifting::steps::join` meets its contract: each call's result is the number that `joined` has at its place.
-use mathlib.Core.Path.{◌≡◌, ap, ap₂, ◌∙◌}
-use Prim.Native.Nat.{◌^◌, ◌<◌}
-use lib.IntN.{ℤ, pos, ◌+ℤ◌, ◌*ℤ◌}
-use lib.Signed.{shr_z}
-use mir.Syntax.{w32, w64}
-use mir.Val.{to_z}
-use mir.Facts.{to_z-of_z, to_z_pos}
-use Rattle.lifting.specs.BiasedCut.{joined}
-use Rattle.slices.specs.SignedRuns.{back, got, fits_at}
-use Rattle.lifting.proofs.Signed.{power_small}
+use mathlib.Core.Path.{ap₂, ◌∙◌}
+use lib.IntN.{◌*ℤ◌}
+use mir.Syntax.{w32}
+use mir.Facts.{to_z-of_z}
+use Rattle.slices.specs.SignedRuns.{got, fits_at}
+use Rattle.lifting.proofs.Signed.{power_small, power_back, power_times, sum_back, shr_back}
 use Rattle.lifting.proofs.steps.join.Goals as goal
 
-small : (c : goal.After-power) → c.power.result < 9223372036854775808
-small c = power_small c.requires.few c.power.ensures
-
-left : (c : goal.After-wide) → let a = c.args in to_z w64 c.power.result *ℤ back w64 c.wide.result ≡ pos (2 ^ a.k) *ℤ a.own
-left c = ap₂ ◌*ℤ◌ (to_z_pos w64 (small c.before) ∙ ap pos c.power.ensures) (got w64 c.wide.type_inv (c.wide.ensures ∙ to_z-of_z c.ranges.own))
-
 pub overflow_cast-power : goal.overflow_cast-power
-overflow_cast-power c = record { sfits = small c }
+overflow_cast-power c = record { sfits = power_small c.requires.few c.power.ensures }
 
 pub times-left-requires : goal.times-left-requires
-times-left-requires c = fits_at (left c) c.requires.left
-
-small-2 : (c : goal.After-power-2) → c.power-2.result < 9223372036854775808
-small-2 c = power_small c.requires.rises c.power-2.ensures
-
-right : (c : goal.After-power-2) → let a = c.args in to_z w64 c.power-2.result *ℤ back w64 a.part ≡ pos (2 ^ a.up) *ℤ a.part
-right c = ap₂ ◌*ℤ◌ (to_z_pos w64 (small-2 c) ∙ ap pos c.power-2.ensures) (to_z-of_z c.ranges.part)
+times-left-requires c = fits_at (power_times c.requires.few c.power.ensures c.ranges.own c.wide.type_inv c.wide.ensures) c.requires.left
 
 pub overflow_cast-power-2 : goal.overflow_cast-power-2
-overflow_cast-power-2 c = record { sfits = small-2 c }
+overflow_cast-power-2 c = record { sfits = power_small c.requires.rises c.power-2.ensures }
 
 pub times-right-requires : goal.times-right-requires
-times-right-requires c = fits_at (right c) c.requires.right
-
-both : (c : goal.After-times-right) → let a = c.args in
-    back w64 c.times-left.result +ℤ back w64 c.times-right.result ≡ pos (2 ^ a.k) *ℤ a.own +ℤ pos (2 ^ a.up) *ℤ a.part
-both c =
-    ap₂ ◌+ℤ◌ (got w64 c.times-left.type_inv (c.times-left.ensures ∙ left c.before.before.before))
-    (got w64 c.times-right.type_inv (c.times-right.ensures ∙ right c.before))
+times-right-requires c = fits_at (ap₂ ◌*ℤ◌ (power_back c.requires.rises c.power-2.ensures) (to_z-of_z c.ranges.part)) c.requires.right
 
 pub plus-requires : goal.plus-requires
-plus-requires c = fits_at (both c) c.requires.both
-
-sum : (c : goal.After-plus) → let a = c.args in shr_z (back w64 c.plus.result) (2 ^ a.cut) ≡ joined a.k a.up a.cut a.own a.part
-sum c = ap (λ (z : ℤ). shr_z z (2 ^ c.args.cut)) (got w64 c.plus.type_inv (c.plus.ensures ∙ both c.before))
+plus-requires c =
+    let left = power_times c.requires.few c.power.ensures c.ranges.own c.wide.type_inv c.wide.ensures in
+    let right = ap₂ ◌*ℤ◌ (power_back c.requires.rises c.power-2.ensures) (to_z-of_z c.ranges.part) in
+    fits_at (sum_back c.times-left.type_inv (c.times-left.ensures ∙ left) c.times-right.type_inv (c.times-right.ensures ∙ right)) c.requires.both
 
 pub narrowed-requires : goal.narrowed-requires
-narrowed-requires c = record { cut_bound = c.requires.short; sfits = fits_at (sum c) c.requires.result }
+narrowed-requires c =
+    let left = power_times c.requires.few c.power.ensures c.ranges.own c.wide.type_inv c.wide.ensures in
+    let right = ap₂ ◌*ℤ◌ (power_back c.requires.rises c.power-2.ensures) (to_z-of_z c.ranges.part) in
+    let both = sum_back c.times-left.type_inv (c.times-left.ensures ∙ left) c.times-right.type_inv (c.times-right.ensures ∙ right) in
+    record { cut_bound = c.requires.short; sfits = fits_at (shr_back c.args.cut c.plus.type_inv (c.plus.ensures ∙ both)) c.requires.result }
 
 pub returns : goal.returns
-returns c = got w32 c.narrowed.type_inv (c.narrowed.ensures ∙ sum c.before)
+returns c =
+    let left = power_times c.requires.few c.power.ensures c.ranges.own c.wide.type_inv c.wide.ensures in
+    let right = ap₂ ◌*ℤ◌ (power_back c.requires.rises c.power-2.ensures) (to_z-of_z c.ranges.part) in
+    let both = sum_back c.times-left.type_inv (c.times-left.ensures ∙ left) c.times-right.type_inv (c.times-right.ensures ∙ right) in
+    got w32 c.narrowed.type_inv (c.narrowed.ensures ∙ shr_back c.args.cut c.plus.type_inv (c.plus.ensures ∙ both))

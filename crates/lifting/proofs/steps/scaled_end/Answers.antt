@@ -1,61 +1,52 @@
 -- `lifting::steps::scaled_end` meets its contract: each call's result is the number that `scaled_end` has at its place.
-use mathlib.Core.Path.{◌≡◌, ap, ap₂, ◌∙◌}
-use Prim.Native.Nat.{◌^◌, ◌<◌}
+use mathlib.Core.Path.{ap, ◌∙◌}
+use Prim.Native.Nat.{◌^◌}
 use lib.IntN.{ℤ, pos, ◌+ℤ◌, ◌*ℤ◌}
-use lib.Signed.{shr_z}
-use mir.Syntax.{w32, w64}
-use mir.Val.{to_z}
-use mir.Facts.{to_z-of_z, to_z_pos}
+use mir.Syntax.{w32}
+use mir.Facts.{to_z-of_z}
 use Rattle.lifting.specs.declared.Step.TheVariants.{Scaled}
-use Rattle.lifting.specs.Steps.{scaled_end}
-use Rattle.slices.specs.SignedRuns.{back, got, fits_at}
+use Rattle.slices.specs.SignedRuns.{got, fits_at}
 use Rattle.numbers.specs.Laws.{twice_times}
 use Rattle.lifting.specs.Ends.{ended_fits}
-use Rattle.lifting.proofs.Signed.{power_small}
+use Rattle.lifting.proofs.Signed.{power_small, power_times, double_times, sum_back, shr_back}
 use Rattle.lifting.proofs.steps.scaled_end.Goals as goal
 
-small : (c : goal.After-power) → c.power.result < 9223372036854775808
-small c = power_small c.requires.few c.power.ensures
-
-left : (c : goal.After-wide) → let a = c.args in to_z w64 c.power.result *ℤ back w64 c.wide.result ≡ pos (2 ^ a.k) *ℤ a.own
-left c = ap₂ ◌*ℤ◌ (to_z_pos w64 (small c.before) ∙ ap pos c.power.ensures) (got w64 c.wide.type_inv (c.wide.ensures ∙ to_z-of_z c.ranges.own))
-
 pub overflow_cast-power : goal.overflow_cast-power
-overflow_cast-power c = record { sfits = small c }
+overflow_cast-power c = record { sfits = power_small c.requires.few c.power.ensures }
 
 pub times-left-requires : goal.times-left-requires
-times-left-requires c = fits_at (left c) c.requires.left
+times-left-requires c = fits_at (power_times c.requires.few c.power.ensures c.ranges.own c.wide.type_inv c.wide.ensures) c.requires.left
 
 -- the constant doubled
-constant : (c : goal.After-times-left) → let a = c.args in pos 2 *ℤ back w64 a.c ≡ pos 2 *ℤ a.c
-constant c = ap (λ (z : ℤ). pos 2 *ℤ z) (to_z-of_z c.ranges.c)
-
 pub times-requires : goal.times-requires
-times-requires c = fits_at (constant c) c.requires.doubled
-
-right : (c : goal.After-wide-2) → let a = c.args in back w64 c.times.result *ℤ back w64 c.wide-2.result ≡ pos 2 *ℤ a.c *ℤ a.x
-right c =
-    ap₂ ◌*ℤ◌ (got w64 c.times.type_inv (c.times.ensures ∙ constant c.before.before)) (got w64 c.wide-2.type_inv (c.wide-2.ensures ∙ to_z-of_z c.ranges.x))
+times-requires c = fits_at (ap (λ (z : ℤ). pos 2 *ℤ z) (to_z-of_z c.ranges.c)) c.requires.doubled
 
 pub times-right-requires : goal.times-right-requires
-times-right-requires c = fits_at (right c ∙ twice_times c.args.c c.args.x) c.requires.right
-
-both : (c : goal.After-times-right) → let a = c.args in
-    back w64 c.times-left.result +ℤ back w64 c.times-right.result ≡ pos (2 ^ a.k) *ℤ a.own +ℤ pos 2 *ℤ a.c *ℤ a.x
-both c =
-    ap₂ ◌+ℤ◌ (got w64 c.times-left.type_inv (c.times-left.ensures ∙ left c.before.before.before.before))
-    (got w64 c.times-right.type_inv (c.times-right.ensures ∙ right c.before))
+times-right-requires c =
+    let right = double_times c.ranges.c c.times.type_inv c.times.ensures c.ranges.x c.wide-2.type_inv c.wide-2.ensures in
+    fits_at (right ∙ twice_times c.args.c c.args.x) c.requires.right
 
 pub plus-requires : goal.plus-requires
-plus-requires c = fits_at (both c ∙ ap (λ (z : ℤ). pos (2 ^ c.args.k) *ℤ c.args.own +ℤ z) (twice_times c.args.c c.args.x)) c.requires.both
-
-shifted : (c : goal.After-plus) → let a = c.args in shr_z (back w64 c.plus.result) (2 ^ a.cut) ≡ scaled_end a.k a.c a.cut a.own a.x
-shifted c = ap (λ (z : ℤ). shr_z z (2 ^ c.args.cut)) (got w64 c.plus.type_inv (c.plus.ensures ∙ both c.before))
+plus-requires c =
+    let left = power_times c.requires.few c.power.ensures c.ranges.own c.wide.type_inv c.wide.ensures in
+    let right = double_times c.ranges.c c.times.type_inv c.times.ensures c.ranges.x c.wide-2.type_inv c.wide-2.ensures in
+    let both = sum_back c.times-left.type_inv (c.times-left.ensures ∙ left) c.times-right.type_inv (c.times-right.ensures ∙ right) in
+    fits_at (both ∙ ap (λ (z : ℤ). pos (2 ^ c.args.k) *ℤ c.args.own +ℤ z) (twice_times c.args.c c.args.x)) c.requires.both
 
 pub narrowed-requires : goal.narrowed-requires
 narrowed-requires c =
+    let left = power_times c.requires.few c.power.ensures c.ranges.own c.wide.type_inv c.wide.ensures in
+    let right = double_times c.ranges.c c.times.type_inv c.times.ensures c.ranges.x c.wide-2.type_inv c.wide-2.ensures in
+    let both = sum_back c.times-left.type_inv (c.times-left.ensures ∙ left) c.times-right.type_inv (c.times-right.ensures ∙ right) in
     let v = c.args in
-    record { cut_bound = c.requires.short; sfits = fits_at (shifted c) (ended_fits (Scaled v.k v.c v.cut) v.own v.x c.requires.result) }
+    record {
+      cut_bound = c.requires.short;
+      sfits = fits_at (shr_back v.cut c.plus.type_inv (c.plus.ensures ∙ both)) (ended_fits (Scaled v.k v.c v.cut) v.own v.x c.requires.result);
+    }
 
 pub returns : goal.returns
-returns c = got w32 c.narrowed.type_inv (c.narrowed.ensures ∙ shifted c.before)
+returns c =
+    let left = power_times c.requires.few c.power.ensures c.ranges.own c.wide.type_inv c.wide.ensures in
+    let right = double_times c.ranges.c c.times.type_inv c.times.ensures c.ranges.x c.wide-2.type_inv c.wide-2.ensures in
+    let both = sum_back c.times-left.type_inv (c.times-left.ensures ∙ left) c.times-right.type_inv (c.times-right.ensures ∙ right) in
+    got w32 c.narrowed.type_inv (c.narrowed.ensures ∙ shr_back c.args.cut c.plus.type_inv (c.plus.ensures ∙ both))

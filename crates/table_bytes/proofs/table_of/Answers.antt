@@ -24,7 +24,7 @@ returns c =
     c.new.ensures ∙ (λ u. made (depth u) (c.levels_in-levels.ensures u) (constants u) (nodes u) (c.has_fifth-has_products.ensures u) (c.products_in-products.ensures u))
   where
     made : ℕ → ℕ → List ℕ → List ℕ → Bool → List ℕ → WidthTable
-    made c c k m h p = record { depth = c; levels = c; constants = k; nodes = m; has_products = h; products = p }
+    made d l k m h p = record { depth = d; levels = l; constants = k; nodes = m; has_products = h; products = p }
 
 pub bounds-bytes-value_start : goal.bounds-bytes-value_start
 bounds-bytes-value_start c = omega (arith, c.value_start.ensures, four_there c.args.bytes.now c.requires)

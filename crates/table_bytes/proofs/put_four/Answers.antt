@@ -11,8 +11,7 @@ use Rattle.table_bytes.proofs.put_four.Goals as goal
 pub put_field-requires-4 : goal.put_field-requires-4
 put_field-requires-4 c =
     let sized : FullLists c.args.table = record { constants = omega arith; nodes = omega arith; products = omega arith } in
-    let taken : node_bytes c.args.table.levels ≤ length c.args.table.nodes =
-        omega (arith, c.requires.0, sized.nodes) in
+    let taken : node_bytes c.args.table.levels ≤ length c.args.table.nodes = omega arith in
     ((omega arith, omega arith), c.requires.0, length-take-le _ _ taken, omega (arith, c.requires.1))
 
 pub returns : goal.returns
@@ -30,17 +29,3 @@ pub put_field-requires-3 : goal.put_field-requires-3
 put_field-requires-3 c =
     let sized : FullLists c.args.table = record { constants = omega arith; nodes = omega arith; products = omega arith } in
     ((omega arith, omega arith), c.requires.0, sized.constants, omega (arith, c.requires.1))
-
-pub slice_bounds-nodes-end : goal.slice_bounds-nodes-end
-slice_bounds-nodes-end c =
-    let sized : FullLists c.args.table = record { constants = omega arith; nodes = omega arith; products = omega arith } in
-    let taken : node_bytes c.args.table.levels ≤ length c.args.table.nodes =
-        omega (arith, c.requires.0, sized.nodes) in
-    taken
-
-pub slice_bounds-put_field-end-4 : goal.slice_bounds-put_field-end-4
-slice_bounds-put_field-end-4 c =
-    let sized : FullLists c.args.table = record { constants = omega arith; nodes = omega arith; products = omega arith } in
-    let taken : node_bytes c.args.table.levels ≤ length c.args.table.nodes =
-        omega (arith, c.requires.0, sized.nodes) in
-    sym (length-take-le _ _ taken)

@@ -17,8 +17,7 @@ put_four-requires c = (c.requires.0, omega (arith, c.requires.1, without_less c.
 pub put_field-requires : goal.put_field-requires
 put_field-requires c =
     let sized : FullLists c.args.table = record { constants = omega arith; nodes = omega arith; products = omega arith } in
-    let taken : product_bytes c.args.table.levels ≤ length c.args.table.products =
-        omega (arith, c.requires.0, sized.products) in
+    let taken : product_bytes c.args.table.levels ≤ length c.args.table.products = omega arith in
     -- with tag 5
     let whole : table_size true c.args.table.levels ≤ length c.args.lent.now =
         subst (λ (has_products : Bool). table_size has_products c.args.table.levels ≤ length c.args.lent.now) c.if-table.true c.requires.1 in
@@ -33,17 +32,3 @@ pub returns-else-table : goal.returns-else-table
 returns-else-table c =
     let sized : FullLists c.args.table = record { constants = omega arith; nodes = omega arith; products = omega arith } in
     all_put c.args.table sized false c.if-table.false c.args.lent.now _ c.put_four.ensures
-
-pub slice_bounds-products-end : goal.slice_bounds-products-end
-slice_bounds-products-end c =
-    let sized : FullLists c.args.table = record { constants = omega arith; nodes = omega arith; products = omega arith } in
-    let taken : product_bytes c.args.table.levels ≤ length c.args.table.products =
-        omega (arith, c.requires.0, sized.products) in
-    taken
-
-pub slice_bounds-put_field-end : goal.slice_bounds-put_field-end
-slice_bounds-put_field-end c =
-    let sized : FullLists c.args.table = record { constants = omega arith; nodes = omega arith; products = omega arith } in
-    let taken : product_bytes c.args.table.levels ≤ length c.args.table.products =
-        omega (arith, c.requires.0, sized.products) in
-    sym (length-take-le _ _ taken)

@@ -26,12 +26,12 @@ returns-in-Refused c =
 pub returns-in-Done : goal.returns-in-Done
 returns-in-Done c =
     let done : field (field_of (fields true c.args.levels) products_tag) c.args.bytes.now ≡ passed =
-        sym c.field.ensures ∙ ap told c.in-Done.is in
+    sym c.field.ensures ∙ ap told c.in-Done.is in
     let s = c.args in
     sym (five_after s.levels s.bytes.now c.if-bytes-ne-PRODUCTS_TAG.false ∙ next_read _ s.bytes.now [] done ∙ ap (form_by []) (sym c.after_field.ensures) ∙ sym c.ended.ensures)
 
 pub after_field-requires : goal.after_field-requires
 after_field-requires c =
     let done : field (field_of (fields true c.args.levels) products_tag) c.args.bytes.now ≡ passed =
-        sym c.field.ensures ∙ ap told c.in-Done.is in
+    sym c.field.ensures ∙ ap told c.in-Done.is in
     ((omega arith, omega arith), field_holds _ _ done)

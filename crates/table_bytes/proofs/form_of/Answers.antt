@@ -20,17 +20,17 @@ loop-tag-init c = (omega arith, omega arith, omega arith, ap (λ (L : ℕ). form
 pub returns-in-Refused : goal.returns-in-Refused
 returns-in-Refused c =
     let judged : told c.field.result ≡ field (field_of (fields true c.levels_in-levels.result) c.loop-tag.tag) (drop c.loop-tag.start c.args.bytes.now) =
-        c.field.ensures ∙ ap (field _) (rest_whole c.loop-tag.start c.args.bytes.now) in
+    c.field.ensures ∙ ap (field _) (rest_whole c.loop-tag.start c.args.bytes.now) in
     sym (c.loop-tag.invariant.3 ∙ after_refused c.levels_in-levels.result c.loop-tag.tag (omega arith, omega arith) (omega arith) _ _ (sym judged ∙ ap told c.in-Refused.is))
 
 pub loop-tag-preserved : goal.loop-tag-preserved
 loop-tag-preserved c =
     let judged : told c.field.result ≡ field (field_of (fields true c.levels_in-levels.result) c.loop-tag.tag) (drop c.loop-tag.start c.args.bytes.now) =
-        c.field.ensures ∙ ap (field _) (rest_whole c.loop-tag.start c.args.bytes.now) in
+    c.field.ensures ∙ ap (field _) (rest_whole c.loop-tag.start c.args.bytes.now) in
     let done : field (field_of (fields true c.levels_in-levels.result) c.loop-tag.tag) (drop c.loop-tag.start c.args.bytes.now) ≡ passed =
-        sym judged ∙ ap told c.in-Done.is in
+    sym judged ∙ ap told c.in-Done.is in
     let fits : c.loop-tag.start + head_bytes + value_length c.levels_in-levels.result c.loop-tag.tag ≤ length c.args.bytes.now =
-        omega (arith, c.loop-tag.invariant.2, field_holds _ _ done, length-drop c.loop-tag.start c.args.bytes.now) in
+    omega (arith, c.loop-tag.invariant.2, field_holds _ _ done, length-drop c.loop-tag.start c.args.bytes.now) in
     let b = c.args.bytes.now in
     let L = c.levels_in-levels.result in
     let n = c.loop-tag.start in
@@ -55,19 +55,19 @@ returns c =
 pub overflow_add-start : goal.overflow_add-start
 overflow_add-start c =
     let judged : told c.field.result ≡ field (field_of (fields true c.levels_in-levels.result) c.loop-tag.tag) (drop c.loop-tag.start c.args.bytes.now) =
-        c.field.ensures ∙ ap (field _) (rest_whole c.loop-tag.start c.args.bytes.now) in
+    c.field.ensures ∙ ap (field _) (rest_whole c.loop-tag.start c.args.bytes.now) in
     let done : field (field_of (fields true c.levels_in-levels.result) c.loop-tag.tag) (drop c.loop-tag.start c.args.bytes.now) ≡ passed =
-        sym judged ∙ ap told c.in-Done.is in
+    sym judged ∙ ap told c.in-Done.is in
     let fits : c.loop-tag.start + head_bytes + value_length c.levels_in-levels.result c.loop-tag.tag ≤ length c.args.bytes.now =
-        omega (arith, c.loop-tag.invariant.2, field_holds _ _ done, length-drop c.loop-tag.start c.args.bytes.now) in
+    omega (arith, c.loop-tag.invariant.2, field_holds _ _ done, length-drop c.loop-tag.start c.args.bytes.now) in
     omega (arith, fits)
 
 pub overflow_add-start-in-loop-tag : goal.overflow_add-start-in-loop-tag
 overflow_add-start-in-loop-tag c =
     let judged : told c.field.result ≡ field (field_of (fields true c.levels_in-levels.result) c.loop-tag.tag) (drop c.loop-tag.start c.args.bytes.now) =
-        c.field.ensures ∙ ap (field _) (rest_whole c.loop-tag.start c.args.bytes.now) in
+    c.field.ensures ∙ ap (field _) (rest_whole c.loop-tag.start c.args.bytes.now) in
     let done : field (field_of (fields true c.levels_in-levels.result) c.loop-tag.tag) (drop c.loop-tag.start c.args.bytes.now) ≡ passed =
-        sym judged ∙ ap told c.in-Done.is in
+    sym judged ∙ ap told c.in-Done.is in
     let fits : c.loop-tag.start + head_bytes + value_length c.levels_in-levels.result c.loop-tag.tag ≤ length c.args.bytes.now =
-        omega (arith, c.loop-tag.invariant.2, field_holds _ _ done, length-drop c.loop-tag.start c.args.bytes.now) in
+    omega (arith, c.loop-tag.invariant.2, field_holds _ _ done, length-drop c.loop-tag.start c.args.bytes.now) in
     omega (arith, fits, c.value_length.ensures)

@@ -20,7 +20,7 @@ put_field-requires c =
     let taken : product_bytes c.args.table.levels ≤ length c.args.table.products = omega arith in
     -- with tag 5
     let whole : table_size true c.args.table.levels ≤ length c.args.lent.now =
-        subst (λ (has_products : Bool). table_size has_products c.args.table.levels ≤ length c.args.lent.now) c.if-table.true c.requires.1 in
+    subst (λ (has_products : Bool). table_size has_products c.args.table.levels ≤ length c.args.lent.now) c.if-table.true c.requires.1 in
     ((omega arith, omega arith), c.requires.0, length-take-le _ _ taken, omega (arith, whole))
 
 pub returns-then-table : goal.returns-then-table

@@ -23,11 +23,11 @@ returns-in-Value c =
 pub overflow_add-result : goal.overflow_add-result
 overflow_add-result c =
     let part : Valued c.args.bytes.now c.args.tag c.in-Value.start c.in-Value.len =
-        let a = c.args in valued a.bytes.now a.tag c.in-Value.start c.in-Value.len (sym c.value_place.ensures ∙ ap told_named c.in-Value.is) in
+    let a = c.args in valued a.bytes.now a.tag c.in-Value.start c.in-Value.len (sym c.value_place.ensures ∙ ap told_named c.in-Value.is) in
     omega (arith, part.small)
 
 pub slice_bounds-result-end-in-Value : goal.slice_bounds-result-end-in-Value
 slice_bounds-result-end-in-Value c =
     let part : Valued c.args.bytes.now c.args.tag c.in-Value.start c.in-Value.len =
-        let a = c.args in valued a.bytes.now a.tag c.in-Value.start c.in-Value.len (sym c.value_place.ensures ∙ ap told_named c.in-Value.is) in
+    let a = c.args in valued a.bytes.now a.tag c.in-Value.start c.in-Value.len (sym c.value_place.ensures ∙ ap told_named c.in-Value.is) in
     omega (arith, part.fits)

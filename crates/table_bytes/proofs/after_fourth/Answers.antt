@@ -7,7 +7,6 @@ use Rattle.refusals.specs.Told.{told}
 use Rattle.table_bytes.specs.Fields.{products_tag, fields, field_of}
 use Rattle.table_bytes.specs.Bytes.{field, form_by}
 use Rattle.table_bytes.specs.ReadLaws.{field_holds, next_read, next_refused, nothing_after, other_after, five_after}
-use borrow.Author.Rules.{rules}
 use Rattle.table_bytes.proofs.after_fourth.Goals as goal
 
 pub returns-then-bytes-eq0 : goal.returns-then-bytes-eq0

@@ -7,10 +7,9 @@ use lib.Seq.{drop-drop}
 use Rattle.numbers.specs.Lists.{rest_whole}
 use Rattle.refusals.specs.Answers.{passed}
 use Rattle.refusals.specs.Told.{told}
-use Rattle.table_bytes.specs.Fields.{products_tag, head_bytes, fields, field_of, value_length}
+use Rattle.table_bytes.specs.Fields.{head_bytes, fields, field_of, value_length}
 use Rattle.table_bytes.specs.Bytes.{field, form, form_after}
 use Rattle.table_bytes.specs.ReadLaws.{field_holds, after_refused, after_read}
-use borrow.Author.Rules.{rules}
 use Rattle.table_bytes.proofs.form_of.Goals as goal
 
 pub loop-tag-init : goal.loop-tag-init

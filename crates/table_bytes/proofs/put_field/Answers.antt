@@ -7,7 +7,6 @@ use Rattle.width_table.specs.Table.{max_levels}
 use Rattle.table_bytes.specs.Fields.{head_bytes, table_size, value_start}
 use Rattle.table_bytes.specs.ReadLaws.{start_after_lem, value_ends}
 use Rattle.table_bytes.specs.WriteLaws.{field_put}
-use borrow.Author.Rules.{rules}
 use Rattle.table_bytes.proofs.put_field.Goals as goal
 
 pub returns : goal.returns

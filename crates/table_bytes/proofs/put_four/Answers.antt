@@ -1,11 +1,10 @@
-use mathlib.Core.Path.{refl, sym, ◌∙◌}
+use mathlib.Core.Path.{refl}
 use Prim.Native.Nat.{◌≤◌}
 use native.Mathlib.Omega.{arith}
-use lib.ListN.{length, length-map}
+use lib.ListN.{length}
 use lib.Seq.{length-take-le}
 use Rattle.width_table.specs.Lists.{node_bytes, FullLists}
 use Rattle.table_bytes.specs.WriteLaws.{four_put}
-use borrow.Author.Rules.{rules}
 use Rattle.table_bytes.proofs.put_four.Goals as goal
 
 pub put_field-requires-4 : goal.put_field-requires-4

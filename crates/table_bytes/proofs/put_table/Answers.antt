@@ -1,14 +1,13 @@
 use Prim.Native.Nat.{◌≤◌}
-use mathlib.Core.Path.{sym, ◌∙◌, subst}
+use mathlib.Core.Path.{subst}
 use mathlib.Core.Bool.{Bool, true, false}
 use native.Mathlib.Omega.{arith}
-use lib.ListN.{length, length-map}
+use lib.ListN.{length}
 use lib.Seq.{length-take-le}
 use Rattle.width_table.specs.Lists.{product_bytes, FullLists}
 use Rattle.table_bytes.specs.Fields.{table_size}
 use Rattle.table_bytes.specs.BytesLaws.{without_less}
 use Rattle.table_bytes.specs.WriteLaws.{five_put, all_put}
-use borrow.Author.Rules.{rules}
 use Rattle.table_bytes.proofs.put_table.Goals as goal
 
 pub put_four-requires : goal.put_four-requires

@@ -1,4 +1,4 @@
-use Prim.Native.Nat.{ℕ, ◌-◌}
+use Prim.Native.Nat.{ℕ}
 use mathlib.Core.Path.{◌≡◌, refl, ◌∙◌, ap}
 use mathlib.Core.Bool.{Bool}
 use mathlib.Core.List.{List, append-nil}
@@ -11,7 +11,6 @@ use Rattle.width_table.specs.Lists.{node_bytes}
 use Rattle.table_bytes.specs.Bytes.{depth_in, table_in}
 use Rattle.table_bytes.specs.BytesLaws.{four_there, levels_most}
 use Rattle.table_bytes.specs.ReadLaws.{over_zeros}
-use borrow.Author.Rules.{rules}
 use Rattle.table_bytes.proofs.table_of.Goals as goal
 
 pub returns : goal.returns

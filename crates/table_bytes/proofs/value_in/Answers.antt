@@ -8,7 +8,6 @@ use Rattle.table_bytes.specs.Fields.{value_start, value_length}
 use Rattle.table_bytes.specs.Bytes.{levels_in, has_fifth}
 use Rattle.table_bytes.specs.BytesLaws.{form_long}
 use Rattle.table_bytes.specs.ReadLaws.{value_within}
-use borrow.Author.Rules.{rules}
 use Rattle.table_bytes.proofs.value_in.Goals as goal
 
 pub returns : goal.returns

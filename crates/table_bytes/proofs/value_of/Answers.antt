@@ -2,11 +2,9 @@ use Prim.Native.Nat.{ℕ, ◌+◌, ◌-◌}
 use mathlib.Core.Path.{◌≡◌, sym, ◌∙◌, ap}
 use native.Mathlib.Omega.{arith}
 use lib.ListN.{take, drop}
-use Rattle.refusals.specs.Answers.{done}
-use Rattle.table_bytes.specs.Names.{naming, part_at}
+use Rattle.table_bytes.specs.Names.{part_at}
 use Rattle.table_bytes.specs.Told.{told_named}
 use Rattle.table_bytes.specs.NameLaws.{Valued, valued}
-use borrow.Author.Rules.{rules}
 use Rattle.table_bytes.proofs.value_of.Goals as goal
 
 pub returns-in-NotNamed : goal.returns-in-NotNamed

@@ -7,7 +7,6 @@ use Rattle.numbers.specs.Tests.{is_between, below_least, above_most}
 use Rattle.table_bytes.specs.Fields.{depth_tag, products_tag, tag_right, value_start, value_length}
 use Rattle.table_bytes.specs.Bytes.{levels_in, form}
 use Rattle.table_bytes.specs.NameLaws.{name_wrong, name_refused, name_lacking, name_right}
-use borrow.Author.Rules.{rules}
 use Rattle.table_bytes.proofs.value_place.Goals as goal
 
 pub returns-then-tag-lt-DEPTH_TAG : goal.returns-then-tag-lt-DEPTH_TAG

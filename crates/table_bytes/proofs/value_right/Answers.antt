@@ -4,7 +4,6 @@ use mathlib.Core.List.{List}
 use mathlib.Core.Bool.{true}
 use native.Mathlib.Omega.{arith}
 use Rattle.table_bytes.specs.Fields.{depth_tag, levels_tag, constants_tag, nodes_tag, products_tag, fields, field_of}
-use borrow.Author.Rules.{rules}
 use Rattle.table_bytes.proofs.value_right.Goals as goal
 
 -- the rule of the tag k

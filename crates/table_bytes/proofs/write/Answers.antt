@@ -3,7 +3,6 @@ use native.Mathlib.Omega.{arith}
 use Rattle.refusals.specs.Answers.{done}
 use Rattle.width_table.specs.FormLaws.{few_levels}
 use Rattle.table_bytes.specs.WriteLaws.{not_formed, too_short, table_written_lem}
-use borrow.Author.Rules.{rules}
 use Rattle.table_bytes.proofs.write.Goals as goal
 
 pub returns-else-form_right : goal.returns-else-form_right

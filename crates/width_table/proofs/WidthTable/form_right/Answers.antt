@@ -10,7 +10,6 @@ use Rattle.numbers.specs.Tests.{between, every}
 use Rattle.numbers.specs.Lists.{rest_whole}
 use Rattle.width_table.specs.FormLists.{form_lists_lem}
 use Rattle.width_table.specs.FormLaws.{zeros_test, limits_wrong, constants_wrong, widths_wrong, unused_wrong, products_wrong, unused_products_decide}
-use borrow.Author.Rules.{rules}
 use Rattle.width_table.proofs.WidthTable.form_right.Goals as goal
 
 -- the rest of an array, all zeros

@@ -5,7 +5,6 @@ use Rattle.width_table.specs.Numbered.{IsPass}
 use Rattle.width_table.specs.Table.{max_levels}
 use Rattle.width_table.specs.FormLaws.{pass_in}
 use Rattle.width_table.specs.Readers.{input_none, input_low, input_high, input_first, input_later}
-use borrow.Author.Rules.{rules}
 use Rattle.width_table.proofs.WidthTable.input_bits.Goals as goal
 
 pub returns-else-has_pass : goal.returns-else-has_pass

@@ -6,7 +6,6 @@ use lib.ListN.{get_or}
 use Rattle.width_table.specs.Table.{max_levels, node_place}
 use Rattle.width_table.specs.FormLaws.{node_in}
 use Rattle.width_table.specs.Readers.{or_zero}
-use borrow.Author.Rules.{rules}
 use Rattle.width_table.proofs.WidthTable.node_number.Goals as goal
 
 pub returns-else-has_node : goal.returns-else-has_node

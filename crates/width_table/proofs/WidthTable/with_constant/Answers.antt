@@ -3,7 +3,6 @@ use native.Mathlib.Omega.{arith}
 use Rattle.width_table.specs.FormLaws.{gives_back, table_not_formed, no_stage, no_bits, constant_changes}
 use Rattle.numbers.specs.Tests.{in_limits}
 use Rattle.width_table.specs.Nodes.{nodes_per_pass}
-use borrow.Author.Rules.{rules}
 use Rattle.width_table.proofs.WidthTable.with_constant.Goals as goal
 
 pub returns-else-form_right : goal.returns-else-form_right

@@ -5,7 +5,6 @@ use native.Mathlib.Omega.{arith}
 use lib.ListN.{set}
 use Rattle.width_table.specs.declared.WidthTable.{WidthTable}
 use Rattle.width_table.specs.FormLaws.{gives_back, product_not_formed, no_products_lem, no_product, no_product_width, product_changes, product_in, few_levels}
-use borrow.Author.Rules.{rules}
 use Rattle.width_table.proofs.WidthTable.with_product.Goals as goal
 
 pub returns-else-form_right : goal.returns-else-form_right

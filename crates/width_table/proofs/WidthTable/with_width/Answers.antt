@@ -5,7 +5,6 @@ use native.Mathlib.Omega.{arith}
 use lib.ListN.{set}
 use Rattle.width_table.specs.declared.WidthTable.{WidthTable}
 use Rattle.width_table.specs.FormLaws.{gives_back, not_formed, no_node, no_width, width_changes, node_in, few_levels}
-use borrow.Author.Rules.{rules}
 use Rattle.width_table.proofs.WidthTable.with_width.Goals as goal
 
 pub returns-else-form_right : goal.returns-else-form_right

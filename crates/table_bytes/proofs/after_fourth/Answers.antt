@@ -24,6 +24,7 @@ returns-in-Refused c =
 
 pub returns-in-Done : goal.returns-in-Done
 returns-in-Done c =
+    -- the field of tag 5 is right, and there
     let done : field (field_of (fields true c.args.levels) products_tag) c.args.bytes.now ≡ passed =
     sym c.field.ensures ∙ ap told c.in-Done.is in
     let s = c.args in

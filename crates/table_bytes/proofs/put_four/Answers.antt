@@ -9,7 +9,9 @@ use Rattle.table_bytes.proofs.put_four.Goals as goal
 
 pub put_field-requires-4 : goal.put_field-requires-4
 put_field-requires-4 c =
+    -- what its type says of the table
     let sized : FullLists c.args.table = record { constants = omega arith; nodes = omega arith; products = omega arith } in
+    -- the nodes of its levels
     let taken : node_bytes c.args.table.levels ≤ length c.args.table.nodes = omega arith in
     ((omega arith, omega arith), c.requires.0, length-take-le _ _ taken, omega (arith, c.requires.1))
 

@@ -15,7 +15,9 @@ put_four-requires c = (c.requires.0, omega (arith, c.requires.1, without_less c.
 
 pub put_field-requires : goal.put_field-requires
 put_field-requires c =
+    -- what its type says of the table
     let sized : FullLists c.args.table = record { constants = omega arith; nodes = omega arith; products = omega arith } in
+    -- the products of its levels
     let taken : product_bytes c.args.table.levels ≤ length c.args.table.products = omega arith in
     -- with tag 5
     let whole : table_size true c.args.table.levels ≤ length c.args.lent.now =

@@ -21,8 +21,10 @@ returns-then-tag-gt-PRODUCTS_TAG c =
 
 pub returns-else-has_tag : goal.returns-else-has_tag
 returns-else-has_tag c =
+    -- a right name
     let named : tag_right c.args.tag ≡ true =
     is_between depth_tag products_tag c.args.tag c.if-tag-lt-DEPTH_TAG.false c.if-tag-gt-PRODUCTS_TAG.false in
+    -- and a right form
     let formed : form c.args.bytes.now ≡ passed =
     sym c.form_of.ensures ∙ ap told c.in-Done.is in
     let a = c.args in

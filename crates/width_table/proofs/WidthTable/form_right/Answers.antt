@@ -16,11 +16,10 @@ use Rattle.width_table.proofs.WidthTable.form_right.Goals as goal
 rest-zeros : (l : List ℕ) (n m : ℕ) → length l ≡ m → every (eqb 0) (drop n l) ≡ every (between 0 0) (take (m - n) (drop n l))
 rest-zeros l n m e = sym (ap (every (between 0 0)) (ap (λ (k : ℕ). take (k - n) (drop n l)) (sym e) ∙ rest_whole n l) ∙ zeros_test (drop n l))
 
--- in each answer, `sized` is what its type says of the table
-
 pub returns-else-limits_right : goal.returns-else-limits_right
 returns-else-limits_right c =
     let t = c.args.self in
+    -- what its type says of the table
     let sized : FullLists t = record { constants = omega arith; nodes = omega arith; products = omega arith } in
     sym (form_lists_lem t sized ∙ limits_wrong t (sym c.limits_right.ensures ∙ c.if-limits_right.false))
 

@@ -17,6 +17,7 @@ rows k h x y = omega arith
 
 pub returns-then-pass-eq-LOW_COLUMNS : goal.returns-then-pass-eq-LOW_COLUMNS
 returns-then-pass-eq-LOW_COLUMNS c =
+    -- a level and a pass that there are
     let within : ((1 ≤ c.args.level) × (c.args.level ≤ max_levels)) × IsPass c.args.pass =
     pass_in max_levels c.args.level c.args.pass (sym c.has_pass.ensures ∙ c.if-has_pass.true) in
     let a = c.args in

@@ -4,7 +4,6 @@ use native.Mathlib.Omega.{arith}
 use lib.ListN.{drop}
 use Rattle.table_bytes.specs.Fields.{head_bytes}
 use Rattle.numbers.specs.Lists.{rest_whole}
-use borrow.Author.Rules.{rules}
 use Rattle.table_bytes.proofs.after_field.Goals as goal
 
 pub returns : goal.returns

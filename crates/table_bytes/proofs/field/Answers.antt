@@ -1,69 +1,60 @@
 use Prim.Native.Nat.{ℕ, ◌+◌, ◌-◌, ◌≤◌}
 use mathlib.Core.Path.{◌≡◌, sym, ◌∙◌, ap}
 use mathlib.Core.Bool.{Bool, true, false}
+use mathlib.Core.List.{List}
 use native.Mathlib.Omega.{arith}
 use lib.ListN.{length, take, drop}
 use Rattle.refusals.specs.Answers.{passed, asks}
 use Rattle.refusals.specs.Told.{told}
-use Rattle.table_bytes.specs.Fields.{head_bytes, Field, fields, field_of}
+use Rattle.table_bytes.specs.Fields.{IsTag, head_bytes, Field, fields, field_of, value_length}
 use Rattle.table_bytes.specs.Bytes.{headed, field}
 use Rattle.table_bytes.specs.ReadLaws.{tag_is, rule_is, head_holds, field_head, field_judged}
-use borrow.Author.Rules.{rules}
 use Rattle.table_bytes.proofs.field.Goals as goal
 
-abbrev its : (s : goal.Start) → Field
-its s = field_of (fields true s.args.levels) s.args.tag
+abbrev its : ℕ → ℕ → Field
+its levels tag = field_of (fields true levels) tag
+
+module _ (levels tag : ℕ) (h : IsTag tag) (len : ℕ) (e : len ≡ value_length levels tag) (bytes : List ℕ) where
+  -- the head is judged by the field's tag and length
+  judged : headed tag len bytes ≡ headed (its levels tag).tag (its levels tag).size bytes
+  judged = λ u. headed (sym (tag_is levels tag h) u) (e u) bytes
+
+  -- a right head leaves a value that is there
+  fits : headed tag len bytes ≡ passed → head_bytes + len ≤ length bytes
+  fits done = omega (arith, e, head_holds (its levels tag) bytes (sym judged ∙ done))
+
+  -- the value's rule decides
+  decided : headed tag len bytes ≡ passed → (t : Bool) → (field_of (fields true 0) tag).right (take (head_bytes + len - head_bytes) (drop head_bytes bytes)) ≡ t → asks t 4 passed ≡ field (its levels tag) bytes
+  decided done t r =
+      let part : len ≡ head_bytes + len - head_bytes = omega arith in
+      let right = (field_of (fields true 0) tag).right in
+      sym (field_judged (its levels tag) bytes (sym judged ∙ done) t (
+      (λ u. rule_is levels tag h u (take (sym e u) (drop head_bytes bytes)))
+      ∙ ap (λ (k : ℕ). right (take k (drop head_bytes bytes))) part
+      ∙ r))
 
 pub returns-in-Refused : goal.returns-in-Refused
 returns-in-Refused c =
-    let judged : told c.head.result ≡ headed (its h).tag (its h).size c.args.bytes.now =
-        let v = h in
-            let s = v in
-            c.head.ensures ∙ (λ u. headed (sym (tag_is s.args.levels s.args.tag s.requires) u) (v.value_length-len.ensures u) s.args.bytes.now) in
-    sym (field_head (its c) c.args.bytes.now _ (sym judged ∙ ap told c.in-Refused.is))
-
--- the value's rule decides
-decided : (c : goal.After-value_right) (t : Bool) → c.value_right.result ≡ t → asks t 4 passed ≡ field (its c) c.args.bytes.now
-decided c t e =
-    let d = c in
-    let h = d in
-    let s = h in
-    let a = s.args in
-    let n = h.value_length-len.result in
-    let part : n ≡ head_bytes + n - head_bytes = omega arith in
-    let right = (field_of (fields true 0) a.tag).right in
-    sym (field_judged (its s) a.bytes.now (sym (judged c.before.before.before.before) ∙ ap told d.in-Done.is) t (
-    (λ u. rule_is a.levels a.tag s.requires u (take (sym h.value_length-len.ensures u) (drop head_bytes a.bytes.now)))
-    ∙ ap (λ (k : ℕ). right (take k (drop head_bytes a.bytes.now))) part
-    ∙ sym c.value_right.ensures
-    ∙ e))
+    let a = c.args in
+    let e = c.value_length-len.ensures in
+    sym (field_head (its a.levels a.tag) a.bytes.now _ (sym (judged a.levels a.tag c.requires _ e a.bytes.now) ∙ sym c.head.ensures ∙ ap told c.in-Refused.is))
 
 pub overflow_add-end : goal.overflow_add-end
 overflow_add-end c =
-    let judged : told c.head.result ≡ headed (its h).tag (its h).size c.args.bytes.now =
-        let v = h in
-            let s = v in
-            c.head.ensures ∙ (λ u. headed (sym (tag_is s.args.levels s.args.tag s.requires) u) (v.value_length-len.ensures u) s.args.bytes.now) in
-    let fits : head_bytes + c.value_length-len.result ≤ length c.args.bytes.now =
-        let h = d in
-            let s = h in
-            omega (arith, h.value_length-len.ensures, head_holds (its s) s.args.bytes.now (sym judged ∙ ap told c.in-Done.is)) in
-    omega (arith, fits)
+    let a = c.args in
+    omega (arith, fits a.levels a.tag c.requires _ c.value_length-len.ensures a.bytes.now (sym c.head.ensures ∙ ap told c.in-Done.is))
 
 pub slice_bounds-value_right-end : goal.slice_bounds-value_right-end
 slice_bounds-value_right-end c =
-    let judged : told c.head.result ≡ headed (its h).tag (its h).size c.args.bytes.now =
-        let v = h in
-            let s = v in
-            c.head.ensures ∙ (λ u. headed (sym (tag_is s.args.levels s.args.tag s.requires) u) (v.value_length-len.ensures u) s.args.bytes.now) in
-    let fits : head_bytes + c.value_length-len.result ≤ length c.args.bytes.now =
-        let h = d in
-            let s = h in
-            omega (arith, h.value_length-len.ensures, head_holds (its s) s.args.bytes.now (sym judged ∙ ap told c.in-Done.is)) in
-    omega (arith, fits)
+    let a = c.args in
+    omega (arith, fits a.levels a.tag c.requires _ c.value_length-len.ensures a.bytes.now (sym c.head.ensures ∙ ap told c.in-Done.is))
 
 pub returns-then-value_right : goal.returns-then-value_right
-returns-then-value_right c = decided c true c.if-value_right.true
+returns-then-value_right c =
+    let a = c.args in
+    decided a.levels a.tag c.requires _ c.value_length-len.ensures a.bytes.now (sym c.head.ensures ∙ ap told c.in-Done.is) true (sym c.value_right.ensures ∙ c.if-value_right.true)
 
 pub returns-else-value_right : goal.returns-else-value_right
-returns-else-value_right c = decided c false c.if-value_right.false
+returns-else-value_right c =
+    let a = c.args in
+    decided a.levels a.tag c.requires _ c.value_length-len.ensures a.bytes.now (sym c.head.ensures ∙ ap told c.in-Done.is) false (sym c.value_right.ensures ∙ c.if-value_right.false)

@@ -5,7 +5,6 @@ use lib.Dec.{ltb}
 use lib.ListN.{length}
 use Rattle.table_bytes.specs.Fields.{table_size}
 use Rattle.table_bytes.specs.BytesLaws.{five_longer}
-use borrow.Author.Rules.{rules}
 use Rattle.table_bytes.proofs.has_fifth.Goals as goal
 
 pub returns : goal.returns

@@ -1,7 +1,6 @@
 use mathlib.Core.Path.{sym}
 use native.Mathlib.Omega.{arith}
 use Rattle.table_bytes.specs.ReadLaws.{no_head, cut_value, other_tag, other_length, whole_head}
-use borrow.Author.Rules.{rules}
 use Rattle.table_bytes.proofs.head.Goals as goal
 
 pub returns-then-bytes-lt-HEAD_BYTES : goal.returns-then-bytes-lt-HEAD_BYTES

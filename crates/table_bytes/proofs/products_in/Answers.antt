@@ -1,4 +1,3 @@
-use Prim.Native.Nat.{◌-◌}
 use mathlib.Core.Path.{sym, ◌∙◌, ap}
 use mathlib.Core.Bool.{Bool}
 use native.Mathlib.Omega.{arith}
@@ -7,7 +6,6 @@ use Rattle.width_table.specs.Lists.{product_bytes}
 use Rattle.table_bytes.specs.Bytes.{products_in}
 use Rattle.table_bytes.specs.BytesLaws.{levels_most}
 use Rattle.table_bytes.specs.ReadLaws.{over_zeros}
-use borrow.Author.Rules.{rules}
 use Rattle.table_bytes.proofs.products_in.Goals as goal
 
 pub returns-else-has_fifth : goal.returns-else-has_fifth

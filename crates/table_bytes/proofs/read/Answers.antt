@@ -1,7 +1,6 @@
 use mathlib.Core.Path.{sym, ap, ◌∙◌}
 use Rattle.refusals.specs.Told.{told}
 use Rattle.table_bytes.specs.ReadLaws.{table_read_lem, no_table}
-use borrow.Author.Rules.{rules}
 use Rattle.table_bytes.proofs.read.Goals as goal
 
 pub table_of-requires : goal.table_of-requires

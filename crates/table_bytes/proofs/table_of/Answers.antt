@@ -1,4 +1,4 @@
-use Prim.Native.Nat.{ℕ, ◌-◌}
+use Prim.Native.Nat.{ℕ}
 use mathlib.Core.Path.{◌≡◌, refl, ◌∙◌, ap}
 use mathlib.Core.Bool.{Bool}
 use mathlib.Core.List.{List, append-nil}
@@ -11,7 +11,6 @@ use Rattle.width_table.specs.Lists.{node_bytes}
 use Rattle.table_bytes.specs.Bytes.{depth_in, table_in}
 use Rattle.table_bytes.specs.BytesLaws.{four_there, levels_most}
 use Rattle.table_bytes.specs.ReadLaws.{over_zeros}
-use borrow.Author.Rules.{rules}
 use Rattle.table_bytes.proofs.table_of.Goals as goal
 
 pub returns : goal.returns
@@ -24,7 +23,7 @@ returns c =
     c.new.ensures ∙ (λ u. made (depth u) (c.levels_in-levels.ensures u) (constants u) (nodes u) (c.has_fifth-has_products.ensures u) (c.products_in-products.ensures u))
   where
     made : ℕ → ℕ → List ℕ → List ℕ → Bool → List ℕ → WidthTable
-    made c c k m h p = record { depth = c; levels = c; constants = k; nodes = m; has_products = h; products = p }
+    made d l k m h p = record { depth = d; levels = l; constants = k; nodes = m; has_products = h; products = p }
 
 pub bounds-bytes-value_start : goal.bounds-bytes-value_start
 bounds-bytes-value_start c = omega (arith, c.value_start.ensures, four_there c.args.bytes.now c.requires)

@@ -2,7 +2,6 @@ use mathlib.Core.Path.{sym, ◌∙◌, ap}
 use mathlib.Core.Bool.{Bool}
 use native.Mathlib.Omega.{arith}
 use Rattle.table_bytes.specs.Fields.{table_size}
-use borrow.Author.Rules.{rules}
 use Rattle.table_bytes.proofs.table_size.Goals as goal
 
 pub returns-then-has_products : goal.returns-then-has_products

@@ -2,7 +2,6 @@ use mathlib.Core.Path.{◌≡◌, sym, ap}
 use native.Mathlib.Omega.{arith}
 use Rattle.table_bytes.specs.Fields.{products_tag, value_length}
 use Rattle.table_bytes.specs.ReadLaws.{short_length}
-use borrow.Author.Rules.{rules}
 use Rattle.table_bytes.proofs.value_length.Goals as goal
 
 pub returns-then-tag-le-LEVELS_TAG : goal.returns-then-tag-le-LEVELS_TAG

@@ -1,7 +1,7 @@
-use Prim.Native.Nat.{◌+◌, ◌-◌, ◌≤◌}
+use Prim.Native.Nat.{◌+◌}
 use mathlib.Core.Path.{◌≡◌, refl, sym, ◌∙◌, ap}
 use native.Mathlib.Omega.{arith}
-use Rattle.table_bytes.specs.Fields.{depth_tag, head_bytes, value_start}
+use Rattle.table_bytes.specs.Fields.{head_bytes, value_start}
 use Rattle.table_bytes.specs.ReadLaws.{start_next, value_ends}
 use Rattle.table_bytes.proofs.value_start.Goals as goal
 

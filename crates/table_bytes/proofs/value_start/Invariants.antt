@@ -1,12 +1,7 @@
-use Prim.Native.Nat.{◌+◌, ◌-◌, ◌≤◌}
-use mathlib.Core.Path.{◌≡◌, refl, sym, ◌∙◌, ap}
-use native.Mathlib.Omega.{arith}
-use Rattle.table_bytes.specs.Fields.{depth_tag, head_bytes, value_start}
-use Rattle.table_bytes.specs.ReadLaws.{start_next, value_ends}
+use Prim.Native.Nat.{◌≤◌}
+use mathlib.Core.Path.{◌≡◌}
+use Rattle.table_bytes.specs.Fields.{depth_tag, value_start}
 use Rattle.table_bytes.proofs.value_start.Given as goal
 
 abbrev pub invariant-loop-before : goal.invariant-loop-before
 invariant-loop-before l = (depth_tag ≤ l.before) × (l.before ≤ l.tag) × (l.start ≡ value_start l.levels l.before)
-
-abbrev pub decreases-loop-before : goal.decreases-loop-before
-decreases-loop-before l = l.tag - l.before

@@ -3,18 +3,19 @@ use native.Mathlib.Omega.{arith}
 use Rattle.refusals.specs.Answers.{done}
 use Rattle.width_table.specs.FormLaws.{few_levels}
 use Rattle.table_bytes.specs.WriteLaws.{not_formed, too_short, table_written_lem}
-use borrow.Author.Rules.{rules}
 use Rattle.table_bytes.proofs.write.Goals as goal
 
 pub returns-else-form_right : goal.returns-else-form_right
 returns-else-form_right c =
     let a = c.args in
-    not_formed a.table a.lent.now (sym c.form_right.ensures ∙ c.if-form_right.false)
+    let w = not_formed a.table a.lent.now (sym c.form_right.ensures ∙ c.if-form_right.false) in
+    record { answer = w.0; bytes = w.1 }
 
 pub returns-then-lent-n : goal.returns-then-lent-n
 returns-then-lent-n c =
     let a = c.args in
-    too_short a.table a.lent.now (sym c.form_right.ensures ∙ c.if-form_right.true) (omega (arith, c.table_size-n.ensures))
+    let w = too_short a.table a.lent.now (sym c.form_right.ensures ∙ c.if-form_right.true) (omega (arith, c.table_size-n.ensures)) in
+    record { answer = w.0; bytes = w.1 }
 
 pub put_table-requires : goal.put_table-requires
 put_table-requires c = (few_levels c.args.table (sym c.form_right.ensures ∙ c.if-form_right.true), omega (arith, c.table_size-n.ensures))

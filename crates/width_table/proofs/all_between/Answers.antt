@@ -1,9 +1,6 @@
-use Prim.Native.Nat.{◌-◌, ◌≤◌}
-use mathlib.Core.Path.{◌≡◌, refl, ◌∙◌, sym}
+use mathlib.Core.Path.{refl, ◌∙◌, sym}
 use native.Mathlib.Omega.{arith}
-use borrow.Author.Rules.{rules}
-use lib.ListN.{length, drop}
-use Rattle.numbers.specs.Tests.{between, every}
+use Rattle.numbers.specs.Tests.{between}
 use Rattle.numbers.specs.Lists.{every_next, every_stops, every_ends}
 use Rattle.width_table.proofs.all_between.Goals as goal
 

@@ -1,7 +1,6 @@
 use mathlib.Core.Path.{sym, ◌∙◌, ap}
 use mathlib.Core.Bool.{Bool, ◌&&◌}
 use Rattle.numbers.specs.Tests.{between}
-use borrow.Author.Rules.{rules}
 use Rattle.width_table.proofs.has_part.Goals as goal
 
 pub returns-else-has_pass : goal.returns-else-has_pass

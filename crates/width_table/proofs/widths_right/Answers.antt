@@ -1,9 +1,5 @@
-use Prim.Native.Nat.{◌-◌, ◌≤◌}
-use mathlib.Core.Path.{◌≡◌, refl, ◌∙◌, sym}
+use mathlib.Core.Path.{refl, ◌∙◌, sym}
 use native.Mathlib.Omega.{arith}
-use borrow.Author.Rules.{rules}
-use lib.ListN.{length, drop}
-use Rattle.width_table.specs.Lists.{widths_right}
 use Rattle.width_table.specs.FormLaws.{widths_next, widths_stop, widths_odd, widths_end}
 use Rattle.width_table.proofs.widths_right.Goals as goal
 

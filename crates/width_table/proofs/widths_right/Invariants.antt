@@ -1,10 +1,7 @@
 use Prim.Native.Nat.{◌-◌, ◌≤◌}
-use mathlib.Core.Path.{◌≡◌, refl, ◌∙◌, sym}
-use native.Mathlib.Omega.{arith}
-use borrow.Author.Rules.{rules}
+use mathlib.Core.Path.{◌≡◌}
 use lib.ListN.{length, drop}
 use Rattle.width_table.specs.Lists.{widths_right}
-use Rattle.width_table.specs.FormLaws.{widths_next, widths_stop, widths_odd, widths_end}
 use Rattle.width_table.proofs.widths_right.Given as goal
 
 abbrev pub invariant-loop-i : goal.invariant-loop-i

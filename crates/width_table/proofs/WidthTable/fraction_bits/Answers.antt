@@ -1,5 +1,4 @@
 use Rattle.width_table.specs.Readers.{fraction_bits_at}
-use borrow.Author.Rules.{rules}
 use Rattle.width_table.proofs.WidthTable.fraction_bits.Goals as goal
 
 pub returns : goal.returns

@@ -5,7 +5,6 @@ use lib.ListN.{get_or}
 use Rattle.width_table.specs.Table.{max_levels, node_place}
 use Rattle.width_table.specs.Changes.{has_node}
 use Rattle.width_table.specs.Readers.{or_zero, integer_bits_at}
-use borrow.Author.Rules.{rules}
 use Rattle.width_table.proofs.WidthTable.integer_bits.Goals as goal
 
 pub returns : goal.returns

@@ -6,13 +6,12 @@ use lib.ListN.{get_or}
 use Rattle.width_table.specs.Table.{max_levels, node_place}
 use Rattle.width_table.specs.FormLaws.{node_in}
 use Rattle.width_table.specs.Readers.{or_zero}
-use borrow.Author.Rules.{rules}
 use Rattle.width_table.proofs.WidthTable.node_number.Goals as goal
 
 pub returns-else-has_node : goal.returns-else-has_node
 returns-else-has_node c =
     let a = c.args in
-    sym (ap (λ (x : Bool). or_zero x (get_or a.t1.nodes (node_place a.level a.pass a.node + a.after) 0)) (sym c.has_node.ensures ∙ c.if-has_node.false))
+    sym (ap (λ (x : Bool). or_zero x (get_or a.self.nodes (node_place a.level a.pass a.node + a.after) 0)) (sym c.has_node.ensures ∙ c.if-has_node.false))
 
 pub node_place-requires : goal.node_place-requires
 node_place-requires c =
@@ -23,5 +22,5 @@ node_place-requires c =
 pub returns : goal.returns
 returns c =
     let a = c.args in
-    ap (λ (n : ℕ). get_or a.t1.nodes (n + a.after) 0) c.node_place.ensures.0
-    ∙ sym (ap (λ (x : Bool). or_zero x (get_or a.t1.nodes (node_place a.level a.pass a.node + a.after) 0)) (sym c.has_node.ensures ∙ c.if-has_node.true))
+    ap (λ (n : ℕ). get_or a.self.nodes (n + a.after) 0) c.node_place.ensures.0
+    ∙ sym (ap (λ (x : Bool). or_zero x (get_or a.self.nodes (node_place a.level a.pass a.node + a.after) 0)) (sym c.has_node.ensures ∙ c.if-has_node.true))

@@ -1,7 +1,6 @@
 use mathlib.Core.Path.{sym, ap}
 use mathlib.Core.Bool.{Bool, true, false}
 use Rattle.width_table.specs.Lists.{product_bytes}
-use borrow.Author.Rules.{rules}
 use Rattle.width_table.proofs.WidthTable.used_products.Goals as goal
 
 pub returns-then-self : goal.returns-then-self

@@ -29,7 +29,7 @@ judge_bound-requires c =
 
 pub returns-in-Refused : goal.returns-in-Refused
 returns-in-Refused c =
-    let judged-next : let a = c.args in (t : WidthTable) → BoundsOf t a.level a.pass a.t4 → a.table.levels ≡ t.levels → first_refusal t (take (c.loop-done.done + 1) (pass_nodes a.level (pass_of a.pass))) ≡ told c.judge_bound.result =
+    let judged-next : let a = c.args in (t : WidthTable) → BoundsOf t a.level a.pass a.bounds → a.table.levels ≡ t.levels → first_refusal t (take (c.loop-done.done + 1) (pass_nodes a.level (pass_of a.pass))) ≡ told c.judge_bound.result =
         λ t h e. let a = c.args in
             let n : ℕ = c.loop-done.done + 1 in
             node_next t a.level (pass_of a.pass) c.loop-done.done (omega arith) (c.loop-done.invariant.1 t h e)
@@ -41,7 +41,7 @@ returns-in-Refused c =
 
 pub loop-done-preserved : goal.loop-done-preserved
 loop-done-preserved c =
-    let judged-next : let a = c.args in (t : WidthTable) → BoundsOf t a.level a.pass a.t4 → a.table.levels ≡ t.levels → first_refusal t (take (c.loop-done.done + 1) (pass_nodes a.level (pass_of a.pass))) ≡ told c.judge_bound.result =
+    let judged-next : let a = c.args in (t : WidthTable) → BoundsOf t a.level a.pass a.bounds → a.table.levels ≡ t.levels → first_refusal t (take (c.loop-done.done + 1) (pass_nodes a.level (pass_of a.pass))) ≡ told c.judge_bound.result =
         λ t h e. let a = c.args in
             let n : ℕ = c.loop-done.done + 1 in
             node_next t a.level (pass_of a.pass) c.loop-done.done (omega arith) (c.loop-done.invariant.1 t h e)

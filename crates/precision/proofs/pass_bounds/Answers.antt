@@ -38,7 +38,7 @@ own_error-own-requires c =
     let total : get_or c.carry-ranges.result c.multiplied_place-operand.result 0 + get_or c.loop-node.errors c.multiplied_place-operand.result 0 ≤ most_total =
         let h = started in
             omega (arith, ranges_small h.enters c.carry-ranges.result h.ranges_in c.multiplied_place-operand.result (operand c), errors_small h.enters c.loop-node.node c.loop-node.errors errors c.multiplied_place-operand.result (operand c)) in
-    (limited started.read, (omega arith, total))
+    record { limited = limited started.read; node = omega arith; total_le_most_total = total }
 
 -- its own error
 module _ {t : WidthTable} {l p : ℕ} {b : Bound} where

@@ -13,7 +13,7 @@ back z = to_z w64 (of_z w64 z)
 
 -- what was read back of a call's result
 pub got : {r z : ℤ} → mag r < 2 ^ 63 → r ≡ z → back r ≡ z
-got f e = to_z-of_z (sfits_of f) ∙ e
+got f e = to_z-of_z {w = w64} (sfits_of {w = w64} f) ∙ e
 
 pub fits_at : {z z' : ℤ} → z' ≡ z → SFits w64 z → SFits w64 z'
 fits_at e h = subst (SFits w64) (sym e) h

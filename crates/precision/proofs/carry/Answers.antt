@@ -1,4 +1,4 @@
-use Prim.Native.Nat.{ℕ, ◌+◌, ◌-◌, ◌<◌, ◌≤◌}
+use Prim.Native.Nat.{ℕ, ◌+◌, ◌<◌, ◌≤◌}
 use mathlib.Core.List.{List}
 use mathlib.Core.Path.{◌≡◌, refl, sym, ◌∙◌, ap, subst}
 use native.Mathlib.Omega.{arith}
@@ -7,7 +7,7 @@ use lib.ListN.{length, get_or, set, length-set}
 use lib.Seq.{get_or-set_same, get_or-set_other}
 use Rattle.stages.specs.Rule.{times_gain}
 use Rattle.bounds_rule.specs.Carried.{most_gain}
-use Rattle.precision.specs.Places.{places, gain_at}
+use Rattle.precision.specs.Places.{gain_at}
 use Rattle.precision.specs.PlaceLaws.{gain_most, times_small}
 use Rattle.precision.proofs.carry.Invariants.{Added}
 use Rattle.precision.proofs.carry.Goals as goal

@@ -1,5 +1,4 @@
 use mathlib.Core.Path.{◌∙◌}
-use native.Mathlib.Omega.{arith}
 use lib.Dec.{lit≤}
 use Rattle.precision.proofs.judge_pass.Goals as goal
 

@@ -1,5 +1,4 @@
 use mathlib.Core.Path.{sym, ◌∙◌, ap}
-use borrow.Author.Rules.{rules}
 use Rattle.refusals.specs.Told.{told}
 use Rattle.width_table.specs.Nodes.{G1, G2, node_at}
 use Rattle.width_table.specs.Numbered.{pass_of}

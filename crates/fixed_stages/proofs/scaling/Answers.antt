@@ -13,7 +13,7 @@ use Rattle.fixed_stages.proofs.scaling.Goals as goal
 pub factor_of-requires : goal.factor_of-requires
 factor_of-requires c =
     let constant : let a = c.args in back c.nearest_at.result ≡ nearest (constant_of (node_of a.node)) a.bits =
-        got c.nearest_at.type_inv c.nearest_at.ensures in
+    got c.nearest_at.type_inv c.nearest_at.ensures in
     let a = c.args in
     let top : ℕ = max (a.bits + a.value) a.kept in record {
       constant_bits = (c.requires.1, c.requires.2, c.requires.3);
@@ -23,7 +23,7 @@ factor_of-requires c =
 pub returns : goal.returns
 returns c =
     let constant : let a = c.args in back c.nearest_at.result ≡ nearest (constant_of (node_of a.node)) a.bits =
-        got c.nearest_at.type_inv c.nearest_at.ensures in
+    got c.nearest_at.type_inv c.nearest_at.ensures in
     let a = c.args in
     c.factor_of.ensures ∙ ap (λ (z : ℤ). factor_of z a.bits a.value a.kept) constant
 

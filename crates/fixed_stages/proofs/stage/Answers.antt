@@ -14,7 +14,7 @@ use Rattle.fixed_stages.proofs.stage.Goals as goal
 pub step_of-requires : goal.step_of-requires
 step_of-requires c =
     let constant : let a = c.args in back c.nearest_at.result ≡ nearest (constant_of (node_of a.node)) a.bits =
-        got c.nearest_at.type_inv c.nearest_at.ensures in
+    got c.nearest_at.type_inv c.nearest_at.ensures in
     let a = c.args in
     let top : ℕ = step_top a.bits a.sides a.own a.kept in record {
       constant_bits = (c.requires.1, c.requires.2, c.requires.3, c.requires.4);
@@ -24,7 +24,7 @@ step_of-requires c =
 pub returns : goal.returns
 returns c =
     let constant : let a = c.args in back c.nearest_at.result ≡ nearest (constant_of (node_of a.node)) a.bits =
-        got c.nearest_at.type_inv c.nearest_at.ensures in
+    got c.nearest_at.type_inv c.nearest_at.ensures in
     let a = c.args in
     c.step_of.ensures ∙ ap (λ (z : ℤ). step_of (cut_to a.width) z a.bits a.sides a.own a.kept) constant
 

@@ -33,9 +33,9 @@ returns-in-Refused-passes c =
 
 pub judge_nodes-requires : goal.judge_nodes-requires
 judge_nodes-requires c = record {
-      bounds_of = c.pass_bounds-bounds.ensures;
-      count_lt_places = omega arith;
-    }
+  bounds_of = c.pass_bounds-bounds.ensures;
+  count_lt_places = omega arith;
+}
 
 pub returns-in-Refused-judge_nodes : goal.returns-in-Refused-judge_nodes
 returns-in-Refused-judge_nodes c =
@@ -48,7 +48,7 @@ returns c =
     let is = c.bound_at-bound.ensures ∙ c.pass_bounds-bounds.ensures.is c.args.node c.requires.node in
     let a = c.args in
     let tell = tells (bound_numbered a.table a.level a.pass a.node) (node_answers c.requires.at c.args.node c.requires.node (sym c.enter_level-rows.ensures.outcome ∙ ap told c.in-Done.is) passed (sym c.enter_pass-entered.ensures.outcome ∙ ap told c.in-Done-passes.is) (sym c.judge_nodes.ensures ∙ ap told c.in-Done-judge_nodes.is))
-      (refl, (ap (λ (b : Bound). b.range) is, ap (λ (b : Bound). b.error) is)) in
+    (refl, (ap (λ (b : Bound). b.range) is, ap (λ (b : Bound). b.error) is)) in
     record { outcome = tell.0; range = tell.1.0; error = tell.1.1 }
 
 pub overflow_sub-level : goal.overflow_sub-level

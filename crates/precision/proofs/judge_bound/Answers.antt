@@ -9,7 +9,7 @@ use Rattle.precision.proofs.judge_bound.Goals as goal
 pub overflow_add-bound-2 : goal.overflow_add-bound-2
 overflow_add-bound-2 c =
     let step : c.power-step.result ≤ 2 ^ 32 =
-        omega (arith, c.power-step.ensures, pow_mono {i = 32 - c.args.fraction} {j = 32} (omega arith)) in
+    omega (arith, c.power-step.ensures, pow_mono {i = 32 - c.args.fraction} {j = 32} (omega arith)) in
     omega (arith, step)
 
 pub overflow_mul-power : goal.overflow_mul-power
@@ -28,7 +28,7 @@ returns-else-kept c =
 pub overflow_mul-step : goal.overflow_mul-step
 overflow_mul-step c =
     let step : c.power-step.result ≤ 2 ^ 32 =
-        omega (arith, c.power-step.ensures, pow_mono {i = 32 - c.args.fraction} {j = 32} (omega arith)) in
+    omega (arith, c.power-step.ensures, pow_mono {i = 32 - c.args.fraction} {j = 32} (omega arith)) in
     omega (arith, step)
 
 pub returns-then-bound-step-2 : goal.returns-then-bound-step-2

@@ -16,6 +16,6 @@ pass_bounds-bounds-requires c = c.requires
 
 pub judge_nodes-requires : goal.judge_nodes-requires
 judge_nodes-requires c = record {
-      bounds_of = c.pass_bounds-bounds.ensures;
-      count_lt_places = lit≤ tt;
-    }
+  bounds_of = c.pass_bounds-bounds.ensures;
+  count_lt_places = lit≤ tt;
+}

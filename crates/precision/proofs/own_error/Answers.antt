@@ -28,7 +28,7 @@ module _ (w : Widths) (k r : ℕ) where
 pub own_lift-requires : goal.own_lift-requires
 own_lift-requires c =
     let operand : c.multiplied_place.result < places =
-        omega (arith, c.multiplied_place.ensures, multiplied_place_lem c.args.node c.requires.node) in
+    omega (arith, c.multiplied_place.ensures, multiplied_place_lem c.args.node c.requires.node) in
     let l = c.requires.limited in
     omega (arith, l.product c.args.node (omega arith, omega arith), l.constant c.args.node c.requires.node, l.fraction c.multiplied_place.result operand, l.fraction c.args.node (omega arith), c.requires.node.1)
 
@@ -43,7 +43,7 @@ returns-then-node-lt-G1 c =
 pub own_scale-requires : goal.own_scale-requires
 own_scale-requires c =
     let operand : c.multiplied_place.result < places =
-        omega (arith, c.multiplied_place.ensures, multiplied_place_lem c.args.node c.requires.node) in
+    omega (arith, c.multiplied_place.ensures, multiplied_place_lem c.args.node c.requires.node) in
     let l = c.requires.limited in
     omega (arith, l.constant c.args.node c.requires.node, l.fraction c.multiplied_place.result operand, l.fraction c.args.node (omega arith), c.requires.node.1)
 
@@ -58,5 +58,5 @@ returns c =
 pub bounds-widths-multiplied_place : goal.bounds-widths-multiplied_place
 bounds-widths-multiplied_place c =
     let operand : c.multiplied_place.result < places =
-        omega (arith, c.multiplied_place.ensures, multiplied_place_lem c.args.node c.requires.node) in
+    omega (arith, c.multiplied_place.ensures, multiplied_place_lem c.args.node c.requires.node) in
     omega (arith, operand)

@@ -57,6 +57,7 @@ overflow_sub-level c = omega (arith, c.requires.at.level_from)
 pub overflow_sub-pass : goal.overflow_sub-pass
 overflow_sub-pass c = omega (arith, c.requires.at.pass)
 
+-- what enters the pass
 pub pass_bounds-bounds-requires : goal.pass_bounds-bounds-requires
 pass_bounds-bounds-requires c =
     enters c.requires.at (c.enter_pass-entered.ensures.bound (ap told c.in-Done-passes.is))

@@ -1,4 +1,3 @@
-use native.Mathlib.Omega.{arith}
 use Rattle.stages.specs.Rule.{own_lift}
 use Rattle.bounds_rule.proofs.own_lift.Goals as goal
 

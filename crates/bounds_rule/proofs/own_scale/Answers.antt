@@ -1,4 +1,3 @@
-use native.Mathlib.Omega.{arith}
 use Rattle.stages.specs.Rule.{own_scale}
 use Rattle.bounds_rule.proofs.own_scale.Goals as goal
 

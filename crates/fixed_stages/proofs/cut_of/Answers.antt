@@ -1,5 +1,4 @@
 use Prim.Native.Nat.{◌+◌, ◌-◌}
-use native.Mathlib.Omega.{arith}
 use mir.Facts.{to_z-of_z}
 use Rattle.lifting.specs.declared.Step.TheVariants.{Cut}
 use Rattle.fixed_stages.specs.Steps.{cut_of}

@@ -1,6 +1,5 @@
 use mathlib.Core.Path.{ap, ◌∙◌}
 use Prim.Native.Nat.{ℕ, ◌-◌, ◌^◌}
-use native.Mathlib.Omega.{arith}
 use lib.IntN.{pos}
 use Rattle.lifting.specs.declared.Factor.TheVariants.{Plain}
 use Rattle.fixed_stages.specs.Steps.{single_of}

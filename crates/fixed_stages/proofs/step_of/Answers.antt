@@ -1,6 +1,5 @@
 use Prim.Native.Nat.{◌+◌, ◌-◌, ◌^◌}
 use mathlib.Core.Path.{sym, ◌∙◌, ap}
-use native.Mathlib.Omega.{arith}
 use lib.IntN.{ℤ, pos, ◌*ℤ◌}
 use mir.Facts.{to_z-of_z}
 use Rattle.fixed_stages.specs.Steps.{step_top, once_of, cut_of}

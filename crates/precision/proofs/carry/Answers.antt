@@ -1,4 +1,4 @@
-use Prim.Native.Nat.{ℕ, ◌+◌, ◌-◌, ◌<◌, ◌≤◌}
+use Prim.Native.Nat.{ℕ, ◌+◌, ◌<◌, ◌≤◌}
 use mathlib.Core.List.{List}
 use mathlib.Core.Path.{◌≡◌, refl, sym, ◌∙◌, ap, subst}
 use native.Mathlib.Omega.{arith}
@@ -7,13 +7,10 @@ use lib.ListN.{length, get_or, set, length-set}
 use lib.Seq.{get_or-set_same, get_or-set_other}
 use Rattle.stages.specs.Rule.{times_gain}
 use Rattle.bounds_rule.specs.Carried.{most_gain}
-use Rattle.precision.specs.Places.{places, gain_at}
+use Rattle.precision.specs.Places.{gain_at}
 use Rattle.precision.specs.PlaceLaws.{gain_most, times_small}
+use Rattle.precision.proofs.carry.Invariants.{Added}
 use Rattle.precision.proofs.carry.Goals as goal
-
--- the first k places have f more than at first, the others what they had
-abbrev Added : (ℕ → ℕ) → List ℕ → List ℕ → ℕ → Type 0
-Added f l m k = ((i : ℕ) → i < k → get_or m i 0 ≡ get_or l i 0 + f i) × ((i : ℕ) → k ≤ i → get_or m i 0 ≡ get_or l i 0)
 
 -- one place more
 added_next : (f : ℕ → ℕ) (l m : List ℕ) (k v : ℕ) → k < length m → v ≡ get_or m k 0 + f k → Added f l m k → Added f l (set m k v) (k + 1)

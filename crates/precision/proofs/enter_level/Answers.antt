@@ -1,15 +1,12 @@
-use Prim.Native.Nat.{ℕ, ◌+◌, ◌-◌, ◌≤◌}
+use Prim.Native.Nat.{ℕ, ◌+◌}
 use mathlib.Core.Path.{◌≡◌, refl, sym, ◌∙◌, ap, subst}
 use native.Mathlib.Omega.{arith}
-use borrow.Author.Rules.{rules}
 use lib.Dec.{lit≤}
-use Rattle.refusals.specs.Answers.{passed}
 use Rattle.refusals.specs.Told.{told}
 use Rattle.width_table.specs.Nodes.{table_order}
 use Rattle.precision.specs.Bounds.{entering}
 use Rattle.precision.specs.Verdict.{first_refusal}
-use Rattle.precision.specs.Places.{most_fitting, Reached}
-use Rattle.bounds_rule.specs.Carried.{as_held}
+use Rattle.precision.specs.Places.{Reached}
 use Rattle.precision.specs.OrderLaws.{not_reached, enters_first, enters_next, level_at, level_refused, level_accepted}
 use Rattle.precision.proofs.enter_level.Goals as goal
 
@@ -27,7 +24,8 @@ enter_pass-answer-requires c =
 pub returns-in-Refused : goal.returns-in-Refused
 returns-in-Refused c =
     let a = c.args in
-    not_reached a.table (table_order a.done) _ _ _ (level_refused a.table _ c.loop-before.before a.done (omega arith) c.loop-before.invariant.3 (sym c.enter_pass-answer.ensures.outcome ∙ ap told c.in-Refused.is))
+    let before = not_reached a.table (table_order a.done) _ _ _ (level_refused a.table _ c.loop-before.before a.done (omega arith) c.loop-before.invariant.3 (sym c.enter_pass-answer.ensures.outcome ∙ ap told c.in-Refused.is)) in
+    record { outcome = before.0; bound = before.1 }
 
 pub loop-before-preserved : goal.loop-before-preserved
 loop-before-preserved c =
@@ -40,5 +38,7 @@ pub returns : goal.returns
 returns c =
     let a = c.args in
     let end : c.loop-before.before ≡ a.done = omega arith in
-    subst (λ (k : ℕ). (passed ≡ first_refusal a.table (table_order k)) × (passed ≡ passed → Reached (entering a.table (k + 1)) c.loop-before.input)) end
-    (sym c.loop-before.invariant.3, λ d. record { is = c.loop-before.invariant.1; small = c.loop-before.invariant.2 })
+    record {
+      outcome = sym c.loop-before.invariant.3 ∙ ap (λ (k : ℕ). first_refusal a.table (table_order k)) end;
+      bound = λ d. subst (λ (k : ℕ). Reached (entering a.table (k + 1)) c.loop-before.input) end (record { is = c.loop-before.invariant.1; small = c.loop-before.invariant.2 });
+    }

@@ -1,6 +1,5 @@
 use mathlib.Core.Path.{sym}
 use native.Mathlib.Omega.{arith}
-use borrow.Author.Rules.{rules}
 use Rattle.precision.specs.JudgeLaws.{kept_early, kept_high, kept_low, kept_last}
 use Rattle.precision.proofs.is_kept.Goals as goal
 

@@ -1,16 +1,17 @@
-use Prim.Native.Nat.{◌-◌, ◌^◌, ◌≤◌}
-use mathlib.Core.Path.{sym}
+use Prim.Native.Nat.{ℕ, ◌-◌, ◌^◌, ◌≤◌}
+use mathlib.Core.Path.{◌≡◌, sym}
 use native.Mathlib.Omega.{arith}
 use lib.Pow.{pow_mono}
 use Rattle.width_table.specs.Table.{max_integer_bits}
 use Rattle.precision.specs.JudgeLaws.{too_wide, not_kept, in_error, kept_well}
 use Rattle.precision.proofs.judge_bound.Goals as goal
 
+-- a step is at most 1
+step_most : (f x : ℕ) → x ≡ 2 ^ (32 - f) → x ≤ 2 ^ 32
+step_most f x e = omega (arith, e, pow_mono {i = 32 - f} {j = 32} (omega arith))
+
 pub overflow_add-bound-2 : goal.overflow_add-bound-2
-overflow_add-bound-2 c =
-    let step : c.power-step.result ≤ 2 ^ 32 =
-        omega (arith, c.power-step.ensures, pow_mono {i = 32 - c.args.fraction} {j = 32} (omega arith)) in
-    omega (arith, step)
+overflow_add-bound-2 c = omega (arith, step_most c.args.fraction c.power-step.result c.power-step.ensures)
 
 pub overflow_mul-power : goal.overflow_mul-power
 overflow_mul-power c = omega (arith, c.power.ensures, pow_mono {i = c.args.integer - 1} {j = max_integer_bits - 1} (omega arith))
@@ -26,10 +27,7 @@ returns-else-kept c =
     sym (not_kept a.bound a.integer a.fraction a.kept _ (omega arith) c.if-kept.false)
 
 pub overflow_mul-step : goal.overflow_mul-step
-overflow_mul-step c =
-    let step : c.power-step.result ≤ 2 ^ 32 =
-        omega (arith, c.power-step.ensures, pow_mono {i = 32 - c.args.fraction} {j = 32} (omega arith)) in
-    omega (arith, step)
+overflow_mul-step c = omega (arith, step_most c.args.fraction c.power-step.result c.power-step.ensures)
 
 pub returns-then-bound-step-2 : goal.returns-then-bound-step-2
 returns-then-bound-step-2 c =

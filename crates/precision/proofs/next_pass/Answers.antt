@@ -1,5 +1,4 @@
 use mathlib.Core.Path.{sym, ◌∙◌, ap}
-use borrow.Author.Rules.{rules}
 use Rattle.refusals.specs.Told.{told}
 use Rattle.width_table.specs.Nodes.{G1, G2, node_at}
 use Rattle.width_table.specs.Numbered.{pass_of}
@@ -16,11 +15,11 @@ returns-in-Refused c =
     let e = sym c.requires.after.0 ∙ ap told c.in-Refused.is in
     let low = next_refused a.table a.level a.pass _ (bound_of a.table (node_at a.level (pass_of a.pass) G1)) a.input e in
     let high = next_refused a.table a.level a.pass _ (bound_of a.table (node_at a.level (pass_of a.pass) G2)) a.input e in
-    (low.0, (low.1, high.1))
+    record { outcome = low.0; low = low.1; high = high.1 }
 
 pub returns-in-Done : goal.returns-in-Done
 returns-in-Done c =
     let e = sym c.requires.after.0 ∙ ap told c.in-Done.is in
-    let low = next_left G1 c.requires.at e c.judge_pass.ensures.outcome c.judge_pass.ensures.low.0 in
-    let high = next_left G2 c.requires.at e c.judge_pass.ensures.outcome c.judge_pass.ensures.low.1 in
-    (low.0, (low.1, high.1))
+    let low = next_left G1 c.requires.at e c.judge_pass.ensures.outcome c.judge_pass.ensures.low in
+    let high = next_left G2 c.requires.at e c.judge_pass.ensures.outcome c.judge_pass.ensures.high in
+    record { outcome = low.0; low = low.1; high = high.1 }

@@ -2,7 +2,6 @@ use Prim.Native.Nat.{ℕ, ◌-◌, ◌<◌}
 use mathlib.Core.Bool.{Bool, true, false}
 use mathlib.Core.Path.{◌≡◌, sym, ◌∙◌, ap, ap₂}
 use native.Mathlib.Omega.{arith}
-use borrow.Author.Rules.{rules}
 use lib.Dec.{ltb}
 use lib.ListN.{get_or}
 use Rattle.numbers.specs.Tests.{ltb-true, ltb-false}
@@ -29,35 +28,35 @@ module _ (w : Widths) (k r : ℕ) where
 pub own_lift-requires : goal.own_lift-requires
 own_lift-requires c =
     let operand : c.multiplied_place.result < places =
-        omega (arith, c.multiplied_place.ensures, multiplied_place_lem c.args.node c.requires.node.0) in
+    omega (arith, c.multiplied_place.ensures, multiplied_place_lem c.args.node c.requires.node) in
     let l = c.requires.limited in
-    omega (arith, l.product c.args.node (omega arith, omega arith), l.constant c.args.node c.requires.node.0, l.fraction c.multiplied_place.result operand, l.fraction c.args.node (omega arith), c.requires.node.1)
+    omega (arith, l.product c.args.node (omega arith, omega arith), l.constant c.args.node c.requires.node, l.fraction c.multiplied_place.result operand, l.fraction c.args.node (omega arith), c.requires.node.1)
 
 pub returns-then-node-lt-G1 : goal.returns-then-node-lt-G1
 returns-then-node-lt-G1 c =
     let a = c.args in
-    let f : ℕ → ℕ = λ k. get_or a.t1.fractions k 0 in
+    let f : ℕ → ℕ = λ k. get_or a.widths.fractions k 0 in
     c.own_lift.ensures
-    ∙ ap₂ (λ (x y : ℕ). own_lift (cut_to (get_or a.t1.products (a.node - 1) 0)) (get_or a.t1.constants (a.node - 1) 0) (f x) (f y) (f a.node) a.total) c.multiplied_place.ensures c.other_place.ensures
-    ∙ chosen_is a.t1 a.node a.total true (ltb-true a.node (node_number G1) c.if-node-lt-G1.true)
+    ∙ ap₂ (λ (x y : ℕ). own_lift (cut_to (get_or a.widths.products (a.node - 1) 0)) (get_or a.widths.constants (a.node - 1) 0) (f x) (f y) (f a.node) a.total) c.multiplied_place.ensures c.other_place.ensures
+    ∙ chosen_is a.widths a.node a.total true (ltb-true a.node (node_number G1) c.if-node-lt-G1.true)
 
 pub own_scale-requires : goal.own_scale-requires
 own_scale-requires c =
     let operand : c.multiplied_place.result < places =
-        omega (arith, c.multiplied_place.ensures, multiplied_place_lem c.args.node c.requires.node.0) in
+    omega (arith, c.multiplied_place.ensures, multiplied_place_lem c.args.node c.requires.node) in
     let l = c.requires.limited in
-    omega (arith, l.constant c.args.node c.requires.node.0, l.fraction c.multiplied_place.result operand, l.fraction c.args.node (omega arith), c.requires.node.1)
+    omega (arith, l.constant c.args.node c.requires.node, l.fraction c.multiplied_place.result operand, l.fraction c.args.node (omega arith), c.requires.node.1)
 
 pub returns : goal.returns
 returns c =
     let a = c.args in
-    let f : ℕ → ℕ = λ k. get_or a.t1.fractions k 0 in
+    let f : ℕ → ℕ = λ k. get_or a.widths.fractions k 0 in
     c.own_scale.ensures
-    ∙ ap (λ (x : ℕ). own_scale (get_or a.t1.constants (a.node - 1) 0) (f x) (f a.node) a.total) c.multiplied_place.ensures
-    ∙ chosen_is a.t1 a.node a.total false (ltb-false a.node (node_number G1) c.if-node-lt-G1.false)
+    ∙ ap (λ (x : ℕ). own_scale (get_or a.widths.constants (a.node - 1) 0) (f x) (f a.node) a.total) c.multiplied_place.ensures
+    ∙ chosen_is a.widths a.node a.total false (ltb-false a.node (node_number G1) c.if-node-lt-G1.false)
 
 pub bounds-widths-multiplied_place : goal.bounds-widths-multiplied_place
 bounds-widths-multiplied_place c =
     let operand : c.multiplied_place.result < places =
-        omega (arith, c.multiplied_place.ensures, multiplied_place_lem c.args.node c.requires.node.0) in
+    omega (arith, c.multiplied_place.ensures, multiplied_place_lem c.args.node c.requires.node) in
     omega (arith, operand)

@@ -1,6 +1,5 @@
 use Prim.Native.Nat.{◌+◌}
 use native.Mathlib.Omega.{arith}
-use borrow.Author.Rules.{rules}
 use lib.Dec.{lit≤}
 use Rattle.width_table.specs.Limits.{form_levels}
 use Rattle.precision.specs.PlaceLaws.{by_place}

@@ -13,9 +13,6 @@ use Rattle.inverse_lifting.specs.Planes.{Safe}
 use Rattle.inverse_lifting.specs.Strips.{source, inverted, Lies, source_as_was, inverted_more, inverted_none, inverted_single}
 use Rattle.inverse_lifting.proofs.columns.Goals as goal
 
-abbrev site : ℕ → ℕ → ℕ → Bool → ColumnsAt
-site width stride from stored = record { width = width; stride = stride; from = from; stored = stored }
-
 pub single_line-requires : goal.single_line-requires
 single_line-requires c =
     let a = c.args in
@@ -27,11 +24,12 @@ single_line-requires c =
 pub returns-then-h-eq1 : goal.returns-then-h-eq1
 returns-then-h-eq1 c =
     let a = c.args in
-    let e : 1 ≡ a.h = omega arith in (
-      c.single_line.ensures ∙ inverted_single a.a a.lowbits a.highbits a.w (at a.plane.now) (at a.work.now)
-          ∙ ap (λ (h : ℕ). inverted a.a a.lowbits a.highbits a.w h (at a.plane.now) (at a.work.now)) e,
-      (refl, refl),
-    )
+    let e : 1 ≡ a.h = omega arith in record {
+      work = c.single_line.ensures ∙ inverted_single a.a a.lowbits a.highbits a.w (at a.plane.now) (at a.work.now)
+          ∙ ap (λ (h : ℕ). inverted a.a a.lowbits a.highbits a.w h (at a.plane.now) (at a.work.now)) e;
+      state = refl;
+      line = refl;
+    }
 
 pub inverse_strip-requires : goal.inverse_strip-requires
 inverse_strip-requires c =
@@ -81,10 +79,14 @@ returns c =
     let t = c.loop-done in
     let a = c.args in
     let e : t.done ≡ a.w = omega arith in
-    (t.invariant.4 ∙ ap (λ (w : ℕ). inverted a.a a.lowbits a.highbits w a.h (at a.plane.now) (at a.work.now)) e, (t.invariant.2, t.invariant.3))
+    record {
+      work = t.invariant.4 ∙ ap (λ (w : ℕ). inverted a.a a.lowbits a.highbits w a.h (at a.plane.now) (at a.work.now)) e;
+      state = t.invariant.2;
+      line = t.invariant.3;
+    }
 
 pub returns-then-h-eq0 : goal.returns-then-h-eq0
-returns-then-h-eq0 c = (lines_to _ _ 0 _ _ _ _ (lines_none _ _ _ _) (omega arith), (refl, refl))
+returns-then-h-eq0 c = record { work = lines_to _ _ 0 _ _ _ _ (lines_none _ _ _ _) (omega arith); state = refl; line = refl }
 
 pub loop-done-init : goal.loop-done-init
 loop-done-init c = (omega arith, refl, refl, refl, inverted_none _ _ _ _ _ _)

@@ -12,6 +12,9 @@ use Rattle.inverse_lifting.specs.Planes.{Safe}
 use Rattle.inverse_lifting.specs.Strips.{source, inverted, Lies, source_as_was, inverted_more, inverted_none, inverted_single}
 use Rattle.inverse_lifting.proofs.columns.Given as goal
 
+abbrev pub site : ℕ → ℕ → ℕ → Bool → ColumnsAt
+site width stride from stored = record { width = width; stride = stride; from = from; stored = stored }
+
 abbrev pub invariant-loop-done : goal.invariant-loop-done
 invariant-loop-done l =
     (l.done ≤ l.w) × (length l.work ≡ length l.initial.work) × (length l.state ≡ length l.initial.state) × (length l.line ≡ length l.initial.line)

@@ -146,7 +146,7 @@ returns c =
     let asks = asks_p1 q two c.on_low-u1.result u1-line in
     let odd = high_read {kept = pos 0} moved_alpha ended_alpha asks (λ h. lit≤ tt) c.on_high-p1.ensures in
     stepped_as
-    {c = record { g2 = a.high; u2 = c.on_low-u2.result; p2 = c.on_high-p2.result; u1 = c.on_low-u1.result; even = a.t.u1; odd = c.on_high-p1.result }}
+    {r = record { g2 = a.high; u2 = c.on_low-u2.result; p2 = c.on_high-p2.result; u1 = c.on_low-u1.result; even = a.t.u1; odd = c.on_high-p1.result }}
     (record { g2 = refl; u2 = u2-raw; p2 = λ h. p2-raw; u1 = λ h. u1-raw; even = λ h. refl; odd = λ h. record { inner = odd.inner; last = odd.last; past = λ g. refl } })
     (record {
       g2 = to_z-of_z c.ranges.high;

@@ -37,10 +37,10 @@ scaled-requires-2 c =
 pub stepped-t-requires : goal.stepped-t-requires
 stepped-t-requires c =
     let low_is_lem : let a = c.args in rd w64 c.scaled.result ≡ scaled_by at_inverse (cut_bits a.b.lowbits) (at a.state.now (4 * a.b.room + a.j)) =
-        again c.scaled.result c.scaled.type_inv ∙ c.scaled.ensures ∙ ap (scaled_by at_inverse (cut_bits c.args.b.lowbits)) (read (at c.args.state.now (4 * c.args.b.room + c.args.j)) (low_size c.requires.ready c.requires.sized.two)) in
+    again c.scaled.result c.scaled.type_inv ∙ c.scaled.ensures ∙ ap (scaled_by at_inverse (cut_bits c.args.b.lowbits)) (read (at c.args.state.now (4 * c.args.b.room + c.args.j)) (low_size c.requires.ready c.requires.sized.two)) in
     let fits : SFits w32 (at c.args.plane.now (c.args.high + c.args.j)) = search rules in
     let high_is_lem : let a = c.args in rd w64 c.scaled-2.result ≡ scaled_by at_zeta (cut_bits a.b.highbits) (at a.plane.now (a.high + a.j)) =
-        again c.scaled-2.result c.scaled-2.type_inv ∙ c.scaled-2.ensures ∙ ap (scaled_by at_zeta (cut_bits c.args.b.highbits)) (cast_is _ fits) in
+    again c.scaled-2.result c.scaled-2.type_inv ∙ c.scaled-2.ensures ∙ ap (scaled_by at_zeta (cut_bits c.args.b.highbits)) (cast_is _ fits) in
     let a = c.args in
     let n = a.b.lines in (
       as_type (λ u. SomeReady a.i (lows n) (highs n) (sym c.held.ensures u) (sym low_is_lem u) (sym high_is_lem u)) (record { line = _; ready = column_line_lem c.requires.ready c.requires.sized.two c.requires.sized.within }),
@@ -50,17 +50,16 @@ stepped-t-requires c =
 pub returns : goal.returns
 returns c =
     let low_is_lem : let a = c.args in rd w64 c.scaled.result ≡ scaled_by at_inverse (cut_bits a.b.lowbits) (at a.state.now (4 * a.b.room + a.j)) =
-        again c.scaled.result c.scaled.type_inv ∙ c.scaled.ensures ∙ ap (scaled_by at_inverse (cut_bits c.args.b.lowbits)) (read (at c.args.state.now (4 * c.args.b.room + c.args.j)) (low_size c.requires.ready c.requires.sized.two)) in
+    again c.scaled.result c.scaled.type_inv ∙ c.scaled.ensures ∙ ap (scaled_by at_inverse (cut_bits c.args.b.lowbits)) (read (at c.args.state.now (4 * c.args.b.room + c.args.j)) (low_size c.requires.ready c.requires.sized.two)) in
     let fits : SFits w32 (at c.args.plane.now (c.args.high + c.args.j)) = search rules in
     let high_is_lem : let a = c.args in rd w64 c.scaled-2.result ≡ scaled_by at_zeta (cut_bits a.b.highbits) (at a.plane.now (a.high + a.j)) =
-        again c.scaled-2.result c.scaled-2.type_inv ∙ c.scaled-2.ensures ∙ ap (scaled_by at_zeta (cut_bits c.args.b.highbits)) (cast_is _ fits) in
-    let told = c.struct_told-1.given in
+    again c.scaled-2.result c.scaled-2.type_inv ∙ c.scaled-2.ensures ∙ ap (scaled_by at_zeta (cut_bits c.args.b.highbits)) (cast_is _ fits) in
     let a = c.args in
     let n = a.b.lines in
     let r = c.stepped-t.result in
     column_done a.plane.now a.high a.state.now c.keep.new.state a.out.now a.to a.gap a.b a.i a.j r _ _ c.requires.among c.requires.sized.apart c.requires.sized.fits
     (as_type (λ u. Stepped a.i (lows n) (highs n) (c.held.ensures u) (low_is_lem u) (high_is_lem u) r) c.stepped-t.ensures)
-    c.keep.ensures (again r.even told.1.1.1.1.0.1) (again r.odd told.1.1.1.1.1.0.1)
+    c.keep.ensures (again r.even (search rules)) (again r.odd (search rules))
 
 pub held-requires : goal.held-requires
 held-requires c = omega (arith, c.requires.among, c.requires.sized.narrow, c.requires.sized.room)

@@ -1,13 +1,11 @@
 -- `inverse_lifting::columns` meets its contract. A single line goes by itself. The loop's invariant: the first `done` columns are inverted.
 use mathlib.Core.Path.{◌≡◌, refl, sym, ap, subst, ◌∙◌}
-use mathlib.Core.Bool.{Bool}
-use Prim.Native.Nat.{ℕ, ◌+◌, ◌*◌, ◌-◌, ◌≤◌}
+use Prim.Native.Nat.{ℕ, ◌+◌, ◌*◌, ◌≤◌}
 use native.Mathlib.Omega.{arith}
 use lib.IntN.{nat_abs}
 use lib.ListN.{length}
 use Rattle.slices.specs.Patch.{at}
 use Rattle.slices.specs.PatchLines.{lines_none, lines_to}
-use Rattle.inverse_lifting.specs.declared.ColumnsAt.{ColumnsAt}
 use Rattle.inverse_lifting.specs.Fixed.{limit}
 use Rattle.inverse_lifting.specs.Planes.{Safe}
 use Rattle.inverse_lifting.specs.Strips.{source, inverted, Lies, source_as_was, inverted_more, inverted_none, inverted_single}
@@ -34,7 +32,7 @@ returns-then-h-eq1 c =
 pub inverse_strip-requires : goal.inverse_strip-requires
 inverse_strip-requires c =
     let width : let a = c.args in (1 ≤ c.smaller-s.result) × (c.loop-done.done + c.smaller-s.result ≤ a.w) × (5 * c.smaller-s.result ≤ length a.state.now) =
-        (omega (arith, c.smaller-s.ensures), omega (arith, c.smaller-s.ensures), omega (arith, c.smaller-s.ensures)) in
+    (omega (arith, c.smaller-s.ensures), omega (arith, c.smaller-s.ensures), omega (arith, c.smaller-s.ensures)) in
     let t = c.loop-done in
     let a = c.args in
     let q = c.requires.lies.0 in
@@ -63,7 +61,7 @@ inverse_strip-requires c =
 pub loop-done-preserved : goal.loop-done-preserved
 loop-done-preserved c =
     let width : let a = c.args in (1 ≤ c.smaller-s.result) × (c.loop-done.done + c.smaller-s.result ≤ a.w) × (5 * c.smaller-s.result ≤ length a.state.now) =
-        (omega (arith, c.smaller-s.ensures), omega (arith, c.smaller-s.ensures), omega (arith, c.smaller-s.ensures)) in
+    (omega (arith, c.smaller-s.ensures), omega (arith, c.smaller-s.ensures), omega (arith, c.smaller-s.ensures)) in
     let t = c.loop-done in
     let a = c.args in
     let z = width in (
@@ -97,13 +95,13 @@ overflow_add-at c = omega (arith, c.requires.lies.0.narrow)
 pub overflow_add-done : goal.overflow_add-done
 overflow_add-done c =
     let width : let a = c.args in (1 ≤ c.smaller-s.result) × (c.loop-done.done + c.smaller-s.result ≤ a.w) × (5 * c.smaller-s.result ≤ length a.state.now) =
-        (omega (arith, c.smaller-s.ensures), omega (arith, c.smaller-s.ensures), omega (arith, c.smaller-s.ensures)) in
+    (omega (arith, c.smaller-s.ensures), omega (arith, c.smaller-s.ensures), omega (arith, c.smaller-s.ensures)) in
     omega (arith, width)
 
 pub loop-done-smaller : goal.loop-done-smaller
 loop-done-smaller c =
     let width : let a = c.args in (1 ≤ c.smaller-s.result) × (c.loop-done.done + c.smaller-s.result ≤ a.w) × (5 * c.smaller-s.result ≤ length a.state.now) =
-        (omega (arith, c.smaller-s.ensures), omega (arith, c.smaller-s.ensures), omega (arith, c.smaller-s.ensures)) in
+    (omega (arith, c.smaller-s.ensures), omega (arith, c.smaller-s.ensures), omega (arith, c.smaller-s.ensures)) in
     omega (arith, width)
 
 pub shape_of-work : goal.shape_of-work

@@ -27,4 +27,4 @@ loop-from-preserved c = rw (add-one c.loop-from.from) (omega (arith, c.carried-e
 pub returns : goal.returns
 returns c =
     let s = c.args in
-    c.loop-from.invariant.1 ∙ ap (carried_to inverse_gains s.t1 s.stage) (omega arith)
+    c.loop-from.invariant.1 ∙ ap (carried_to inverse_gains s.own s.stage) (omega arith)

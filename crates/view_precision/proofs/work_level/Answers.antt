@@ -38,13 +38,13 @@ returns c =
     }
 
 pub stored_bound-low_high-requires : goal.stored_bound-low_high-requires
-stored_bound-low_high-requires c = (at_pass c.requires.at 2 (lit≤ tt, lit≤ tt), ((lit≤ tt, lit≤ tt), c.requires.steps_le_steps_allowed.0))
+stored_bound-low_high-requires c = record { at = at_pass c.requires.at 2 (lit≤ tt, lit≤ tt); node = (lit≤ tt, lit≤ tt); steps_le_steps_allowed = c.requires.steps_le_steps_allowed.0 }
 
 pub stored_bound-high_low-requires : goal.stored_bound-high_low-requires
-stored_bound-high_low-requires c = (at_pass c.requires.at 3 (lit≤ tt, lit≤ tt), ((lit≤ tt, lit≤ tt), c.requires.steps_le_steps_allowed.0))
+stored_bound-high_low-requires c = record { at = at_pass c.requires.at 3 (lit≤ tt, lit≤ tt); node = (lit≤ tt, lit≤ tt); steps_le_steps_allowed = c.requires.steps_le_steps_allowed.0 }
 
 pub stored_bound-high_high-requires : goal.stored_bound-high_high-requires
-stored_bound-high_high-requires c = (at_pass c.requires.at 3 (lit≤ tt, lit≤ tt), ((lit≤ tt, lit≤ tt), c.requires.steps_le_steps_allowed.0))
+stored_bound-high_high-requires c = record { at = at_pass c.requires.at 3 (lit≤ tt, lit≤ tt); node = (lit≤ tt, lit≤ tt); steps_le_steps_allowed = c.requires.steps_le_steps_allowed.0 }
 
 pub work_pass-high_columns-requires : goal.work_pass-high_columns-requires
 work_pass-high_columns-requires c = (within_small (lit≤ tt) c.stored_bound-high_low.ensures.1, within_small (lit≤ tt) c.stored_bound-high_high.ensures.1)

@@ -1,8 +1,6 @@
-use Prim.Native.Nat.{◌*◌, ◌-◌, ◌≤◌}
-use mathlib.Core.Path.{◌≡◌, ap, ◌∙◌}
+use mathlib.Core.Path.{ap, ◌∙◌}
 use native.Mathlib.Omega.{arith}
 use native.Mathlib.Numerals.{add-one}
-use Rattle.view_precision.specs.Places.{sources, largest}
 use Rattle.stages.specs.GainTable.{inverse_gains}
 use Rattle.bounds_rule.specs.Carried.{carried_to}
 use Rattle.view_precision.proofs.error_at.Goals as goal

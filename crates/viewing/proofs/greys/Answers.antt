@@ -1,9 +1,8 @@
 -- `viewing::greys` meets its contract: no number on the way reaches 2^37.
-use Prim.Native.Nat.{ℕ, ◌+◌, ◌-◌, ◌^◌, ◌≤◌}
+use Prim.Native.Nat.{ℕ, ◌-◌, ◌^◌, ◌≤◌}
 use mathlib.Core.Path.{◌≡◌, sym, ◌∙◌, ap, subst}
 use native.Mathlib.Omega.{arith}
 use native.Mathlib.Nat.{div-le_self, le_trans}
-use borrow.Author.Rules.{rules}
 use lib.IntN.{ℤ, pos, nat_abs, ◌+ℤ◌}
 use lib.Pow.{pow_pos, pow_mono}
 use mir.Syntax.{w64}
@@ -44,14 +43,14 @@ pub overflow_add-result : goal.overflow_add-result
 overflow_add-result c =
     let a = c.args in
     let whole_is : c.floor_shifted-whole.result ≡ floor_div (a.v +ℤ pos (2 ^ (node_bits - a.depth - 1))) (2 ^ (node_bits - a.depth)) =
-        c.floor_shifted-whole.ensures ∙ ap (λ (z : ℤ). floor_div z (2 ^ (node_bits - a.depth))) (sum_is a.depth a.v c.requires.2 c.signed_power-half.ensures) in
+    c.floor_shifted-whole.ensures ∙ ap (λ (z : ℤ). floor_div z (2 ^ (node_bits - a.depth))) (sum_is a.depth a.v c.requires.2 c.signed_power-half.ensures) in
     auto_fits (search (values, v_arg c.floor_shifted-whole.result 137438953472 (whole-size a.depth a.v c.requires.2 whole_is), v_arg c.signed_power.result 4096 (middle-size a.depth c.requires.1 c.signed_power.ensures)) depth 40) tt
 
 pub returns : goal.returns
 returns c =
     let a = c.args in
     let whole_is : c.floor_shifted-whole.result ≡ floor_div (a.v +ℤ pos (2 ^ (node_bits - a.depth - 1))) (2 ^ (node_bits - a.depth)) =
-        c.floor_shifted-whole.ensures ∙ ap (λ (z : ℤ). floor_div z (2 ^ (node_bits - a.depth))) (sum_is a.depth a.v c.requires.2 c.signed_power-half.ensures) in
+    c.floor_shifted-whole.ensures ∙ ap (λ (z : ℤ). floor_div z (2 ^ (node_bits - a.depth))) (sum_is a.depth a.v c.requires.2 c.signed_power-half.ensures) in
     auto_exact (search (values, v_arg c.floor_shifted-whole.result 137438953472 (whole-size a.depth a.v c.requires.2 whole_is), v_arg c.signed_power.result 4096 (middle-size a.depth c.requires.1 c.signed_power.ensures)) depth 40) tt
     ∙ (λ u. whole_is u +ℤ c.signed_power.ensures u)
     ∙ grey_cut a.depth a.v (omega arith) (omega arith)

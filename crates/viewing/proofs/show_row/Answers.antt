@@ -1,13 +1,13 @@
 -- `viewing::show_row` meets its contract: the places passed hold their pixels.
-use mathlib.Core.Path.{◌≡◌, refl, sym, ◌∙◌, ap, subst}
-use Prim.Native.Nat.{◌+◌, ◌-◌, ◌≤◌}
+use mathlib.Core.Path.{refl, sym, ◌∙◌, ap, subst}
+use Prim.Native.Nat.{◌+◌, ◌≤◌}
 use native.Mathlib.Omega.{arith}
 use borrow.Author.Rules.{rules}
 use lib.IntN.{ℤ, nat_abs}
-use lib.ListN.{length, length-set, get_or}
+use lib.ListN.{length-set}
 use mir.Syntax.{w64}
 use mir.Facts.{to_z-of_z}
-use Rattle.slices.specs.Patch.{at, patch, patch_none, patch_set, patch_to}
+use Rattle.slices.specs.Patch.{at, patch_none, patch_set, patch_to}
 use Rattle.inverse_lifting.specs.Fixed.{limit}
 use Rattle.viewing.specs.View.{pixel}
 use Rattle.viewing.proofs.show_row.Goals as goal

@@ -1,5 +1,5 @@
 -- A pass inverted, of a single value and of two or more (document 02, job 6), and a single value as it is worked with 64-bit numbers.
-use Rattle.std.specs.Prelude.{◌≡◌, List, [], ◌∷◌, ℕ, ◌*◌, ◌-◌, ◌^◌, ◌<◌, ◌≤◌, ℤ, pos, ◌*ℤ◌}
+use Rattle.std.specs.Prelude.{◌≡◌, List, [], ◌∷◌, ℕ, ◌-◌, ◌^◌, ◌<◌, ◌≤◌, ℤ, pos, ◌*ℤ◌}
 use Rattle.std.proofs.Common.{sym, ap, ◌∙◌, arith, lit<, pow_pos}
 use Rattle.numbers.specs.Floor.{floor_div, floor_mul_r}
 use Rattle.numbers.specs.Quote.{terms, vars, ring}

@@ -2,7 +2,7 @@
 use mathlib.Core.Path.{◌≡◌, sym, ap, subst, ◌∙◌}
 use Prim.Native.Nat.{◌+◌, ◌*◌, ◌≤◌}
 use native.Mathlib.Omega.{arith}
-use borrow.Author.Rules.{sfits_of}
+use borrow.Author.Rules.{rules}
 use lib.Dec.{lit≤}
 use lib.IntN.{ℤ, nat_abs}
 use lib.ListN.{length-set}
@@ -23,24 +23,24 @@ pub scaled-requires : goal.scaled-requires
 scaled-requires c = (size_read (at c.args.state.now (4 * c.args.b.room + c.args.j)) (low_size c.requires.ready c.requires.sized.two), lit≤ tt, omega (arith, c.requires.sized.lowbits))
 
 -- a coefficient fits 32 bits, and so 64
-fits : (c : goal.After-scaled-arg-2-1) → let a = c.args in SFits w32 (at a.plane.now (a.high + a.j))
-fits c = sfits_of c.scaled-arg-2-1.given
+widened : (v : ℤ) → SFits w32 v → SFits w64 (rd w32 v)
+widened v fits = subst (SFits w64) (sym (to_z-of_z fits)) (sfits_widen tt fits)
 
-pub overflow_cast-plane : goal.overflow_cast-plane
-overflow_cast-plane c = subst (SFits w64) (sym (to_z-of_z (fits c))) (sfits_widen tt (fits c))
-
-cast_is : (c : goal.After-scaled-arg-2-1) → let a = c.args in rd w64 (rd w32 (at a.plane.now (a.high + a.j))) ≡ at a.plane.now (a.high + a.j)
-cast_is c = to_z-of_z (cast-scaled c) ∙ to_z-of_z (fits c)
+cast_is : (v : ℤ) → SFits w32 v → rd w64 (rd w32 v) ≡ v
+cast_is v fits = to_z-of_z (widened v fits) ∙ to_z-of_z fits
 
 pub scaled-requires-2 : goal.scaled-requires-2
-scaled-requires-2 c = (subst (λ (v : ℤ). nat_abs v ≤ limit) (sym (cast_is c)) (high_size c.requires.ready c.requires.sized.two), lit≤ tt, omega (arith, c.requires.sized.highbits))
+scaled-requires-2 c =
+    let fits : SFits w32 (at c.args.plane.now (c.args.high + c.args.j)) = search rules in
+    (subst (λ (v : ℤ). nat_abs v ≤ limit) (sym (cast_is _ fits)) (high_size c.requires.ready c.requires.sized.two), lit≤ tt, omega (arith, c.requires.sized.highbits))
 
 pub stepped-t-requires : goal.stepped-t-requires
 stepped-t-requires c =
     let low_is_lem : let a = c.args in rd w64 c.scaled.result ≡ scaled_by at_inverse (cut_bits a.b.lowbits) (at a.state.now (4 * a.b.room + a.j)) =
-        again c.scaled.result c.scaled.type_inv ∙ c.scaled.ensures ∙ ap (scaled_by at_inverse (cut_bits c.args.b.lowbits)) (read (at c.args.state.now (4 * c.args.b.room + c.args.j)) (low_size c.requires.ready c.requires.sized.two)) in
+    again c.scaled.result c.scaled.type_inv ∙ c.scaled.ensures ∙ ap (scaled_by at_inverse (cut_bits c.args.b.lowbits)) (read (at c.args.state.now (4 * c.args.b.room + c.args.j)) (low_size c.requires.ready c.requires.sized.two)) in
+    let fits : SFits w32 (at c.args.plane.now (c.args.high + c.args.j)) = search rules in
     let high_is_lem : let a = c.args in rd w64 c.scaled-2.result ≡ scaled_by at_zeta (cut_bits a.b.highbits) (at a.plane.now (a.high + a.j)) =
-        again c.scaled-2.result c.scaled-2.type_inv ∙ c.scaled-2.ensures ∙ ap (scaled_by at_zeta (cut_bits c.args.b.highbits)) (cast_is c.before) in
+    again c.scaled-2.result c.scaled-2.type_inv ∙ c.scaled-2.ensures ∙ ap (scaled_by at_zeta (cut_bits c.args.b.highbits)) (cast_is _ fits) in
     let a = c.args in
     let n = a.b.lines in (
       as_type (λ u. SomeReady a.i (lows n) (highs n) (sym c.held.ensures u) (sym low_is_lem u) (sym high_is_lem u)) (record { line = _; ready = column_line_lem c.requires.ready c.requires.sized.two c.requires.sized.within }),
@@ -50,16 +50,16 @@ stepped-t-requires c =
 pub returns : goal.returns
 returns c =
     let low_is_lem : let a = c.args in rd w64 c.scaled.result ≡ scaled_by at_inverse (cut_bits a.b.lowbits) (at a.state.now (4 * a.b.room + a.j)) =
-        again c.scaled.result c.scaled.type_inv ∙ c.scaled.ensures ∙ ap (scaled_by at_inverse (cut_bits c.args.b.lowbits)) (read (at c.args.state.now (4 * c.args.b.room + c.args.j)) (low_size c.requires.ready c.requires.sized.two)) in
+    again c.scaled.result c.scaled.type_inv ∙ c.scaled.ensures ∙ ap (scaled_by at_inverse (cut_bits c.args.b.lowbits)) (read (at c.args.state.now (4 * c.args.b.room + c.args.j)) (low_size c.requires.ready c.requires.sized.two)) in
+    let fits : SFits w32 (at c.args.plane.now (c.args.high + c.args.j)) = search rules in
     let high_is_lem : let a = c.args in rd w64 c.scaled-2.result ≡ scaled_by at_zeta (cut_bits a.b.highbits) (at a.plane.now (a.high + a.j)) =
-        again c.scaled-2.result c.scaled-2.type_inv ∙ c.scaled-2.ensures ∙ ap (scaled_by at_zeta (cut_bits c.args.b.highbits)) (cast_is c.before) in
-    let told = c.struct_told-1.given in
+    again c.scaled-2.result c.scaled-2.type_inv ∙ c.scaled-2.ensures ∙ ap (scaled_by at_zeta (cut_bits c.args.b.highbits)) (cast_is _ fits) in
     let a = c.args in
     let n = a.b.lines in
     let r = c.stepped-t.result in
     column_done a.plane.now a.high a.state.now c.keep.new.state a.out.now a.to a.gap a.b a.i a.j r _ _ c.requires.among c.requires.sized.apart c.requires.sized.fits
     (as_type (λ u. Stepped a.i (lows n) (highs n) (c.held.ensures u) (low_is_lem u) (high_is_lem u) r) c.stepped-t.ensures)
-    c.keep.ensures (again r.even told.1.1.1.1.0.1) (again r.odd told.1.1.1.1.1.0.1)
+    c.keep.ensures (again r.even (search rules)) (again r.odd (search rules))
 
 pub held-requires : goal.held-requires
 held-requires c = omega (arith, c.requires.among, c.requires.sized.narrow, c.requires.sized.room)

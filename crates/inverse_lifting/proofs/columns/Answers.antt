@@ -1,20 +1,15 @@
 -- `inverse_lifting::columns` meets its contract. A single line goes by itself. The loop's invariant: the first `done` columns are inverted.
 use mathlib.Core.Path.{◌≡◌, refl, sym, ap, subst, ◌∙◌}
-use mathlib.Core.Bool.{Bool}
-use Prim.Native.Nat.{ℕ, ◌+◌, ◌*◌, ◌-◌, ◌≤◌}
+use Prim.Native.Nat.{ℕ, ◌+◌, ◌*◌, ◌≤◌}
 use native.Mathlib.Omega.{arith}
 use lib.IntN.{nat_abs}
 use lib.ListN.{length}
 use Rattle.slices.specs.Patch.{at}
 use Rattle.slices.specs.PatchLines.{lines_none, lines_to}
-use Rattle.inverse_lifting.specs.declared.ColumnsAt.{ColumnsAt}
 use Rattle.inverse_lifting.specs.Fixed.{limit}
 use Rattle.inverse_lifting.specs.Planes.{Safe}
 use Rattle.inverse_lifting.specs.Strips.{source, inverted, Lies, source_as_was, inverted_more, inverted_none, inverted_single}
 use Rattle.inverse_lifting.proofs.columns.Goals as goal
-
-abbrev site : ℕ → ℕ → ℕ → Bool → ColumnsAt
-site width stride from stored = record { width = width; stride = stride; from = from; stored = stored }
 
 pub single_line-requires : goal.single_line-requires
 single_line-requires c =
@@ -27,16 +22,17 @@ single_line-requires c =
 pub returns-then-h-eq1 : goal.returns-then-h-eq1
 returns-then-h-eq1 c =
     let a = c.args in
-    let e : 1 ≡ a.h = omega arith in (
-      c.single_line.ensures ∙ inverted_single a.a a.lowbits a.highbits a.w (at a.plane.now) (at a.work.now)
-          ∙ ap (λ (h : ℕ). inverted a.a a.lowbits a.highbits a.w h (at a.plane.now) (at a.work.now)) e,
-      (refl, refl),
-    )
+    let e : 1 ≡ a.h = omega arith in record {
+      work = c.single_line.ensures ∙ inverted_single a.a a.lowbits a.highbits a.w (at a.plane.now) (at a.work.now)
+          ∙ ap (λ (h : ℕ). inverted a.a a.lowbits a.highbits a.w h (at a.plane.now) (at a.work.now)) e;
+      state = refl;
+      line = refl;
+    }
 
 pub inverse_strip-requires : goal.inverse_strip-requires
 inverse_strip-requires c =
     let width : let a = c.args in (1 ≤ c.smaller-s.result) × (c.loop-done.done + c.smaller-s.result ≤ a.w) × (5 * c.smaller-s.result ≤ length a.state.now) =
-        (omega (arith, c.smaller-s.ensures), omega (arith, c.smaller-s.ensures), omega (arith, c.smaller-s.ensures)) in
+    (omega (arith, c.smaller-s.ensures), omega (arith, c.smaller-s.ensures), omega (arith, c.smaller-s.ensures)) in
     let t = c.loop-done in
     let a = c.args in
     let q = c.requires.lies.0 in
@@ -65,7 +61,7 @@ inverse_strip-requires c =
 pub loop-done-preserved : goal.loop-done-preserved
 loop-done-preserved c =
     let width : let a = c.args in (1 ≤ c.smaller-s.result) × (c.loop-done.done + c.smaller-s.result ≤ a.w) × (5 * c.smaller-s.result ≤ length a.state.now) =
-        (omega (arith, c.smaller-s.ensures), omega (arith, c.smaller-s.ensures), omega (arith, c.smaller-s.ensures)) in
+    (omega (arith, c.smaller-s.ensures), omega (arith, c.smaller-s.ensures), omega (arith, c.smaller-s.ensures)) in
     let t = c.loop-done in
     let a = c.args in
     let z = width in (
@@ -81,10 +77,14 @@ returns c =
     let t = c.loop-done in
     let a = c.args in
     let e : t.done ≡ a.w = omega arith in
-    (t.invariant.4 ∙ ap (λ (w : ℕ). inverted a.a a.lowbits a.highbits w a.h (at a.plane.now) (at a.work.now)) e, (t.invariant.2, t.invariant.3))
+    record {
+      work = t.invariant.4 ∙ ap (λ (w : ℕ). inverted a.a a.lowbits a.highbits w a.h (at a.plane.now) (at a.work.now)) e;
+      state = t.invariant.2;
+      line = t.invariant.3;
+    }
 
 pub returns-then-h-eq0 : goal.returns-then-h-eq0
-returns-then-h-eq0 c = (lines_to _ _ 0 _ _ _ _ (lines_none _ _ _ _) (omega arith), (refl, refl))
+returns-then-h-eq0 c = record { work = lines_to _ _ 0 _ _ _ _ (lines_none _ _ _ _) (omega arith); state = refl; line = refl }
 
 pub loop-done-init : goal.loop-done-init
 loop-done-init c = (omega arith, refl, refl, refl, inverted_none _ _ _ _ _ _)
@@ -95,13 +95,13 @@ overflow_add-at c = omega (arith, c.requires.lies.0.narrow)
 pub overflow_add-done : goal.overflow_add-done
 overflow_add-done c =
     let width : let a = c.args in (1 ≤ c.smaller-s.result) × (c.loop-done.done + c.smaller-s.result ≤ a.w) × (5 * c.smaller-s.result ≤ length a.state.now) =
-        (omega (arith, c.smaller-s.ensures), omega (arith, c.smaller-s.ensures), omega (arith, c.smaller-s.ensures)) in
+    (omega (arith, c.smaller-s.ensures), omega (arith, c.smaller-s.ensures), omega (arith, c.smaller-s.ensures)) in
     omega (arith, width)
 
 pub loop-done-smaller : goal.loop-done-smaller
 loop-done-smaller c =
     let width : let a = c.args in (1 ≤ c.smaller-s.result) × (c.loop-done.done + c.smaller-s.result ≤ a.w) × (5 * c.smaller-s.result ≤ length a.state.now) =
-        (omega (arith, c.smaller-s.ensures), omega (arith, c.smaller-s.ensures), omega (arith, c.smaller-s.ensures)) in
+    (omega (arith, c.smaller-s.ensures), omega (arith, c.smaller-s.ensures), omega (arith, c.smaller-s.ensures)) in
     omega (arith, width)
 
 pub shape_of-work : goal.shape_of-work

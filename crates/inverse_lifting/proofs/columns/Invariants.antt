@@ -1,16 +1,14 @@
-use mathlib.Core.Path.{◌≡◌, refl, sym, ap, subst, ◌∙◌}
+use mathlib.Core.Path.{◌≡◌}
 use mathlib.Core.Bool.{Bool}
-use Prim.Native.Nat.{ℕ, ◌+◌, ◌*◌, ◌-◌, ◌≤◌}
-use native.Mathlib.Omega.{arith}
-use lib.IntN.{nat_abs}
+use Prim.Native.Nat.{ℕ, ◌-◌, ◌≤◌}
 use lib.ListN.{length}
 use Rattle.slices.specs.Patch.{at}
-use Rattle.slices.specs.PatchLines.{lines_none, lines_to}
 use Rattle.inverse_lifting.specs.declared.ColumnsAt.{ColumnsAt}
-use Rattle.inverse_lifting.specs.Fixed.{limit}
-use Rattle.inverse_lifting.specs.Planes.{Safe}
-use Rattle.inverse_lifting.specs.Strips.{source, inverted, Lies, source_as_was, inverted_more, inverted_none, inverted_single}
+use Rattle.inverse_lifting.specs.Strips.{inverted}
 use Rattle.inverse_lifting.proofs.columns.Given as goal
+
+abbrev pub site : ℕ → ℕ → ℕ → Bool → ColumnsAt
+site width stride from stored = record { width = width; stride = stride; from = from; stored = stored }
 
 abbrev pub invariant-loop-done : goal.invariant-loop-done
 invariant-loop-done l =

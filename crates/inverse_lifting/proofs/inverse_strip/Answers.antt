@@ -1,6 +1,6 @@
 -- `inverse_lifting::inverse_strip` meets its contract. The loop's invariant: the steps before step i are taken.
 use mathlib.Core.Path.{◌≡◌, refl, subst}
-use Prim.Native.Nat.{ℕ, ◌+◌, ◌-◌, ◌≤◌}
+use Prim.Native.Nat.{ℕ, ◌+◌}
 use native.Mathlib.Omega.{arith}
 use lib.ListN.{length}
 use Rattle.lines.specs.Lines.{lows}
@@ -11,13 +11,13 @@ use Rattle.inverse_lifting.proofs.inverse_strip.Goals as goal
 pub feed-requires : goal.feed-requires
 feed-requires c =
     let placed : let t = c.loop-i in let a = c.args in Placed (length a.plane.now) (length t.work) (length t.state) (length t.line) a.a a.b =
-        let t = c.loop-i in placed_as c.requires.placed _ _ _ t.invariant.1 t.invariant.2 t.invariant.3 in
+    let t = c.loop-i in placed_as c.requires.placed _ _ _ t.invariant.1 t.invariant.2 t.invariant.3 in
     let q = placed in (q.lies, q.narrow, q.room)
 
 pub strip_step-requires : goal.strip_step-requires
 strip_step-requires c =
     let placed : let t = c.loop-i in let a = c.args in Placed (length a.plane.now) (length t.work) (length t.state) (length t.line) a.a a.b =
-        let t = c.loop-i in placed_as c.requires.placed _ _ _ t.invariant.1 t.invariant.2 t.invariant.3 in
+    let t = c.loop-i in placed_as c.requires.placed _ _ _ t.invariant.1 t.invariant.2 t.invariant.3 in
     let t = c.loop-i in
     let q = placed in
     record {
@@ -29,8 +29,7 @@ strip_step-requires c =
 
 pub loop-i-preserved : goal.loop-i-preserved
 loop-i-preserved c =
-    let t = c.loop-i in
-    (
+    let t = c.loop-i in (
       omega arith,
       omega (arith, t.invariant.1),
       omega (arith, t.invariant.2),

@@ -1,10 +1,8 @@
-use mathlib.Core.Path.{◌≡◌, refl, subst}
-use Prim.Native.Nat.{ℕ, ◌+◌, ◌-◌, ◌≤◌}
-use native.Mathlib.Omega.{arith}
+use mathlib.Core.Path.{◌≡◌}
+use Prim.Native.Nat.{◌+◌, ◌-◌, ◌≤◌}
 use lib.ListN.{length}
 use Rattle.lines.specs.Lines.{lows}
-use Rattle.inverse_lifting.specs.Strips.{Placed}
-use Rattle.inverse_lifting.specs.StripLoop.{StripDone, none_taken, column_ready, strip_more, strip_all, placed_as}
+use Rattle.inverse_lifting.specs.StripLoop.{StripDone}
 use Rattle.inverse_lifting.proofs.inverse_strip.Given as goal
 
 abbrev pub invariant-loop-i : goal.invariant-loop-i

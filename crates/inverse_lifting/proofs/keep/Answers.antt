@@ -1,5 +1,6 @@
 -- `inverse_lifting::keep` meets its contract: four stores.
 use native.Mathlib.Omega.{arith}
+use borrow.Author.Rules.{rules}
 use lib.ListN.{length-set}
 use Rattle.inverse_lifting.specs.Stages.{again}
 use Rattle.inverse_lifting.specs.Columns.{kept_sets}
@@ -7,10 +8,9 @@ use Rattle.inverse_lifting.proofs.keep.Goals as goal
 
 pub returns : goal.returns
 returns c =
-    let told = c.struct_told-1.given in
     let t = c.args.t in
     kept_sets c.args.state.now c.args.j t _ _ _ _ c.requires
-    (again t.g2 told.0.1) (again t.u2 told.1.0.1) (again t.p2 told.1.1.0.1) (again t.u1 told.1.1.1.0.1)
+    (again t.g2 (search rules)) (again t.u2 (search rules)) (again t.p2 (search rules)) (again t.u1 (search rules))
 
 pub bounds-state-j-2 : goal.bounds-state-j-2
 bounds-state-j-2 c = simp length-set (omega arith)

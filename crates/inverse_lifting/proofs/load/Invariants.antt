@@ -1,13 +1,6 @@
-use mathlib.Core.Path.{sym, ◌∙◌, subst}
 use Prim.Native.Nat.{◌+◌, ◌-◌}
-use native.Mathlib.Omega.{arith}
-use borrow.Author.Rules.{sfits_of}
-use mir.Syntax.{w32, w64}
-use mir.Val.{SFits}
-use mir.Facts.{to_z-of_z, sfits_widen}
-use Rattle.numbers.specs.Auto.{rd}
 use Rattle.slices.specs.Patch.{at}
-use Rattle.slices.specs.Filling.{Filling, filling_none, filling_more, filling_all}
+use Rattle.slices.specs.Filling.{Filling}
 use Rattle.inverse_lifting.proofs.load.Given as goal
 
 abbrev pub invariant-loop-j : goal.invariant-loop-j

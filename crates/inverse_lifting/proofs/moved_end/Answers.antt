@@ -1,6 +1,5 @@
 -- `inverse_lifting::moved_end` meets its contract: every number on the way is at most 2^61.
 use Prim.Native.Nat.{◌*◌, ◌^◌}
-use borrow.Author.Rules.{rules}
 use Rattle.numbers.specs.Auto.{Value, values, v_arg, auto_fits, auto_exact}
 use Rattle.inverse_lifting.specs.Fixed.{inverse_bits, limit}
 use Rattle.inverse_lifting.proofs.moved_end.Goals as goal

@@ -7,19 +7,19 @@ use Rattle.inverse_lifting.proofs.row.Goals as goal
 pub row_steps-first-requires : goal.row_steps-first-requires
 row_steps-first-requires c =
     let long : Liftable c.args.w =
-        record { least = omega arith } in
+    record { least = omega arith } in
     steps_first c.requires long _ (omega arith) _
 
 pub row_steps-then-requires : goal.row_steps-then-requires
 row_steps-then-requires c =
     let long : Liftable c.args.w =
-        record { least = omega arith } in
+    record { least = omega arith } in
     steps_inner c.requires long _ (omega arith) _ _ c.larger-end.ensures c.row_steps-first.ensures
 
 pub row_steps-requires : goal.row_steps-requires
 row_steps-requires c =
     let long : Liftable c.args.w =
-        record { least = omega arith } in
+    record { least = omega arith } in
     steps_last c.requires long _ (omega arith) _ _ c.larger-end.ensures c.row_steps-then.ensures
 
 pub returns-then-w-lt2 : goal.returns-then-w-lt2
@@ -32,7 +32,7 @@ returns-then-w-lt2 c =
 pub returns : goal.returns
 returns c =
     let long : Liftable c.args.w =
-        record { least = omega arith } in
+    record { least = omega arith } in
     record {
       row = row_inverted c.row_steps.ensures long;
       line = omega arith;

@@ -1,14 +1,14 @@
 -- `inverse_lifting::row_steps` meets its contract. The loop's invariant: step i - 1 is held, and the steps before step i have left their values.
 use mathlib.Core.Path.{◌≡◌, refl}
-use Prim.Native.Nat.{◌-◌, ◌≤◌}
 use native.Mathlib.Omega.{arith}
-use lib.ListN.{length, length-set}
+use borrow.Author.Rules.{rules}
+use lib.ListN.{length-set}
 use lib.Dec.{lit≤, lit<}
 use Rattle.lines.specs.Lines.{lows, highs}
 use Rattle.slices.specs.Patch.{at}
 use Rattle.inverse_lifting.specs.Stages.{again}
-use Rattle.inverse_lifting.specs.Steps.{PipelineHolds, Ready, step_held, step_gives}
-use Rattle.inverse_lifting.specs.Rows.{row_line, Stand, low_small, high_small, step_ready, step_asked, step_taken, held_at, stand_next}
+use Rattle.inverse_lifting.specs.Steps.{Ready, step_held, step_gives}
+use Rattle.inverse_lifting.specs.Rows.{row_line, low_small, high_small, step_ready, step_asked, step_taken, held_at, stand_next}
 use Rattle.inverse_lifting.proofs.row_steps.Goals as goal
 
 pub place-a-requires : goal.place-a-requires
@@ -27,9 +27,8 @@ pub stepped-t-requires : goal.stepped-t-requires
 stepped-t-requires c =
     let ready : let a = c.args in
     Ready (row_line (at a.work.now) a.from a.w) c.loop-i.i (lows a.w) (highs a.w) c.loop-i.t c.scaled.result c.scaled-in-loop-i.result =
-        step_ready c.requires.ready c.requires.two c.loop-i.i c.place-a.result c.place-b.result c.place-a.ensures c.place-b.ensures
-            c.loop-i.t c.scaled.result c.scaled-in-loop-i.result (omega arith) c.loop-i.invariant.3 c.scaled.ensures c.scaled-in-loop-i.ensures in
-    (
+    step_ready c.requires.ready c.requires.two c.loop-i.i c.place-a.result c.place-b.result c.place-a.ensures c.place-b.ensures
+    c.loop-i.t c.scaled.result c.scaled-in-loop-i.result (omega arith) c.loop-i.invariant.3 c.scaled.ensures c.scaled-in-loop-i.ensures in (
       step_asked ready,
       λ e. let m = c.requires.middle e in (omega arith, m.1 c.loop-i.i (omega arith) (omega arith)),
     )
@@ -38,8 +37,8 @@ pub loop-i-preserved : goal.loop-i-preserved
 loop-i-preserved c =
     let ready : let a = c.args in
     Ready (row_line (at a.work.now) a.from a.w) c.loop-i.i (lows a.w) (highs a.w) c.loop-i.t c.scaled.result c.scaled-in-loop-i.result =
-        step_ready c.requires.ready c.requires.two c.loop-i.i c.place-a.result c.place-b.result c.place-a.ensures c.place-b.ensures
-            c.loop-i.t c.scaled.result c.scaled-in-loop-i.result (omega arith) c.loop-i.invariant.3 c.scaled.ensures c.scaled-in-loop-i.ensures in
+    step_ready c.requires.ready c.requires.two c.loop-i.i c.place-a.result c.place-b.result c.place-a.ensures c.place-b.ensures
+    c.loop-i.t c.scaled.result c.scaled-in-loop-i.result (omega arith) c.loop-i.invariant.3 c.scaled.ensures c.scaled-in-loop-i.ensures in
     let q = ready in
     let d = step_taken q c.stepped-t.ensures in (
       omega arith,
@@ -47,7 +46,7 @@ loop-i-preserved c =
       simp length-set c.loop-i.invariant.2,
       λ h. held_at (step_held q d) (omega arith),
       stand_next _ c.loop-i.i c.loop-i.line c.stepped-t.result _ _ c.loop-i.invariant.4 (step_gives q d) (omega arith)
-          (again c.stepped-t.result.even c.struct_told-1.given.1.1.1.1.0.1) (again c.stepped-t.result.odd c.struct_told-in-loop-i-1.given.1.1.1.1.1.0.1),
+          (again c.stepped-t.result.even (search rules)) (again c.stepped-t.result.odd (search rules)),
     )
 
 pub returns : goal.returns

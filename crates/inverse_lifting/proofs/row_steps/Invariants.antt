@@ -1,13 +1,9 @@
-use mathlib.Core.Path.{◌≡◌, refl}
+use mathlib.Core.Path.{◌≡◌}
 use Prim.Native.Nat.{◌-◌, ◌≤◌}
-use native.Mathlib.Omega.{arith}
-use lib.ListN.{length, length-set}
-use lib.Dec.{lit≤, lit<}
-use Rattle.lines.specs.Lines.{lows, highs}
+use lib.ListN.{length}
 use Rattle.slices.specs.Patch.{at}
-use Rattle.inverse_lifting.specs.Stages.{again}
-use Rattle.inverse_lifting.specs.Steps.{PipelineHolds, Ready, step_held, step_gives}
-use Rattle.inverse_lifting.specs.Rows.{row_line, Stand, low_small, high_small, step_ready, step_asked, step_taken, held_at, stand_next}
+use Rattle.inverse_lifting.specs.Steps.{PipelineHolds}
+use Rattle.inverse_lifting.specs.Rows.{row_line, Stand}
 use Rattle.inverse_lifting.proofs.row_steps.Given as goal
 
 abbrev pub invariant-loop-i : goal.invariant-loop-i

@@ -1,13 +1,8 @@
-use mathlib.Core.Path.{◌≡◌, refl, sym, subst, ◌∙◌}
-use Prim.Native.Nat.{◌*◌, ◌-◌, ◌≤◌}
-use native.Mathlib.Omega.{arith}
+use mathlib.Core.Path.{◌≡◌}
+use Prim.Native.Nat.{◌-◌, ◌≤◌}
 use lib.ListN.{length}
-use Rattle.slices.specs.Patch.{at, patch_ext}
-use Rattle.slices.specs.PatchLines.{lines_none, lines_to}
-use Rattle.slices.specs.PartLaws.{row_kept, row_next}
-use Rattle.inverse_lifting.specs.Fixed.{node_bits, fixed_inverse}
-use Rattle.inverse_lifting.specs.Planes.{Safe, rows_inverse}
-use Rattle.inverse_lifting.specs.Rows.{rows_single}
+use Rattle.slices.specs.Patch.{at}
+use Rattle.inverse_lifting.specs.Planes.{rows_inverse}
 use Rattle.inverse_lifting.proofs.rows.Given as goal
 
 abbrev pub invariant-loop-r : goal.invariant-loop-r

@@ -1,7 +1,6 @@
 -- `inverse_lifting::scaled` meets its contract: the product is at most 2^60, and what the shift leaves is no larger.
 use mathlib.Core.Path.{◌≡◌, ap, ◌∙◌}
 use Prim.Native.Nat.{◌*◌, ◌^◌}
-use borrow.Author.Rules.{rules}
 use lib.IntN.{ℤ, ◌*ℤ◌}
 use lib.Signed.{shr_z, mag_shr}
 use mir.Syntax.{w64}

@@ -1,14 +1,8 @@
-use mathlib.Core.Path.{◌≡◌, refl, sym, ap, subst, ◌∙◌}
+use mathlib.Core.Path.{◌≡◌}
 use Prim.Native.Nat.{◌-◌, ◌≤◌}
-use native.Mathlib.Omega.{arith}
-use lib.Dec.{lit≤}
-use lib.IntN.{ℤ, pos, nat_abs}
-use lib.ListN.{length, length-set}
-use Rattle.slices.specs.Patch.{at, patch_none, patch_set, patch_to}
-use Rattle.inverse_lifting.specs.Fixed.{limit}
-use Rattle.inverse_lifting.specs.Stages.{scaled_by, read, size_read, again}
-use Rattle.inverse_lifting.specs.Single.{at_one, scaled_one}
-use Rattle.inverse_lifting.specs.Strips.{source, singles, single_now}
+use lib.ListN.{length}
+use Rattle.slices.specs.Patch.{at}
+use Rattle.inverse_lifting.specs.Strips.{singles}
 use Rattle.inverse_lifting.proofs.single_line.Given as goal
 
 abbrev pub invariant-loop-j : goal.invariant-loop-j

@@ -1,8 +1,7 @@
 -- `inverse_lifting::steps` meets its contract. The loop's invariant: the first j columns have taken their step.
 use mathlib.Core.Path.{◌≡◌, refl, subst}
-use Prim.Native.Nat.{ℕ, ◌-◌, ◌≤◌}
+use Prim.Native.Nat.{ℕ}
 use native.Mathlib.Omega.{arith}
-use lib.ListN.{length}
 use Rattle.inverse_lifting.specs.Columns.{StepsDone, none_done, ready_now, steps_more, steps_all, sized_as}
 use Rattle.inverse_lifting.proofs.steps.Goals as goal
 

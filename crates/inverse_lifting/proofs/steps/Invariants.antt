@@ -1,8 +1,7 @@
-use mathlib.Core.Path.{◌≡◌, refl, subst}
-use Prim.Native.Nat.{ℕ, ◌-◌, ◌≤◌}
-use native.Mathlib.Omega.{arith}
+use mathlib.Core.Path.{◌≡◌}
+use Prim.Native.Nat.{◌-◌, ◌≤◌}
 use lib.ListN.{length}
-use Rattle.inverse_lifting.specs.Columns.{StepsDone, none_done, ready_now, steps_more, steps_all, sized_as}
+use Rattle.inverse_lifting.specs.Columns.{StepsDone}
 use Rattle.inverse_lifting.proofs.steps.Given as goal
 
 abbrev pub invariant-loop-j : goal.invariant-loop-j

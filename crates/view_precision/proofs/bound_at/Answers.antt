@@ -1,4 +1,3 @@
-use native.Mathlib.Omega.{arith}
 use Rattle.view_precision.proofs.bound_at.Goals as goal
 
 pub error_at-requires : goal.error_at-requires

@@ -18,7 +18,7 @@ returns-in-Refused c =
 pub returns : goal.returns
 returns c =
     let passes : view_verdict c.args.table ≡ passed =
-        sym c.judge.ensures ∙ ap told c.in-Done.is in
+    sym c.judge.ensures ∙ ap told c.in-Done.is in
     let t = c.args.table in record {
       outcome = sym passes;
       distance = distance_told t passes _ c.work_levels-pixels.ensures.bound;
@@ -27,5 +27,5 @@ returns c =
 pub work_levels-pixels-requires : goal.work_levels-pixels-requires
 work_levels-pixels-requires c =
     let passes : view_verdict c.args.table ≡ passed =
-        sym c.judge.ensures ∙ ap told c.in-Done.is in
+    sym c.judge.ensures ∙ ap told c.in-Done.is in
     let t = c.args.table in (accepted_form t (viewable_accepted t passes), omega arith)

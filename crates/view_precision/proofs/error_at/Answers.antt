@@ -1,8 +1,6 @@
-use Prim.Native.Nat.{◌*◌, ◌-◌, ◌≤◌}
-use mathlib.Core.Path.{◌≡◌, ap, ◌∙◌}
+use mathlib.Core.Path.{ap, ◌∙◌}
 use native.Mathlib.Omega.{arith}
 use native.Mathlib.Numerals.{add-one}
-use Rattle.view_precision.specs.Places.{sources, largest}
 use Rattle.stages.specs.GainTable.{inverse_gains}
 use Rattle.bounds_rule.specs.Carried.{carried_to}
 use Rattle.view_precision.proofs.error_at.Goals as goal
@@ -27,4 +25,4 @@ loop-from-preserved c = rw (add-one c.loop-from.from) (omega (arith, c.carried-e
 pub returns : goal.returns
 returns c =
     let s = c.args in
-    c.loop-from.invariant.1 ∙ ap (carried_to inverse_gains s.t1 s.stage) (omega arith)
+    c.loop-from.invariant.1 ∙ ap (carried_to inverse_gains s.own s.stage) (omega arith)

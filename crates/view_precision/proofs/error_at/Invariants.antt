@@ -1,7 +1,5 @@
 use Prim.Native.Nat.{◌*◌, ◌-◌, ◌≤◌}
-use mathlib.Core.Path.{◌≡◌, ap, ◌∙◌}
-use native.Mathlib.Omega.{arith}
-use native.Mathlib.Numerals.{add-one}
+use mathlib.Core.Path.{◌≡◌}
 use Rattle.view_precision.specs.Places.{sources, largest}
 use Rattle.stages.specs.GainTable.{inverse_gains}
 use Rattle.bounds_rule.specs.Carried.{carried_to}

@@ -1,4 +1,3 @@
-use Prim.Native.Nat.{◌-◌, ◌≤◌}
 use mathlib.Core.Path.{◌≡◌, sym, subst}
 use native.Mathlib.Omega.{arith}
 use Rattle.view_precision.specs.Bounds.{inverse_bound}
@@ -16,14 +15,14 @@ node_at-bound-requires c =
 pub returns-else-bound-le-MOST : goal.returns-else-bound-le-MOST
 returns-else-bound-le-MOST c =
     let held : as_bound c.node_at-bound.result ≡ inverse_bound (as_bound c.args.low) (as_bound c.args.high) (node_after c.loop-stage.stage) =
-        node_bound_lem (as_bound c.args.low) (as_bound c.args.high) c.loop-stage.stage (omega arith) c.requires.own_value c.node_at-bound.ensures.0 in
+    node_bound_lem (as_bound c.args.low) (as_bound c.args.high) c.loop-stage.stage (omega arith) c.requires.own_value c.node_at-bound.ensures.0 in
     let b = inverse_bound (as_bound c.args.low) (as_bound c.args.high) in
     sym (one_wrong b c.loop-stage.stage (omega arith) (wrong_here b c.loop-stage.stage _ held (omega arith)))
 
 pub loop-stage-preserved : goal.loop-stage-preserved
 loop-stage-preserved c =
     let held : as_bound c.node_at-bound.result ≡ inverse_bound (as_bound c.args.low) (as_bound c.args.high) (node_after c.loop-stage.stage) =
-        node_bound_lem (as_bound c.args.low) (as_bound c.args.high) c.loop-stage.stage (omega arith) c.requires.own_value c.node_at-bound.ensures.0 in
+    node_bound_lem (as_bound c.args.low) (as_bound c.args.high) c.loop-stage.stage (omega arith) c.requires.own_value c.node_at-bound.ensures.0 in
     (omega arith, right_next (inverse_bound (as_bound c.args.low) (as_bound c.args.high)) c.loop-stage.stage _ held c.loop-stage.invariant.1 (omega arith))
 
 pub returns : goal.returns

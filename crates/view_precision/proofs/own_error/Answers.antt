@@ -1,5 +1,4 @@
 use mathlib.Core.Path.{◌∙◌}
-use native.Mathlib.Omega.{arith}
 use Rattle.view_precision.specs.PlaceLaws.{own_scales, own_lifts}
 use Rattle.view_precision.proofs.own_error.Goals as goal
 

@@ -1,7 +1,6 @@
-use Prim.Native.Nat.{◌+◌, ◌-◌, ◌≤◌}
-use mathlib.Core.Path.{◌≡◌, refl, sym, ◌∙◌, ap, subst}
+use mathlib.Core.Path.{refl, sym, ◌∙◌, ap, subst}
 use native.Mathlib.Omega.{arith}
-use Rattle.view_precision.specs.Places.{stages, own_at, owns_below, AllSmall}
+use Rattle.view_precision.specs.Places.{own_at, owns_below, AllSmall}
 use Rattle.bounds_rule.specs.Carried.{as_bound}
 use Rattle.view_precision.specs.PlaceLaws.{owns_step}
 use Rattle.view_precision.specs.SizeLaws.{owns_small}

@@ -1,10 +1,7 @@
 use Prim.Native.Nat.{◌+◌, ◌-◌, ◌≤◌}
-use mathlib.Core.Path.{◌≡◌, refl, sym, ◌∙◌, ap, subst}
-use native.Mathlib.Omega.{arith}
-use Rattle.view_precision.specs.Places.{stages, own_at, owns_below, AllSmall}
+use mathlib.Core.Path.{◌≡◌}
+use Rattle.view_precision.specs.Places.{stages, owns_below}
 use Rattle.bounds_rule.specs.Carried.{as_bound}
-use Rattle.view_precision.specs.PlaceLaws.{owns_step}
-use Rattle.view_precision.specs.SizeLaws.{owns_small}
 use Rattle.view_precision.proofs.own_errors.Given as goal
 
 abbrev pub invariant-loop-stage : goal.invariant-loop-stage

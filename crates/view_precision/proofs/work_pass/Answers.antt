@@ -26,17 +26,17 @@ own_errors-own-requires c = c.requires
 pub node_at-even-requires : goal.node_at-even-requires
 node_at-even-requires c =
     let all_small : AllSmall c.own_errors-own.result =
-        subst AllSmall (sym c.own_errors-own.ensures) (owns_small (as_bound c.args.low) (as_bound c.args.high) c.requires.0 c.requires.1 stages (omega arith)) in
+    subst AllSmall (sym c.own_errors-own.ensures) (owns_small (as_bound c.args.low) (as_bound c.args.high) c.requires.0 c.requires.1 stages (omega arith)) in
     (omega arith, all_small, c.requires.0, c.requires.1)
 
 pub node_at-odd-requires : goal.node_at-odd-requires
 node_at-odd-requires c =
     let all_small : AllSmall c.own_errors-own.result =
-        subst AllSmall (sym c.own_errors-own.ensures) (owns_small (as_bound c.args.low) (as_bound c.args.high) c.requires.0 c.requires.1 stages (omega arith)) in
+    subst AllSmall (sym c.own_errors-own.ensures) (owns_small (as_bound c.args.low) (as_bound c.args.high) c.requires.0 c.requires.1 stages (omega arith)) in
     (omega arith, all_small, c.requires.0, c.requires.1)
 
 pub nodes_right-requires : goal.nodes_right-requires
 nodes_right-requires c = record {
-      small_fed = c.requires;
-      own_value = c.own_errors-own.ensures;
-    }
+  small_fed = c.requires;
+  own_value = c.own_errors-own.ensures;
+}

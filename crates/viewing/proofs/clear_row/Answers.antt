@@ -1,10 +1,9 @@
 -- `viewing::clear_row` meets its contract: the places passed are 0.
-use mathlib.Core.Path.{◌≡◌, refl}
-use Prim.Native.Nat.{◌-◌, ◌≤◌}
+use mathlib.Core.Path.{refl}
 use native.Mathlib.Omega.{arith}
 use lib.IntN.{pos}
-use lib.ListN.{length, length-set}
-use Rattle.slices.specs.Patch.{at, patch, patch_none, patch_set, patch_to}
+use lib.ListN.{length-set}
+use Rattle.slices.specs.Patch.{patch_none, patch_set, patch_to}
 use Rattle.viewing.proofs.clear_row.Goals as goal
 
 pub loop-i-preserved : goal.loop-i-preserved

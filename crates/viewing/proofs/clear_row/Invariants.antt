@@ -1,9 +1,8 @@
-use mathlib.Core.Path.{◌≡◌, refl}
+use mathlib.Core.Path.{◌≡◌}
 use Prim.Native.Nat.{◌-◌, ◌≤◌}
-use native.Mathlib.Omega.{arith}
 use lib.IntN.{pos}
-use lib.ListN.{length, length-set}
-use Rattle.slices.specs.Patch.{at, patch, patch_none, patch_set, patch_to}
+use lib.ListN.{length}
+use Rattle.slices.specs.Patch.{at, patch}
 use Rattle.viewing.proofs.clear_row.Given as goal
 
 abbrev pub invariant-loop-i : goal.invariant-loop-i

@@ -21,13 +21,12 @@ pub overflow_add-down : goal.overflow_add-down
 overflow_add-down c = omega (arith, (look_part c.args.table c.args.w c.args.h c.args.plane.now c.requires c.loop-k.k _ _ c.loop-k.invariant.1 c.loop-k.invariant.2).few)
 
 pub loop-k-preserved : goal.loop-k-preserved
-loop-k-preserved c =
-    (
-      omega arith,
-      ap lows c.loop-k.invariant.1 ∙ side_more _ _,
-      ap lows c.loop-k.invariant.2 ∙ side_more _ _,
-      right_next c.args.table c.args.w c.args.h c.args.plane.now c.requires c.loop-k.k _ _ c.loop-k.invariant.1 c.loop-k.invariant.2 c.loop-k-test.true _ c.details_fit.ensures c.if-details_fit.true c.loop-k.invariant.3,
-    )
+loop-k-preserved c = (
+  omega arith,
+  ap lows c.loop-k.invariant.1 ∙ side_more _ _,
+  ap lows c.loop-k.invariant.2 ∙ side_more _ _,
+  right_next c.args.table c.args.w c.args.h c.args.plane.now c.requires c.loop-k.k _ _ c.loop-k.invariant.1 c.loop-k.invariant.2 c.loop-k-test.true _ c.details_fit.ensures c.if-details_fit.true c.loop-k.invariant.3,
+)
 
 pub part_fits-requires : goal.part_fits-requires
 part_fits-requires c =

@@ -32,9 +32,9 @@ columns-requires c =
 pub columns-requires-2 : goal.columns-requires-2
 columns-requires-2 c =
     let once : let a = c.args in at c.columns.new.work ≡ lowed a.table a.level a.width a.stride a.w a.h (at a.plane.now) (at a.work.now) =
-        let a = c.args in
-            c.columns.ensures.work
-            ∙ (λ u. inverted (low_site a.table a.level a.width a.stride a.w) (c.low_low_bits.ensures.0 u) (c.stored_bits.ensures.0 u) (lows a.w) a.h (at a.plane.now) (at a.work.now)) in
+    let a = c.args in
+    c.columns.ensures.work
+    ∙ (λ u. inverted (low_site a.table a.level a.width a.stride a.w) (c.low_low_bits.ensures.0 u) (c.stored_bits.ensures.0 u) (lows a.w) a.h (at a.plane.now) (at a.work.now)) in
     let a = c.args in
     let low = c.stored_bits-2.ensures in
     let high = c.stored_bits-3.ensures in record {
@@ -56,9 +56,9 @@ columns-requires-2 c =
 pub returns : goal.returns
 returns c =
     let once : let a = c.args in at c.columns.new.work ≡ lowed a.table a.level a.width a.stride a.w a.h (at a.plane.now) (at a.work.now) =
-        let a = c.args in
-            c.columns.ensures.work
-            ∙ (λ u. inverted (low_site a.table a.level a.width a.stride a.w) (c.low_low_bits.ensures.0 u) (c.stored_bits.ensures.0 u) (lows a.w) a.h (at a.plane.now) (at a.work.now)) in
+    let a = c.args in
+    c.columns.ensures.work
+    ∙ (λ u. inverted (low_site a.table a.level a.width a.stride a.w) (c.low_low_bits.ensures.0 u) (c.stored_bits.ensures.0 u) (lows a.w) a.h (at a.plane.now) (at a.work.now)) in
     let a = c.args in
     c.columns-2.ensures.work
     ∙ (λ u. inverted (high_site a.table a.level a.width a.stride a.w) (c.stored_bits-2.ensures.0 u) (c.stored_bits-3.ensures.0 u) (highs a.w) a.h (at a.plane.now) (once u))

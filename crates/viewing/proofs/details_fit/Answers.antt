@@ -11,9 +11,9 @@ overflow_add-below c = omega (arith, c.requires.part.few)
 
 pub part_fits-requires : goal.part_fits-requires
 part_fits-requires c = record {
-      level = (c.requires.is_level, (omega arith, omega arith), (omega arith, omega arith));
-      by_index = high_part c.requires.part;
-    }
+  level = (c.requires.is_level, (omega arith, omega arith), (omega arith, omega arith));
+  by_index = high_part c.requires.part;
+}
 
 pub returns-else-part_fits : goal.returns-else-part_fits
 returns-else-part_fits c = no_hl _ c.part_fits.ensures c.if-part_fits.false
@@ -23,9 +23,9 @@ overflow_mul-start c = omega (arith, start_small c.requires.part)
 
 pub part_fits-requires-2 : goal.part_fits-requires-2
 part_fits-requires-2 c = record {
-      level = (c.requires.is_level, (omega arith, omega arith), (omega arith, omega arith));
-      by_index = low_part c.requires.part;
-    }
+  level = (c.requires.is_level, (omega arith, omega arith), (omega arith, omega arith));
+  by_index = low_part c.requires.part;
+}
 
 pub returns-else-part_fits-2 : goal.returns-else-part_fits-2
 returns-else-part_fits-2 c = no_lh _ c.part_fits-2.ensures c.if-part_fits-2.false
@@ -35,9 +35,9 @@ overflow_add-start c = omega (arith, start_small c.requires.part, c.requires.par
 
 pub part_fits-requires-3 : goal.part_fits-requires-3
 part_fits-requires-3 c = record {
-      level = (c.requires.is_level, (omega arith, omega arith), (omega arith, omega arith));
-      by_index = last_part c.requires.part;
-    }
+  level = (c.requires.is_level, (omega arith, omega arith), (omega arith, omega arith));
+  by_index = last_part c.requires.part;
+}
 
 pub returns : goal.returns
 returns c = last_tells _ _ _ c.part_fits.ensures c.if-part_fits.true c.part_fits-2.ensures c.if-part_fits-2.true c.part_fits-3.ensures

@@ -1,11 +1,8 @@
 -- `viewing::finish_rows` meets its contract. The loop's invariant: the first r rows are shown and cleared, the others as they were.
 use mathlib.Core.Path.{◌≡◌, refl}
-use Prim.Native.Nat.{◌-◌, ◌≤◌}
 use native.Mathlib.Omega.{arith}
-use lib.ListN.{length, get_or}
-use Rattle.slices.specs.Patch.{at}
 use Rattle.slices.specs.PatchLines.{lines_none, lines_to}
-use Rattle.viewing.specs.RowSteps.{shown_rows, cleared_rows, row_ready, shown_more, cleared_more}
+use Rattle.viewing.specs.RowSteps.{row_ready, shown_more, cleared_more}
 use Rattle.viewing.proofs.finish_rows.Goals as goal
 
 pub finish_row-requires : goal.finish_row-requires

@@ -1,10 +1,8 @@
-use mathlib.Core.Path.{◌≡◌, refl}
+use mathlib.Core.Path.{◌≡◌}
 use Prim.Native.Nat.{◌-◌, ◌≤◌}
-use native.Mathlib.Omega.{arith}
 use lib.ListN.{length, get_or}
 use Rattle.slices.specs.Patch.{at}
-use Rattle.slices.specs.PatchLines.{lines_none, lines_to}
-use Rattle.viewing.specs.RowSteps.{shown_rows, cleared_rows, row_ready, shown_more, cleared_more}
+use Rattle.viewing.specs.RowSteps.{shown_rows, cleared_rows}
 use Rattle.viewing.proofs.finish_rows.Given as goal
 
 abbrev pub invariant-loop-r : goal.invariant-loop-r

@@ -5,7 +5,10 @@ use native.Mathlib.Omega.{arith}
 use borrow.Author.Rules.{rules}
 use Rattle.precision.specs.Promise.{promise}
 use Rattle.width_table.specs.Limits.{integer_read, fraction_read}
-use Rattle.width_table.specs.Numbered.{node_of, pass_of}
+use Rattle.width_table.specs.Numbered.{node_of, pass_of, IsPass, IsNode}
+use Rattle.width_table.specs.declared.WidthTable.{WidthTable}
+use Rattle.width_table.specs.Readers.{integer_bits_at, fraction_bits_at}
+use Rattle.precision.specs.Verdict.{IsLevel}
 use Rattle.width_table.specs.Table.{max_integer_bits, max_fraction_bits, integer_bits, fraction_bits}
 use Rattle.slices.specs.Patch.{at}
 use Rattle.slices.specs.Parts.{row_of}
@@ -14,65 +17,40 @@ use Rattle.viewing.specs.WidthLaws.{tells_fits}
 use Rattle.viewing.proofs.part_fits.Goals as goal
 
 -- the bits of the width, within their limits
-record Bits (c : goal.After-fraction_bits) : Type 0 where
-  integer : c.integer_bits.result ≡ integer_bits c.args.table c.args.level (pass_of c.args.pass) (node_of c.args.node)
-  fraction : c.fraction_bits.result ≡ fraction_bits c.args.table c.args.level (pass_of c.args.pass) (node_of c.args.node)
-  some : 1 ≤ c.integer_bits.result
-  few : c.integer_bits.result ≤ max_integer_bits
-  short : c.fraction_bits.result ≤ max_fraction_bits
+record Bits (t : WidthTable) (l p n integer_here fraction_here : ℕ) : Type 0 where
+  integer : integer_here ≡ integer_bits t l (pass_of p) (node_of n)
+  fraction : fraction_here ≡ fraction_bits t l (pass_of p) (node_of n)
+  some : 1 ≤ integer_here
+  few : integer_here ≤ max_integer_bits
+  short : fraction_here ≤ max_fraction_bits
+
+bits : (t : WidthTable) (l p n : ℕ) {integer_here fraction_here : ℕ} → IsLevel t l × IsPass p × IsNode n → integer_here ≡ integer_bits_at t l p n → fraction_here ≡ fraction_bits_at t l p n → Bits t l p n integer_here fraction_here
+bits t l p n there ie fe =
+    let level = there.0 in
+    let form = (promise t level.accepted).form in
+    let i = integer_read t form l level.least level.most p n there.1 there.2 in
+    let f = fraction_read t form l level.least level.most p n there.1 there.2 in
+    record { integer = ie ∙ i.0; fraction = fe ∙ f.0; some = omega arith; few = omega arith; short = omega arith }
 
 pub returns : goal.returns
 returns c =
-    let bits : Bits c =
-        let a = c.args in
-            let (l, p, n) = c.requires.level in
-            let form = (promise a.table l.accepted).form in
-            let i = integer_read a.table form a.level l.least l.most a.pass a.node p n in
-            let f = fraction_read a.table form a.level l.least l.most a.pass a.node p n in
-            let ie = c.integer_bits.ensures in
-            let fe = c.fraction_bits.ensures in
-            record { integer = ie ∙ i.0; fraction = fe ∙ f.0; some = omega arith; few = omega arith; short = omega arith } in
     let a = c.args in
-    let b = bits in
+    let b = bits a.table a.level a.pass a.node c.requires.level c.integer_bits.ensures c.fraction_bits.ensures in
     let sum = ap₂ ◌+◌ b.integer b.fraction in
     tells_fits a.table a.level (pass_of a.pass) (node_of a.node) (at a.plane.now) _ _ _ _ _
     (subst (λ (n : ℕ). Tells ((i : ℕ) → i < a.h → (j : ℕ) → j < a.w → OfBits (n - 1) (row_of a.stride a.from (at a.plane.now) i j)) c.part_of_bits.result) sum c.part_of_bits.ensures)
 
 pub overflow_add-bits : goal.overflow_add-bits
 overflow_add-bits c =
-    let bits : Bits c =
-        let a = c.args in
-            let (l, p, n) = c.requires.level in
-            let form = (promise a.table l.accepted).form in
-            let i = integer_read a.table form a.level l.least l.most a.pass a.node p n in
-            let f = fraction_read a.table form a.level l.least l.most a.pass a.node p n in
-            let ie = c.integer_bits.ensures in
-            let fe = c.fraction_bits.ensures in
-            record { integer = ie ∙ i.0; fraction = fe ∙ f.0; some = omega arith; few = omega arith; short = omega arith } in
-    omega (arith, bits.few, bits.short)
+    let b = bits c.args.table c.args.level c.args.pass c.args.node c.requires.level c.integer_bits.ensures c.fraction_bits.ensures in
+    omega (arith, b.few, b.short)
 
 pub overflow_sub-bits : goal.overflow_sub-bits
 overflow_sub-bits c =
-    let bits : Bits c =
-        let a = c.args in
-            let (l, p, n) = c.requires.level in
-            let form = (promise a.table l.accepted).form in
-            let i = integer_read a.table form a.level l.least l.most a.pass a.node p n in
-            let f = fraction_read a.table form a.level l.least l.most a.pass a.node p n in
-            let ie = c.integer_bits.ensures in
-            let fe = c.fraction_bits.ensures in
-            record { integer = ie ∙ i.0; fraction = fe ∙ f.0; some = omega arith; few = omega arith; short = omega arith } in
-    omega (arith, bits.some)
+    let b = bits c.args.table c.args.level c.args.pass c.args.node c.requires.level c.integer_bits.ensures c.fraction_bits.ensures in
+    omega (arith, b.some)
 
 pub part_of_bits-requires : goal.part_of_bits-requires
 part_of_bits-requires c =
-    let bits : Bits c =
-        let a = c.args in
-            let (l, p, n) = c.requires.level in
-            let form = (promise a.table l.accepted).form in
-            let i = integer_read a.table form a.level l.least l.most a.pass a.node p n in
-            let f = fraction_read a.table form a.level l.least l.most a.pass a.node p n in
-            let ie = c.integer_bits.ensures in
-            let fe = c.fraction_bits.ensures in
-            record { integer = ie ∙ i.0; fraction = fe ∙ f.0; some = omega arith; few = omega arith; short = omega arith } in
-    (omega (arith, bits.few, bits.short), c.requires.by_index)
+    let b = bits c.args.table c.args.level c.args.pass c.args.node c.requires.level c.integer_bits.ensures c.fraction_bits.ensures in
+    (omega (arith, b.few, b.short), c.requires.by_index)

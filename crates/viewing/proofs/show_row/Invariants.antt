@@ -1,13 +1,7 @@
-use mathlib.Core.Path.{◌≡◌, refl, sym, ◌∙◌, ap, subst}
+use mathlib.Core.Path.{◌≡◌}
 use Prim.Native.Nat.{◌+◌, ◌-◌, ◌≤◌}
-use native.Mathlib.Omega.{arith}
-use borrow.Author.Rules.{sfits_of}
-use lib.IntN.{ℤ, nat_abs}
-use lib.ListN.{length, length-set, get_or}
-use mir.Syntax.{w64}
-use mir.Facts.{to_z-of_z}
-use Rattle.slices.specs.Patch.{at, patch, patch_none, patch_set, patch_to}
-use Rattle.inverse_lifting.specs.Fixed.{limit}
+use lib.ListN.{length, get_or}
+use Rattle.slices.specs.Patch.{at, patch}
 use Rattle.viewing.specs.View.{pixel}
 use Rattle.viewing.proofs.show_row.Given as goal
 

@@ -1,6 +1,6 @@
 -- `viewing::spread` meets its contract: after i turns the stride is w times 2^i.
 use mathlib.Core.Path.{◌≡◌, sym, ap, ◌∙◌}
-use Prim.Native.Nat.{ℕ, ◌*◌, ◌^◌, ◌+◌, ◌-◌, ◌≤◌}
+use Prim.Native.Nat.{ℕ, ◌*◌, ◌^◌, ◌+◌, ◌≤◌}
 use native.Mathlib.Nat.{mul-le-mul, mul_left_comm, pow-succ', pow-le-pow_right}
 use native.Mathlib.Numerals.{add-one}
 use native.Mathlib.Omega.{arith}

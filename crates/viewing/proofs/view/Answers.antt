@@ -12,8 +12,8 @@ use Rattle.viewing.proofs.view.Goals as goal
 pub show-requires : goal.show-requires
 show-requires c =
     let done : let a = c.args in view_answer a.table a.w a.h a.plane.now a.pixels.now a.work.now ≡ passed =
-        let a = c.args in
-            sym c.answer.ensures ∙ ap told c.in-Done.is in
+    let a = c.args in
+    sym c.answer.ensures ∙ ap told c.in-Done.is in
     let a = c.args in
     (view_ready a.table a.w a.h a.plane.now a.pixels.now a.work.now done _ _ (omega arith) (omega arith) (omega arith), (call_room a.table a.w a.h a.plane.now a.pixels.now a.work.now done).first)
 
@@ -21,14 +21,19 @@ pub returns-in-Refused : goal.returns-in-Refused
 returns-in-Refused c =
     let a = c.args in
     let e = sym c.answer.ensures ∙ ap told c.in-Refused.is in
-    (sym e, (pixels_kept a.table a.w a.h a.plane.now a.pixels.now a.work.now e, work_kept a.table a.w a.h a.plane.now a.pixels.now a.work.now e))
+    record {
+      answer = sym e;
+      pixels = pixels_kept a.table a.w a.h a.plane.now a.pixels.now a.work.now e;
+      work = work_kept a.table a.w a.h a.plane.now a.pixels.now a.work.now e;
+    }
 
 pub returns-in-Done : goal.returns-in-Done
 returns-in-Done c =
     let done : let a = c.args in view_answer a.table a.w a.h a.plane.now a.pixels.now a.work.now ≡ passed =
-        let a = c.args in
-            sym c.answer.ensures ∙ ap told c.in-Done.is in
-    let a = c.args in (
-      sym done,
-      (c.show.ensures.pixels ∙ pixels_done a.table a.w a.h a.plane.now a.pixels.now a.work.now done, c.show.ensures.work ∙ work_done a.table a.w a.h a.plane.now a.pixels.now a.work.now done),
-    )
+    let a = c.args in
+    sym c.answer.ensures ∙ ap told c.in-Done.is in
+    let a = c.args in record {
+      answer = sym done;
+      pixels = c.show.ensures.pixels ∙ pixels_done a.table a.w a.h a.plane.now a.pixels.now a.work.now done;
+      work = c.show.ensures.work ∙ work_done a.table a.w a.h a.plane.now a.pixels.now a.work.now done;
+    }

@@ -13,8 +13,8 @@ use Rattle.stages.specs.Stages.{Side, low, high, Kind, lifts, scales, stage, for
 use Rattle.stages.specs.Gains.{node}
 use Rattle.stages.specs.Rule as Rule
 use Rattle.stages.specs.Rule.{Bound, together, carried, input_part, own_lift, own_scale, range_at, own_error_of, stages_part, owns, error_at}
-use Rattle.stages.specs.RuleLaws.{loss_below}
-use Rattle.stages.specs.ProductLaws.{own_uncut}
+use Rattle.stages.proofs.RuleLaws.{loss_below}
+use Rattle.stages.proofs.ProductLaws.{own_uncut}
 use Rattle.width_table.specs.Nodes.{Node, P1, U1, P2, U2, G1, G2, every_node, Pass, Rows, LowColumns, HighColumns, TableNode, table_order, product_order}
 use Rattle.width_table.specs.Numbered.{node_of}
 use Rattle.width_table.specs.declared.WidthTable.{WidthTable}

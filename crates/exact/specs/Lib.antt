@@ -6,13 +6,9 @@
 --   Cases      both by cases, ends apart from the middle (source document 003, equations 2 to 4)
 -- Proved of them:
 --   FracLaws   laws of fractions
---   InverseLaws   the exact inverse inverts the exact transform, and the exact transform it
---   CaseLaws   pass-is, back-is: the exact 9/7 by cases is the exact 9/7
 pub mod Fractions
 pub mod Exact
 pub mod Picture
 pub mod Inverse
 pub mod Cases
 pub mod FracLaws
-pub mod InverseLaws
-pub mod CaseLaws

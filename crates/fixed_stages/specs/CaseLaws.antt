@@ -6,7 +6,7 @@ use Rattle.lines.specs.Lines.{lows, highs, Liftable}
 use Rattle.lines.specs.LineLaws.{Equal, first_equal}
 use Rattle.lines.specs.InverseLaws.{equal}
 use Rattle.lines.specs.OneLaws.{one_long}
-use Rattle.lines.specs.CaseLaws.{congruence_equal, highs_are_lem, lows_are_lem}
+use Rattle.lines.proofs.CaseLaws.{congruence_equal, highs_are_lem, lows_are_lem}
 use Rattle.width_table.specs.Nodes.{Node, P1, U1, P2, U2, G1, G2}
 use Rattle.exact.specs.Exact.{alpha, beta, gamma, delta, zeta, zeta_inverse}
 use Rattle.stages.specs.Stages.{Product}

@@ -12,7 +12,7 @@ use Rattle.exact.specs.Fractions.{Frac}
 use Rattle.width_table.specs.Nodes.{Node, P1, U1, P2, U2, G1, G2}
 use Rattle.stages.specs.Stages.{Product, uncut, cut_to, product_bits}
 use Rattle.stages.specs.Fixed.{nearest, cut, cut_product}
-use Rattle.stages.specs.Own.{cut_lossy, cut_whole}
+use Rattle.stages.proofs.Own.{cut_lossy, cut_whole}
 use Rattle.fixed_stages.specs.Constants.{constant_of}
 use Rattle.numbers.specs.Tests.{both}
 use Rattle.width_table.specs.Table.{max_constant_bits, max_fraction_bits}

@@ -14,8 +14,8 @@ use Rattle.exact.specs.Fractions.{Frac}
 use Rattle.lifting.specs.Steps.{applied, scaled_by}
 use Rattle.stages.specs.Stages.{Product, uncut, cut_to}
 use Rattle.stages.specs.Fixed.{nearest, cut, cut_product, step, scale}
-use Rattle.stages.specs.Own.{cut_lossy}
-use Rattle.stages.specs.ProductLaws.{step_wide}
+use Rattle.stages.proofs.Own.{cut_lossy}
+use Rattle.stages.proofs.ProductLaws.{step_wide}
 use Rattle.fixed_stages.specs.Steps.{step_top, once_of, cut_of, cut_together, step_of, factor_of, single_of}
 
 -- powers that add up

@@ -9,7 +9,7 @@ use Rattle.numbers.specs.Tests.{every, both, four, and_intro}
 use Rattle.refusals.specs.Answers.{passed}
 use Rattle.refusals.specs.AnswerLaws.{asks_done, asks_right, then_done, then_right}
 use Rattle.stages.specs.Rule.{Bound}
-use Rattle.stages.specs.RuleLaws.{AtMost}
+use Rattle.stages.proofs.RuleLaws.{AtMost}
 use Rattle.inverse_lifting.specs.Fixed.{max_value}
 use Rattle.width_table.specs.Nodes.{Node, Pass, Rows, LowColumns, HighColumns}
 use Rattle.width_table.specs.declared.WidthTable.{WidthTable}

@@ -8,7 +8,7 @@ use Rattle.std.proofs.Common.{◌∙◌}
 use Rattle.stages.specs.Stages.{Side, low, high, Kind, lifts, scales, Stage, stage, uncut, bits, forward}
 use Rattle.stages.specs.Gains.{node}
 use Rattle.stages.specs.Rule.{Bound, Entering, carried, input_part, range_at, own_error_of, stages_part, owns, error_at, side_bound, together, single_error}
-use Rattle.stages.specs.ProductLaws.{own_uncut}
+use Rattle.stages.proofs.ProductLaws.{own_uncut}
 use Rattle.history.specs.EarlierRule.{old_bound_at, old_lift, old_from, old_bring, old_owns}
 use Rattle.width_table.specs.Nodes.{Node, P1, U1, P2, U2, G1, G2, Pass, TableNode}
 use Rattle.width_table.specs.Numbered.{node_of}

@@ -4,7 +4,7 @@ use Rattle.std.proofs.Common.{sym, ◌∙◌}
 use Rattle.lines.specs.Lines.{lows, highs, Liftable}
 use Rattle.lines.specs.LineLaws.{Equal, interleaved_equal}
 use Rattle.lines.specs.InverseLaws.{equal}
-use Rattle.lines.specs.CaseLaws.{congruence_equal, highs_are_lem, lows_are_lem}
+use Rattle.lines.proofs.CaseLaws.{congruence_equal, highs_are_lem, lows_are_lem}
 use Rattle.exact.specs.Exact.{alpha, beta, gamma, delta}
 use Rattle.inverse_lifting.specs.Fixed.{inverse_step, at_u2, at_p2, at_u1, at_p1, fixed_inverse_long, fixed_inverse}
 use Rattle.inverse_lifting.specs.Stages.{inverse_step_end_lem}

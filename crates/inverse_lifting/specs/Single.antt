@@ -6,7 +6,7 @@ use Rattle.numbers.specs.Quote.{terms, vars, ring}
 use Rattle.lines.specs.Lines.{Liftable}
 use Rattle.lines.specs.OneLaws.{one_single, one_long}
 use Rattle.stages.specs.Fixed.{cut}
-use Rattle.stages.specs.Own.{pow_split}
+use Rattle.stages.proofs.Own.{pow_split}
 use Rattle.inverse_lifting.specs.Fixed.{node_bits, fixed_inverse_long, fixed_inverse}
 use Rattle.inverse_lifting.specs.Stages.{scaled_by, once}
 

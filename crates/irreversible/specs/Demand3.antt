@@ -31,7 +31,7 @@ use Rattle.table_meaning.specs.Subbands.{kept_node, bits_plane, InPart}
 use Rattle.table_meaning.specs.NodeWidths.{InNodeWidth}
 use Rattle.precision.specs.Promise.{promise}
 use Rattle.exact.specs.FracLaws.{⊕-neg, ≈-sym, within_≈, within_zero}
-use Rattle.stages.specs.Sound.{Q, Good}
+use Rattle.stages.proofs.Sound.{Q, Good}
 use Rattle.irreversible.specs.Pass.{near, holds}
 use Rattle.irreversible.specs.LevelPlanes.{row_v, row_x, new_v, new_x}
 use Rattle.irreversible.specs.Level.{level_good, level_in_width}

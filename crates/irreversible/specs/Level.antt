@@ -17,7 +17,7 @@ use Rattle.fixed_stages.specs.Fixed.{fixed_line}
 use Rattle.irreversible.specs.Claims.{InWidth, LevelInWidth}
 use Rattle.irreversible.specs.LevelPlanes.{row_v, row_x, new_v, new_x, AtMost32}
 use Rattle.irreversible.specs.Pass.{pass_good, long_in_width, single_in_width}
-use Rattle.stages.specs.Sound.{Good}
+use Rattle.stages.proofs.Sound.{Good}
 
 module _ (t : WidthTable) (l : ℕ) (bits : (p : Pass) (n : Node) → fraction_bits t l p n ≤ max_fraction_bits) (w h : ℕ) (b : Bound) (v : Plane ℤ) (x : Plane Frac) (given : (r c : ℕ) → r < h → c < w → Good b (input_bits t l Rows) (v r c) (x r c)) where
   small : (p : Pass) → AtMost32 (fraction_bits t l p)

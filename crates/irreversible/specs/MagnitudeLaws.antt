@@ -5,9 +5,9 @@ use Rattle.std.proofs.Math.Bool.{true, false}
 use Rattle.exact.specs.Fractions.{Frac}
 use Rattle.exact.specs.FracLaws.{within_near}
 use Rattle.stages.specs.Fixed.{fixed_value}
-use Rattle.stages.specs.Own.{pow_split}
+use Rattle.stages.proofs.Own.{pow_split}
 use Rattle.stages.specs.Rule.{Bound}
-use Rattle.stages.specs.Sound.{Good}
+use Rattle.stages.proofs.Sound.{Good}
 use Rattle.lines.specs.Lines.{lows}
 use Rattle.lines.specs.Planes.{Plane, side, levels}
 use Rattle.width_table.specs.Nodes.{Node, G1, G2, Pass, Rows, LowColumns, HighColumns, column_pass, last_node}

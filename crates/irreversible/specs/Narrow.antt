@@ -18,10 +18,11 @@ use Rattle.stages.specs.Stages.{Side, low, stage, forward, Product}
 use Rattle.stages.specs.Gains.{Source, samples, node, gain}
 use Rattle.stages.specs.Rule as Rule
 use Rattle.stages.specs.Rule.{Bound, times_gain, together, single_error, input_part, range_at}
-use Rattle.stages.specs.ValueLaws.{weighed, nodes_part}
-use Rattle.stages.specs.RuleLaws.{times_least, times_grows, own_at, error_sum}
-use Rattle.stages.specs.GainTable.{forward_gains, forward_source, forward_gain_lem}
-use Rattle.stages.specs.ForwardLaws.{single_least}
+use Rattle.stages.proofs.ValueLaws.{weighed, nodes_part}
+use Rattle.stages.proofs.RuleLaws.{times_least, times_grows, own_at, error_sum}
+use Rattle.stages.specs.GainTable.{forward_gains, forward_source}
+use Rattle.stages.proofs.GainLaws.{forward_gain_lem}
+use Rattle.stages.proofs.ForwardLaws.{single_least}
 use Rattle.width_table.specs.Nodes.{Node, P1, U1, P2, U2, G1, G2, Pass, Rows, LowColumns, HighColumns, column_pass, node_at, last_node}
 use Rattle.width_table.specs.Limits.{form_levels}
 use Rattle.width_table.specs.Numbered.{node_of}

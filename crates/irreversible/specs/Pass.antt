@@ -19,11 +19,11 @@ use Rattle.precision.specs.Bounds.{bound_after, node_bound}
 use Rattle.exact.specs.FracLaws.{within_near}
 use Rattle.stages.specs.Stages.{Side, low, high, forward, made, Product, bits}
 use Rattle.stages.specs.OnLine.{count, exact_after, fixed_made, fixed_after}
-use Rattle.stages.specs.Sound.{Good, good}
-use Rattle.stages.specs.Single.{single_good, good_most}
-use Rattle.stages.specs.ForwardLaws.{range_least}
+use Rattle.stages.proofs.Sound.{Good, good}
+use Rattle.stages.proofs.Single.{single_good, good_most}
+use Rattle.stages.proofs.ForwardLaws.{range_least}
 use Rattle.width_table.specs.Numbered.{node_of}
-use Rattle.stages.specs.Own.{pow_split}
+use Rattle.stages.proofs.Own.{pow_split}
 use Rattle.irreversible.specs.Claims.{Near}
 use Rattle.table_meaning.specs.NodeWidths.{InNodeWidth}
 use Rattle.numbers.specs.Tests.{by_ltb, ltb-true}

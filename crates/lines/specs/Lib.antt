@@ -7,7 +7,6 @@
 --   MirrorLaws the neighbours are the mirrored samples
 --   LineLaws   lengths that have a low and a high; places of a line that is split or interleaved
 --   Neighbours where the neighbours stand: beside their place, in the middle and at the ends
---   CaseLaws   the neighbours by cases are the mirrored ones; a filter by cases is the filter
 --   PlaneLaws  inside and outside of a part; sides of the low-low parts
 --   RowLaws    elements of a plane in memory
 --   InverseLaws  where each pass has an inverse, a level has, and so have the levels
@@ -25,4 +24,3 @@ pub mod RowLaws
 pub mod InverseLaws
 pub mod OneLaws
 pub mod LongLaws
-pub mod CaseLaws

@@ -9,7 +9,7 @@ use Rattle.refusals.specs.Answers.{refused}
 use Rattle.refusals.specs.AnswerLaws.{asks_right, asks_wrong, then_refused}
 use Rattle.stages.specs.Rule as Rule
 use Rattle.stages.specs.Rule.{times_gain}
-use Rattle.stages.specs.ForwardLaws.{range_at_lem}
+use Rattle.stages.proofs.ForwardLaws.{range_at_lem}
 use Rattle.width_table.specs.Nodes.{P1, Rows, node_at, level_nodes, table_order}
 use Rattle.width_table.specs.Numbered.{node_of}
 use Rattle.width_table.specs.Limits.{form_levels}

@@ -6,7 +6,7 @@ use Rattle.std.proofs.Common.{arith}
 use Rattle.stages.specs.Stages.{low, Product}
 use Rattle.stages.specs.Rule as Rule
 use Rattle.stages.specs.Rule.{Bound, single_error}
-use Rattle.stages.specs.ForwardLaws.{single_least}
+use Rattle.stages.proofs.ForwardLaws.{single_least}
 use Rattle.width_table.specs.Nodes.{Node, P1, U1, P2, U2, G1, G2}
 use Rattle.width_table.specs.Numbered.{node_of}
 use Rattle.precision.specs.Bounds.{bound_after, node_bound}

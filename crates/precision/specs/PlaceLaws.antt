@@ -12,12 +12,12 @@ use Rattle.stages.specs.Stages.{low, high, stage, forward, Product, product_bits
 use Rattle.bounds_rule.specs.Carried.{carried_to, most_gain}
 use Rattle.bounds_rule.specs.CarriedLaws.{times_most, product_most, gain_within, carried_within, loss_most, product_loss_most}
 use Rattle.stages.specs.GainTable.{forward_gains}
-use Rattle.stages.specs.ForwardLaws as Forward
+use Rattle.stages.proofs.ForwardLaws as Forward
 use Rattle.stages.specs.Rule as Rule
 use Rattle.stages.specs.Rule.{Bound, together, times_gain, loss, product_loss, own_lift, own_scale}
-use Rattle.stages.specs.ValueLaws.{weighed}
-use Rattle.stages.specs.RuleLaws as RuleLaws
-use Rattle.stages.specs.RuleLaws.{times_gain_zero, times_gain_none, times_gain_one, bound_start, bound_kept}
+use Rattle.stages.proofs.ValueLaws.{weighed}
+use Rattle.stages.proofs.RuleLaws as RuleLaws
+use Rattle.stages.proofs.RuleLaws.{times_gain_zero, times_gain_none, times_gain_one, bound_start, bound_kept}
 use Rattle.precision.specs.Bounds.{node_bound}
 use Rattle.precision.specs.Places.{places, most_fitting, largest, gain_at, multiplied, other, bits_at, own_at, total_at, own_error_at, owns_below}
 use Rattle.width_table.specs.Numbered.{node_of, IsNode}

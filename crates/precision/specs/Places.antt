@@ -9,7 +9,7 @@ use Rattle.width_table.specs.Readers.{constant_bits_at, integer_bits_at, fractio
 use Rattle.stages.specs.Stages.{forward, Product, cut_to}
 use Rattle.bounds_rule.specs.Carried.{as_held, as_bound, gain_in}
 use Rattle.stages.specs.GainTable.{forward_gains}
-use Rattle.stages.specs.RuleLaws as RuleLaws
+use Rattle.stages.proofs.RuleLaws as RuleLaws
 use Rattle.stages.specs.Rule.{Bound, together, own_lift, own_scale}
 use Rattle.table_meaning.specs.Products.{product_of}
 use Rattle.precision.specs.Bounds.{node_bound, bound_of, entering}

@@ -5,7 +5,7 @@ use Rattle.std.proofs.Math.Path.{refl}
 use Rattle.std.proofs.Common.{sym, ◌∙◌, ap, arith}
 use Rattle.stages.specs.Stages.{Product, uncut, cut_to}
 use Rattle.stages.specs.Rule.{own_lift}
-use Rattle.stages.specs.ProductLaws.{own_wide}
+use Rattle.stages.proofs.ProductLaws.{own_wide}
 use Rattle.width_table.specs.declared.WidthTable.{WidthTable}
 use Rattle.width_table.specs.Numbered.{node_of, pass_of, IsProduct, node_number_lem, pass_number_lem}
 use Rattle.width_table.specs.Table.{max_constant_bits, max_fraction_bits, max_product_bits, product_place, product_width}

@@ -8,7 +8,7 @@ use Rattle.lines.specs.Cases.{highs_by_cases, lows_by_cases, of_high, of_low, Re
 use Rattle.lines.specs.LineLaws.{Equal, first_equal, interleaved_equal}
 use Rattle.lines.specs.InverseLaws.{equal}
 use Rattle.lines.specs.OneLaws.{one_long}
-use Rattle.lines.specs.CaseLaws.{congruence_equal, highs_are_lem, lows_are_lem}
+use Rattle.lines.proofs.CaseLaws.{congruence_equal, highs_are_lem, lows_are_lem}
 use Rattle.reversible.specs.Reversible.{predict, update, inverse_predict, inverse_update, high, low, reversible_long, reversible_pass, low_inverse, high_inverse, inverse_long, inverse_pass}
 use Rattle.reversible.specs.Cases.{predict_end, update_end, inverse_predict_end, inverse_update_end, high_by_cases, low_by_cases, pass_by_cases, low_inverse_by_cases, high_inverse_by_cases, inverse_by_cases}
 

@@ -3,7 +3,7 @@ use Rattle.std.specs.Prelude.{ℕ}
 use Rattle.std.proofs.Common.{arith}
 use Rattle.stages.specs.Stages.{Side, low, high, inverse, uncut}
 use Rattle.stages.specs.Rule.{Bound, apart}
-use Rattle.stages.specs.RuleLaws.{AtMost, apart_at_most, bound_grows}
+use Rattle.stages.proofs.RuleLaws.{AtMost, apart_at_most, bound_grows}
 use Rattle.inverse_lifting.specs.Fixed.{node_bits, inverse_bits}
 use Rattle.width_table.specs.Nodes.{Node, P1, U1, P2, U2, G1, G2}
 use Rattle.view_precision.specs.Bounds.{larger, bound_after, even, inverse_bound, pass_gives}

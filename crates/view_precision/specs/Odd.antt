@@ -10,11 +10,12 @@ use Rattle.inverse_lifting.specs.Fixed.{node_bits, inverse_bits}
 use Rattle.width_table.specs.Nodes.{U1, G2}
 use Rattle.stages.specs.Stages.{low, high, inverse, uncut, bits}
 use Rattle.stages.specs.Gains.{highs, node, gain}
-use Rattle.stages.specs.GainTable.{inverse_gains, inverse_source, inverse_gain_lem}
+use Rattle.stages.specs.GainTable.{inverse_gains, inverse_source}
+use Rattle.stages.proofs.GainLaws.{inverse_gain_lem}
 use Rattle.stages.specs.Rule as Rule
 use Rattle.stages.specs.Rule.{Bound, times_gain, own_lift, apart, input_part}
-use Rattle.stages.specs.ValueLaws.{weighed}
-use Rattle.stages.specs.RuleLaws.{times_gain_one, up_grows, times_grows, own_at, error_sum, AtMost}
+use Rattle.stages.proofs.ValueLaws.{weighed}
+use Rattle.stages.proofs.RuleLaws.{times_gain_one, up_grows, times_grows, own_at, error_sum, AtMost}
 use Rattle.view_precision.specs.Bounds.{larger, bound_after, even, odd, inverse_bound, pass_gives}
 
 -- the gains to U1 and P1

@@ -12,13 +12,14 @@ use Rattle.width_table.specs.Nodes.{Node, P1, U1, P2, U2, G1, G2}
 use Rattle.width_table.specs.Table.{max_product_bits}
 use Rattle.stages.specs.Stages.{Side, low, high, stage, inverse, uncut, cut_to, bits}
 use Rattle.stages.specs.Gains.{lows, highs, node, gain}
-use Rattle.stages.specs.GainTable.{inverse_gains, inverse_gain_lem}
+use Rattle.stages.specs.GainTable.{inverse_gains}
+use Rattle.stages.proofs.GainLaws.{inverse_gain_lem}
 use Rattle.stages.specs.Rule as Rule
 use Rattle.stages.specs.Rule.{Bound, apart, times_gain, own_lift, own_scale, input_part}
-use Rattle.stages.specs.ProductLaws.{own_wide}
-use Rattle.stages.specs.ValueLaws.{weighed}
-use Rattle.stages.specs.RuleLaws as RuleLaws
-use Rattle.stages.specs.RuleLaws.{times_gain_zero, times_gain_none, weighed_ext, error_sum, bound_start, bound_kept}
+use Rattle.stages.proofs.ProductLaws.{own_wide}
+use Rattle.stages.proofs.ValueLaws.{weighed}
+use Rattle.stages.proofs.RuleLaws as RuleLaws
+use Rattle.stages.proofs.RuleLaws.{times_gain_zero, times_gain_none, weighed_ext, error_sum, bound_start, bound_kept}
 use Rattle.view_precision.specs.Bounds.{larger, bound_after, even, odd, inverse_bound, within_max, pass_right}
 use Rattle.view_precision.specs.Odd.{own_odd, odd_differs}
 use Rattle.view_precision.specs.Places.{stages, sources, scalings, even_stage, node_after, gain_at, bound_from, node_from, total, total_from, inverse_own_error, own_at, owns_below}

@@ -7,7 +7,7 @@ use Rattle.width_table.specs.Table.{max_levels, max_integer_bits}
 use Rattle.stages.specs.Stages.{inverse, uncut}
 use Rattle.stages.specs.GainTable.{inverse_gains}
 use Rattle.stages.specs.Rule.{Bound, apart, times_gain, own_lift, own_scale}
-use Rattle.stages.specs.RuleLaws as RuleLaws
+use Rattle.stages.proofs.RuleLaws as RuleLaws
 use Rattle.view_precision.specs.Bounds.{larger, pass_bound, pass_right, level_gives}
 use Rattle.view_precision.specs.Odd.{own_odd}
 use Rattle.bounds_rule.specs.Carried.{gain_in, carried_to}

@@ -9,7 +9,7 @@ use Rattle.lines.specs.Planes.{Plane, columns, rows}
 use Rattle.exact.specs.Fractions.{Frac}
 use Rattle.exact.specs.Inverse.{exact_inverse_pass}
 use Rattle.stages.specs.Rule.{Bound}
-use Rattle.stages.specs.Sound.{Good}
+use Rattle.stages.proofs.Sound.{Good}
 use Rattle.width_table.specs.Nodes.{G1, G2, Pass, Rows, LowColumns, HighColumns, column_pass}
 use Rattle.width_table.specs.declared.WidthTable.{WidthTable}
 use Rattle.width_table.specs.Table.{fraction_bits}

@@ -22,10 +22,10 @@ use Rattle.stages.specs.Fixed.{fixed_value, nearest, cut, cut_product, step}
 use Rattle.stages.specs.OnLine.{count, exact_after, fixed_made, fixed_after}
 use Rattle.stages.specs.Rule as Rule
 use Rattle.stages.specs.Rule.{Bound, loss, own_scale, Entering, apart, input_part, range_at, own_error_of, stages_part, owns, error_at}
-use Rattle.stages.specs.RuleLaws.{loss_none}
-use Rattle.stages.specs.ValueLaws.{enters, made_cong}
-use Rattle.stages.specs.Sound.{Good, good_≈, good}
-use Rattle.stages.specs.Single.{single_good, good_most}
+use Rattle.stages.proofs.RuleLaws.{loss_none}
+use Rattle.stages.proofs.ValueLaws.{enters, made_cong}
+use Rattle.stages.proofs.Sound.{Good, good_≈, good}
+use Rattle.stages.proofs.Single.{single_good, good_most}
 use Rattle.width_table.specs.Nodes.{Node, P1, U1, P2, U2, G1, G2}
 use Rattle.inverse_lifting.specs.Fixed.{node_bits, inverse_bits, inverse_step, at_g1, at_g2, at_u2, at_p2, at_u1, at_p1, fixed_inverse_long, fixed_inverse, Small, limit}
 use Rattle.view_precision.specs.Bounds.{larger, bound_after, even, odd, inverse_bound, pass_gives, within_max, pass_right}

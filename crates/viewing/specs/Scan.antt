@@ -13,9 +13,9 @@ use Rattle.lines.specs.PlaneLaws.{Agree}
 use Rattle.exact.specs.Fractions.{◌⊕◌, neg}
 use Rattle.exact.specs.FracLaws.{≈-refl, ⊕-cong, neg_cong, within_≈, within_most}
 use Rattle.exact.specs.Picture.{exact_sample, exact_plane}
-use Rattle.exact.specs.InverseLaws.{picture_left_inverse}
+use Rattle.exact.proofs.InverseLaws.{picture_left_inverse}
 use Rattle.stages.specs.Fixed.{fixed_value}
-use Rattle.stages.specs.Sound.{good_≈}
+use Rattle.stages.proofs.Sound.{good_≈}
 use Rattle.width_table.specs.declared.WidthTable.{WidthTable}
 use Rattle.width_table.specs.Limits.{form_levels}
 use Rattle.inverse_lifting.specs.Fixed.{node_bits}

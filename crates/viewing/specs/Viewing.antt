@@ -18,7 +18,7 @@ use Rattle.exact.specs.FracLaws.{≈-sym, ⊕-neg, within_≈, within_zero}
 use Rattle.exact.specs.Inverse.{exact_inverse_pass, exact_inverse}
 use Rattle.stages.specs.Fixed.{fixed_value}
 use Rattle.stages.specs.Rule.{Bound}
-use Rattle.stages.specs.Sound.{Q, Good}
+use Rattle.stages.proofs.Sound.{Q, Good}
 use Rattle.width_table.specs.Nodes.{G1, Pass, Rows, LowColumns, HighColumns, TableNode, column_pass}
 use Rattle.width_table.specs.declared.WidthTable.{WidthTable}
 use Rattle.width_table.specs.Table.{integer_bits, fraction_bits, form_right}

@@ -17,7 +17,7 @@ use Rattle.stages.specs.Stages.{made, bits}
 use Rattle.stages.specs.Gains.{gain, exact_gain, sum_from, sum_to, input_answer, node_answer, values_after}
 use Rattle.stages.specs.Rule as Rule
 use Rattle.stages.specs.Rule.{Bound}
-use Rattle.stages.specs.RuleLaws.{AtMost}
+use Rattle.stages.proofs.RuleLaws.{AtMost}
 use Rattle.width_table.specs.Nodes.{column_pass, last_node}
 use Rattle.width_table.specs.Limits.{form_depth, form_levels}
 use Rattle.width_table.specs.declared.WidthTable.{WidthTable}

@@ -1,6 +1,6 @@
 use mathlib.Core.Path.{◌∙◌, sym}
 use native.Mathlib.Omega.{arith}
-use Rattle.stages.specs.RuleLaws.{loss_below, loss_none}
+use Rattle.stages.proofs.RuleLaws.{loss_below, loss_none}
 use Rattle.bounds_rule.specs.CarriedLaws.{loss_most}
 use Rattle.bounds_rule.proofs.loss_of.Goals as goal
 

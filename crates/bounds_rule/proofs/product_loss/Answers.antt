@@ -1,6 +1,6 @@
 use mathlib.Core.Path.{◌∙◌, sym}
 use native.Mathlib.Omega.{arith}
-use Rattle.stages.specs.ProductLaws.{loss_narrow, loss_wide}
+use Rattle.stages.proofs.ProductLaws.{loss_narrow, loss_wide}
 use Rattle.bounds_rule.proofs.product_loss.Goals as goal
 
 pub returns-then-width-full : goal.returns-then-width-full

@@ -16,7 +16,7 @@ use Rattle.stages.specs.Stages.{Side, low, high, Kind, lifts, scales, Stage, sta
 use Rattle.stages.specs.OnLine.{other, before_in, after_in, count}
 use Rattle.stages.specs.Gains.{Line, before, after, values_after, samples, exact_gain}
 use Rattle.stages.specs.Rule.{Bound, Entering, input_part}
-use Rattle.stages.specs.ValueLaws.{enters, made_cong, held_within, held_weighs, nodes_part}
+use Rattle.stages.proofs.ValueLaws.{enters, made_cong, held_within, held_weighs, nodes_part}
 use Rattle.stages.specs.Linear.{Weighs, weighs_≈}
 
 -- a and b are x and y, in either order

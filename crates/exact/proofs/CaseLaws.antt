@@ -5,12 +5,12 @@ use Rattle.lines.specs.Lines.{lows, highs, Liftable}
 use Rattle.lines.specs.LineLaws.{first_low_lem, first_high, even_place_lem, odd_place, by_parity, by_half}
 use Rattle.lines.specs.OneLaws.{one_long}
 use Rattle.lines.specs.Cases.{Reduced}
-use Rattle.lines.specs.CaseLaws.{highs_are_lem, lows_are_lem}
+use Rattle.lines.proofs.CaseLaws.{highs_are_lem, lows_are_lem}
 use Rattle.exact.specs.Fractions.{Frac, ◌≈◌, ◌⊕◌, ◌⊗◌, whole}
 use Rattle.exact.specs.FracLaws.{≈-refl, ≈-sym, ≈-trans, ⊕-cong, ⊗-cong, neg_cong}
 use Rattle.exact.specs.Exact.{alpha, beta, gamma, delta, zeta, zeta_inverse, lift, low₀, high₀, p1, u1, p2, u2, g1, g2, exact_long, exact_pass}
 use Rattle.exact.specs.Inverse.{inverse_lift, un_g1, un_g2, un_u2, un_p2, un_u1, un_p1, exact_inverse_long, exact_inverse_pass}
-use Rattle.exact.specs.InverseLaws.{same_≈, is, lift_cong, inverse_lift_cong, Likewise}
+use Rattle.exact.proofs.InverseLaws.{same_≈, is, lift_cong, inverse_lift_cong, Likewise}
 use Rattle.exact.specs.Cases.{twice, lift_end, inverse_lift_end, p1_by_cases, u1_by_cases, p2_by_cases, u2_by_cases, pass_by_cases, un_u2_by_cases, un_p2_by_cases, un_u1_by_cases, un_p1_by_cases, inverse_by_cases}
 
 -- ---- the reduced equations

@@ -4,8 +4,8 @@ use Rattle.exact.specs.Fractions.{Frac}
 use Rattle.exact.specs.FracLaws.{within_≈, within_⊕, within_most, through}
 use Rattle.stages.specs.Rule.{Bound, single_error}
 use Rattle.stages.specs.Fixed.{fixed_value, cut}
-use Rattle.stages.specs.Own.{cut_within}
-use Rattle.stages.specs.Sound.{Good}
+use Rattle.stages.proofs.Own.{cut_within}
+use Rattle.stages.proofs.Sound.{Good}
 
 pub single_good : (fi : ℕ) (b : Bound) (f : ℕ) (v : ℤ) (x : Frac) → f ≤ 32 → Good b fi v x → Good (record { range = b.range; error = single_error fi b f }) f (cut fi f v) x
 single_good fi b f v x small g = record {

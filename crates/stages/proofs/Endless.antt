@@ -13,7 +13,7 @@ use Rattle.exact.specs.FracLaws.{≈-refl, ≈-trans, ⊕-cong, ⊕-zero-r}
 use Rattle.stages.specs.Stages.{Side, low, high, Stage, stage, made, worked}
 use Rattle.stages.specs.Gains.{Line, before, after, values_after, sum_to, Source, samples, lows, highs, node, input_answer, node_answer, sum_from, exact_gain, gain}
 use Rattle.stages.specs.Linear.{linear_none}
-use Rattle.stages.specs.ValueLaws.{input_linear, node_linear}
+use Rattle.stages.proofs.ValueLaws.{input_linear, node_linear}
 
 -- ---- a sum of magnitudes, and zeros
 

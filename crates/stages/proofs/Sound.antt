@@ -16,10 +16,10 @@ use Rattle.stages.specs.Rule.{Bound, Entering, range_at, own_error_of, error_at,
 use Rattle.stages.specs.Fixed.{fixed_value}
 use Rattle.stages.specs.Gains.{samples, exact_gain}
 use Rattle.stages.specs.Linear.{Weighs}
-use Rattle.stages.specs.ValueLaws.{enters}
-use Rattle.stages.specs.SymmetricExtension.{Stages, line_within, line_weighs}
-use Rattle.stages.specs.Own.{lift_own, scale_own}
-use Rattle.stages.specs.RuleLaws.{own_at, nothing_brings, error_sum}
+use Rattle.stages.proofs.ValueLaws.{enters}
+use Rattle.stages.proofs.SymmetricExtension.{Stages, line_within, line_weighs}
+use Rattle.stages.proofs.Own.{lift_own, scale_own}
+use Rattle.stages.proofs.RuleLaws.{own_at, nothing_brings, error_sum}
 
 abbrev pub Q : ℕ
 Q = 2 ^ 32

@@ -8,7 +8,7 @@ use Rattle.lines.specs.Neighbours.{low_after_in, high_before_in, high_after_in}
 use Rattle.lines.specs.Planes.{Plane, level_columns_first, levels}
 use Rattle.lines.specs.InverseLaws.{Equivalence, Inverses, InversesPart, rows_first_inverses, levels_left_inverse, levels_right_inverse}
 use Rattle.lines.specs.OneLaws.{one_inverses}
-use Rattle.lines.specs.CaseLaws.{Congruence}
+use Rattle.lines.proofs.CaseLaws.{Congruence}
 use Rattle.exact.specs.Fractions.{Frac, ◌≈◌, ◌⊕◌, ◌⊗◌, neg, whole, zero_f, one_f}
 use Rattle.exact.specs.FracLaws.{≈-refl, ≈-sym, ≈-trans, ⊕-cong, ⊗-cong, ⊕-swap, ⊕-neg, neg_cong, ⊕-zero-l, ⊕-zero-r, ⊗-assoc, ⊗-one-l, plus_back}
 use Rattle.exact.specs.Exact.{alpha, beta, gamma, delta, zeta, zeta_inverse, lift, low₀, high₀, p1, u1, p2, u2, g1, g2, exact_long, exact_pass}

@@ -14,8 +14,8 @@ use Rattle.stages.specs.Stages.{Side, low, high, Kind, lifts, scales, Stage, sta
 use Rattle.stages.specs.OnLine.{other}
 use Rattle.stages.specs.Gains.{Line, before, after, values_after, nothing, unit, feed, only, sum_to, Source, samples, lows, highs, node, input_answer, node_answer, sum_from, exact_gain, gain}
 use Rattle.stages.specs.Rule.{Bound, times_gain, loss, own_lift, own_scale, Entering, together, apart, carried, input_part, range_at, own_error_of, stages_part, owns, error_at, side_bound}
-use Rattle.stages.specs.ValueLaws.{enters, weighed, nodes_part, node_later}
-use Rattle.stages.specs.Endless.{magnitude_zero, endless_gain, wholes_≈}
+use Rattle.stages.proofs.ValueLaws.{enters, weighed, nodes_part, node_later}
+use Rattle.stages.proofs.Endless.{magnitude_zero, endless_gain, wholes_≈}
 
 -- ---- products by a gain
 

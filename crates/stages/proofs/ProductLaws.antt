@@ -9,7 +9,7 @@ use Rattle.numbers.specs.Ceiling.{up_div, up_div_most, up_exact}
 use Rattle.stages.specs.Stages.{uncut, cut_to}
 use Rattle.stages.specs.Fixed.{nearest, cut, cut_product, step}
 use Rattle.stages.specs.Rule.{loss, product_loss, own_lift}
-use Rattle.stages.specs.Own.{cut_whole, pow_split}
+use Rattle.stages.proofs.Own.{cut_whole, pow_split}
 
 pub own_uncut : (F fm fo f r : ℕ) → own_lift uncut F fm fo f r ≡ up_div r (2 ^ F) + loss f (max fo (F + fm))
 unfolding own_lift product_loss

@@ -10,10 +10,11 @@ use Rattle.std.proofs.Common.{lit≤, pow_mono}
 use Rattle.std.proofs.Math.ListN.{get_or}
 use Rattle.stages.specs.Stages.{low, stage, forward, Product, product_bits, bits}
 use Rattle.stages.specs.Gains.{node, gain}
-use Rattle.stages.specs.GainTable.{forward_gains, forward_gain_lem}
+use Rattle.stages.specs.GainTable.{forward_gains}
+use Rattle.stages.proofs.GainLaws.{forward_gain_lem}
 use Rattle.stages.specs.Rule.{Bound, together, times_gain, input_part, loss, single_error, own_lift, own_scale, range_at, own_error_of, error_at}
-use Rattle.stages.specs.ValueLaws.{weighed}
-use Rattle.stages.specs.RuleLaws.{times_least, loss_below, loss_none, weighed_ext, own_at, error_sum}
+use Rattle.stages.proofs.ValueLaws.{weighed}
+use Rattle.stages.proofs.RuleLaws.{times_least, loss_below, loss_none, weighed_ext, own_at, error_sum}
 
 -- 2^-f is lost in G1, or more of it in U2, or in U1
 losses : (f fi u1 u2 m1 m2 F : ℕ) → f < fi → 2 ^ (32 - f) ≤ loss u1 (max fi m1) + loss u2 (max u1 m2) + loss f (F + u2)

@@ -18,7 +18,7 @@ later_low-requires c =
 
 pub second_given-requires : goal.second_given-requires
 second_given-requires c =
-    let low_again : at c.later_low.new.out ≡ later_kept c.args.columns.table c.args.w c.args.before (moved c.args.w 5 0 (at c.args.held.now)) =
+    let low_again : at c.later_low.new.held ≡ later_kept c.args.columns.table c.args.w c.args.before (moved c.args.w 5 0 (at c.args.held.now)) =
         let a = c.args in
             c.later_low.ensures.held ∙ ap (later_kept a.columns.table a.w a.before) c.move_line.ensures in
     let a = c.args in
@@ -27,7 +27,7 @@ second_given-requires c =
 
 pub returns : goal.returns
 returns c =
-    let low_again : at c.later_low.new.out ≡ later_kept c.args.columns.table c.args.w c.args.before (moved c.args.w 5 0 (at c.args.held.now)) =
+    let low_again : at c.later_low.new.held ≡ later_kept c.args.columns.table c.args.w c.args.before (moved c.args.w 5 0 (at c.args.held.now)) =
         let a = c.args in
             c.later_low.ensures.held ∙ ap (later_kept a.columns.table a.w a.before) c.move_line.ensures in
     let a = c.args in

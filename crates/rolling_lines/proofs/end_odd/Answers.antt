@@ -29,7 +29,7 @@ pub last_given-requires : goal.last_given-requires
 last_given-requires c =
     let u1-there : at c.stage_line.new.held ≡ set_u1 c.args.columns.table c.args.w 0 2 2 (at c.args.held.now) =
         U1-done c.args.columns c.requires.1 c.args.w 0 2 2 (at c.args.held.now) _ refl _ c.stage_line.ensures in
-    let second-there : at c.second_given.new.out ≡ odd_done c.args.columns.table c.args.w c.args.before (at c.args.held.now) =
+    let second-there : at c.second_given.new.held ≡ odd_done c.args.columns.table c.args.w c.args.before (at c.args.held.now) =
         let a = c.args in
             c.second_given.ensures.held ∙ ap (second_done a.columns.table a.w 0 a.before) u1-there in
     let a = c.args in
@@ -40,7 +40,7 @@ pub returns : goal.returns
 returns c =
     let u1-there : at c.stage_line.new.held ≡ set_u1 c.args.columns.table c.args.w 0 2 2 (at c.args.held.now) =
         U1-done c.args.columns c.requires.1 c.args.w 0 2 2 (at c.args.held.now) _ refl _ c.stage_line.ensures in
-    let second-there : at c.second_given.new.out ≡ odd_done c.args.columns.table c.args.w c.args.before (at c.args.held.now) =
+    let second-there : at c.second_given.new.held ≡ odd_done c.args.columns.table c.args.w c.args.before (at c.args.held.now) =
         let a = c.args in
             c.second_given.ensures.held ∙ ap (second_done a.columns.table a.w 0 a.before) u1-there in
     let a = c.args in

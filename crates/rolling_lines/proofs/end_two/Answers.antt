@@ -18,7 +18,7 @@ first_low-requires c =
 
 pub second_given-requires : goal.second_given-requires
 second_given-requires c =
-    let low_again : at c.first_low.new.1.0 ≡ first_kept c.args.w (first_done c.args.columns.table c.args.w 6 (moved c.args.w 5 0 (at c.args.held.now))) =
+    let low_again : at c.first_low.new.held ≡ first_kept c.args.w (first_done c.args.columns.table c.args.w 6 (moved c.args.w 5 0 (at c.args.held.now))) =
         let a = c.args in
             c.first_low.ensures ∙ ap (λ (m : ℕ → ℤ). first_kept a.w (first_done a.columns.table a.w 6 m)) c.move_line.ensures in
     let a = c.args in
@@ -27,7 +27,7 @@ second_given-requires c =
 
 pub returns : goal.returns
 returns c =
-    let low_again : at c.first_low.new.1.0 ≡ first_kept c.args.w (first_done c.args.columns.table c.args.w 6 (moved c.args.w 5 0 (at c.args.held.now))) =
+    let low_again : at c.first_low.new.held ≡ first_kept c.args.w (first_done c.args.columns.table c.args.w 6 (moved c.args.w 5 0 (at c.args.held.now))) =
         let a = c.args in
             c.first_low.ensures ∙ ap (λ (m : ℕ → ℤ). first_kept a.w (first_done a.columns.table a.w 6 m)) c.move_line.ensures in
     let a = c.args in

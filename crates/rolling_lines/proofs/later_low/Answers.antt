@@ -18,7 +18,7 @@ second_given-requires c =
 
 pub returns : goal.returns
 returns c =
-    let stages-done : at c.second_given.new.out ≡ later_done c.args.columns.table c.args.w c.args.before (at c.args.held.now) =
+    let stages-done : at c.second_given.new.held ≡ later_done c.args.columns.table c.args.w c.args.before (at c.args.held.now) =
         let a = c.args in
             c.second_given.ensures.held ∙ ap (second_done a.columns.table a.w 0 a.before) c.first_stages.ensures in
     let a = c.args in record {

@@ -2,10 +2,11 @@
 use mathlib.Core.Path.{◌≡◌, refl, ◌∙◌}
 use Prim.Native.Nat.{◌+◌, ◌-◌, ◌*◌, ◌≤◌}
 use native.Mathlib.Omega.{arith}
-use borrow.Author.Rules.{sfits_of}
+use borrow.Author.Rules.{rules}
 use lib.IntN.{pos}
 use lib.ListN.{length, length-set}
 use mir.Facts.{to_z-of_z}
+use mir.Syntax.{w32}
 use Rattle.slices.specs.Patch.{at, patch, patch_none, patch_set, patch_to}
 use Rattle.slices.specs.Runs.{side_as_was}
 use Rattle.rolling_lines.specs.Memory.{set_line, in_lent, lines_apart}
@@ -19,7 +20,7 @@ loop-j-preserved c =
       omega arith,
       simp length-set t.invariant.1,
       patch_set (a.to * a.w) t.j (λ i. at a.held.now (a.from * a.w + i)) (at a.held.now) t.held (pos 0) t.invariant.2 (omega (arith, t.invariant.1, in_lent lent a.to apart.one)) _
-          (to_z-of_z (sfits_of c.v-1.given) ∙ side_as_was (a.to * a.w) t.j _ _ _ t.invariant.2 (a.from * a.w) a.w (λ i j p q e. lines_apart a.w a.to a.from apart.apart i j p q e) (omega arith)),
+          (to_z-of_z {w = w32} (search rules) ∙ side_as_was (a.to * a.w) t.j _ _ _ t.invariant.2 (a.from * a.w) a.w (λ i j p q e. lines_apart a.w a.to a.from apart.apart i j p q e) (omega arith)),
     )
 
 pub returns : goal.returns

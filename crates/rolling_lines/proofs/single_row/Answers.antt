@@ -46,4 +46,4 @@ pub middle-middle-requires : goal.middle-middle-requires
 middle-middle-requires c = form_depth c.args.table (promise c.args.table c.requires.0.accepted).form
 
 pub shape_of-held : goal.shape_of-held
-shape_of-held c = c.scale_here.auto.0 ∙ simp length-set refl
+shape_of-held c = c.scale_here.auto.buf ∙ simp length-set refl

@@ -2,7 +2,6 @@
 use Prim.Native.Nat.{◌*◌}
 use mathlib.Core.Path.{refl, sym, subst}
 use mathlib.Core.List.{List}
-use borrow.Author.Rules.{rules}
 use lib.IntN.{ℤ}
 use Rattle.rolling_lines.specs.LentLines.{held_lines, held_in, Sound, KeptFrom}
 use Rattle.rolling_lines.specs.SoundLaws.{low_unsound, high_unsound, both_sound, zeros_sound, past_zeros}

@@ -1,21 +1,18 @@
 -- `rolling_lines::row_to` meets its contract.
 use mathlib.Core.Path.{◌≡◌, sym, ◌∙◌, ap, subst}
-use Prim.Native.Nat.{ℕ, ◌+◌, ◌*◌, ◌≤◌}
+use Prim.Native.Nat.{ℕ, ◌*◌}
 use native.Mathlib.Omega.{arith}
-use borrow.Author.Rules.{rules}
 use lib.IntN.{ℤ}
-use lib.ListN.{length}
 use Rattle.width_table.specs.Limits.{form_depth}
 use Rattle.width_table.specs.Nodes.{Rows}
 use Rattle.lifting.specs.declared.Kernel.{Kernel}
 use Rattle.lifting.specs.declared.Kernel.TheVariants.{Two}
 use Rattle.slices.specs.Patch.{at, patch}
-use Rattle.lifting.specs.Kernels.{worked, SameKernel}
+use Rattle.lifting.specs.Kernels.{worked}
 use Rattle.slices.specs.Pixels.{pixel_line}
 use Rattle.pictures.specs.Pictures.{sample}
 use Rattle.precision.specs.Promise.{promise}
 use Rattle.fixed_stages.specs.declared.Stages.{Stages}
-use Rattle.fixed_stages.specs.Kernels.{kernel_of}
 use Rattle.fixed_stages.specs.KernelLaws.{kernel_line, stages_kernel}
 use Rattle.rolling_lines.specs.Memory.{set_line, Lent, in_lent}
 use Rattle.rolling_lines.specs.Rows.{LineRight, row_of, pixels_sampled}
@@ -67,7 +64,4 @@ pub middle-middle-requires : goal.middle-middle-requires
 middle-middle-requires c = form_depth c.args.table (promise c.args.table c.requires.0.accepted).form
 
 pub overflow_mul-line : goal.overflow_mul-line
-overflow_mul-line c =
-    let line_in_lem : c.args.line * c.args.w + c.args.w ≤ length c.args.held.now =
-        in_lent c.requires.1 c.args.line c.requires.2 in
-    omega (arith, line_in_lem)
+overflow_mul-line c = omega (arith, in_lent c.requires.1 c.args.line c.requires.2)

@@ -7,7 +7,6 @@ use Rattle.precision.specs.Verdict.{verdict}
 use Rattle.width_table.specs.Limits.{form_depth}
 use Rattle.precision.specs.Promise.{promise}
 use Rattle.irreversible.specs.Calls.{fixed_answer_of}
-use borrow.Author.Rules.{rules}
 use Rattle.irreversible.proofs.answer.Goals as goal
 
 pub pixels_right-requires : goal.pixels_right-requires

@@ -1,6 +1,5 @@
 use mathlib.Core.Path.{◌∙◌}
 use native.Mathlib.Omega.{arith}
-use borrow.Author.Rules.{rules}
 use Rattle.width_table.specs.Numbered.{pass_of}
 use Rattle.slices.specs.Patch.{at}
 use Rattle.slices.specs.PatchLines.{line_at, patch_lines}
@@ -29,15 +28,15 @@ single_of-single-requires c = (c.requires.0.is_level, c.requires.1)
 
 pub scale_part-requires : goal.scale_part-requires
 scale_part-requires c = record {
-      part = c.requires.0.part;
-      by_index = λ r j i k. c.single_of-single.ensures.safe _ ((c.requires.0.safe j k).single (omega arith) r i);
-    }
+  part = c.requires.0.part;
+  by_index = λ r j i k. c.single_of-single.ensures.safe _ ((c.requires.0.safe j k).single (omega arith) r i);
+}
 
 pub kernel_of-requires : goal.kernel_of-requires
 kernel_of-requires c = (c.requires.0.is_level, c.requires.1)
 
 pub columns-requires : goal.columns-requires
 columns-requires c = record {
-      part = (c.requires.0.part, record { least = omega arith }, c.requires.0.down);
-      by_index = (λ j i. c.kernel_of.ensures.safe _ _ ((c.requires.0.safe j i).long (record { least = omega arith })));
-    }
+  part = (c.requires.0.part, record { least = omega arith }, c.requires.0.down);
+  by_index = (λ j i. c.kernel_of.ensures.safe _ _ ((c.requires.0.safe j i).long (record { least = omega arith })));
+}

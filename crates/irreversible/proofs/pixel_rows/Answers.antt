@@ -4,8 +4,9 @@ use Prim.Native.Nat.{ℕ, ◌*◌, ◌-◌, ◌^◌, ◌≤◌}
 use native.Mathlib.Omega.{arith}
 use native.Mathlib.Nat.{mul-le-mul}
 use lib.IntN.{ℤ}
+use mathlib.Core.List.{List}
 use Rattle.width_table.specs.Nodes.{Rows}
-use Rattle.slices.specs.Patch.{at}
+use Rattle.slices.specs.Patch.{at, patch}
 use Rattle.slices.specs.PatchLines.{line_at, patch_lines}
 use Rattle.slices.specs.Runs.{as_type}
 use Rattle.lifting.specs.Kernels.{worked, SafeKernel}
@@ -21,31 +22,26 @@ use Rattle.irreversible.specs.Memory.{rowed}
 use Rattle.irreversible.specs.CallSteps.{first_ready, part_of}
 use Rattle.irreversible.proofs.pixel_rows.Goals as goal
 
--- what the plane would hold with the pixels in it
-abbrev x : goal.Start → ℕ → ℤ
-x s = loaded s.args.pixels.now (2 ^ (s.args.table.depth - 1)) s.args.w s.args.h (at s.args.plane.now)
+-- pixels as they are: the plane that holds them
+put : (pixels : List ℕ) (w h : ℕ) (plane new : List ℤ) {middle : ℕ} (m : ℕ) → at new ≡ patch 0 (w * h) (pixel_line pixels m 0) (at plane) → m ≡ middle → at new ≡ loaded pixels middle w h (at plane)
+put pixels w h plane new m e is = e ∙ put_loaded pixels m w h (at plane) ∙ (λ u. loaded pixels (is u) w h (at plane))
 
 pub work_rows-requires : goal.work_rows-requires
 work_rows-requires c =
-    let put : at c.put_pixels.new.1.1.0 ≡ x c =
-        let a = c.args in
-            c.put_pixels.ensures ∙ put_loaded a.pixels.now c.middle-middle.result a.w a.h (at a.plane.now) ∙ (λ u. loaded a.pixels.now (c.middle-middle.ensures u) a.w a.h (at a.plane.now)) in
     let a = c.args in
     let f = first_ready c.requires in
+    let held = put a.pixels.now a.w a.h a.plane.now c.put_pixels.new.plane c.middle-middle.result c.put_pixels.ensures c.middle-middle.ensures in
     record {
       is_level = f.is_level;
       part = part_of f.part _ (omega arith) 0 a.w (omega arith);
       across = f.across;
-      safe = λ r i. as_type (λ u. LineSafe a.table 1 Rows a.w (row_of a.w 0 (sym put u) r)) (f.safe.on_rows r i);
+      safe = λ r i. as_type (λ u. LineSafe a.table 1 Rows a.w (row_of a.w 0 (sym held u) r)) (f.safe.on_rows r i);
     }
 
 pub returns-then-w-lt2 : goal.returns-then-w-lt2
 returns-then-w-lt2 c =
-    let put : at c.put_pixels.new.1.1.0 ≡ x c =
-        let a = c.args in
-            c.put_pixels.ensures ∙ put_loaded a.pixels.now c.middle-middle.result a.w a.h (at a.plane.now) ∙ (λ u. loaded a.pixels.now (c.middle-middle.ensures u) a.w a.h (at a.plane.now)) in
     let a = c.args in
-    c.work_rows.ensures ∙ ap (rowed a.table 1 a.w a.w a.h) put
+    c.work_rows.ensures ∙ ap (rowed a.table 1 a.w a.w a.h) (put a.pixels.now a.w a.h a.plane.now c.put_pixels.new.plane c.middle-middle.result c.put_pixels.ensures c.middle-middle.ensures)
 
 pub pixel_rows-requires : goal.pixel_rows-requires
 unfolding kernel_of
@@ -59,11 +55,12 @@ pixel_rows-requires c =
 pub returns : goal.returns
 returns c =
     let a = c.args in
+    let x = loaded a.pixels.now (2 ^ (a.table.depth - 1)) a.w a.h (at a.plane.now) in
     let q = kernel_line a.table 1 Rows a.w c.kernel_of-kernel.ensures (record { least = omega arith }) in
     c.pixel_rows.ensures.plane
     ∙ (λ u. patch_lines (line_at 0 a.w) a.w a.h (λ r. worked c.kernel_of-kernel.result a.w (pixel_line a.pixels.now (c.middle-middle.ensures u) (r * a.w))) (at a.plane.now))
     ∙ pixel_rows_worked c.kernel_of-kernel.result a.pixels.now (2 ^ (a.table.depth - 1)) a.w a.h (at a.plane.now) c.requires.picture.width.0 (record { least = omega arith })
-    ∙ (λ u. patch_lines (line_at 0 a.w) a.w a.h (λ r. q u (row_of a.w 0 (x c) r)) (x c))
+    ∙ (λ u. patch_lines (line_at 0 a.w) a.w a.h (λ r. q u (row_of a.w 0 x r)) x)
 
 pub middle-middle-requires : goal.middle-middle-requires
 middle-middle-requires c = form_depth c.args.table (promise c.args.table c.requires.accepted).form
@@ -71,7 +68,7 @@ middle-middle-requires c = form_depth c.args.table (promise c.args.table c.requi
 pub overflow_mul-w : goal.overflow_mul-w
 overflow_mul-w c =
     let size : c.args.w * c.args.h ≤ 16777216 =
-        mul-le-mul c.requires.picture.width.1 c.requires.picture.height.1 in
+    mul-le-mul c.requires.picture.width.1 c.requires.picture.height.1 in
     omega (arith, size)
 
 pub put_pixels-requires : goal.put_pixels-requires

@@ -1,20 +1,9 @@
-use mathlib.Core.Path.{◌≡◌, refl, sym, ap, ◌∙◌}
-use Prim.Native.Nat.{ℕ, ◌-◌, ◌≤◌, ◌^◌}
-use native.Mathlib.Numerals.{add-one}
-use native.Mathlib.Omega.{arith}
+use mathlib.Core.Path.{◌≡◌}
+use Prim.Native.Nat.{◌-◌, ◌≤◌}
 use lib.ListN.{length}
-use Rattle.lines.specs.Lines.{lows}
 use Rattle.lines.specs.Planes.{side}
-use Rattle.lines.specs.PlaneLaws.{side_le}
 use Rattle.slices.specs.Patch.{at}
-use Rattle.slices.specs.Runs.{as_type}
-use Rattle.slices.specs.Pixels.{loaded}
-use Rattle.width_table.specs.Limits.{form_levels}
-use Rattle.precision.specs.Promise.{promise}
-use Rattle.irreversible.specs.Memory.{level_worked, After}
-use Rattle.irreversible.specs.LevelsLaws.{after_none, after_since, after_more, after_all}
-use Rattle.irreversible.specs.Ready.{LevelReady}
-use Rattle.irreversible.specs.CallSteps.{level_ready}
+use Rattle.irreversible.specs.Memory.{After}
 use Rattle.irreversible.proofs.transform.Given as goal
 
 abbrev pub invariant-loop-k : goal.invariant-loop-k

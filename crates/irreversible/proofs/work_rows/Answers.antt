@@ -1,6 +1,5 @@
 use mathlib.Core.Path.{◌∙◌}
 use native.Mathlib.Omega.{arith}
-use borrow.Author.Rules.{rules}
 use Rattle.width_table.specs.Nodes.{Rows}
 use Rattle.slices.specs.Patch.{at}
 use Rattle.slices.specs.PatchLines.{line_at, patch_lines}
@@ -29,15 +28,15 @@ single_of-single-requires c = (c.requires.is_level, (omega arith, omega arith))
 
 pub scale_part-requires : goal.scale_part-requires
 scale_part-requires c = record {
-      part = c.requires.part;
-      by_index = λ r j i k. c.single_of-single.ensures.safe _ ((c.requires.safe r i).single (omega arith) j k);
-    }
+  part = c.requires.part;
+  by_index = λ r j i k. c.single_of-single.ensures.safe _ ((c.requires.safe r i).single (omega arith) j k);
+}
 
 pub kernel_of-requires : goal.kernel_of-requires
 kernel_of-requires c = (c.requires.is_level, (omega arith, omega arith))
 
 pub rows-requires : goal.rows-requires
 rows-requires c = record {
-      part = (c.requires.part, record { least = omega arith }, c.requires.across);
-      by_index = (λ r i. c.kernel_of.ensures.safe _ _ ((c.requires.safe r i).long (record { least = omega arith })));
-    }
+  part = (c.requires.part, record { least = omega arith }, c.requires.across);
+  by_index = (λ r i. c.kernel_of.ensures.safe _ _ ((c.requires.safe r i).long (record { least = omega arith })));
+}

@@ -1,6 +1,5 @@
 -- `rolling::begin` meets its contract.
 use mathlib.Core.Path.{sym, ◌∙◌, ap}
-use borrow.Author.Rules.{rules}
 use Rattle.refusals.specs.Told.{told}
 use Rattle.rolling.specs.AnswerLaws.{scan_begun_lem, scan_refused}
 use Rattle.rolling.proofs.begin.Goals as goal

@@ -1,6 +1,5 @@
 -- `rolling::begin_answer` meets its contract.
 use mathlib.Core.Path.{sym, ◌∙◌}
-use borrow.Author.Rules.{rules}
 use Rattle.rolling.specs.AnswerLaws.{one_level, other_levels}
 use Rattle.rolling.proofs.begin_answer.Goals as goal
 

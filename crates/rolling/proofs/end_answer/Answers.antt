@@ -2,7 +2,6 @@
 use mathlib.Core.Bool.{true}
 use mathlib.Core.Path.{◌≡◌, sym, ◌∙◌}
 use native.Mathlib.Omega.{arith}
-use borrow.Author.Rules.{rules}
 use Rattle.rolling.specs.Calls.{goes_on}
 use Rattle.rolling_lines.specs.Schedule.{any_taken}
 use Rattle.rolling.specs.AnswerLaws.{as_test, on_side, end_ended, end_none, end_held, end_out_lem, end_done}

@@ -1,6 +1,5 @@
 -- `rolling::goes_on` meets its contract: each way out is one test.
 use mathlib.Core.Path.{sym, ◌∙◌, ap}
-use borrow.Author.Rules.{rules}
 use Rattle.refusals.specs.Told.{told}
 use Rattle.rolling.specs.AnswerLaws.{ended_on, width_on, refused_on, goes}
 use Rattle.rolling.proofs.goes_on.Goals as goal

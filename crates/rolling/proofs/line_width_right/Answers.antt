@@ -1,6 +1,5 @@
 -- `rolling::line_width_right` meets its contract: after a line, or before the first.
 use mathlib.Core.Path.{sym, ◌∙◌}
-use borrow.Author.Rules.{rules}
 use Rattle.rolling.specs.AnswerLaws.{width_some, width_none}
 use Rattle.rolling.proofs.line_width_right.Goals as goal
 

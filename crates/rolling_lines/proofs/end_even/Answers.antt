@@ -2,7 +2,6 @@
 use mathlib.Core.Path.{◌≡◌, sym, ◌∙◌, ap, subst}
 use Prim.Native.Nat.{ℕ}
 use native.Mathlib.Omega.{arith}
-use borrow.Author.Rules.{rules}
 use lib.IntN.{ℤ}
 use Rattle.slices.specs.Patch.{at}
 use Rattle.rolling_lines.specs.Memory.{moved}
@@ -18,19 +17,17 @@ later_low-requires c =
 
 pub second_given-requires : goal.second_given-requires
 second_given-requires c =
-    let low_again : at c.later_low.new.out ≡ later_kept c.args.columns.table c.args.w c.args.before (moved c.args.w 5 0 (at c.args.held.now)) =
-        let a = c.args in
-            c.later_low.ensures.held ∙ ap (later_kept a.columns.table a.w a.before) c.move_line.ensures in
     let a = c.args in
+    let low_again : at c.later_low.new.held ≡ later_kept a.columns.table a.w a.before (moved a.w 5 0 (at a.held.now)) =
+        c.later_low.ensures.held ∙ ap (later_kept a.columns.table a.w a.before) c.move_line.ensures in
     let (lent, stages, fits, room, which) = c.requires in
     (record { narrow = lent.narrow; room = omega (arith, lent.room) }, stages, subst (SecondFits a.columns.table a.w 3 4) (sym low_again) (later_last a.columns stages a.w a.before _ (even_later a.columns stages a.w (at a.held.now) fits a.before which)), omega arith, omega (arith, room))
 
 pub returns : goal.returns
 returns c =
-    let low_again : at c.later_low.new.out ≡ later_kept c.args.columns.table c.args.w c.args.before (moved c.args.w 5 0 (at c.args.held.now)) =
-        let a = c.args in
-            c.later_low.ensures.held ∙ ap (later_kept a.columns.table a.w a.before) c.move_line.ensures in
     let a = c.args in
+    let low_again : at c.later_low.new.held ≡ later_kept a.columns.table a.w a.before (moved a.w 5 0 (at a.held.now)) =
+        c.later_low.ensures.held ∙ ap (later_kept a.columns.table a.w a.before) c.move_line.ensures in
     let m = at a.held.now in
     let done = low_again in record {
       held = subst (PastSame a.w m) (sym (c.second_given.ensures.held ∙ ap (second_done a.columns.table a.w 3 4) done))

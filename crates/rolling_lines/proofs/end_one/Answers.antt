@@ -1,7 +1,6 @@
 -- `rolling_lines::end_one` meets its contract.
 use mathlib.Core.Path.{◌∙◌, ap}
 use native.Mathlib.Omega.{arith}
-use borrow.Author.Rules.{rules}
 use Rattle.slices.specs.Patch.{at}
 use Rattle.rolling_lines.specs.Schedule.{Line}
 use Rattle.rolling_lines.specs.Memory.{set_line}

@@ -1,6 +1,5 @@
 -- `rolling_lines::first_low` meets its contract.
 use mathlib.Core.Path.{◌∙◌, ap}
-use borrow.Author.Rules.{rules}
 use Rattle.rolling_lines.specs.Program.{first_kept}
 use Rattle.rolling_lines.proofs.first_low.Goals as goal
 

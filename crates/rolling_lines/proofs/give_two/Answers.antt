@@ -2,7 +2,6 @@
 use mathlib.Core.Path.{◌∙◌, ap}
 use Prim.Native.Nat.{◌+◌}
 use native.Mathlib.Omega.{arith}
-use borrow.Author.Rules.{rules}
 use Rattle.slices.specs.Patch.{at}
 use Rattle.rolling_lines.specs.Schedule.{Line}
 use Rattle.rolling_lines.specs.Memory.{line_in, set_line}

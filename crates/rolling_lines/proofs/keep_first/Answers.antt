@@ -1,7 +1,6 @@
 -- `rolling_lines::keep_first` meets its contract.
 use mathlib.Core.Path.{◌∙◌, ap}
 use Rattle.rolling_lines.specs.Memory.{moved}
-use borrow.Author.Rules.{rules}
 use native.Mathlib.Omega.{arith}
 use Rattle.rolling_lines.proofs.keep_first.Goals as goal
 

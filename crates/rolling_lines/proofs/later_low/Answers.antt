@@ -2,7 +2,6 @@
 use mathlib.Core.Path.{◌≡◌, sym, ◌∙◌, ap, subst}
 use Prim.Native.Nat.{ℕ}
 use native.Mathlib.Omega.{arith}
-use borrow.Author.Rules.{rules}
 use lib.IntN.{ℤ}
 use Rattle.slices.specs.Patch.{at}
 use Rattle.rolling_lines.specs.Memory.{moved}
@@ -18,10 +17,10 @@ second_given-requires c =
 
 pub returns : goal.returns
 returns c =
-    let stages-done : at c.second_given.new.out ≡ later_done c.args.columns.table c.args.w c.args.before (at c.args.held.now) =
-        let a = c.args in
-            c.second_given.ensures.held ∙ ap (second_done a.columns.table a.w 0 a.before) c.first_stages.ensures in
-    let a = c.args in record {
+    let a = c.args in
+    let stages-done : at c.second_given.new.held ≡ later_done a.columns.table a.w a.before (at a.held.now) =
+        c.second_given.ensures.held ∙ ap (second_done a.columns.table a.w 0 a.before) c.first_stages.ensures in
+    record {
       held = c.keep_first.ensures ∙ ap (first_kept a.w) (c.move_line.ensures ∙ ap (moved a.w 4 2) stages-done);
       out = c.second_given.ensures.out ∙ ap (λ (m : ℕ → ℤ). two_given a.columns.table a.w 0 (second_done a.columns.table a.w 0 a.before m) (at a.out.now)) c.first_stages.ensures;
     }

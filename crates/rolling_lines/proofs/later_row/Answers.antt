@@ -18,14 +18,14 @@ pub later_low-requires : goal.later_low-requires
 later_low-requires c =
     let a = c.args in
     let (stages, table) = c.columns_of.ensures in
-    (search rules, stages, subst (λ (t : WidthTable). LaterFits t a.w a.before (at c.low_row.new.1.1.1.0)) (sym table) (later_fits a.table a.w _ c.low_row.ensures.fits c.low_row.ensures.enters a.before c.requires.3), c.requires.2)
+    (search rules, stages, subst (λ (t : WidthTable). LaterFits t a.w a.before (at c.low_row.new.held)) (sym table) (later_fits a.table a.w _ c.low_row.ensures.fits c.low_row.ensures.enters a.before c.requires.3), c.requires.2)
 
 pub returns : goal.returns
 returns c k turn =
     let a = c.args in
     let row = row_of a.table a.pixels.now a.w in
     let ready = c.low_row.ensures in
-    let m = at c.low_row.new.1.1.1.0 in
+    let m = at c.low_row.new.held in
     let some : 1 ≤ a.w = omega (arith, c.requires.0.side.0) in
     let done = c.later_low.ensures.held ∙ ap (λ (t : WidthTable). later_kept t a.w a.before m) c.columns_of.ensures.1 in
     let given = c.later_low.ensures.out ∙ ap (λ (t : WidthTable). two_given t a.w 0 (later_done t a.w a.before m) (at a.out.now)) c.columns_of.ensures.1 in (

@@ -17,12 +17,12 @@ pub returns : goal.returns
 returns c =
     let a = c.args in
     let row = row_of a.table a.pixels.now a.w in
-    let (sound, (kept, past)) = c.make_sound.ensures in
+    let made = c.make_sound.ensures in
     record {
-      past = kept_then (held_lines * a.w) a.held.now _ _ past (kept_from (held_lines * a.w) _ _ (search rules) (λ p i. ap (λ (m : ℕ → ℤ). m p) c.row_to.ensures ∙ past_set a.w 5 row _ (omega arith) p i));
-      fits = subst (HeldFits a.table a.w) (sym c.row_to.ensures) (low_fits a.table a.w row _ (sound_fits a.table a.w _ sound));
+      past = kept_then (held_lines * a.w) a.held.now _ _ made.past (kept_from (held_lines * a.w) _ _ (search rules) (λ p i. ap (λ (m : ℕ → ℤ). m p) c.row_to.ensures ∙ past_set a.w 5 row _ (omega arith) p i));
+      fits = subst (HeldFits a.table a.w) (sym c.row_to.ensures) (low_fits a.table a.w row _ (sound_fits a.table a.w _ made.sound));
       enters = subst (λ (m : ℕ → ℤ). Enters a.table a.w (line_in a.w m 5)) (sym c.row_to.ensures) (low_enters a.table a.w row _ (row_enters a.table a.pixels.now a.w c.requires.0));
-      same = λ whole. c.row_to.ensures ∙ ap (λ (l : List ℤ). set_line a.w 5 row (at l)) (kept whole);
+      same = λ whole. c.row_to.ensures ∙ ap (λ (l : List ℤ). set_line a.w 5 row (at l)) (made.kept whole);
     }
 
 pub make_sound-requires : goal.make_sound-requires

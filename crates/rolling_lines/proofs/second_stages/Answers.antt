@@ -1,7 +1,6 @@
 -- `rolling_lines::second_stages` meets its contract.
 use mathlib.Core.Path.{◌≡◌, refl, sym, subst}
 use native.Mathlib.Omega.{arith}
-use borrow.Author.Rules.{rules}
 use Rattle.slices.specs.Patch.{at}
 use Rattle.rolling_lines.specs.Memory.{SafeStage}
 use Rattle.rolling_lines.specs.Program.{set_p2}

@@ -2,7 +2,7 @@
 use mathlib.Core.Path.{◌≡◌, refl, sym, ◌∙◌, ap, subst}
 use Prim.Native.Nat.{ℕ, ◌+◌, ◌*◌}
 use native.Mathlib.Omega.{arith}
-use borrow.Author.Rules.{rules, sfits_of}
+use borrow.Author.Rules.{sfits_of}
 use lib.IntN.{ℤ, pos}
 use lib.ListN.{length-set}
 use mir.Syntax.{w32}
@@ -46,4 +46,4 @@ pub middle-middle-requires : goal.middle-middle-requires
 middle-middle-requires c = form_depth c.args.table (promise c.args.table c.requires.0.accepted).form
 
 pub shape_of-held : goal.shape_of-held
-shape_of-held c = c.scale_here.auto.0 ∙ simp length-set refl
+shape_of-held c = c.scale_here.auto.buf ∙ simp length-set refl

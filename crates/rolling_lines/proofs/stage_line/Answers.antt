@@ -1,9 +1,7 @@
 -- `rolling_lines::stage_line` meets its contract: the row-low columns, then the row-high ones.
 use mathlib.Core.Path.{sym}
-use Prim.Native.Nat.{◌+◌, ◌*◌, ◌≤◌}
+use Prim.Native.Nat.{◌+◌, ◌*◌}
 use native.Mathlib.Omega.{arith}
-use borrow.Author.Rules.{rules}
-use lib.ListN.{length}
 use Rattle.lines.specs.Lines.{lows}
 use Rattle.lifting.specs.Steps.{Safe}
 use Rattle.slices.specs.Patch.{at}
@@ -13,18 +11,12 @@ use Rattle.rolling_lines.proofs.stage_line.Goals as goal
 
 pub lift_run-requires : goal.lift_run-requires
 lift_run-requires c =
-    let own_in : c.args.own * c.args.w + c.args.w ≤ length c.args.held.now =
-        in_lent c.requires.lent.0 c.args.own c.requires.lent.1.one in
-    let a_in : c.args.a * c.args.w + c.args.w ≤ length c.args.held.now =
-        in_lent c.requires.lent.0 c.args.a c.requires.lent.1.other in
-    let b-in : c.args.b * c.args.w + c.args.w ≤ length c.args.held.now =
-        in_lent c.requires.lent.0 c.args.b c.requires.lent.2.other in
     let a = c.args in
     let m = at a.held.now in record {
       runs = record {
-        own = omega (arith, own_in);
-        left = omega (arith, a_in);
-        right = omega (arith, b-in);
+        own = omega (arith, in_lent c.requires.lent.0 a.own c.requires.lent.1.one);
+        left = omega (arith, in_lent c.requires.lent.0 a.a c.requires.lent.1.other);
+        right = omega (arith, in_lent c.requires.lent.0 a.b c.requires.lent.2.other);
         off_left = λ i j p q e. lines_apart a.w a.own a.a c.requires.lent.1.apart i j (omega arith) (omega arith) e;
         off_right = λ i j p q e. lines_apart a.w a.own a.b c.requires.lent.2.apart i j (omega arith) (omega arith) e;
       };
@@ -33,17 +25,11 @@ lift_run-requires c =
 
 pub lift_run-requires-2 : goal.lift_run-requires-2
 lift_run-requires-2 c =
-    let own_in : c.args.own * c.args.w + c.args.w ≤ length c.args.held.now =
-        in_lent c.requires.lent.0 c.args.own c.requires.lent.1.one in
-    let a_in : c.args.a * c.args.w + c.args.w ≤ length c.args.held.now =
-        in_lent c.requires.lent.0 c.args.a c.requires.lent.1.other in
-    let b-in : c.args.b * c.args.w + c.args.w ≤ length c.args.held.now =
-        in_lent c.requires.lent.0 c.args.b c.requires.lent.2.other in
     let a = c.args in record {
       runs = record {
-        own = omega (arith, own_in);
-        left = omega (arith, a_in);
-        right = omega (arith, b-in);
+        own = omega (arith, in_lent c.requires.lent.0 a.own c.requires.lent.1.one);
+        left = omega (arith, in_lent c.requires.lent.0 a.a c.requires.lent.1.other);
+        right = omega (arith, in_lent c.requires.lent.0 a.b c.requires.lent.2.other);
         off_left = λ i j p q e. lines_apart a.w a.own a.a c.requires.lent.1.apart (lows a.w + i) (lows a.w + j) (omega arith) (omega arith) (omega arith);
         off_right = λ i j p q e. lines_apart a.w a.own a.b c.requires.lent.2.apart (lows a.w + i) (lows a.w + j) (omega arith) (omega arith) (omega arith);
       };
@@ -59,37 +45,19 @@ pub overflow_add-half : goal.overflow_add-half
 overflow_add-half c = omega (arith, c.requires.lent.0.narrow)
 
 pub overflow_mul-t : goal.overflow_mul-t
-overflow_mul-t c =
-    let own_in : c.args.own * c.args.w + c.args.w ≤ length c.args.held.now =
-        in_lent c.requires.lent.0 c.args.own c.requires.lent.1.one in
-    omega (arith, own_in)
+overflow_mul-t c = omega (arith, in_lent c.requires.lent.0 c.args.own c.requires.lent.1.one)
 
 pub overflow_mul-p : goal.overflow_mul-p
-overflow_mul-p c =
-    let a_in : c.args.a * c.args.w + c.args.w ≤ length c.args.held.now =
-        in_lent c.requires.lent.0 c.args.a c.requires.lent.1.other in
-    omega (arith, a_in)
+overflow_mul-p c = omega (arith, in_lent c.requires.lent.0 c.args.a c.requires.lent.1.other)
 
 pub overflow_mul-q : goal.overflow_mul-q
-overflow_mul-q c =
-    let b-in : c.args.b * c.args.w + c.args.w ≤ length c.args.held.now =
-        in_lent c.requires.lent.0 c.args.b c.requires.lent.2.other in
-    omega (arith, b-in)
+overflow_mul-q c = omega (arith, in_lent c.requires.lent.0 c.args.b c.requires.lent.2.other)
 
 pub overflow_add-t : goal.overflow_add-t
-overflow_add-t c =
-    let own_in : c.args.own * c.args.w + c.args.w ≤ length c.args.held.now =
-        in_lent c.requires.lent.0 c.args.own c.requires.lent.1.one in
-    omega (arith, own_in)
+overflow_add-t c = omega (arith, in_lent c.requires.lent.0 c.args.own c.requires.lent.1.one)
 
 pub overflow_add-p : goal.overflow_add-p
-overflow_add-p c =
-    let a_in : c.args.a * c.args.w + c.args.w ≤ length c.args.held.now =
-        in_lent c.requires.lent.0 c.args.a c.requires.lent.1.other in
-    omega (arith, a_in)
+overflow_add-p c = omega (arith, in_lent c.requires.lent.0 c.args.a c.requires.lent.1.other)
 
 pub overflow_add-q : goal.overflow_add-q
-overflow_add-q c =
-    let b-in : c.args.b * c.args.w + c.args.w ≤ length c.args.held.now =
-        in_lent c.requires.lent.0 c.args.b c.requires.lent.2.other in
-    omega (arith, b-in)
+overflow_add-q c = omega (arith, in_lent c.requires.lent.0 c.args.b c.requires.lent.2.other)

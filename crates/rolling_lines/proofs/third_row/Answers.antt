@@ -17,17 +17,17 @@ pub first_low-requires : goal.first_low-requires
 first_low-requires c =
     let a = c.args in
     let (stages, table) = c.columns_of.ensures in
-    (search rules, stages, subst (λ (t : WidthTable). FirstFits t a.w 6 (at c.low_row.new.1.1.1.0)) (sym table) (two_fits a.table a.w _ c.low_row.ensures.fits c.low_row.ensures.enters))
+    (search rules, stages, subst (λ (t : WidthTable). FirstFits t a.w 6 (at c.low_row.new.held)) (sym table) (two_fits a.table a.w _ c.low_row.ensures.fits c.low_row.ensures.enters))
 
 pub returns : goal.returns
 returns c =
     let a = c.args in
     let row = row_of a.table a.pixels.now a.w in
     let ready = c.low_row.ensures in
-    let done = c.first_low.ensures ∙ ap (λ (t : WidthTable). first_kept a.w (first_done t a.w 6 (at c.low_row.new.1.1.1.0))) c.columns_of.ensures.1 in
+    let done = c.first_low.ensures ∙ ap (λ (t : WidthTable). first_kept a.w (first_done t a.w 6 (at c.low_row.new.held))) c.columns_of.ensures.1 in
     record {
       past = kept_then (held_lines * a.w) a.held.now _ _ ready.past
-          (kept_from (held_lines * a.w) _ _ (search rules) (λ p i. ap (λ (m : ℕ → ℤ). m p) done ∙ past_then a.w (past_first a.w a.table 6 (at c.low_row.new.1.1.1.0)) (past_kept a.w (first_done a.table a.w 6 (at c.low_row.new.1.1.1.0))) p i));
+          (kept_from (held_lines * a.w) _ _ (search rules) (λ p i. ap (λ (m : ℕ → ℤ). m p) done ∙ past_then a.w (past_first a.w a.table 6 (at c.low_row.new.held)) (past_kept a.w (first_done a.table a.w 6 (at c.low_row.new.held))) p i));
       works = λ sound. two_same a.table a.w row a.held.now _ (done ∙ ap (λ (m : ℕ → ℤ). first_kept a.w (first_done a.table a.w 6 m)) (ready.same (sound tt)));
     }
 

@@ -1,9 +1,7 @@
-use Prim.Native.Nat.{◌-◌, ◌≤◌}
-use mathlib.Core.Path.{◌≡◌, refl, ◌∙◌, sym}
+use mathlib.Core.Path.{refl, ◌∙◌, sym}
 use native.Mathlib.Omega.{arith}
 use lib.Dec.{eqb}
-use lib.ListN.{length, get_or, drop}
-use Rattle.numbers.specs.Tests.{every}
+use lib.ListN.{get_or}
 use Rattle.numbers.specs.Lists.{every_next, every_stops, every_ends}
 use Rattle.scan_bytes.specs.ByteLaws.{is_zero, not_zero}
 use Rattle.scan_bytes.proofs.all_zeros.Goals as goal

@@ -1,11 +1,8 @@
 use Prim.Native.Nat.{◌-◌, ◌≤◌}
-use mathlib.Core.Path.{◌≡◌, refl, ◌∙◌, sym}
-use native.Mathlib.Omega.{arith}
+use mathlib.Core.Path.{◌≡◌}
 use lib.Dec.{eqb}
-use lib.ListN.{length, get_or, drop}
+use lib.ListN.{length, drop}
 use Rattle.numbers.specs.Tests.{every}
-use Rattle.numbers.specs.Lists.{every_next, every_stops, every_ends}
-use Rattle.scan_bytes.specs.ByteLaws.{is_zero, not_zero}
 use Rattle.scan_bytes.proofs.all_zeros.Given as goal
 
 abbrev pub invariant-loop-i : goal.invariant-loop-i

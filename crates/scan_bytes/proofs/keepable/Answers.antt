@@ -1,7 +1,6 @@
 use mathlib.Core.Path.{sym, ◌∙◌}
 use native.Mathlib.Omega.{arith}
 use Rattle.scan_bytes.specs.ByteLaws.{not_formed, not_one, by_width}
-use borrow.Author.Rules.{rules}
 use Rattle.scan_bytes.proofs.keepable.Goals as goal
 
 pub returns-else-form_right : goal.returns-else-form_right

@@ -2,7 +2,6 @@ use mathlib.Core.Bool.{true}
 use mathlib.Core.Path.{refl, ap}
 use Rattle.width_table.specs.declared.WidthTable.{WidthTable}
 use Rattle.rolling_lines.specs.declared.Taken.TheVariants.{Zero}
-use borrow.Author.Rules.{rules}
 use Rattle.scan_bytes.proofs.not_read.Goals as goal
 
 pub returns : goal.returns

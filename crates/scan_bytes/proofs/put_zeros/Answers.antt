@@ -1,8 +1,8 @@
-use Prim.Native.Nat.{ℕ, ◌-◌, ◌≤◌}
+use Prim.Native.Nat.{ℕ}
 use mathlib.Core.List.{List, ◌++◌}
 use mathlib.Core.Path.{◌≡◌, refl, sym, ◌∙◌, ap}
 use native.Mathlib.Omega.{arith}
-use lib.ListN.{length, set, drop, replicate, length-set, length-replicate}
+use lib.ListN.{set, drop, replicate, length-set, length-replicate}
 use Rattle.scan_bytes.specs.ByteLaws.{zero_next}
 use Rattle.scan_bytes.proofs.put_zeros.Goals as goal
 

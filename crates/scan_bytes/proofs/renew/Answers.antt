@@ -4,7 +4,6 @@ use native.Mathlib.Omega.{arith}
 use lib.ListN.{set, length-set}
 use Rattle.scan_bytes.specs.ScanBytes.{table_room}
 use Rattle.scan_bytes.specs.ByteLaws.{numbers_short, numbers_wide, numbers_put}
-use borrow.Author.Rules.{rules}
 use Rattle.scan_bytes.proofs.renew.Goals as goal
 
 pub returns-then-state-lt-SCAN_LENGTH : goal.returns-then-state-lt-SCAN_LENGTH

@@ -4,7 +4,6 @@ use lib.Dec.{eqb}
 use lib.ListN.{get_or}
 use Rattle.rolling_lines.specs.declared.Taken.{Taken}
 use Rattle.scan_bytes.specs.ScanBytes.{table_room}
-use borrow.Author.Rules.{rules}
 use Rattle.scan_bytes.proofs.scan_held.Goals as goal
 
 pub returns : goal.returns

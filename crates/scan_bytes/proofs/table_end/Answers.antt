@@ -1,6 +1,5 @@
 use native.Mathlib.Omega.{arith}
 use Rattle.scan_bytes.specs.ByteLaws.{ends_with_five, ends_with_four}
-use borrow.Author.Rules.{rules}
 use Rattle.scan_bytes.proofs.table_end.Goals as goal
 
 pub returns-then-state-eq-PRODUCTS_TAG : goal.returns-then-state-eq-PRODUCTS_TAG

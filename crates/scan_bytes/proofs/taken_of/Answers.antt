@@ -1,7 +1,6 @@
 use mathlib.Core.Path.{◌≡◌, sym, ap}
 use native.Mathlib.Omega.{arith}
 use Rattle.scan_bytes.specs.ScanBytes.{taken_of}
-use borrow.Author.Rules.{rules}
 use Rattle.scan_bytes.proofs.taken_of.Goals as goal
 
 pub returns-in_default : goal.returns-in_default

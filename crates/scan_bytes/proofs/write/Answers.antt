@@ -1,10 +1,9 @@
 use mathlib.Core.Path.{sym, ◌∙◌, ap}
 use native.Mathlib.Omega.{arith}
-use lib.ListN.{length-map}
 use Rattle.table_bytes.specs.Bytes.{bytes_after}
 use Rattle.width_table.specs.Lists.{FullLists}
 use Rattle.scan_bytes.specs.ScanBytes.{numbers_after}
-use Rattle.scan_bytes.specs.ByteLaws.{Keepable, kept_is, not_kept, no_room, kept, all_written}
+use Rattle.scan_bytes.specs.ByteLaws.{kept_is, not_kept, no_room, kept, all_written}
 use borrow.Author.Rules.{rules}
 use Rattle.scan_bytes.proofs.write.Goals as goal
 
@@ -16,16 +15,11 @@ returns-then-state-lt-SCAN_LENGTH c = no_room _ _ (omega arith)
 
 pub returns : goal.returns
 returns c =
-    let sized : FullLists c.args.scan.table =
-        let t = c.args.scan.table in
-            let g = c.well_formed.0.1.1.0.1.1.1.1 in record {
-              constants = sym (length-map t.constants (λ v. v)) ∙ g.0.1.0.1;
-              nodes = sym (length-map t.nodes (λ v. v)) ∙ g.1.0.1.0.1;
-              products = sym (length-map t.products (λ v. v)) ∙ g.1.1.1.0.1.0.1;
-            } in
-    let can : Keepable c.args.scan =
-        kept_is _ sized (sym c.keepable.ensures ∙ c.if-keepable.true) in
     let a = c.args in
+    -- what its type says of the table
+    let sized : FullLists a.scan.table = record { constants = search rules; nodes = search rules; products = search rules } in
+    -- the scan is one that bytes can hold
+    let can = kept_is a.scan sized (sym c.keepable.ensures ∙ c.if-keepable.true) in
     c.renew.ensures
     ∙ ap (numbers_after a.scan.width a.scan.taken a.scan.ended) (c.write.ensures.bytes ∙ ap (bytes_after a.scan.table) c.put_zeros.ensures)
     ∙ all_written a.scan can a.state.now (omega arith)

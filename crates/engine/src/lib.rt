@@ -1,4 +1,4 @@
-// The C interface (include/suzdrepa.h): thin functions over the layers below. Every definition that the contracts cite is in specs/.
+// What the C interface (include/suzdrepa.h) does: thin functions over the layers below, which engine_c exports. Every definition that the contracts cite is in specs/.
 #![tactic(auto)]
 
 ghost use Rattle.std.specs.Prelude.{◌≡◌, ℕ, ◌≤◌, leb, length};
@@ -21,16 +21,14 @@ use table_bytes::{Named, Written};
 use width_table::{TableAnswer, WidthTable};
 
 // Whether bytes are those of a width table: 0, or 1 to 5.
-#[unsafe(no_mangle)]
-pub extern "C" fn suz_table_form(table: &[u8]) -> u32
+pub fn suz_table_form(table: &[u8]) -> u32
     ensures { result ≡ code (form table.now) }
 {
     refusals::code(table_bytes::form_of(table))
 }
 
 // Where the value of a tag stands in the table's bytes; start and length are written where the answer is 0.
-#[unsafe(no_mangle)]
-pub extern "C" fn suz_table_value(table: &[u8], tag: u8, start: &mut u32, length: &mut u32) -> u32
+pub fn suz_table_value(table: &[u8], tag: u8, start: &mut u32, length: &mut u32) -> u32
     ensures answer { result ≡ code (name_answer table.now tag) }
     ensures start { start.new ≡ start_after table.now tag start.old }
     ensures length { length.new ≡ length_after table.now tag length.old }
@@ -46,8 +44,7 @@ pub extern "C" fn suz_table_value(table: &[u8], tag: u8, start: &mut u32, length
 }
 
 // Reads a width table and judges it: 1 to 5 by fields, then 6 and 7 in node order.
-#[unsafe(no_mangle)]
-pub extern "C" fn suz_table_check(table: &[u8]) -> u32
+pub fn suz_table_check(table: &[u8]) -> u32
     ensures { result ≡ code (check_answer table.now) }
 {
     refusals::code(table_calls::check(table))
@@ -68,8 +65,7 @@ fn number_written(outcome: Outcome, number: u64, lent: &mut u64) -> u32
 }
 
 // Range and error of one node, in units of 2^-32, written where the answer is 0: 1 to 5, 4, then 6 or 7 of the nodes before it.
-#[unsafe(no_mangle)]
-pub extern "C" fn suz_table_bound(
+pub fn suz_table_bound(
     table: &[u8],
     level: u8,
     pass: u8,
@@ -122,8 +118,7 @@ fn change_written(change: TableAnswer, out: &mut [u8]) -> u32
 }
 
 // Reads a table, sets the width of one node, and writes the new table to out: 1 to 5, 4, 9.
-#[unsafe(no_mangle)]
-pub extern "C" fn suz_table_change(
+pub fn suz_table_change(
     table: &[u8],
     level: u8,
     pass: u8,
@@ -147,8 +142,7 @@ pub extern "C" fn suz_table_change(
 }
 
 // Reads a table, sets the bits of one stage's constant, and writes the new table to out: 1 to 5, 4, 9.
-#[unsafe(no_mangle)]
-pub extern "C" fn suz_table_change_constant(table: &[u8], node: u8, bits: u8, out: &mut [u8]) -> u32
+pub fn suz_table_change_constant(table: &[u8], node: u8, bits: u8, out: &mut [u8]) -> u32
     ensures answer { result ≡ code (constant_change_answer table.now node bits out.old) }
     ensures out { out.new ≡ constant_change_out table.now node bits out.old }
 {
@@ -164,8 +158,7 @@ pub extern "C" fn suz_table_change_constant(table: &[u8], node: u8, bits: u8, ou
 }
 
 // Reads a table, sets the width of one product, and writes the new table to out: 1 to 5, 4, 9.
-#[unsafe(no_mangle)]
-pub extern "C" fn suz_table_change_product(
+pub fn suz_table_change_product(
     table: &[u8],
     level: u8,
     pass: u8,
@@ -188,8 +181,7 @@ pub extern "C" fn suz_table_change_product(
 }
 
 // Writes a table of these parts to out: 4, 9. The widths are those of a table in memory, with zeros at unused levels.
-#[unsafe(no_mangle)]
-pub extern "C" fn suz_table_write(
+pub fn suz_table_write(
     depth: u8,
     levels: u8,
     constants: &[u8; WidthTable::CONSTANTS],
@@ -205,8 +197,7 @@ pub extern "C" fn suz_table_write(
 }
 
 // The same with the widths of products, and a number that is 0 where the table has no tag 5: 4, 9.
-#[unsafe(no_mangle)]
-pub extern "C" fn suz_table_write_products(
+pub fn suz_table_write_products(
     depth: u8,
     levels: u8,
     constants: &[u8; WidthTable::CONSTANTS],
@@ -230,8 +221,7 @@ pub extern "C" fn suz_table_write_products(
 }
 
 // 5/3 forward, columns before rows: 4, 8, 9, 10.
-#[unsafe(no_mangle)]
-pub extern "C" fn suz_forward53(
+pub fn suz_forward53(
     depth: u8,
     levels: u8,
     pixels: &[u16],
@@ -248,8 +238,7 @@ pub extern "C" fn suz_forward53(
 }
 
 // 5/3 back, of what suz_forward53 makes: rows inverted before columns. 4, 8, 9, 11.
-#[unsafe(no_mangle)]
-pub extern "C" fn suz_inverse53(
+pub fn suz_inverse53(
     depth: u8,
     levels: u8,
     plane: &[i32],
@@ -266,8 +255,7 @@ pub extern "C" fn suz_inverse53(
 }
 
 // 5/3 back, of copies made earlier, rows before columns: columns inverted before rows. 4, 8, 9, 11.
-#[unsafe(no_mangle)]
-pub extern "C" fn suz_inverse53_rows_first(
+pub fn suz_inverse53_rows_first(
     depth: u8,
     levels: u8,
     plane: &[i32],
@@ -286,8 +274,7 @@ pub extern "C" fn suz_inverse53_rows_first(
 }
 
 // 9/7 forward: 1 to 5 of the bytes, then 6, 7, 8, 9, 10.
-#[unsafe(no_mangle)]
-pub extern "C" fn suz_forward97(
+pub fn suz_forward97(
     table: &[u8],
     pixels: &[u16],
     width: usize,
@@ -303,8 +290,7 @@ pub extern "C" fn suz_forward97(
 }
 
 // Would viewing refuse this table? 1 to 5, 6 and 7, 13.
-#[unsafe(no_mangle)]
-pub extern "C" fn suz_table_view(table: &[u8]) -> u32
+pub fn suz_table_view(table: &[u8]) -> u32
     ensures { result ≡ code (view_check_answer table.now) }
 {
     let read = table_bytes::read(table);
@@ -319,8 +305,7 @@ pub extern "C" fn suz_table_view(table: &[u8]) -> u32
 }
 
 // How far a viewed strip can be from what was scanned, in units of 2^-32, written where the answer is 0: 1 to 5, 6 and 7, 13.
-#[unsafe(no_mangle)]
-pub extern "C" fn suz_view_distance(table: &[u8], distance: &mut u64) -> u32
+pub fn suz_view_distance(table: &[u8], distance: &mut u64) -> u32
     ensures answer { result ≡ code (view_check_answer table.now) }
     ensures distance { distance.new ≡ distance_after table.now distance.old }
 {
@@ -338,8 +323,7 @@ pub extern "C" fn suz_view_distance(table: &[u8], distance: &mut u64) -> u32
 }
 
 // The picture of a stored 9/7 plane: 1 to 5 of the bytes, then 6 and 7, 13, 8, 9, 12.
-#[unsafe(no_mangle)]
-pub extern "C" fn suz_view97(
+pub fn suz_view97(
     table: &[u8],
     plane: &[i32],
     width: usize,
@@ -382,8 +366,7 @@ fn scan_begun(begun: Begun, state: &mut [u8]) -> u32
 }
 
 // Begins a rolling scan, which the state holds: 1 to 5 of the table's bytes, 14, 6 and 7, 9.
-#[unsafe(no_mangle)]
-pub extern "C" fn suz_scan_begin(table: &[u8], state: &mut [u8]) -> u32
+pub fn suz_scan_begin(table: &[u8], state: &mut [u8]) -> u32
     ensures answer { result ≡ code (scan_begin_answer table.now state.old) }
     ensures state { state.new ≡ scan_begin_state table.now state.old }
 {
@@ -419,8 +402,7 @@ fn scan_went(scanned: ScanAnswer, state: &mut [u8], given: &mut u32) -> u32
 }
 
 // Takes a line of pixels; the lines that it makes ready stand first in out, and given says how many: 9 for the state, 14, 8, 9, 10.
-#[unsafe(no_mangle)]
-pub extern "C" fn suz_scan_line(
+pub fn suz_scan_line(
     state: &mut [u8],
     pixels: &[u16],
     width: usize,
@@ -445,13 +427,7 @@ pub extern "C" fn suz_scan_line(
 }
 
 // Announces the end; the lines that are left stand first in out, and given says how many: 9 for the state, 14, 9.
-#[unsafe(no_mangle)]
-pub extern "C" fn suz_scan_end(
-    state: &mut [u8],
-    held: &mut [i32],
-    out: &mut [i32],
-    given: &mut u32,
-) -> u32
+pub fn suz_scan_end(state: &mut [u8], held: &mut [i32], out: &mut [i32], given: &mut u32) -> u32
     ensures answer { result ≡ code (scan_end_answer state.old held.old out.old) }
     ensures state { state.new ≡ scan_end_state state.old held.old out.old }
     ensures given { given.new ≡ scan_end_given state.old held.old out.old given.old }

@@ -1,9 +1,18 @@
 use Rattle.engine.specs.AnswerLaws.{change_unread, product_changed}
-use borrow.Author.Rules.{rules}
 use Rattle.engine.proofs.suz_table_change_product.Goals as goal
 
+-- the two facts of a law, by the clauses' names
+named : {A B : Type 0} → A × B → record { answer : A; out : B }
+named (answer, out) = record { answer = answer; out = out }
+
 pub returns-in-Refused : goal.returns-in-Refused
-returns-in-Refused c = change_unread _ c.read-read.ensures c.in-Refused.is _ _ _ c.refusal_code.ensures
+returns-in-Refused c =
+    let read = c.read-read.ensures in
+    named (change_unread _ (read.outcome, read.table) c.in-Refused.is _ _ _ c.refusal_code.ensures)
 
 pub returns-in-Done : goal.returns-in-Done
-returns-in-Done c = product_changed _ c.read-read.ensures c.in-Done.is _ _ _ _ _ c.with_product.ensures c.change_written.ensures
+returns-in-Done c =
+    let read = c.read-read.ensures in
+    let change = c.with_product.ensures in
+    let written = c.change_written.ensures in
+    named (product_changed _ (read.outcome, read.table) c.in-Done.is _ _ _ _ _ (change.outcome, change.table) (written.answer, written.out))

@@ -1,10 +1,8 @@
-use mathlib.Core.Path.{sym, ◌∙◌, ap}
-use native.Mathlib.Omega.{arith}
+use Rattle.std.proofs.Common.{sym, ◌∙◌, ap, arith}
 use Rattle.refusals.specs.Answers.{code}
 use Rattle.table_bytes.specs.Told.{told_named}
 use Rattle.table_bytes.specs.NameLaws.{valued}
 use Rattle.engine.specs.AnswerLaws.{name_refused, name_found}
-use borrow.Author.Rules.{rules}
 use Rattle.engine.proofs.suz_table_value.Goals as goal
 
 pub overflow_cast-start : goal.overflow_cast-start
@@ -21,10 +19,10 @@ pub returns-in-NotNamed : goal.returns-in-NotNamed
 returns-in-NotNamed c =
     let a = c.args in
     let g = name_refused a.table.now a.tag a.start.now a.length.now _ (sym c.value_place.ensures ∙ ap told_named c.in-NotNamed.is) in
-    (c.refusal_code.ensures ∙ sym (ap code g.answers), (g.leaves-start, g.leaves-length))
+    record { answer = c.refusal_code.ensures ∙ sym (ap code g.answers); start = g.leaves_start; length = g.leaves_length }
 
 pub returns-in-Value : goal.returns-in-Value
 returns-in-Value c =
     let a = c.args in
     let g = name_found a.table.now a.tag a.start.now a.length.now _ _ (sym c.value_place.ensures ∙ ap told_named c.in-Value.is) in
-    (sym (ap code g.answers), (g.leaves-start, g.leaves-length))
+    record { answer = sym (ap code g.answers); start = g.leaves_start; length = g.leaves_length }

@@ -1,7 +1,7 @@
 -- The sum in a gain is the sum over the endless line: beyond place m every answer is zero (`no_answer_input`, `no_answer_node`), so that a
 -- longer sum is the same fraction (`endless`) and gives the same gain (`endless_gain`). Place 0 of the node stands for every place (`anywhere`).
 use Rattle.std.specs.Prelude.{List, ◌≡◌, ℤ, pos, negsuc, nat_abs, ◌+ℤ◌}
-use Prim.Native.Nat.{ℕ, zero, suc, ◌+◌, ◌*◌, ◌-◌, ◌<◌, ◌≤◌}
+use Prim.Native.Nat.{ℕ, zero, suc, ◌*◌, ◌<◌, ◌≤◌}
 use Rattle.std.proofs.Math.Path.{refl, ap}
 use Rattle.std.proofs.Common.{sym, ◌∙◌, subst, arith, le_antisymm}
 use Rattle.std.proofs.Math.Decide.{dec_lt}

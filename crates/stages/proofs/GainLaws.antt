@@ -1,14 +1,14 @@
 -- The gains of the two passes as numbers are the gains.
-use Rattle.std.specs.Prelude.{◌≡◌, refl, List, [], ◌∷◌, ℕ, zero, suc, ◌-◌, ◌<◌, get_or}
+use Rattle.std.specs.Prelude.{◌≡◌, refl, List, [], ℕ, ◌<◌, get_or}
 use Rattle.std.proofs.Common.{sym, ◌∙◌, ap}
 use Rattle.lines.specs.Planes.{tabulate}
 use Rattle.lines.specs.RowLaws.{tabulate_at}
 use Rattle.exact.specs.Fractions.{◌⊕◌, ◌⊗◌, neg, whole, magnitude, rounded_up}
 use Rattle.numbers.specs.Ceiling.{up_div}
 use Rattle.exact.specs.Exact.{lift}
-use Rattle.stages.specs.Stages.{stage, made, forward, inverse}
-use Rattle.stages.specs.Gains.{Source, samples, lows, highs, node, values_after, sum_to, input_answer, node_answer, sum_from, exact_gain, gain}
-use Rattle.stages.specs.GainTable.{forward_gains, inverse_gains, forward_source, inverse_source, forward_gain, inverse_gain}
+use Rattle.stages.specs.Stages.{made}
+use Rattle.stages.specs.Gains.{values_after, sum_to, input_answer, node_answer, sum_from, exact_gain, gain}
+use Rattle.stages.specs.GainTable.{forward_gains, inverse_gains, forward_gain, inverse_gain}
 
 forward_gains_lem : tabulate 7 (λ i. tabulate 7 (forward_gain i)) ≡ forward_gains
 unfolding tabulate gain exact_gain sum_from sum_to input_answer node_answer values_after made rounded_up up_div lift ◌⊕◌ ◌⊗◌ whole magnitude

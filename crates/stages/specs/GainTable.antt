@@ -1,13 +1,7 @@
 -- The gains of the two passes as numbers, in whole numbers of 2^-16.
-use Rattle.std.specs.Prelude.{◌≡◌, refl, List, [], ◌∷◌, ℕ, zero, suc, ◌-◌, ◌<◌, get_or}
-use Rattle.std.proofs.Common.{sym, ◌∙◌, ap}
-use Rattle.lines.specs.Planes.{tabulate}
-use Rattle.lines.specs.RowLaws.{tabulate_at}
-use Rattle.exact.specs.Fractions.{◌⊕◌, ◌⊗◌, neg, whole, magnitude, rounded_up}
-use Rattle.numbers.specs.Ceiling.{up_div}
-use Rattle.exact.specs.Exact.{lift}
-use Rattle.stages.specs.Stages.{stage, made, forward, inverse}
-use Rattle.stages.specs.Gains.{Source, samples, lows, highs, node, values_after, sum_to, input_answer, node_answer, sum_from, exact_gain, gain}
+use Rattle.std.specs.Prelude.{List, [], ◌∷◌, ℕ, zero, suc, ◌-◌}
+use Rattle.stages.specs.Stages.{stage, forward, inverse}
+use Rattle.stages.specs.Gains.{Source, samples, lows, highs, node, gain}
 
 -- from the input, which counts as a node, and from P1, U1, P2, U2, G1, G2, in a line each, to the input and to P1, U1, P2, U2, G1, G2
 abbrev pub forward_gains : List (List ℕ)

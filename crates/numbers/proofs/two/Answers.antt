@@ -1,6 +1,5 @@
 -- `numbers::two` meets its contract: the high byte, then the low one.
 use native.Mathlib.Omega.{arith}
-use borrow.Author.Rules.{rules}
 use Rattle.numbers.proofs.two.Goals as goal
 
 pub returns : goal.returns

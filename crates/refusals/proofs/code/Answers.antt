@@ -2,7 +2,6 @@ use mathlib.Core.Path.{sym, ◌∙◌, ap}
 use Rattle.refusals.specs.declared.Outcome.{Outcome}
 use Rattle.refusals.specs.Answers.{code}
 use Rattle.refusals.specs.Told.{told}
-use borrow.Author.Rules.{rules}
 use Rattle.refusals.proofs.code.Goals as goal
 
 pub returns-in-Refused : goal.returns-in-Refused

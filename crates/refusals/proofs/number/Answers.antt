@@ -3,7 +3,6 @@ use Prim.Native.Nat.{ℕ}
 use mathlib.Core.Path.{sym, ap}
 use Rattle.refusals.specs.declared.Refusal.{Refusal}
 use Rattle.refusals.specs.Told.{told_refusal}
-use borrow.Author.Rules.{rules}
 use Rattle.refusals.proofs.number.Goals as goal
 
 -- the number of a refusal

@@ -1,6 +1,5 @@
 -- `refusals::place_code` meets its contract: level, pass and node in rising bytes.
 use native.Mathlib.Omega.{arith}
-use borrow.Author.Rules.{rules}
 use Rattle.refusals.proofs.place_code.Goals as goal
 
 pub returns : goal.returns

@@ -5,7 +5,6 @@ use native.Mathlib.Omega.{arith}
 use Rattle.refusals.specs.declared.Refusal.{Refusal}
 use Rattle.refusals.specs.Answers.{bytes_up}
 use Rattle.refusals.specs.Told.{told_refusal}
-use borrow.Author.Rules.{rules}
 use Rattle.refusals.proofs.values_code.Goals as goal
 
 -- the values of a refusal

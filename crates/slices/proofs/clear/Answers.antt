@@ -1,10 +1,9 @@
 -- `slices::clear` meets its contract: the first i elements are 0.
-use mathlib.Core.Path.{◌≡◌, refl}
-use Prim.Native.Nat.{◌-◌, ◌≤◌}
+use mathlib.Core.Path.{refl}
 use native.Mathlib.Omega.{arith}
 use lib.IntN.{pos}
-use lib.ListN.{length, length-set}
-use Rattle.slices.specs.Patch.{at, patch, patch_none}
+use lib.ListN.{length-set}
+use Rattle.slices.specs.Patch.{patch_none}
 use Rattle.slices.specs.FrontLaws.{patch_next, patch_zeroed}
 use Rattle.slices.proofs.clear.Goals as goal
 

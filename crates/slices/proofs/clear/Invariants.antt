@@ -1,10 +1,8 @@
-use mathlib.Core.Path.{◌≡◌, refl}
+use mathlib.Core.Path.{◌≡◌}
 use Prim.Native.Nat.{◌-◌, ◌≤◌}
-use native.Mathlib.Omega.{arith}
 use lib.IntN.{pos}
-use lib.ListN.{length, length-set}
-use Rattle.slices.specs.Patch.{at, patch, patch_none}
-use Rattle.slices.specs.FrontLaws.{patch_next, patch_zeroed}
+use lib.ListN.{length}
+use Rattle.slices.specs.Patch.{at, patch}
 use Rattle.slices.proofs.clear.Given as goal
 
 abbrev pub invariant-loop-i : goal.invariant-loop-i

@@ -1,11 +1,9 @@
 -- `slices::copy_run_wide` meets its contract.
-use Prim.Native.Nat.{◌+◌, ◌-◌}
 use native.Mathlib.Omega.{arith}
 use borrow.Author.Rules.{sfits_of}
 use mir.Facts.{to_z-of_z}
 use Rattle.std.specs.Int.{w64}
-use Rattle.slices.specs.Patch.{at}
-use Rattle.slices.specs.Filling.{Filling, filling_none, filling_more, filling_all}
+use Rattle.slices.specs.Filling.{filling_none, filling_more, filling_all}
 use Rattle.slices.proofs.copy_run_wide.Goals as goal
 
 pub loop-j-init : goal.loop-j-init

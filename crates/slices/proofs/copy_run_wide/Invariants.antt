@@ -1,9 +1,6 @@
 use Prim.Native.Nat.{◌+◌, ◌-◌}
-use native.Mathlib.Omega.{arith}
-use borrow.Author.Rules.{sfits_of}
-use mir.Facts.{to_z-of_z}
 use Rattle.slices.specs.Patch.{at}
-use Rattle.slices.specs.Filling.{Filling, filling_none, filling_more, filling_all}
+use Rattle.slices.specs.Filling.{Filling}
 use Rattle.slices.proofs.copy_run_wide.Given as goal
 
 abbrev pub invariant-loop-j : goal.invariant-loop-j

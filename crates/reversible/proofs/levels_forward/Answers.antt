@@ -24,9 +24,9 @@ loop-k-init c = (omega (arith, c.requires.call.some), refl, refl, side_one c.arg
 
 pub level_forward-requires : goal.level_forward-requires
 level_forward-requires c =
-    let first_done : let a = c.args in ForwardDone a.w a.h 1 (loaded a.pixels.now (2 ^ (a.depth - 1)) a.w a.h (at a.plane.now)) (at c.first_level.new.buffer) =
-        let a = c.args in
-            forward_first a.w a.h _ _ c.first_level.ensures in
+    let first_done : let a = c.args in ForwardDone a.w a.h 1 (loaded a.pixels.now (2 ^ (a.depth - 1)) a.w a.h (at a.plane.now)) (at c.first_level.new.plane) =
+    let a = c.args in
+    forward_first a.w a.h _ _ c.first_level.ensures in
     let t = c.loop-k in
     let p = c.requires.call in
     level_room (2 ^ 21) (levels_room p (length t.plane) (length t.buffer) (omega (arith, p.room.second)) (omega (arith, p.room.third))) t.k _ _ _ _ refl refl t.invariant.3 t.invariant.4
@@ -53,9 +53,9 @@ loop-k-preserved c =
 
 pub returns : goal.returns
 returns c =
-    let first_done : let a = c.args in ForwardDone a.w a.h 1 (loaded a.pixels.now (2 ^ (a.depth - 1)) a.w a.h (at a.plane.now)) (at c.first_level.new.buffer) =
-        let a = c.args in
-            forward_first a.w a.h _ _ c.first_level.ensures in
+    let first_done : let a = c.args in ForwardDone a.w a.h 1 (loaded a.pixels.now (2 ^ (a.depth - 1)) a.w a.h (at a.plane.now)) (at c.first_level.new.plane) =
+    let a = c.args in
+    forward_first a.w a.h _ _ c.first_level.ensures in
     let a = c.args in
     let e : c.loop-k.k ≡ a.levels = omega arith in
     let x : ℕ → ℤ = loaded a.pixels.now (2 ^ (a.depth - 1)) a.w a.h (at a.plane.now) in

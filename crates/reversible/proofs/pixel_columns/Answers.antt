@@ -14,10 +14,10 @@ high_at-requires c = (room_as c.requires _ c.loop-i.invariant.1, c.loop-i-test.t
 pub low_at-requires : goal.low_at-requires
 low_at-requires c =
     let after-high : let t = c.loop-i in let g = c.args in
-    LinesDone (t.i + 1) t.i g.pixels.now g.middle g.w g.h (at g.plane.now) (at c.high_at.new.1.1.0) =
-        let t = c.loop-i in
-            let g = c.args in
-            high_more g.pixels.now g.middle g.w g.h t.i t.i (at g.plane.now) (at t.plane) t.invariant.2 _ c.loop-i-test.true (omega arith) c.high_at.ensures in
+    LinesDone (t.i + 1) t.i g.pixels.now g.middle g.w g.h (at g.plane.now) (at c.high_at.new.plane) =
+    let t = c.loop-i in
+    let g = c.args in
+    high_more g.pixels.now g.middle g.w g.h t.i t.i (at g.plane.now) (at t.plane) t.invariant.2 _ c.loop-i-test.true (omega arith) c.high_at.ensures in
     let t = c.loop-i in
     record {
       pixel_room = (room_as c.requires _ (omega (arith, t.invariant.1)), omega arith);
@@ -27,10 +27,10 @@ low_at-requires c =
 pub loop-i-preserved : goal.loop-i-preserved
 loop-i-preserved c =
     let after-high : let t = c.loop-i in let g = c.args in
-    LinesDone (t.i + 1) t.i g.pixels.now g.middle g.w g.h (at g.plane.now) (at c.high_at.new.1.1.0) =
-        let t = c.loop-i in
-            let g = c.args in
-            high_more g.pixels.now g.middle g.w g.h t.i t.i (at g.plane.now) (at t.plane) t.invariant.2 _ c.loop-i-test.true (omega arith) c.high_at.ensures in
+    LinesDone (t.i + 1) t.i g.pixels.now g.middle g.w g.h (at g.plane.now) (at c.high_at.new.plane) =
+    let t = c.loop-i in
+    let g = c.args in
+    high_more g.pixels.now g.middle g.w g.h t.i t.i (at g.plane.now) (at t.plane) t.invariant.2 _ c.loop-i-test.true (omega arith) c.high_at.ensures in
     let t = c.loop-i in
     let g = c.args in
     (omega arith, omega (arith, t.invariant.1), low_more g.pixels.now g.middle g.w g.h (t.i + 1) t.i (at g.plane.now) _ after-high _ (omega arith) c.low_at.ensures)

@@ -18,17 +18,17 @@ use Rattle.reversible_back.proofs.write_pixels.Goals as goal
 pub pixel_of-requires : goal.pixel_of-requires
 pixel_of-requires c =
     let sample : let t = c.loop-i in at t.values t.i ≡ at c.args.values.now t.i =
-        let t = c.loop-i in ap (λ (f : ℕ → ℤ). f t.i) t.invariant.4 ∙ patch_above 0 t.i _ _ t.i (omega arith) in
+    let t = c.loop-i in ap (λ (f : ℕ → ℤ). f t.i) t.invariant.4 ∙ patch_above 0 t.i _ _ t.i (omega arith) in
     let m = c.middle-half in
     let half = signed_middle c.args.depth m.result c.requires.le_depth.0 c.requires.le_depth.1 m.ensures in
-    let v = to_z-of_z (sfits_of c.pixel_of-arg-1.given) ∙ sample in
+    let v = to_z-of_z {w = w32} (sfits_of c.pixel_of-arg-1.given) ∙ sample in
     as_type (λ u. (nat_abs (sym half u) ≤ 2 ^ 11) × Between (neg_ℤ (sym half u)) (sym half u -ℤ pos 1) (sym v u))
     (pow_mono {i = c.args.depth - 1} {j = 11} (omega (arith, c.requires.le_depth)), c.requires.by_index c.loop-i.i c.loop-i-test.true)
 
 pub loop-i-preserved : goal.loop-i-preserved
 loop-i-preserved c =
     let sample : let t = c.loop-i in at t.values t.i ≡ at c.args.values.now t.i =
-        let t = c.loop-i in ap (λ (f : ℕ → ℤ). f t.i) t.invariant.4 ∙ patch_above 0 t.i _ _ t.i (omega arith) in
+    let t = c.loop-i in ap (λ (f : ℕ → ℤ). f t.i) t.invariant.4 ∙ patch_above 0 t.i _ _ t.i (omega arith) in
     let t = c.loop-i in
     let m = c.middle-half in
     let half = signed_middle c.args.depth m.result c.requires.le_depth.0 c.requires.le_depth.1 m.ensures in

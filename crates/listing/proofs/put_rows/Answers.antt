@@ -17,7 +17,7 @@ pub put_line-next-requires : goal.put_line-next-requires
 put_line-next-requires c =
     let ends : let a = c.args in
     (c.loop-r.r * a.w + a.w ≤ a.w * a.h) × ((c.loop-r.r + 1) * a.w ≡ c.loop-r.r * a.w + a.w) =
-        let a = c.args in row_end a.w a.h c.loop-r.r (omega arith) in
+    let a = c.args in row_end a.w a.h c.loop-r.r (omega arith) in
     let a = c.args in
     let e = ends.0 in
     let l = part_length (c.loop-r.r * a.w) a.w a.plane.now (omega arith) in
@@ -27,7 +27,7 @@ pub loop-r-preserved : goal.loop-r-preserved
 loop-r-preserved c =
     let ends : let a = c.args in
     (c.loop-r.r * a.w + a.w ≤ a.w * a.h) × ((c.loop-r.r + 1) * a.w ≡ c.loop-r.r * a.w + a.w) =
-        let a = c.args in row_end a.w a.h c.loop-r.r (omega arith) in
+    let a = c.args in row_end a.w a.h c.loop-r.r (omega arith) in
     let a = c.args in
     let r = c.loop-r.r in
     let n = ends in
@@ -53,26 +53,26 @@ pub overflow_mul-start : goal.overflow_mul-start
 overflow_mul-start c =
     let ends : let a = c.args in
     (c.loop-r.r * a.w + a.w ≤ a.w * a.h) × ((c.loop-r.r + 1) * a.w ≡ c.loop-r.r * a.w + a.w) =
-        let a = c.args in row_end a.w a.h c.loop-r.r (omega arith) in
+    let a = c.args in row_end a.w a.h c.loop-r.r (omega arith) in
     omega (arith, ends.0)
 
 pub overflow_add-start : goal.overflow_add-start
 overflow_add-start c =
     let ends : let a = c.args in
     (c.loop-r.r * a.w + a.w ≤ a.w * a.h) × ((c.loop-r.r + 1) * a.w ≡ c.loop-r.r * a.w + a.w) =
-        let a = c.args in row_end a.w a.h c.loop-r.r (omega arith) in
+    let a = c.args in row_end a.w a.h c.loop-r.r (omega arith) in
     omega (arith, ends.0)
 
 pub offset_bounds-plane-start : goal.offset_bounds-plane-start
 offset_bounds-plane-start c =
     let ends : let a = c.args in
     (c.loop-r.r * a.w + a.w ≤ a.w * a.h) × ((c.loop-r.r + 1) * a.w ≡ c.loop-r.r * a.w + a.w) =
-        let a = c.args in row_end a.w a.h c.loop-r.r (omega arith) in
+    let a = c.args in row_end a.w a.h c.loop-r.r (omega arith) in
     omega (arith, ends.0)
 
 pub slice_bounds-put_line-end : goal.slice_bounds-put_line-end
 slice_bounds-put_line-end c =
     let ends : let a = c.args in
     (c.loop-r.r * a.w + a.w ≤ a.w * a.h) × ((c.loop-r.r + 1) * a.w ≡ c.loop-r.r * a.w + a.w) =
-        let a = c.args in row_end a.w a.h c.loop-r.r (omega arith) in
+    let a = c.args in row_end a.w a.h c.loop-r.r (omega arith) in
     omega (arith, ends.0)

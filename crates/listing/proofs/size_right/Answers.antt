@@ -12,7 +12,7 @@ use Rattle.listing.proofs.size_right.Goals as goal
 pub overflow_mul-w : goal.overflow_mul-w
 overflow_mul-w c =
     let sides : let a = c.args in side_answer a.w a.h ≡ passed =
-        sym c.sides_right.ensures ∙ ap told c.in-Done.is in
+    sym c.sides_right.ensures ∙ ap told c.in-Done.is in
     let a = c.args in omega (arith, size_fits a.w a.h sides)
 
 pub returns-in-Refused : goal.returns-in-Refused
@@ -21,5 +21,5 @@ returns-in-Refused c = sym (then_refused _ _ _ (sym c.sides_right.ensures ∙ ap
 pub returns-in-Done : goal.returns-in-Done
 returns-in-Done c =
     let sides : let a = c.args in side_answer a.w a.h ≡ passed =
-        sym c.sides_right.ensures ∙ ap told c.in-Done.is in
+    sym c.sides_right.ensures ∙ ap told c.in-Done.is in
     c.slice_holds.ensures ∙ sym (then_right _ _ sides)

@@ -1,5 +1,4 @@
 -- `listing::head_of` meets its contract: field by field.
-use borrow.Author.Rules.{rules}
 use Rattle.listing.specs.Listing.{copy_depth, copy_levels}
 use Rattle.listing.proofs.head_of.Goals as goal
 

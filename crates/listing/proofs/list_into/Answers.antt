@@ -13,13 +13,13 @@ use Rattle.listing.proofs.list_into.Goals as goal
 pub head_of-requires : goal.head_of-requires
 head_of-requires c =
     let right : copy_form c.args.bytes.now ≡ passed =
-        sym c.form_of.ensures ∙ ap told c.in-Done.is in
+    sym c.form_of.ensures ∙ ap told c.in-Done.is in
     omega (arith, (form_done _ right).exact)
 
 pub list_picture-requires : goal.list_picture-requires
 list_picture-requires c =
     let right : copy_form c.args.bytes.now ≡ passed =
-        sym c.form_of.ensures ∙ ap told c.in-Done.is in
+    sym c.form_of.ensures ∙ ap told c.in-Done.is in
     (c.head_of.ensures, right, c.requires)
 
 pub returns-in-Refused : goal.returns-in-Refused

@@ -19,11 +19,11 @@ read_pixels-requires c = omega (arith, area _ _ c.requires.0 c.requires.1, c.req
 pub slice_bounds-forward-end-2 : goal.slice_bounds-forward-end-2
 slice_bounds-forward-end-2 c =
     let room : c.args.head.w * c.args.head.h ≤ length c.read_pixels.new.pixels =
-        omega (arith, area _ _ c.requires.0 c.requires.1, c.requires.2.for_pixels, c.read_pixels.auto.1.0) in
+    omega (arith, area _ _ c.requires.0 c.requires.1, c.requires.2.for_pixels, c.read_pixels.auto.pixels) in
     sym (length-take-le _ _ room)
 
 pub put_plane-requires : goal.put_plane-requires
-put_plane-requires c = omega (arith, area _ _ c.requires.0 c.requires.1, c.requires.2.for_plane, c.requires.2.for_text, c.forward.auto.1.1.1.1.1.0)
+put_plane-requires c = omega (arith, area _ _ c.requires.0 c.requires.1, c.requires.2.for_plane, c.requires.2.for_text, c.forward.auto.plane)
 
 pub returns-in-Refused : goal.returns-in-Refused
 returns-in-Refused c =
@@ -33,10 +33,10 @@ returns-in-Refused c =
 pub returns-in-Done : goal.returns-in-Done
 returns-in-Done c =
     put_same _ _ c.put_plane.ensures
-    (plane_text _ _ c.requires.0 c.requires.1 _ _ _ _ _ c.read_pixels.ensures c.forward.ensures.answer c.requires.2.for_plane c.requires.2.for_work _ c.forward.ensures.plane.0 (ap told c.in-Done.is))
+    (plane_text _ _ c.requires.0 c.requires.1 _ _ _ _ _ c.read_pixels.ensures c.forward.ensures.answer c.requires.2.for_plane c.requires.2.for_work _ c.forward.ensures.plane (ap told c.in-Done.is))
 
 pub slice_bounds-forward-end : goal.slice_bounds-forward-end
 slice_bounds-forward-end c =
     let room : c.args.head.w * c.args.head.h ≤ length c.read_pixels.new.pixels =
-        omega (arith, area _ _ c.requires.0 c.requires.1, c.requires.2.for_pixels, c.read_pixels.auto.1.0) in
+    omega (arith, area _ _ c.requires.0 c.requires.1, c.requires.2.for_pixels, c.read_pixels.auto.pixels) in
     room

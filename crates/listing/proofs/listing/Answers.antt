@@ -14,10 +14,10 @@ pub returns-then-text-lt-MAX_TEXT : goal.returns-then-text-lt-MAX_TEXT
 returns-then-text-lt-MAX_TEXT c =
     let a = c.args in
     let e = listed_short a.input.now a.text.now (omega arith) in
-    (ap length (sym e), (ap (λ (t : List ℕ). over t a.text.now) (sym e), omega arith))
+    record { count = ap length (sym e); text = ap (λ (t : List ℕ). over t a.text.now) (sym e); within = omega arith }
 
 pub returns : goal.returns
 returns c =
     let e = listed_whole c.args.input.now c.args.text.now (omega arith) in
     let r = c.list_into.ensures in
-    (omega (arith, r.end, ap length e), (put_over r ∙ ap (λ (t : List ℕ). over t c.args.text.now) (sym e), r.inside))
+    record { count = omega (arith, r.end, ap length e); text = put_over r ∙ ap (λ (t : List ℕ). over t c.args.text.now) (sym e); within = r.inside }

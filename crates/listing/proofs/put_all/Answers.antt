@@ -1,12 +1,12 @@
 -- `listing::put_all` meets its contract: what is still to be written, from byte i on, leads to all bytes.
 use mathlib.Core.Path.{◌≡◌, refl, ◌∙◌}
 use mathlib.Core.List.{[], ◌∷◌}
-use Prim.Native.Nat.{◌+◌, ◌-◌, ◌≤◌}
+use Prim.Native.Nat.{◌+◌}
 use native.Mathlib.Omega.{arith}
 use native.Mathlib.Numerals.{add-one}
-use lib.ListN.{length, get_or, drop, drop_of_length-le}
+use lib.ListN.{get_or, drop, drop_of_length-le}
 use lib.Seq.{drop-cons}
-use Rattle.listing.specs.Writing.{Leads, leads_start, leads_same, leads_put, leads_end, put_length}
+use Rattle.listing.specs.Writing.{leads_start, leads_same, leads_put, leads_end, put_length}
 use Rattle.listing.proofs.put_all.Goals as goal
 
 pub loop-i-preserved : goal.loop-i-preserved

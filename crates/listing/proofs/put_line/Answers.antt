@@ -1,14 +1,14 @@
 -- `listing::put_line` meets its contract: what is still to be written, from number i on, leads to the whole line.
 use mathlib.Core.Path.{◌≡◌, refl, ◌∙◌, ap}
 use mathlib.Core.List.{[], ◌∷◌}
-use Prim.Native.Nat.{ℕ, ◌+◌, ◌*◌, ◌-◌, ◌≤◌}
+use Prim.Native.Nat.{ℕ, ◌-◌}
 use native.Mathlib.Omega.{arith}
 use borrow.Author.Rules.{sfits_of}
 use lib.ListN.{length, drop}
 use mir.Syntax.{w32}
 use mir.Facts.{to_z-of_z}
-use Rattle.listing.specs.Listing.{max_number, decimal, line, space, newline}
-use Rattle.listing.specs.Writing.{Leads, leads_start, leads_same, leads_put, leads_end, put_length, put_same}
+use Rattle.listing.specs.Listing.{decimal, line, space, newline}
+use Rattle.listing.specs.Writing.{leads_start, leads_same, leads_put, leads_end, put_length, put_same}
 use Rattle.listing.specs.TextLaws.{line_more, line_last}
 use Rattle.listing.proofs.put_line.Goals as goal
 

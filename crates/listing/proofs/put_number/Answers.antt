@@ -1,14 +1,13 @@
--- `listing::put_number` meets its contract: a size below 2^31 + 1 has at most ten digits.
+-- A size below 2^31 + 1 has at most ten digits.
 use mathlib.Core.Path.{◌≡◌, sym, ◌∙◌, ap}
-use mathlib.Core.Bool.{Bool}
 use mathlib.Core.List.{◌∷◌}
 use Prim.Native.Nat.{ℕ, ◌≤◌}
 use native.Mathlib.Omega.{arith}
-use borrow.Author.Rules.{rules}
 use lib.IntN.{ℤ, pos, nat_abs}
 use lib.ListN.{length}
 use lib.Signed.{lt_z}
 use mir.Syntax.{w32}
+use mir.Val.{SFits}
 use mir.Facts.{to_z-of_z}
 use Rattle.numbers.specs.Auto.{rd}
 use Rattle.listing.specs.Listing.{natural, minus}
@@ -16,40 +15,29 @@ use Rattle.listing.specs.Writing.{put_length, put_same, put_then}
 use Rattle.listing.specs.TextLaws.{natural_short, decimal_below, decimal_above, size_of_mag}
 use Rattle.listing.proofs.put_number.Goals as goal
 
-test : (c : goal.Start) {b : Bool} → lt_z (rd w32 c.args.z) (pos 0) ≡ b → lt_z c.args.z (pos 0) ≡ b
-test c e = ap (λ (z : ℤ). lt_z z (pos 0)) (sym (to_z-of_z c.ranges.z)) ∙ e
+-- the size of z as it is read, and its digits
+size : (z : ℤ) → SFits w32 z → (n : ℕ) → n ≡ nat_abs (rd w32 z) → (n ≡ nat_abs z) × (length (natural n) ≤ 10)
+size z fits n read =
+    let e : n ≡ nat_abs z = read ∙ ap nat_abs (to_z-of_z fits) in
+    (e, natural_short 9 _ (omega (arith, e, size_of_mag z fits.sfits)))
 
 pub put_natural-requires : goal.put_natural-requires
-put_natural-requires c =
-    let size : (c.magnitude-n.result ≡ nat_abs c.args.z) × (length (natural c.magnitude-n.result) ≤ 10) =
-        let e : c.magnitude-n.result ≡ nat_abs c.args.z = c.magnitude-n.ensures ∙ ap nat_abs (to_z-of_z c.ranges.z) in
-            (e, natural_short 9 _ (omega (arith, e, size_of_mag c.args.z c.ranges.z.sfits))) in
-    omega (arith, size.1, c.put-next.ensures.end, put_length c.put-next.ensures)
+put_natural-requires c = omega (arith, (size c.args.z c.ranges.z _ c.magnitude-n.ensures).1, c.put-next.ensures.end, put_length c.put-next.ensures)
 
 pub put_natural-requires-else-z-lt0 : goal.put_natural-requires-else-z-lt0
-put_natural-requires-else-z-lt0 c =
-    let size : (c.magnitude-n.result ≡ nat_abs c.args.z) × (length (natural c.magnitude-n.result) ≤ 10) =
-        let e : c.magnitude-n.result ≡ nat_abs c.args.z = c.magnitude-n.ensures ∙ ap nat_abs (to_z-of_z c.ranges.z) in
-            (e, natural_short 9 _ (omega (arith, e, size_of_mag c.args.z c.ranges.z.sfits))) in
-    omega (arith, size.1)
+put_natural-requires-else-z-lt0 c = omega (arith, (size c.args.z c.ranges.z _ c.magnitude-n.ensures).1)
 
 pub returns-then-z-lt0 : goal.returns-then-z-lt0
 returns-then-z-lt0 c =
-    let size : (c.magnitude-n.result ≡ nat_abs c.args.z) × (length (natural c.magnitude-n.result) ≤ 10) =
-        let e : c.magnitude-n.result ≡ nat_abs c.args.z = c.magnitude-n.ensures ∙ ap nat_abs (to_z-of_z c.ranges.z) in
-            (e, natural_short 9 _ (omega (arith, e, size_of_mag c.args.z c.ranges.z.sfits))) in
-    let e = size in (
+    let e = size c.args.z c.ranges.z _ c.magnitude-n.ensures in (
       put_same _ _ (put_then c.put-next.ensures c.put_natural.ensures)
-          (ap (λ (k : ℕ). minus ∷ natural k) e.0 ∙ sym (decimal_below _ (test c.before.before.before.before.before.before.before.before.before.before.before c.if-z-lt0.true))),
+          (ap (λ (k : ℕ). minus ∷ natural k) e.0 ∙ sym (decimal_below _ (ap (λ (z : ℤ). lt_z z (pos 0)) (sym (to_z-of_z c.ranges.z)) ∙ c.if-z-lt0.true))),
       omega (arith, e.1, c.put-next.ensures.end, c.put_natural.ensures.end),
     )
 
 pub returns-else-z-lt0 : goal.returns-else-z-lt0
 returns-else-z-lt0 c =
-    let size : (c.magnitude-n.result ≡ nat_abs c.args.z) × (length (natural c.magnitude-n.result) ≤ 10) =
-        let e : c.magnitude-n.result ≡ nat_abs c.args.z = c.magnitude-n.ensures ∙ ap nat_abs (to_z-of_z c.ranges.z) in
-            (e, natural_short 9 _ (omega (arith, e, size_of_mag c.args.z c.ranges.z.sfits))) in
-    let e = size in (
-      put_same _ _ c.put_natural-else-z-lt0.ensures (ap natural e.0 ∙ sym (decimal_above _ (test c.before.before.before.before.before.before.before c.if-z-lt0.false))),
+    let e = size c.args.z c.ranges.z _ c.magnitude-n.ensures in (
+      put_same _ _ c.put_natural-else-z-lt0.ensures (ap natural e.0 ∙ sym (decimal_above _ (ap (λ (z : ℤ). lt_z z (pos 0)) (sym (to_z-of_z c.ranges.z)) ∙ c.if-z-lt0.false))),
       omega (arith, e.1, c.put_natural-else-z-lt0.ensures.end),
     )

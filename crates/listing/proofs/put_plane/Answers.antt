@@ -1,7 +1,6 @@
 -- `listing::put_plane` meets its contract: the head, then the rows; the numbers of the head fit an i32.
 use mathlib.Core.List.{[], ◌∷◌}
 use native.Mathlib.Omega.{arith}
-use borrow.Author.Rules.{rules}
 use lib.IntN.{pos}
 use mir.Syntax.{w32}
 use mir.Facts.{to_z_pos}

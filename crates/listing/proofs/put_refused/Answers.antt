@@ -3,7 +3,6 @@ use Prim.Native.Nat.{ℕ}
 use mathlib.Core.Path.{◌∙◌, ap}
 use mathlib.Core.List.{[], ◌∷◌}
 use native.Mathlib.Omega.{arith}
-use borrow.Author.Rules.{rules}
 use lib.IntN.{ℤ, pos}
 use mir.Syntax.{w32}
 use mir.Facts.{to_z_pos}
@@ -15,4 +14,4 @@ pub returns : goal.returns
 unfolding refused_line
 returns c =
     put_then c.put_all-next.ensures
-    (put_same _ _ c.put_line.ensures.0 (ap (λ (z : ℤ). line (z ∷ [])) (to_z_pos w32 {c = c.number.result} (omega (arith, c.number.type_inv))) ∙ ap (λ (k : ℕ). line (pos k ∷ [])) c.number.ensures))
+    (put_same _ _ c.put_line.ensures.0 (ap (λ (z : ℤ). line (z ∷ [])) (to_z_pos w32 {n = c.number.result} (omega (arith, c.number.type_inv))) ∙ ap (λ (k : ℕ). line (pos k ∷ [])) c.number.ensures))

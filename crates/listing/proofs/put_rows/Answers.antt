@@ -1,12 +1,12 @@
 -- `listing::put_rows` meets its contract: what is still to be written, from row r on, leads to all rows.
 use mathlib.Core.Path.{◌≡◌, refl, sym, ◌∙◌, ap}
-use Prim.Native.Nat.{ℕ, ◌+◌, ◌*◌, ◌-◌, ◌≤◌}
+use Prim.Native.Nat.{ℕ, ◌+◌, ◌*◌, ◌-◌}
 use native.Mathlib.Omega.{arith}
 use native.Mathlib.Nat.{mul_comm}
-use lib.ListN.{length, take, drop}
-use Rattle.listing.specs.Listing.{max_number, line, row_lines}
+use lib.ListN.{take, drop}
+use Rattle.listing.specs.Listing.{line, row_lines}
 use Rattle.pictures.specs.Pictures.{plane_of}
-use Rattle.listing.specs.Writing.{Leads, leads_start, leads_same, leads_put, leads_end, put_length, put_same}
+use Rattle.listing.specs.Writing.{leads_start, leads_same, leads_put, leads_end, put_length, put_same}
 use Rattle.listing.specs.TextLaws.{row_line, rows_more, rows_none, part_length, row_end}
 use Rattle.listing.proofs.put_rows.Goals as goal
 
@@ -15,9 +15,7 @@ loop-r-init c = (omega arith, refl, omega arith, leads_same _ _ (leads_start _ _
 
 pub put_line-next-requires : goal.put_line-next-requires
 put_line-next-requires c =
-    let ends : let a = c.args in
-    (c.loop-r.r * a.w + a.w ≤ a.w * a.h) × ((c.loop-r.r + 1) * a.w ≡ c.loop-r.r * a.w + a.w) =
-        let a = c.args in row_end a.w a.h c.loop-r.r (omega arith) in
+    let ends = row_end c.args.w c.args.h c.loop-r.r (omega arith) in
     let a = c.args in
     let e = ends.0 in
     let l = part_length (c.loop-r.r * a.w) a.w a.plane.now (omega arith) in
@@ -25,54 +23,39 @@ put_line-next-requires c =
 
 pub loop-r-preserved : goal.loop-r-preserved
 loop-r-preserved c =
-    let ends : let a = c.args in
-    (c.loop-r.r * a.w + a.w ≤ a.w * a.h) × ((c.loop-r.r + 1) * a.w ≡ c.loop-r.r * a.w + a.w) =
-        let a = c.args in row_end a.w a.h c.loop-r.r (omega arith) in
+    let ends = row_end c.args.w c.args.h c.loop-r.r (omega arith) in
     let a = c.args in
     let r = c.loop-r.r in
-    let n = ends in
-    let l = part_length (r * a.w) a.w a.plane.now (omega (arith, n.0)) in
+    let l = part_length (r * a.w) a.w a.plane.now (omega (arith, ends.0)) in
     let e : r * a.w + a.w - r * a.w ≡ a.w = omega arith in
-    let z = put_same _ _ c.put_line-next.ensures.0 (ap (λ (k : ℕ). line (take k (drop (r * a.w) a.plane.now))) e ∙ sym (row_line a.w r a.plane.now (omega (arith, n.0)))) in (
+    let z = put_same _ _ c.put_line-next.ensures.0 (ap (λ (k : ℕ). line (take k (drop (r * a.w) a.plane.now))) e ∙ sym (row_line a.w r a.plane.now (omega (arith, ends.0)))) in (
       omega arith,
       put_length c.put_line-next.ensures.0 ∙ c.loop-r.invariant.1,
-      omega (arith, n.1, c.put_line-next.ensures.1),
+      omega (arith, ends.1, c.put_line-next.ensures.1),
       leads_put _ _ (leads_same _ _ c.loop-r.invariant.3 (rows_more a.w (plane_of a.w a.plane.now) r a.h (omega arith))) z,
     )
-
--- every row is done
-all : (c : goal.After-loop-r) → c.loop-r.r ≡ c.args.h
-all c = omega arith
 
 pub returns : goal.returns
 returns c =
     let a = c.args in
-    leads_end (leads_same _ _ c.loop-r.invariant.3 (rows_none a.w (plane_of a.w a.plane.now) c.loop-r.r a.h (omega arith))) (omega (arith, mul_comm a.w a.h, ap (λ (r : ℕ). r * a.w) (all c)))
+    leads_end (leads_same _ _ c.loop-r.invariant.3 (rows_none a.w (plane_of a.w a.plane.now) c.loop-r.r a.h (omega arith))) (let all : c.loop-r.r ≡ a.h = omega arith in omega (arith, mul_comm a.w a.h, ap (λ (r : ℕ). r * a.w) all))
 
 pub overflow_mul-start : goal.overflow_mul-start
 overflow_mul-start c =
-    let ends : let a = c.args in
-    (c.loop-r.r * a.w + a.w ≤ a.w * a.h) × ((c.loop-r.r + 1) * a.w ≡ c.loop-r.r * a.w + a.w) =
-        let a = c.args in row_end a.w a.h c.loop-r.r (omega arith) in
+    let ends = row_end c.args.w c.args.h c.loop-r.r (omega arith) in
     omega (arith, ends.0)
 
 pub overflow_add-start : goal.overflow_add-start
 overflow_add-start c =
-    let ends : let a = c.args in
-    (c.loop-r.r * a.w + a.w ≤ a.w * a.h) × ((c.loop-r.r + 1) * a.w ≡ c.loop-r.r * a.w + a.w) =
-        let a = c.args in row_end a.w a.h c.loop-r.r (omega arith) in
+    let ends = row_end c.args.w c.args.h c.loop-r.r (omega arith) in
     omega (arith, ends.0)
 
 pub offset_bounds-plane-start : goal.offset_bounds-plane-start
 offset_bounds-plane-start c =
-    let ends : let a = c.args in
-    (c.loop-r.r * a.w + a.w ≤ a.w * a.h) × ((c.loop-r.r + 1) * a.w ≡ c.loop-r.r * a.w + a.w) =
-        let a = c.args in row_end a.w a.h c.loop-r.r (omega arith) in
+    let ends = row_end c.args.w c.args.h c.loop-r.r (omega arith) in
     omega (arith, ends.0)
 
 pub slice_bounds-put_line-end : goal.slice_bounds-put_line-end
 slice_bounds-put_line-end c =
-    let ends : let a = c.args in
-    (c.loop-r.r * a.w + a.w ≤ a.w * a.h) × ((c.loop-r.r + 1) * a.w ≡ c.loop-r.r * a.w + a.w) =
-        let a = c.args in row_end a.w a.h c.loop-r.r (omega arith) in
+    let ends = row_end c.args.w c.args.h c.loop-r.r (omega arith) in
     omega (arith, ends.0)

@@ -1,10 +1,8 @@
 -- `listing::read_pixels` meets its contract: the first i pixels are read.
-use mathlib.Core.Path.{◌≡◌, refl, sym, ◌∙◌}
-use Prim.Native.Nat.{◌-◌, ◌≤◌}
+use mathlib.Core.Path.{refl, sym, ◌∙◌}
 use native.Mathlib.Omega.{arith}
-use borrow.Author.Rules.{rules}
-use lib.ListN.{length, get_or, length-set}
-use Rattle.slices.specs.Patch.{patch, patch_none}
+use lib.ListN.{length-set}
+use Rattle.slices.specs.Patch.{patch_none}
 use Rattle.slices.specs.FrontLaws.{patch_next, patch_over}
 use Rattle.listing.specs.Listing.{copy_pixels}
 use Rattle.listing.specs.InputLaws.{pixels_length, pixel_at_lem}

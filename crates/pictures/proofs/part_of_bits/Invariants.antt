@@ -1,11 +1,8 @@
-use Rattle.std.proofs.Common.{◌≡◌, ℕ, ◌-◌, ◌<◌, ◌≤◌, subst, arith}
+use Rattle.std.proofs.Common.{ℕ, ◌<◌}
 use Rattle.slices.specs.Patch.{at}
 use Rattle.slices.specs.Parts.{row_of}
-use Rattle.pictures.specs.RangeChecks.{Tells, Every, OfBits, every_none, every_more}
+use Rattle.pictures.specs.RangeChecks.{Tells, Every, OfBits}
 use Rattle.pictures.proofs.part_of_bits.Given as goal
 
 abbrev pub invariant-loop-i : goal.invariant-loop-i
-invariant-loop-i l = (l.i ≤ l.h) × Tells (Every (λ i. (j : ℕ) → j < l.w → OfBits l.bits (row_of l.stride l.from (at l.values) i j)) l.i) l.fits
-
-abbrev pub decreases-loop-i : goal.decreases-loop-i
-decreases-loop-i l = l.h - l.i
+invariant-loop-i l = Tells (Every (λ i. (j : ℕ) → j < l.w → OfBits l.bits (row_of l.stride l.from (at l.values) i j)) l.i) l.fits

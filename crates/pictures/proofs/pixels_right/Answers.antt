@@ -1,5 +1,5 @@
 -- `pictures::pixels_right` meets its contract: all are below 2^B where the largest is.
-use Rattle.std.proofs.Common.{◌*◌, sym, arith, length-take-le, rules}
+use Rattle.std.proofs.Common.{◌*◌, sym, arith, length-take-le}
 use Rattle.pictures.specs.PixelLaws.{one_shifted, pixels_small, pixel_large}
 use Rattle.pictures.proofs.pixels_right.Goals as goal
 

@@ -1,5 +1,5 @@
 -- `pictures::sides_right` meets its contract: each way out is one rule.
-use Rattle.std.proofs.Common.{sym, ◌∙◌, rules}
+use Rattle.std.proofs.Common.{sym, ◌∙◌}
 use Rattle.pictures.specs.PixelLaws.{wide_wrong, tall_wrong, both_right}
 use Rattle.pictures.proofs.sides_right.Goals as goal
 

@@ -1,6 +1,5 @@
 -- `reversible::allowed` meets its contract: the limits, then the room.
 use mathlib.Core.Path.{sym, ◌∙◌}
-use borrow.Author.Rules.{rules}
 use Rattle.reversible.specs.AnswerLaws.{limits_kept, limits_broken}
 use Rattle.reversible.proofs.allowed.Goals as goal
 

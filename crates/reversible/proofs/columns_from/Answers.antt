@@ -11,9 +11,9 @@ returns-then-h-lt2 c = columns_one c.args.kernel c.args.stride c.args.w c.args.h
 
 pub columns-requires : goal.columns-requires
 columns-requires c = let p = c.requires in record {
-      part = (p.part, record { least = omega arith }, p.column);
-      by_index = p.safe (record { least = omega arith });
-    }
+  part = (p.part, record { least = omega arith }, p.column);
+  by_index = p.safe (record { least = omega arith });
+}
 
 pub returns : goal.returns
 returns c = let a = c.args in

@@ -22,19 +22,24 @@ transform-requires c =
 pub returns-in-Refused : goal.returns-in-Refused
 returns-in-Refused c =
     let s = c.args in
-    forward_not_allowed s.depth s.levels s.w s.h s.pixels.now s.plane.now s.work.now _ (sym c.allowed.ensures ∙ ap told c.in-Refused.is)
+    let r = forward_not_allowed s.depth s.levels s.w s.h s.pixels.now s.plane.now s.work.now _ (sym c.allowed.ensures ∙ ap told c.in-Refused.is) in
+    record { answer = r.0; plane = r.1.0; work = r.1.1 }
 
 pub returns-in-Refused-pixels_right : goal.returns-in-Refused-pixels_right
 returns-in-Refused-pixels_right c =
     let s = c.args in
+    let r =
     forward_pixel s.depth s.levels s.w s.h s.pixels.now s.plane.now s.work.now _
     (sym c.allowed.ensures ∙ ap told c.in-Done.is)
-    (sym c.pixels_right.ensures ∙ ap told c.in-Refused-pixels_right.is)
+    (sym c.pixels_right.ensures ∙ ap told c.in-Refused-pixels_right.is) in
+    record { answer = r.0; plane = r.1.0; work = r.1.1 }
 
 pub returns-in-Done-pixels_right : goal.returns-in-Done-pixels_right
 returns-in-Done-pixels_right c =
     let s = c.args in
+    let r =
     forward_done s.depth s.levels s.w s.h s.pixels.now s.plane.now s.work.now
     (sym c.allowed.ensures ∙ ap told c.in-Done.is)
     (sym c.pixels_right.ensures ∙ ap told c.in-Done-pixels_right.is)
-    _ _ c.transform.ensures.plane c.transform.ensures.work
+    _ _ c.transform.ensures.plane c.transform.ensures.work in
+    record { answer = r.0; plane = r.1.0; work = r.1.1 }

@@ -24,13 +24,12 @@ loop-k-init c = (omega (arith, c.requires.call.some), refl, refl, side_one c.arg
 
 pub level_forward-requires : goal.level_forward-requires
 level_forward-requires c =
-    let first_done : let a = c.args in ForwardDone a.w a.h 1 (loaded a.pixels.now (2 ^ (a.depth - 1)) a.w a.h (at a.plane.now)) (at c.first_level.new.buffer) =
-        let a = c.args in
-            forward_first a.w a.h _ _ c.first_level.ensures in
+    let a = c.args in
     let t = c.loop-k in
     let p = c.requires.call in
+    let x : ℕ → ℤ = loaded a.pixels.now (2 ^ (a.depth - 1)) a.w a.h (at a.plane.now) in
     level_room (2 ^ 21) (levels_room p (length t.plane) (length t.buffer) (omega (arith, p.room.second)) (omega (arith, p.room.third))) t.k _ _ _ _ refl refl t.invariant.3 t.invariant.4
-    (forward_part _ _ t.k (omega (arith, p.few, t.invariant.0)) _ _ (t.invariant.5 _ first_done) (loaded_small c.requires _))
+    (forward_part _ _ t.k (omega (arith, p.few, t.invariant.0)) x _ (t.invariant.5 x (forward_first a.w a.h x _ c.first_level.ensures)) (loaded_small c.requires _))
 
 -- the sides of the level that was worked are at most those of a picture
 small-sides : (c : goal.After-buffer-in-loop-k-1) → (c.loop-k.across ≤ max_side) × (c.loop-k.down ≤ max_side)
@@ -53,13 +52,10 @@ loop-k-preserved c =
 
 pub returns : goal.returns
 returns c =
-    let first_done : let a = c.args in ForwardDone a.w a.h 1 (loaded a.pixels.now (2 ^ (a.depth - 1)) a.w a.h (at a.plane.now)) (at c.first_level.new.buffer) =
-        let a = c.args in
-            forward_first a.w a.h _ _ c.first_level.ensures in
     let a = c.args in
     let e : c.loop-k.k ≡ a.levels = omega arith in
     let x : ℕ → ℤ = loaded a.pixels.now (2 ^ (a.depth - 1)) a.w a.h (at a.plane.now) in
-    subst (λ (k : ℕ). ForwardDone a.w a.h k x (at c.loop-k.plane)) e (c.loop-k.invariant.5 x first_done)
+    subst (λ (k : ℕ). ForwardDone a.w a.h k x (at c.loop-k.plane)) e (c.loop-k.invariant.5 x (forward_first a.w a.h x _ c.first_level.ensures))
 
 pub overflow_add-across : goal.overflow_add-across
 overflow_add-across c = omega (arith, c.requires.call.room.wide.1)

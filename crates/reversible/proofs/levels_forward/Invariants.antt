@@ -18,6 +18,3 @@ use Rattle.reversible.proofs.levels_forward.Given as goal
 abbrev pub invariant-loop-k : goal.invariant-loop-k
 invariant-loop-k l =
     (l.k ≤ l.levels) × (length l.plane ≡ length l.initial.plane) × (length l.buffer ≡ length l.initial.buffer) × (l.across ≡ side l.k l.w) × (l.down ≡ side l.k l.h) × ((x : ℕ → ℤ) → ForwardDone l.w l.h 1 x (at l.initial.plane) → ForwardDone l.w l.h l.k x (at l.plane))
-
-abbrev pub decreases-loop-k : goal.decreases-loop-k
-decreases-loop-k l = l.levels - l.k

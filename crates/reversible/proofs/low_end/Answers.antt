@@ -1,17 +1,17 @@
 -- `reversible::low_end` meets its contract. The loop's invariant: the first j places of the line are there.
-use mathlib.Core.Path.{◌≡◌, refl, sym, ◌∙◌}
-use Prim.Native.Nat.{◌+◌, ◌-◌, ◌≤◌}
+use mathlib.Core.Path.{refl, sym, ◌∙◌}
+use Prim.Native.Nat.{◌+◌}
 use native.Mathlib.Omega.{arith}
-use borrow.Author.Rules.{rules, sfits_of}
+use borrow.Author.Rules.{sfits_of}
 use lib.IntN.{pos}
-use lib.ListN.{length, length-set}
+use lib.ListN.{length-set}
 use mir.Syntax.{w32}
 use mir.Facts.{to_z-of_z}
 use Rattle.lifting.specs.declared.Step.TheVariants.{Update}
-use Rattle.lifting.specs.Steps.{applied, ended, Safe}
+use Rattle.lifting.specs.Steps.{ended, Safe}
 use Rattle.slices.specs.Runs.{as_type}
 use Rattle.lifting.specs.Ends.{ended_is}
-use Rattle.slices.specs.Patch.{at, patch, patch_none, patch_set, patch_to}
+use Rattle.slices.specs.Patch.{at, patch_none, patch_set, patch_to}
 use Rattle.slices.specs.Pixels.{pixel_line}
 use Rattle.reversible.specs.Columns.{read_past}
 use Rattle.reversible.proofs.low_end.Goals as goal

@@ -1,23 +1,12 @@
-use mathlib.Core.Path.{◌≡◌, refl, sym, ◌∙◌}
-use Prim.Native.Nat.{◌+◌, ◌-◌, ◌≤◌}
-use native.Mathlib.Omega.{arith}
-use borrow.Author.Rules.{rules, sfits_of}
-use lib.IntN.{pos}
-use lib.ListN.{length, length-set}
-use mir.Syntax.{w32}
-use mir.Facts.{to_z-of_z}
+use mathlib.Core.Path.{◌≡◌}
+use Prim.Native.Nat.{◌+◌, ◌≤◌}
+use lib.ListN.{length}
 use Rattle.lifting.specs.declared.Step.TheVariants.{Update}
-use Rattle.lifting.specs.Steps.{applied, ended, Safe}
-use Rattle.slices.specs.Runs.{as_type}
-use Rattle.lifting.specs.Ends.{ended_is}
-use Rattle.slices.specs.Patch.{at, patch, patch_none, patch_set, patch_to}
+use Rattle.lifting.specs.Steps.{applied}
+use Rattle.slices.specs.Patch.{at, patch}
 use Rattle.slices.specs.Pixels.{pixel_line}
-use Rattle.reversible.specs.Columns.{read_past}
 use Rattle.reversible.proofs.low_end.Given as goal
 
 abbrev pub invariant-loop-j : goal.invariant-loop-j
 invariant-loop-j l =
     (l.j ≤ l.n) × (length l.plane ≡ length l.initial.plane) × (at l.plane ≡ patch l.to l.j (λ k. applied Update (pixel_line l.pixels l.middle l.own k) (at l.initial.plane (l.beside + k)) (at l.initial.plane (l.beside + k))) (at l.initial.plane))
-
-abbrev pub decreases-loop-j : goal.decreases-loop-j
-decreases-loop-j l = l.n - l.j

@@ -1,17 +1,15 @@
 -- `reversible::low_line` meets its contract. The loop's invariant: the first j places of the line are there.
-use mathlib.Core.Path.{◌≡◌, refl, sym, ◌∙◌}
-use Prim.Native.Nat.{◌+◌, ◌-◌, ◌≤◌}
+use mathlib.Core.Path.{refl, sym, ◌∙◌}
 use native.Mathlib.Omega.{arith}
-use borrow.Author.Rules.{rules, sfits_of}
+use borrow.Author.Rules.{sfits_of}
 use lib.IntN.{pos}
-use lib.ListN.{length, length-set}
+use lib.ListN.{length-set}
 use mir.Syntax.{w32}
 use mir.Facts.{to_z-of_z}
 use Rattle.lifting.specs.declared.Step.TheVariants.{Update}
 use Rattle.lifting.specs.Steps.{applied, Safe}
 use Rattle.slices.specs.Runs.{as_type}
-use Rattle.slices.specs.Patch.{at, patch, patch_none, patch_set, patch_to}
-use Rattle.slices.specs.Pixels.{pixel_line}
+use Rattle.slices.specs.Patch.{patch_none, patch_set, patch_to}
 use Rattle.reversible.specs.Columns.{read_past}
 use Rattle.reversible.proofs.low_line.Goals as goal
 

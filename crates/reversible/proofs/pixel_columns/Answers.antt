@@ -1,11 +1,10 @@
 -- `reversible::pixel_columns` meets its contract. The loop's invariant: i lines of highs and i of lows are done.
 use mathlib.Core.Path.{◌≡◌, refl}
-use Prim.Native.Nat.{◌+◌, ◌-◌, ◌≤◌}
+use Prim.Native.Nat.{◌+◌}
 use native.Mathlib.Omega.{arith}
-use lib.ListN.{length}
 use Rattle.lines.specs.Lines.{highs}
 use Rattle.slices.specs.Patch.{at}
-use Rattle.reversible.specs.Columns.{LinesDone, lines_few, lines_none, high_more, low_more, columns_done, highs_all, lows_to, room_as}
+use Rattle.reversible.specs.Columns.{lines_few, lines_none, high_more, low_more, columns_done, highs_all, lows_to, room_as}
 use Rattle.reversible.proofs.pixel_columns.Goals as goal
 
 pub high_at-requires : goal.high_at-requires
@@ -13,27 +12,20 @@ high_at-requires c = (room_as c.requires _ c.loop-i.invariant.1, c.loop-i-test.t
 
 pub low_at-requires : goal.low_at-requires
 low_at-requires c =
-    let after-high : let t = c.loop-i in let g = c.args in
-    LinesDone (t.i + 1) t.i g.pixels.now g.middle g.w g.h (at g.plane.now) (at c.high_at.new.1.1.0) =
-        let t = c.loop-i in
-            let g = c.args in
-            high_more g.pixels.now g.middle g.w g.h t.i t.i (at g.plane.now) (at t.plane) t.invariant.2 _ c.loop-i-test.true (omega arith) c.high_at.ensures in
     let t = c.loop-i in
+    let g = c.args in
+    let after_high = high_more g.pixels.now g.middle g.w g.h t.i t.i (at g.plane.now) (at t.plane) t.invariant.2 _ c.loop-i-test.true (omega arith) c.high_at.ensures in
     record {
       pixel_room = (room_as c.requires _ (omega (arith, t.invariant.1)), omega arith);
-      highs_to = after-high.highs_stand;
+      highs_to = after_high.highs_stand;
     }
 
 pub loop-i-preserved : goal.loop-i-preserved
 loop-i-preserved c =
-    let after-high : let t = c.loop-i in let g = c.args in
-    LinesDone (t.i + 1) t.i g.pixels.now g.middle g.w g.h (at g.plane.now) (at c.high_at.new.1.1.0) =
-        let t = c.loop-i in
-            let g = c.args in
-            high_more g.pixels.now g.middle g.w g.h t.i t.i (at g.plane.now) (at t.plane) t.invariant.2 _ c.loop-i-test.true (omega arith) c.high_at.ensures in
     let t = c.loop-i in
     let g = c.args in
-    (omega arith, omega (arith, t.invariant.1), low_more g.pixels.now g.middle g.w g.h (t.i + 1) t.i (at g.plane.now) _ after-high _ (omega arith) c.low_at.ensures)
+    let after_high = high_more g.pixels.now g.middle g.w g.h t.i t.i (at g.plane.now) (at t.plane) t.invariant.2 _ c.loop-i-test.true (omega arith) c.high_at.ensures in
+    (omega arith, omega (arith, t.invariant.1), low_more g.pixels.now g.middle g.w g.h (t.i + 1) t.i (at g.plane.now) _ after_high _ (omega arith) c.low_at.ensures)
 
 pub low_at-requires-then-high-h : goal.low_at-requires-then-high-h
 low_at-requires-then-high-h c =

@@ -11,9 +11,9 @@ returns-then-w-lt2 c = rows_one c.args.kernel c.args.stride c.args.w c.args.h (a
 
 pub rows-requires : goal.rows-requires
 rows-requires c = let p = c.requires in record {
-      part = (p.part, record { least = omega arith }, p.row);
-      by_index = p.safe (record { least = omega arith });
-    }
+  part = (p.part, record { least = omega arith }, p.row);
+  by_index = p.safe (record { least = omega arith });
+}
 
 pub returns : goal.returns
 returns c = let a = c.args in

@@ -18,14 +18,14 @@ levels_forward-requires c =
 pub clear-requires : goal.clear-requires
 clear-requires c =
     let l = length-take-le (c.args.w * c.args.h) c.args.work.now c.requires.call.room.third in
-    omega (arith, c.requires.call.room.third, length_front c.args.work.now c.levels_forward.new.1.1.1.0 (c.args.w * c.args.h) (omega arith))
+    omega (arith, c.requires.call.room.third, length_front c.args.work.now c.levels_forward.new.buffer (c.args.w * c.args.h) (omega arith))
 
 pub returns : goal.returns
 returns c =
     let f = c.levels_forward in
     let l = length-take-le (c.args.w * c.args.h) c.args.work.now c.requires.call.room.third in record {
-      plane = worked_plane c.requires c.args.plane.now f.new.1.1.0 f.ensures (omega arith) (omega arith);
-      work = c.clear.ensures ∙ zeroed_part (c.args.w * c.args.h) f.new.1.1.1.0 c.args.work.now (omega arith);
+      plane = worked_plane c.requires c.args.plane.now f.new.plane f.ensures (omega arith) (omega arith);
+      work = c.clear.ensures ∙ zeroed_part (c.args.w * c.args.h) f.new.buffer c.args.work.now (omega arith);
     }
 
 pub slice_bounds-levels_forward-end-2 : goal.slice_bounds-levels_forward-end-2

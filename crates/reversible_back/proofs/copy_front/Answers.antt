@@ -1,13 +1,12 @@
 -- `reversible_back::copy_front` meets its contract: the places passed hold what the other slice has there.
-use mathlib.Core.Path.{◌≡◌, refl}
-use Prim.Native.Nat.{◌-◌, ◌≤◌}
+use mathlib.Core.Path.{refl}
 use native.Mathlib.Omega.{arith}
 use borrow.Author.Rules.{sfits_of}
 use lib.IntN.{pos}
-use lib.ListN.{length, length-set}
+use lib.ListN.{length-set}
 use mir.Syntax.{w32}
 use mir.Facts.{to_z-of_z}
-use Rattle.slices.specs.Patch.{at, patch, patch_none, patch_to}
+use Rattle.slices.specs.Patch.{patch_none, patch_to}
 use Rattle.slices.specs.FrontLaws.{patch_next}
 use Rattle.reversible_back.proofs.copy_front.Goals as goal
 

@@ -2,7 +2,6 @@
 use mathlib.Core.Path.{◌≡◌, ap, sym, ◌∙◌, subst}
 use Prim.Native.Nat.{ℕ, ◌+◌, ◌-◌, ◌<◌, ◌≤◌, ◌^◌}
 use native.Mathlib.Omega.{arith}
-use borrow.Author.Rules.{rules}
 use lib.IntN.{ℤ, pos, neg_ℤ, ◌-ℤ◌}
 use lib.Pow.{pow_mono}
 use mir.Syntax.{w32}
@@ -17,7 +16,7 @@ use Rattle.reversible_back.proofs.samples_right.Goals as goal
 pub returns : goal.returns
 returns c =
     let middle-small : c.middle-half.result ≤ 2048 =
-        subst (λ (n : ℕ). n ≤ 2048) (sym c.middle-half.ensures) (pow_mono {i = c.args.depth - 1} {j = 11} (omega arith)) in
+    subst (λ (n : ℕ). n ≤ 2048) (sym c.middle-half.ensures) (pow_mono {i = c.args.depth - 1} {j = 11} (omega arith)) in
     let a = c.args in
     let m = c.middle-half.result in
     let is = ap pos c.middle-half.ensures in
@@ -30,11 +29,11 @@ returns c =
 pub overflow_sub-half : goal.overflow_sub-half
 overflow_sub-half c =
     let middle-small : c.middle-half.result ≤ 2048 =
-        subst (λ (n : ℕ). n ≤ 2048) (sym c.middle-half.ensures) (pow_mono {i = c.args.depth - 1} {j = 11} (omega arith)) in
+    subst (λ (n : ℕ). n ≤ 2048) (sym c.middle-half.ensures) (pow_mono {i = c.args.depth - 1} {j = 11} (omega arith)) in
     auto_fits (search (values, v_nat w32 c.middle-half.result 2048 middle-small) depth 40) tt
 
 pub overflow_sub-half-2 : goal.overflow_sub-half-2
 overflow_sub-half-2 c =
     let middle-small : c.middle-half.result ≤ 2048 =
-        subst (λ (n : ℕ). n ≤ 2048) (sym c.middle-half.ensures) (pow_mono {i = c.args.depth - 1} {j = 11} (omega arith)) in
+    subst (λ (n : ℕ). n ≤ 2048) (sym c.middle-half.ensures) (pow_mono {i = c.args.depth - 1} {j = 11} (omega arith)) in
     auto_fits (search (values, v_nat w32 c.middle-half.result 2048 middle-small) depth 40) tt

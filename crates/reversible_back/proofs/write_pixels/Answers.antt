@@ -1,14 +1,14 @@
 -- `reversible_back::write_pixels` meets its contract: the places passed hold their pixels, and 0 in place of their samples.
 use mathlib.Core.Path.{◌≡◌, refl, sym, ap, ◌∙◌}
-use Prim.Native.Nat.{ℕ, ◌+◌, ◌-◌, ◌≤◌, ◌^◌}
+use Prim.Native.Nat.{ℕ, ◌-◌, ◌≤◌, ◌^◌}
 use native.Mathlib.Omega.{arith}
-use borrow.Author.Rules.{rules, sfits_of}
+use borrow.Author.Rules.{sfits_of}
 use lib.IntN.{ℤ, pos, nat_abs, neg_ℤ, ◌+ℤ◌, ◌-ℤ◌}
-use lib.ListN.{length, length-set, get_or}
+use lib.ListN.{length-set}
 use lib.Pow.{pow_mono}
 use mir.Syntax.{w32}
 use mir.Facts.{to_z-of_z}
-use Rattle.slices.specs.Patch.{at, patch, patch_none, patch_above, patch_to}
+use Rattle.slices.specs.Patch.{at, patch_none, patch_above, patch_to}
 use Rattle.slices.specs.Runs.{as_type}
 use Rattle.slices.specs.FrontLaws.{patch_next, patch_zeroed}
 use Rattle.reversible_back.specs.FoundLaws.{signed_middle}
@@ -17,19 +17,18 @@ use Rattle.reversible_back.proofs.write_pixels.Goals as goal
 
 pub pixel_of-requires : goal.pixel_of-requires
 pixel_of-requires c =
-    let sample : let t = c.loop-i in at t.values t.i ≡ at c.args.values.now t.i =
-        let t = c.loop-i in ap (λ (f : ℕ → ℤ). f t.i) t.invariant.4 ∙ patch_above 0 t.i _ _ t.i (omega arith) in
+    let t = c.loop-i in
+    let sample : at t.values t.i ≡ at c.args.values.now t.i = ap (λ (f : ℕ → ℤ). f t.i) t.invariant.4 ∙ patch_above 0 t.i _ _ t.i (omega arith) in
     let m = c.middle-half in
     let half = signed_middle c.args.depth m.result c.requires.le_depth.0 c.requires.le_depth.1 m.ensures in
-    let v = to_z-of_z (sfits_of c.pixel_of-arg-1.given) ∙ sample in
+    let v = to_z-of_z {w = w32} (sfits_of c.pixel_of-arg-1.given) ∙ sample in
     as_type (λ u. (nat_abs (sym half u) ≤ 2 ^ 11) × Between (neg_ℤ (sym half u)) (sym half u -ℤ pos 1) (sym v u))
-    (pow_mono {i = c.args.depth - 1} {j = 11} (omega (arith, c.requires.le_depth)), c.requires.by_index c.loop-i.i c.loop-i-test.true)
+    (pow_mono {i = c.args.depth - 1} {j = 11} (omega (arith, c.requires.le_depth)), c.requires.by_index t.i c.loop-i-test.true)
 
 pub loop-i-preserved : goal.loop-i-preserved
 loop-i-preserved c =
-    let sample : let t = c.loop-i in at t.values t.i ≡ at c.args.values.now t.i =
-        let t = c.loop-i in ap (λ (f : ℕ → ℤ). f t.i) t.invariant.4 ∙ patch_above 0 t.i _ _ t.i (omega arith) in
     let t = c.loop-i in
+    let sample : at t.values t.i ≡ at c.args.values.now t.i = ap (λ (f : ℕ → ℤ). f t.i) t.invariant.4 ∙ patch_above 0 t.i _ _ t.i (omega arith) in
     let m = c.middle-half in
     let half = signed_middle c.args.depth m.result c.requires.le_depth.0 c.requires.le_depth.1 m.ensures in
     let v = to_z-of_z {w = w32} {z = at t.values t.i} (sfits_of c.pixel_of-arg-1.given) ∙ sample in (

@@ -10,35 +10,35 @@ use Rattle.rolling.proofs.end_answer.Goals as goal
 pub overflow_mul-scan : goal.overflow_mul-scan
 overflow_mul-scan c =
     let on : goes_on c.args.scan ≡ true =
-        sym c.goes_on.ensures ∙ c.if-goes_on.true in
+    sym c.goes_on.ensures ∙ c.if-goes_on.true in
     let some : any_taken c.args.scan.taken ≡ true =
-        sym c.any_taken.ensures ∙ c.if-any_taken.true in
+    sym c.any_taken.ensures ∙ c.if-any_taken.true in
     omega (arith, (on_side c.args.scan (as_test on) (as_test some)).1)
 
 pub returns-else-scan-held : goal.returns-else-scan-held
 returns-else-scan-held c =
     let on : goes_on c.args.scan ≡ true =
-        sym c.goes_on.ensures ∙ c.if-goes_on.true in
+    sym c.goes_on.ensures ∙ c.if-goes_on.true in
     let some : any_taken c.args.scan.taken ≡ true =
-        sym c.any_taken.ensures ∙ c.if-any_taken.true in
+    sym c.any_taken.ensures ∙ c.if-any_taken.true in
     let a = c.args in
     sym (end_held a.scan a.held a.out on some (omega arith))
 
 pub returns-else-scan-out : goal.returns-else-scan-out
 returns-else-scan-out c =
     let on : goes_on c.args.scan ≡ true =
-        sym c.goes_on.ensures ∙ c.if-goes_on.true in
+    sym c.goes_on.ensures ∙ c.if-goes_on.true in
     let some : any_taken c.args.scan.taken ≡ true =
-        sym c.any_taken.ensures ∙ c.if-any_taken.true in
+    sym c.any_taken.ensures ∙ c.if-any_taken.true in
     let a = c.args in
     sym (end_out_lem a.scan a.held a.out on some (omega arith) (omega arith))
 
 pub returns : goal.returns
 returns c =
     let on : goes_on c.args.scan ≡ true =
-        sym c.goes_on.ensures ∙ c.if-goes_on.true in
+    sym c.goes_on.ensures ∙ c.if-goes_on.true in
     let some : any_taken c.args.scan.taken ≡ true =
-        sym c.any_taken.ensures ∙ c.if-any_taken.true in
+    sym c.any_taken.ensures ∙ c.if-any_taken.true in
     let a = c.args in
     sym (end_done a.scan a.held a.out on some (omega arith) (omega arith))
 

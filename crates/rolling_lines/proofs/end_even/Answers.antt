@@ -19,7 +19,7 @@ pub second_given-requires : goal.second_given-requires
 second_given-requires c =
     let a = c.args in
     let low_again : at c.later_low.new.held ≡ later_kept a.columns.table a.w a.before (moved a.w 5 0 (at a.held.now)) =
-        c.later_low.ensures.held ∙ ap (later_kept a.columns.table a.w a.before) c.move_line.ensures in
+    c.later_low.ensures.held ∙ ap (later_kept a.columns.table a.w a.before) c.move_line.ensures in
     let (lent, stages, fits, room, which) = c.requires in
     (record { narrow = lent.narrow; room = omega (arith, lent.room) }, stages, subst (SecondFits a.columns.table a.w 3 4) (sym low_again) (later_last a.columns stages a.w a.before _ (even_later a.columns stages a.w (at a.held.now) fits a.before which)), omega arith, omega (arith, room))
 
@@ -27,7 +27,7 @@ pub returns : goal.returns
 returns c =
     let a = c.args in
     let low_again : at c.later_low.new.held ≡ later_kept a.columns.table a.w a.before (moved a.w 5 0 (at a.held.now)) =
-        c.later_low.ensures.held ∙ ap (later_kept a.columns.table a.w a.before) c.move_line.ensures in
+    c.later_low.ensures.held ∙ ap (later_kept a.columns.table a.w a.before) c.move_line.ensures in
     let m = at a.held.now in
     let done = low_again in record {
       held = subst (PastSame a.w m) (sym (c.second_given.ensures.held ∙ ap (second_done a.columns.table a.w 3 4) done))

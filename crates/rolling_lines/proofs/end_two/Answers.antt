@@ -19,7 +19,7 @@ pub second_given-requires : goal.second_given-requires
 second_given-requires c =
     let a = c.args in
     let low_again : at c.first_low.new.held ≡ first_kept a.w (first_done a.columns.table a.w 6 (moved a.w 5 0 (at a.held.now))) =
-        c.first_low.ensures ∙ ap (λ (m : ℕ → ℤ). first_kept a.w (first_done a.columns.table a.w 6 m)) c.move_line.ensures in
+    c.first_low.ensures ∙ ap (λ (m : ℕ → ℤ). first_kept a.w (first_done a.columns.table a.w 6 m)) c.move_line.ensures in
     let (lent, stages, fits, room) = c.requires in
     (record { narrow = lent.narrow; room = omega (arith, lent.room) }, stages, subst (SecondFits a.columns.table a.w 3 2) (sym low_again) (two_last a.columns stages a.w (at a.held.now) fits), omega arith, room)
 
@@ -27,7 +27,7 @@ pub returns : goal.returns
 returns c =
     let a = c.args in
     let low_again : at c.first_low.new.held ≡ first_kept a.w (first_done a.columns.table a.w 6 (moved a.w 5 0 (at a.held.now))) =
-        c.first_low.ensures ∙ ap (λ (m : ℕ → ℤ). first_kept a.w (first_done a.columns.table a.w 6 m)) c.move_line.ensures in
+    c.first_low.ensures ∙ ap (λ (m : ℕ → ℤ). first_kept a.w (first_done a.columns.table a.w 6 m)) c.move_line.ensures in
     let m = at a.held.now in
     let done = low_again in record {
       held = subst (PastSame a.w m) (sym (c.second_given.ensures.held ∙ ap (second_done a.columns.table a.w 3 2) done))

@@ -18,7 +18,7 @@ stage_line-requires c =
 pub stage_line-requires-2 : goal.stage_line-requires-2
 stage_line-requires-2 c =
     let p1-there : at c.stage_line.new.held ≡ set_p1 c.args.columns.table c.args.w 6 0 5 (moved c.args.w 6 1 (at c.args.held.now)) =
-        P1-done c.args.columns c.requires.1 c.args.w 6 0 5 _ _ c.move_line.ensures _ c.stage_line.ensures in
+    P1-done c.args.columns c.requires.1 c.args.w 6 0 5 _ _ c.move_line.ensures _ c.stage_line.ensures in
     let a = c.args in
     let (lent, stages, fits) = c.requires in record {
       lent = (record { narrow = lent.narrow; room = omega (arith, lent.room) }, before_apart a.columns stages a.w a.before (at a.held.now) fits, record { one = omega arith; other = omega arith; apart = λ e. absurd (omega arith) });
@@ -28,7 +28,7 @@ stage_line-requires-2 c =
 pub returns : goal.returns
 returns c =
     let p1-there : at c.stage_line.new.held ≡ set_p1 c.args.columns.table c.args.w 6 0 5 (moved c.args.w 6 1 (at c.args.held.now)) =
-        P1-done c.args.columns c.requires.1 c.args.w 6 0 5 _ _ c.move_line.ensures _ c.stage_line.ensures in
+    P1-done c.args.columns c.requires.1 c.args.w 6 0 5 _ _ c.move_line.ensures _ c.stage_line.ensures in
     U1-done c.args.columns c.requires.1 c.args.w 0 c.args.before 6 _ _ p1-there _ c.stage_line-2.ensures
 
 pub move_line-requires : goal.move_line-requires

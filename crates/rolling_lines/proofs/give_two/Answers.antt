@@ -18,12 +18,12 @@ returns c =
 
 pub scale_line-requires : goal.scale_line-requires
 scale_line-requires c = let (lent, stages, fits, few, room) = c.requires in record {
-      lent = (lent, omega arith, omega arith, room);
-      safe_scaling = G1-may c.args.columns stages c.args.w _ fits.u2;
-    }
+  lent = (lent, omega arith, omega arith, room);
+  safe_scaling = G1-may c.args.columns stages c.args.w _ fits.u2;
+}
 
 pub scale_line-requires-2 : goal.scale_line-requires-2
 scale_line-requires-2 c = let (lent, stages, fits, few, room) = c.requires in record {
-      lent = (lent, omega arith, omega arith, omega arith);
-      safe_scaling = G2-may c.args.columns stages c.args.w _ fits.p2;
-    }
+  lent = (lent, omega arith, omega arith, omega arith);
+  safe_scaling = G2-may c.args.columns stages c.args.w _ fits.p2;
+}

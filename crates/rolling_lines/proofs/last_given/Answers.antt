@@ -20,7 +20,7 @@ stage_line-requires c =
 pub scale_line-requires : goal.scale_line-requires
 scale_line-requires c =
     let u2-there : at c.stage_line.new.held ≡ set_u2 c.args.columns.table c.args.w 0 2 2 (at c.args.held.now) =
-        U2-done c.args.columns c.requires.1 c.args.w 0 2 2 (at c.args.held.now) _ refl _ c.stage_line.ensures in
+    U2-done c.args.columns c.requires.1 c.args.w 0 2 2 (at c.args.held.now) _ refl _ c.stage_line.ensures in
     let a = c.args in
     let (lent, stages, fits, room) = c.requires in record {
       lent = (record { narrow = lent.narrow; room = omega (arith, lent.room) }, omega arith, omega arith, room);
@@ -30,7 +30,7 @@ scale_line-requires c =
 pub returns : goal.returns
 returns c =
     let u2-there : at c.stage_line.new.held ≡ set_u2 c.args.columns.table c.args.w 0 2 2 (at c.args.held.now) =
-        U2-done c.args.columns c.requires.1 c.args.w 0 2 2 (at c.args.held.now) _ refl _ c.stage_line.ensures in
+    U2-done c.args.columns c.requires.1 c.args.w 0 2 2 (at c.args.held.now) _ refl _ c.stage_line.ensures in
     let a = c.args in record {
       held = u2-there;
       out = c.scale_line.ensures ∙ (λ u. set_line a.w 2 (G1-line a.columns c.requires.1 a.w (line_in a.w (u2-there u) 0) u) (at a.out.now));

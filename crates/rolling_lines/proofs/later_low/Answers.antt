@@ -19,7 +19,7 @@ pub returns : goal.returns
 returns c =
     let a = c.args in
     let stages-done : at c.second_given.new.held ≡ later_done a.columns.table a.w a.before (at a.held.now) =
-        c.second_given.ensures.held ∙ ap (second_done a.columns.table a.w 0 a.before) c.first_stages.ensures in
+    c.second_given.ensures.held ∙ ap (second_done a.columns.table a.w 0 a.before) c.first_stages.ensures in
     record {
       held = c.keep_first.ensures ∙ ap (first_kept a.w) (c.move_line.ensures ∙ ap (moved a.w 4 2) stages-done);
       out = c.second_given.ensures.out ∙ ap (λ (m : ℕ → ℤ). two_given a.columns.table a.w 0 (second_done a.columns.table a.w 0 a.before m) (at a.out.now)) c.first_stages.ensures;

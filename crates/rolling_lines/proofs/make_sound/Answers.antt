@@ -23,10 +23,10 @@ returns c =
     let e = c.clear.ensures in
     -- one of the two looks found another value
     let unsound : Sound a.table a.w (held_in a.w a.held.now) → ⊥ =
-        λ s. elim c.if-columns_sound.branch [
-          then-columns_sound+else-columns_sound-2 w ↦ high_unsound a.table a.w a.held.now _ w.columns_sound-then-columns_sound.ensures w.if-columns_sound-2.false s
-        | else-columns_sound w ↦ low_unsound a.table a.w a.held.now _ c.columns_sound.ensures w.if-columns_sound.false s
-        ] in
+    λ s. elim c.if-columns_sound.branch [
+      | then-columns_sound+else-columns_sound-2 w ↦ high_unsound a.table a.w a.held.now _ w.columns_sound-then-columns_sound.ensures w.if-columns_sound-2.false s
+      | else-columns_sound w ↦ low_unsound a.table a.w a.held.now _ c.columns_sound.ensures w.if-columns_sound.false s
+    ] in
     record {
       sound = subst (λ (l : List ℤ). Sound a.table a.w (held_in a.w l)) (sym e) (zeros_sound a.w a.held.now a.table);
       kept = λ h. absurd (unsound h);

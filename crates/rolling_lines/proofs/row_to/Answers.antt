@@ -26,13 +26,13 @@ kernel s = Two s.first s.second s.low s.high
 pub single_row-requires : goal.single_row-requires
 single_row-requires c =
     let one : c.args.w ≡ 1 =
-        omega (arith, c.requires.0.side.0) in
+    omega (arith, c.requires.0.side.0) in
     (subst (LineRight c.args.table c.args.pixels.now) one c.requires.0, subst (Lent c.args.held.now) one c.requires.1, c.requires.2)
 
 pub returns-then-w-lt2 : goal.returns-then-w-lt2
 returns-then-w-lt2 c =
     let one : c.args.w ≡ 1 =
-        omega (arith, c.requires.0.side.0) in
+    omega (arith, c.requires.0.side.0) in
     let a = c.args in
     c.single_row.ensures ∙ ap (λ (w : ℕ). set_line w a.line (row_of a.table a.pixels.now w) (at a.held.now)) (sym one)
 

@@ -18,7 +18,7 @@ stage_line-requires c =
 pub stage_line-requires-2 : goal.stage_line-requires-2
 stage_line-requires-2 c =
     let p2-there : at c.stage_line.new.held ≡ set_p2 c.args.columns.table c.args.w 2 3 c.args.after (at c.args.held.now) =
-        P2-done c.args.columns c.requires.1 c.args.w 2 3 c.args.after (at c.args.held.now) _ refl _ c.stage_line.ensures in
+    P2-done c.args.columns c.requires.1 c.args.w 2 3 c.args.after (at c.args.held.now) _ refl _ c.stage_line.ensures in
     let a = c.args in
     let (lent, stages, fits) = c.requires in record {
       lent = (record { narrow = lent.narrow; room = omega (arith, lent.room) }, before_apart_2 a.columns stages a.w a.after a.before (at a.held.now) fits, record { one = omega arith; other = omega arith; apart = λ e. absurd (omega arith) });
@@ -28,5 +28,5 @@ stage_line-requires-2 c =
 pub returns : goal.returns
 returns c =
     let p2-there : at c.stage_line.new.held ≡ set_p2 c.args.columns.table c.args.w 2 3 c.args.after (at c.args.held.now) =
-        P2-done c.args.columns c.requires.1 c.args.w 2 3 c.args.after (at c.args.held.now) _ refl _ c.stage_line.ensures in
+    P2-done c.args.columns c.requires.1 c.args.w 2 3 c.args.after (at c.args.held.now) _ refl _ c.stage_line.ensures in
     U2-done c.args.columns c.requires.1 c.args.w 3 c.args.before 2 _ _ p2-there _ c.stage_line-2.ensures

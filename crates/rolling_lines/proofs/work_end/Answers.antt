@@ -81,17 +81,17 @@ unfolding end_gives line_gives
 returns-in-Two c =
     let a = c.args in
     let made : Made a.table a.w a.held.now a.out.now c.make_sound.new.held c.columns_of-columns.result.table =
-        record { kept = c.make_sound.ensures.kept; past = c.make_sound.ensures.past; table_is = c.columns_of-columns.ensures.1; some = omega (arith, c.requires.1.0); room = c.requires.3 } in
+    record { kept = c.make_sound.ensures.kept; past = c.make_sound.ensures.past; table_is = c.columns_of-columns.ensures.1; some = omega (arith, c.requires.1.0); room = c.requires.3 } in
     let said = ended made {held' = c.end_two.new.held} {out' = c.end_two.new.out} Two 2 (λ t. two_ended t a.w) c.in-Two.is refl (search rules) c.end_two.ensures.held c.end_two.ensures.out
-        (two_end_kept a.table a.w a.held.now made.some a.out.now _ made.room (search rules) (moved a.w 5 0 (at c.make_sound.new.held)))
-        (two_ended_lem a.table a.w a.held.now made.some a.out.now _ made.room (search rules)) in
+    (two_end_kept a.table a.w a.held.now made.some a.out.now _ made.room (search rules) (moved a.w 5 0 (at c.make_sound.new.held)))
+    (two_ended_lem a.table a.w a.held.now made.some a.out.now _ made.room (search rules)) in
     record { count = said.0; work = said.1 }
 
 pub returns-in-Four : goal.returns-in-Four
 returns-in-Four c =
     let a = c.args in
     let made : Made a.table a.w a.held.now a.out.now c.make_sound.new.held c.columns_of-columns.result.table =
-        record { kept = c.make_sound.ensures.kept; past = c.make_sound.ensures.past; table_is = c.columns_of-columns.ensures.1; some = omega (arith, c.requires.1.0); room = c.requires.3 } in
+    record { kept = c.make_sound.ensures.kept; past = c.make_sound.ensures.past; table_is = c.columns_of-columns.ensures.1; some = omega (arith, c.requires.1.0); room = c.requires.3 } in
     let said = even made {held' = c.end_even.new.held} {out' = c.end_even.new.out} fifth c.in-Four.is (search rules) (search rules) c.end_even.ensures.held c.end_even.ensures.out in
     record { count = said.0; work = said.1 }
 
@@ -99,7 +99,7 @@ pub returns-in-EvenMany : goal.returns-in-EvenMany
 returns-in-EvenMany c =
     let a = c.args in
     let made : Made a.table a.w a.held.now a.out.now c.make_sound.new.held c.columns_of-columns.result.table =
-        record { kept = c.make_sound.ensures.kept; past = c.make_sound.ensures.past; table_is = c.columns_of-columns.ensures.1; some = omega (arith, c.requires.1.0); room = c.requires.3 } in
+    record { kept = c.make_sound.ensures.kept; past = c.make_sound.ensures.past; table_is = c.columns_of-columns.ensures.1; some = omega (arith, c.requires.1.0); room = c.requires.3 } in
     let said = even made {held' = c.end_even-in-EvenMany.new.held} {out' = c.end_even-in-EvenMany.new.out} later c.in-EvenMany.is (search rules) (search rules) c.end_even-in-EvenMany.ensures.held c.end_even-in-EvenMany.ensures.out in
     record { count = said.0; work = said.1 }
 
@@ -107,7 +107,7 @@ pub returns-in-Three : goal.returns-in-Three
 returns-in-Three c =
     let a = c.args in
     let made : Made a.table a.w a.held.now a.out.now c.make_sound.new.held c.columns_of-columns.result.table =
-        record { kept = c.make_sound.ensures.kept; past = c.make_sound.ensures.past; table_is = c.columns_of-columns.ensures.1; some = omega (arith, c.requires.1.0); room = c.requires.3 } in
+    record { kept = c.make_sound.ensures.kept; past = c.make_sound.ensures.past; table_is = c.columns_of-columns.ensures.1; some = omega (arith, c.requires.1.0); room = c.requires.3 } in
     let said = odd made {held' = c.end_odd.new.held} {out' = c.end_odd.new.out} third c.in-Three.is (search rules) (search rules) c.end_odd.ensures.held c.end_odd.ensures.out in
     record { count = said.0; work = said.1 }
 
@@ -115,7 +115,7 @@ pub returns-in-OddMany : goal.returns-in-OddMany
 returns-in-OddMany c =
     let a = c.args in
     let made : Made a.table a.w a.held.now a.out.now c.make_sound.new.held c.columns_of-columns.result.table =
-        record { kept = c.make_sound.ensures.kept; past = c.make_sound.ensures.past; table_is = c.columns_of-columns.ensures.1; some = omega (arith, c.requires.1.0); room = c.requires.3 } in
+    record { kept = c.make_sound.ensures.kept; past = c.make_sound.ensures.past; table_is = c.columns_of-columns.ensures.1; some = omega (arith, c.requires.1.0); room = c.requires.3 } in
     let said = odd made {held' = c.end_odd-in-OddMany.new.held} {out' = c.end_odd-in-OddMany.new.out} odd_many c.in-OddMany.is (search rules) (search rules) c.end_odd-in-OddMany.ensures.held c.end_odd-in-OddMany.ensures.out in
     record { count = said.0; work = said.1 }
 

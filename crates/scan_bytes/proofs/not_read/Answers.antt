@@ -6,6 +6,6 @@ use Rattle.scan_bytes.proofs.not_read.Goals as goal
 
 pub returns : goal.returns
 returns c = record {
-      answer = refl;
-      scan = ap (λ (t : WidthTable). record { table = t; width = 0; taken = Zero; ended = true }) c.empty.ensures;
-    }
+  answer = refl;
+  scan = ap (λ (t : WidthTable). record { table = t; width = 0; taken = Zero; ended = true }) c.empty.ensures;
+}

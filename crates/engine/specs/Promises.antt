@@ -32,9 +32,9 @@ use Rattle.view_precision.specs.Bounds.{view_verdict, pixel_bound, view_distance
 use Rattle.viewing.specs.View.{view_plane, exact_view}
 use Rattle.viewing.specs.Calls.{view_answer, view_pixels}
 use Rattle.viewing.specs.Claims.{Stored, Close, EachSmall, exact_greys, clamped, LessThanOne, greys_apart}
-use Rattle.viewing.specs.Scan.{scan_to_view}
-use Rattle.viewing.specs.CallLaws as View
-use Rattle.viewing.specs.Forward.{call_forward, forward_shown}
+use Rattle.viewing.proofs.Scan.{scan_to_view}
+use Rattle.viewing.proofs.CallLaws as View
+use Rattle.viewing.proofs.Forward.{call_forward, forward_shown}
 use Rattle.table_calls.specs.Calls.{check_answer, answer97, plane97}
 use Rattle.engine.specs.Answers.{view_check_answer, distance_after, view_answer97, view_pixels97}
 use Rattle.engine.specs.Zero.{checked_zero, zero97, view_checked_zero, view_zero97}

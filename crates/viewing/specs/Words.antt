@@ -1,10 +1,8 @@
--- For the code: what every level takes and leaves is at most 2^15 in magnitude (`stored_bounded`, `columns_bounded`, `level_bounded`).
-use Rattle.std.specs.Prelude.{ℕ, ◌+◌, ◌-◌, ◌^◌, ◌<◌, ◌≤◌, ltb, ℤ, pos, neg_ℤ, ◌≤ℤ◌, ◌<ℤ◌}
-use Rattle.std.proofs.Common.{sym, arith, le_trans}
+-- For the code: what every level takes and leaves is at most 2^15 in magnitude (`columns_bounded`, `level_bounded`).
+use Rattle.std.specs.Prelude.{ℕ, ◌-◌, ◌^◌, ◌<◌, ◌≤◌, ltb, ℤ}
+use Rattle.std.proofs.Common.{sym}
 use Rattle.std.proofs.Math.Path.{subst}
-use Rattle.std.proofs.Math.Nat.{pow-le-pow_right}
 use Rattle.std.proofs.Math.IntN.{nat_abs}
-use Rattle.numbers.specs.Dif.{by_dif, difs}
 use Rattle.lines.specs.Lines.{lows}
 use Rattle.lines.specs.LineLaws.{even_place_lem, odd_place, by_parity}
 use Rattle.lines.specs.OneLaws.{one_long, by_one}
@@ -12,16 +10,10 @@ use Rattle.lines.specs.Planes.{Plane, columns}
 use Rattle.lines.specs.PlaneLaws.{columns_first_in, columns_first_keeps, by_part}
 use Rattle.width_table.specs.Nodes.{Rows, column_pass}
 use Rattle.width_table.specs.declared.WidthTable.{WidthTable}
-use Rattle.width_table.specs.Table.{max_integer_bits, max_fraction_bits}
-use Rattle.width_table.specs.Limits.{form_levels, form_widths}
 use Rattle.stages.specs.Fixed.{cut}
 use Rattle.inverse_lifting.specs.Fixed.{node_bits, at_u1, at_p1, fixed_inverse_long, fixed_inverse, Small, limit}
-use Rattle.table_meaning.specs.Subbands.{kept_node}
-use Rattle.table_meaning.specs.NodeWidths.{InNodeWidth}
-use Rattle.table_meaning.specs.SubbandLaws.{kept_everywhere}
 use Rattle.viewing.specs.View.{view_line, view_level}
-use Rattle.viewing.specs.Claims.{Viewable, Stored, LevelSmall}
-use Rattle.viewing.specs.Viewing.{view_promise}
+use Rattle.viewing.specs.Claims.{LevelSmall}
 
 -- ---- what a level takes and leaves
 
@@ -52,22 +44,3 @@ module _ {t : WidthTable} {l w h : ℕ} {p : Plane ℤ} (s : LevelSmall t l w h 
       (λ r c i j a b. subst (λ (z : ℤ). nat_abs z ≤ limit) (sym (columns_first_in (view_line t l Rows) (λ low. view_line t l (column_pass low)) w h p r c i j)) (back_size (s.in_rows r i) c j))
       (λ r c i a b. subst (λ (z : ℤ). nat_abs z ≤ limit) (sym ((columns_first_keeps (view_line t l Rows) (λ low. view_line t l (column_pass low))).below w h p r c i)) (before r c a b))
       (λ r c j a b. subst (λ (z : ℤ). nat_abs z ≤ limit) (sym ((columns_first_keeps (view_line t l Rows) (λ low. view_line t l (column_pass low))).beyond w h p r c j)) (before r c a b))
-
--- a stored coefficient
-pub stored_size : (IB f : ℕ) (v : ℤ) → IB ≤ max_integer_bits → f ≤ max_fraction_bits → InNodeWidth IB f v → nat_abs v ≤ 2 ^ 31
-unfolding InNodeWidth
-stored_size IB f v a b h =
-    let i : IB + f - 1 ≤ 31 = omega arith in
-    le_trans (law (2 ^ (IB + f - 1)) v h.0 h.1) (pow-le-pow_right {n = 2} (omega arith) i)
-  where
-    law : (H : ℕ) (v : ℤ) → neg_ℤ (pos H) ≤ℤ v → v <ℤ pos H → nat_abs v ≤ H
-    law H = by_dif _ λ a a'. simp difs (omega arith)
-
-module _ (t : WidthTable) (w h : ℕ) (p : Plane ℤ) (ok : Viewable t) (s : Stored t w h p) where
-  pub stored_bounded : Bounded w h p
-  stored_bounded r c i j =
-      let form = (view_promise t ok).form in
-      let k = kept_node t.levels w h r c in
-      let K = kept_everywhere t.levels w h r c (form_levels t form).0 i j in
-      let W = form_widths t form k.level K.least K.most k.pass k.node in
-      omega (arith, stored_size _ _ (p r c) W.1 W.2 (s.held r c i j))

@@ -18,9 +18,9 @@ use Rattle.irreversible.specs.Transforms.{fixed_plane}
 use Rattle.viewing.specs.View.{grey, pixel, view_line, view_from, view_plane, view_picture}
 use Rattle.viewing.specs.Calls.{in_width, coefficients_right, view_answer}
 use Rattle.viewing.specs.Claims.{Stored, greys_apart}
-use Rattle.viewing.specs.Viewing.{view_accepted}
-use Rattle.viewing.specs.CallLaws.{held_done, call_done}
-use Rattle.viewing.specs.Forward.{forward_stored}
+use Rattle.viewing.proofs.Viewing.{view_accepted}
+use Rattle.viewing.proofs.CallLaws.{held_done, call_done}
+use Rattle.viewing.proofs.Forward.{forward_stored}
 
 -- ---- a line of three: lows 3, -2 at 2 bits, high 5 at 3 bits; a line of two
 

@@ -7,8 +7,8 @@ use Rattle.refusals.specs.AnswerLaws.{then_right, then_refused}
 use Rattle.pictures.specs.PictureLaws.{room_answer, sized_then}
 use Rattle.view_precision.specs.Bounds.{view_verdict}
 use Rattle.viewing.specs.Calls.{view_answer_of}
-use Rattle.viewing.specs.CallLaws.{table_first}
-use Rattle.viewing.specs.CallSteps.{lookable}
+use Rattle.viewing.proofs.CallLaws.{table_first}
+use Rattle.viewing.proofs.CallStepLaws.{lookable}
 use Rattle.viewing.proofs.answer.Goals as goal
 
 pub coefficients_right-requires : goal.coefficients_right-requires

@@ -8,7 +8,8 @@ use lib.ListN.{length}
 use Rattle.slices.specs.Patch.{at}
 use Rattle.slices.specs.Runs.{as_type}
 use Rattle.viewing.specs.LevelSteps.{level_inverse}
-use Rattle.viewing.specs.CallSteps.{LevelReady, LevelsLeft, levels_some, levels_few, left_all, level_ready, left_less}
+use Rattle.viewing.specs.CallSteps.{LevelReady, LevelsLeft}
+use Rattle.viewing.proofs.CallStepLaws.{levels_some, levels_few, left_all, level_ready, left_less}
 use Rattle.viewing.proofs.levels_back.Goals as goal
 
 -- level k of those that are left

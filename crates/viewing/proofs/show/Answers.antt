@@ -1,7 +1,7 @@
 -- `viewing::show` meets its contract: all levels but the first, its columns, its rows.
 use mathlib.Core.Path.{refl}
 use native.Mathlib.Omega.{arith}
-use Rattle.viewing.specs.CallSteps.{first_ready, rows_ready, pixels_shown, work_cleared}
+use Rattle.viewing.proofs.CallStepLaws.{first_ready, rows_ready, pixels_shown, work_cleared}
 use Rattle.viewing.proofs.show.Goals as goal
 
 pub columns_back-requires : goal.columns_back-requires

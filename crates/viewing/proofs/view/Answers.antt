@@ -5,8 +5,8 @@ use borrow.Author.Rules.{rules}
 use Rattle.refusals.specs.Answers.{passed}
 use Rattle.refusals.specs.Told.{told}
 use Rattle.viewing.specs.Calls.{view_answer}
-use Rattle.viewing.specs.CallLaws.{call_room}
-use Rattle.viewing.specs.CallSteps.{pixels_kept, work_kept, pixels_done, work_done, view_ready}
+use Rattle.viewing.proofs.CallLaws.{call_room}
+use Rattle.viewing.proofs.CallStepLaws.{pixels_kept, work_kept, pixels_done, work_done, view_ready}
 use Rattle.viewing.proofs.view.Goals as goal
 
 pub show-requires : goal.show-requires

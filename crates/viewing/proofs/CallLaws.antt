@@ -22,8 +22,8 @@ use Rattle.table_meaning.specs.NodeWidths.{InNodeWidth}
 use Rattle.viewing.specs.View.{view_plane, view_picture, exact_view}
 use Rattle.viewing.specs.Calls.{fits_width, in_width, coefficients_right, view_answer_of, view_answer, view_pixels}
 use Rattle.viewing.specs.Claims.{Viewable, Stored, Close, EachSmall, exact_greys, clamped, LessThanOne}
-use Rattle.viewing.specs.Viewing.{within_bound, sizes}
-use Rattle.viewing.specs.Shown.{one_grey}
+use Rattle.viewing.proofs.Viewing.{within_bound, sizes}
+use Rattle.viewing.proofs.ShownGreys.{one_grey}
 
 -- ---- 12
 

@@ -16,8 +16,8 @@ use Rattle.irreversible.specs.Calls.{fixed_answer, fixed_plane_after}
 use Rattle.irreversible.specs.CallLaws.{accepted, picture, stands}
 use Rattle.viewing.specs.Calls.{coefficients_right, view_answer, view_pixels}
 use Rattle.viewing.specs.Claims.{HeldBy, Stored, greys_apart}
-use Rattle.viewing.specs.Scan.{scan_shown}
-use Rattle.viewing.specs.CallLaws.{held_right, call_viewable, call_pixel}
+use Rattle.viewing.proofs.Scan.{scan_shown}
+use Rattle.viewing.proofs.CallLaws.{held_right, call_viewable, call_pixel}
 
 -- of any plane that agrees with what the 9/7 call makes of a picture
 pub forward_stored : (t : WidthTable) (pixels : List ℕ) (w h : ℕ) → Accepted t → Picture t pixels w h → (p : Plane ℤ) → Agree w h p (fixed_plane t pixels w h) → Stored t w h p

@@ -16,7 +16,7 @@ use Rattle.view_precision.specs.Bounds.{pixel_bound}
 use Rattle.irreversible.specs.Pass.{abs_<}
 use Rattle.viewing.specs.View.{grey, pixel, view_plane, view_picture, exact_view}
 use Rattle.viewing.specs.Claims.{Close, exact_greys, clamped, LessThanOne, OneGrey}
-use Rattle.viewing.specs.Viewing.{view_promise, view_right, within_bound}
+use Rattle.viewing.proofs.Viewing.{view_promise, view_right, within_bound}
 
 -- ---- halves go up, and greys are limited to the depth: single values at 8 bits, half a grey being 2048
 

@@ -27,7 +27,7 @@ use Rattle.table_meaning.specs.SubbandLaws.{kept_everywhere}
 use Rattle.irreversible.specs.Demand3.{plane_good}
 use Rattle.viewing.specs.View.{grey, pixel, view_plane, view_picture}
 use Rattle.viewing.specs.Claims.{Viewable, Close, ScanToView, greys_apart, GreysApart}
-use Rattle.viewing.specs.Viewing.{GoodPlane, view_promise, view_good}
+use Rattle.viewing.proofs.Viewing.{GoodPlane, view_promise, view_good}
 
 -- ---- before rounding
 

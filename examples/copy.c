@@ -2,7 +2,7 @@
  * An exact copy of a tiny picture and back, the picture of a copy made earlier,
  * and two width tables judged.
  *
- * From the root of the work tree, after `rt staticlib engine`:
+ * From the root of the work tree, after `tools/library`:
  *
  *   cc -std=c99 -Wall -Wextra -Iinclude examples/copy.c \
  *      target/staticlib/libengine.a -o copy && ./copy

@@ -2,7 +2,7 @@
  * A width table with product widths: made, judged, one width changed, and a tiny
  * picture worked under it and under the same table without them.
  *
- * From the root of the work tree, after `rt staticlib engine`:
+ * From the root of the work tree, after `tools/library`:
  *
  *   cc -std=c99 -Wall -Wextra -Iinclude examples/products.c \
  *      target/staticlib/libengine.a -o products && ./products

@@ -3,7 +3,7 @@
  * refuses. The lines that are given are held against the transform of the whole
  * strip.
  *
- * From the root of the work tree, after `rt staticlib engine`:
+ * From the root of the work tree, after `tools/library`:
  *
  *   cc -std=c99 -Wall -Wextra -Iinclude examples/scan.c \
  *      target/staticlib/libengine.a -o scan && ./scan

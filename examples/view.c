@@ -2,7 +2,7 @@
  * A tiny picture stored as 9/7 coefficients and viewed, how far that may lead
  * from what was scanned, and what viewing refuses.
  *
- * From the root of the work tree, after `rt staticlib engine`:
+ * From the root of the work tree, after `tools/library`:
  *
  *   cc -std=c99 -Wall -Wextra -Iinclude examples/view.c \
  *      target/staticlib/libengine.a -o view && ./view

@@ -17,7 +17,7 @@ fn main() {
     println!("cargo::rerun-if-changed={}", archive.display());
     if !archive.is_file() {
         println!(
-            "cargo::error={} is not there: run `rt staticlib engine` first, or name its folder in SUZDREPA_LIB_DIR",
+            "cargo::error={} is not there: run `tools/library` first, or name its folder in SUZDREPA_LIB_DIR",
             archive.display()
         );
         return;

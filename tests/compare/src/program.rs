@@ -1,20 +1,20 @@
 //! Runs a proved program on bytes.
 
 use std::io::Write;
-use std::path::PathBuf;
+use std::path::{Path, PathBuf};
 use std::process::{Command, Stdio};
 
 /// The program of this name, in the folder that the environment variable
-/// SUZDREPA_BIN_DIR names, else in `target/bin` of the work tree.
+/// SUZDREPA_BIN_DIR names, else where `rt` leaves it, in its crate.
 fn path(name: &str) -> PathBuf {
     let folder = match std::env::var_os("SUZDREPA_BIN_DIR") {
         Some(folder) => PathBuf::from(folder),
-        None => PathBuf::from(env!("CARGO_MANIFEST_DIR")).join("../../target/bin"),
+        None => Path::new(env!("CARGO_MANIFEST_DIR")).join(format!("../../crates/{name}/out")),
     };
     let path = folder.join(name);
     assert!(
         path.is_file(),
-        "{} is not there: run `rt check {name}` first, or name its folder in SUZDREPA_BIN_DIR",
+        "{} is not there: run `rt run` in crates/{name} first, or name its folder in SUZDREPA_BIN_DIR",
         path.display()
     );
     path

@@ -40,11 +40,11 @@ fn taken(text: &str) -> Result<Names, String> {
     for line in text.lines() {
         let line = line.split("--").next().unwrap();
         let line = line.split("//").next().unwrap().trim();
-        if line.contains("Rattle·precision") {
+        if line.contains("Rattle.precision") {
             let import = line.strip_prefix("ghost ").unwrap_or(line);
             let names = import
                 .trim_end_matches(';')
-                .strip_prefix("use Rattle·precision.specs.")
+                .strip_prefix("use Rattle.precision.specs.")
                 .and_then(|rest| rest.strip_suffix('}'))
                 .and_then(|rest| rest.split_once(".{"));
             let (file, names) = names.ok_or(line)?;
@@ -118,12 +118,12 @@ fn the_readers_themselves() {
     let due = names(&[("A", "x"), ("A", "y"), ("B", "z"), ("src", "f")]);
     let page = "\n## The accept promise\n\nIt takes exactly this: two (`x`, `y`: A.antt), the law `z` (B.antt), and `f`. Not `w`.";
     assert_eq!(named(page), due);
-    let text = "use Rattle·precision.specs.A.{x, y}\nghost use Rattle·precision.specs.B.{z};\nmatch precision::f(t) {\n-- the precision\nuse Rattle·view_precision.specs.C";
+    let text = "use Rattle.precision.specs.A.{x, y}\nghost use Rattle.precision.specs.B.{z};\nmatch precision::f(t) {\n-- the precision\nuse Rattle.view_precision.specs.C";
     assert_eq!(taken(text), Ok(due));
     for line in [
-        "use Rattle·precision.specs.A",
-        "use Rattle·precision.specs.A as B",
-        "x = Rattle·precision.specs.A.x",
+        "use Rattle.precision.specs.A",
+        "use Rattle.precision.specs.A as B",
+        "x = Rattle.precision.specs.A.x",
         "use precision::*;",
         "use precision::f as g;",
         "use precision;",

@@ -19,14 +19,17 @@ fn rows(page: &str) -> impl Iterator<Item = &str> {
     page.lines().filter(|line| line.starts_with('|'))
 }
 
-/// The files below `folder`, by their path from there.
+/// The files below `folder`, by their path from there, but not what `rt` makes
+/// of a crate in its `out`.
 fn files(folder: &Path) -> BTreeSet<String> {
     let (mut found, mut open) = (BTreeSet::new(), vec![folder.to_path_buf()]);
     while let Some(at) = open.pop() {
         for entry in fs::read_dir(&at).unwrap() {
             let path = entry.unwrap().path();
             if path.is_dir() {
-                open.push(path);
+                if !path.ends_with("out") {
+                    open.push(path);
+                }
             } else {
                 let below = path.strip_prefix(folder).unwrap();
                 found.insert(below.to_str().unwrap().to_string());

@@ -12,8 +12,8 @@ use Rattle.pictures.specs.Pictures.{side_answer, length_answer, pixel_answer}
 use Rattle.reversible.specs.Reversible.{Order, columns_first, rows_first, inverse_predict, inverse_update, low_inverse, high_inverse, inverse_long, inverse_pass, inverse}
 use Rattle.reversible.specs.Calls.{forward_answer, forward_plane, pixels_back, has_picture, back_allowed, back_answer, back_pixels}
 use Rattle.reversible.specs.Claims.{PixelsOf, copy_of, Copied}
-use Rattle.reversible.specs.CallLaws.{makes_copy, there_and_back, gives_picture, back_and_there, done_exactly, eleven_exactly}
-use Rattle.reversible.specs.OneToOne.{one_picture}
+use Rattle.reversible.proofs.CallLaws.{makes_copy, there_and_back, gives_picture, back_and_there, done_exactly, eleven_exactly}
+use Rattle.reversible.proofs.OneToOne.{one_picture}
 use Rattle.engine.specs.Zero.{zero53, back_zero53, back_eleven53}
 
 -- the number of an answer that is known

@@ -1,5 +1,5 @@
 -- The exact-copy program (document 01: numbers to hold it against): what its input holds, how it judges, what it prints, as bytes.
-use Rattle.std.specs.Prelude.{ℕ, zero, suc, ◌+◌, ◌*◌, ◌-◌, ◌/◌, ◌%◌, true, false, ◌&&◌, List, [], ◌∷◌, ◌++◌, leb, ltb, length, get_or, drop, ℤ, pos, negsuc}
+use Rattle.std.specs.Prelude.{ℕ, zero, suc, ◌+◌, ◌*◌, ◌-◌, ◌/◌, ◌%◌, ◌≤◌, true, false, ◌&&◌, List, [], ◌∷◌, ◌++◌, leb, ltb, length, get_or, drop, ℤ, pos, negsuc}
 use Rattle.refusals.specs.Answers.{Answer, done, refused, passed, asks, ◌then◌}
 use Rattle.lines.specs.Planes.{Plane, tabulate}
 use Rattle.width_table.specs.Table.{depth_right, levels_right}
@@ -148,6 +148,13 @@ head_numbers = 5
 -- as many bytes as any text has
 abbrev pub max_text : ℕ
 max_text = max_number * (head_numbers + max_pixels)
+
+-- memory for all that the program admits
+pub record Memory (pixels : List ℕ) (plane work : List ℤ) (text : List ℕ) : Type 0 where
+  pub for_pixels : max_pixels ≤ length pixels
+  pub for_plane : max_pixels ≤ length plane
+  pub for_work : max_pixels ≤ length work
+  pub for_text : max_text ≤ length text
 
 -- what the call writes over the front of the lent text: nothing where that is too short for some texts
 unfoldable pub listed : List ℕ → List ℕ → List ℕ

@@ -6,9 +6,8 @@ ghost use Rattle.numbers.specs.Lists.{over};
 ghost use Rattle.refusals.specs.Answers.{passed, ◌then◌};
 ghost use Rattle.refusals.specs.Told.{told_refusal, told};
 ghost use Rattle.pictures.specs.Pictures.{side_answer, length_answer, plane_of};
-ghost use Rattle.listing.specs.Listing.{number_bytes, max_number, head_bytes, head_numbers, natural, decimal, line, row_lines, refused_word, refused_line, copy_pixels, copy_form, head_in, head_text, copy_text, listed, max_pixels, max_input};
+ghost use Rattle.listing.specs.Listing.{number_bytes, max_number, head_bytes, head_numbers, natural, decimal, line, row_lines, refused_word, refused_line, copy_pixels, copy_form, head_in, head_text, copy_text, listed, Memory, max_pixels, max_input};
 ghost use Rattle.listing.specs.Writing.{Put};
-ghost use Rattle.listing.specs.AnswerLaws.{Memory};
 
 use pictures::{sides_right, slice_holds};
 use refusals::{Outcome, Refusal};
@@ -17,7 +16,7 @@ use width_table::limits_right;
 // The pixels that there is memory for.
 pub const MAX_PIXELS: usize = 4096;
 
-// As many bytes of input as decide: the head, the pixels, and one byte more (specs/AnswerLaws, `enough`; `max_input`).
+// As many bytes of input as decide: the head, the pixels, and one byte more (proofs/AnswerLaws, `enough`; `max_input`).
 pub const MAX_INPUT: usize = HEAD + 2 * MAX_PIXELS + 1;
 
 // As many bytes as a number has.

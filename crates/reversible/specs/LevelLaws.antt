@@ -1,12 +1,11 @@
--- A level of the 5/3 transform in memory: what a kernel over rows and columns leaves, and that its steps fit; forward, and how large a
--- transform's values become.
-use Rattle.std.specs.Prelude.{ℕ, zero, suc, ◌+◌, ◌*◌, ◌<◌, ◌≤◌, ◌^◌, Bool, ◌≡◌, refl, nat_abs}
+-- A level of the 5/3 transform in memory: what a kernel over rows and columns leaves, and that its steps fit; forward.
+use Rattle.std.specs.Prelude.{ℕ, ◌+◌, ◌*◌, ◌<◌, ◌≤◌, ◌^◌, Bool, ◌≡◌, refl, nat_abs}
 use Rattle.std.proofs.Math.Path.{sym}
 use Rattle.std.proofs.Common.{◌∙◌, ap, subst, arith}
 use Rattle.std.proofs.Math.IntN.{ℤ}
 use Rattle.lines.specs.Lines.{Liftable}
-use Rattle.lines.specs.Planes.{Plane, OnLine, rows, within, level_columns_first, levels, side}
-use Rattle.lines.specs.PlaneLaws.{within_in, within_below, within_beyond, Keeps, rows_first_in, rows_first_keeps, columns_first_in, columns_first_keeps, by_part, side_le}
+use Rattle.lines.specs.Planes.{Plane, OnLine, rows, within, level_columns_first}
+use Rattle.lines.specs.PlaneLaws.{within_in, within_below, within_beyond, columns_first_in, columns_first_keeps, by_part}
 use Rattle.lines.specs.OneLaws.{one_single, long_line_lem}
 use Rattle.lifting.specs.declared.Kernel.{Kernel}
 use Rattle.slices.specs.PatchLines.{line_at, patch_lines, lines_apart, lines_is}
@@ -14,8 +13,7 @@ use Rattle.lifting.specs.Kernels.{worked, SafeKernel, rows_worked, columns_worke
 use Rattle.slices.specs.Parts.{row_of, column_of, rows_by, columns_by}
 use Rattle.pictures.specs.MemoryLaws.{Stands, Reads, one_reads, rows_stand, columns_stand, rows_beyond, columns_beyond, columns_plane, columns_in, columns_below, columns_right}
 use Rattle.lifting.specs.PixelLaws.{worked_same}
-use Rattle.reversible.specs.Reversible.{Order, columns_first, rows_first, reversible_pass, forward_level, forward}
-use Rattle.reversible.specs.Sizes.{worked_from, forward_kernel, forward_kernel_lem, Grows, forward_grows, forward_safe}
+use Rattle.reversible.specs.Sizes.{worked_from, forward_kernel, Grows, forward_safe}
 
 -- values of size b at most within w columns and h rows
 abbrev pub BoundedPart : ℕ → ℕ → ℕ → Plane ℤ → Type 0
@@ -25,7 +23,7 @@ BoundedPart b w h p = (r c : ℕ) → r < h → c < w → nat_abs (p r c) ≤ b
 abbrev pub plane_at : ℕ → (ℕ → ℤ) → Plane ℤ
 plane_at W x r c = x (r * W + c)
 
-sized_as : (b : ℕ) (y z : ℤ) → y ≡ z → nat_abs z ≤ b → nat_abs y ≤ b
+pub sized_as : (b : ℕ) (y z : ℤ) → y ≡ z → nat_abs z ≤ b → nat_abs y ≤ b
 sized_as b y z e h = subst (λ (t : ℤ). nat_abs t ≤ b) (sym e) h
 
 -- ---- rows and columns by a kernel, a single value as it is
@@ -85,11 +83,6 @@ module _ (W H w h : ℕ) (in_w_lem : w ≤ W) (in_h_lem : h ≤ H) (x : ℕ → 
   pub forward_beyond : (q : ℕ) → W * H ≤ q → level_forward W w h x q ≡ x q
   forward_beyond q i = rows_beyond (worked_from forward_kernel) W H w h (columns_from forward_kernel W w h x) in_w_lem in_h_lem q i ∙ columns_beyond (worked_from forward_kernel) W H 0 w h x (omega arith) in_h_lem q i
 
-  module _ (p : Plane ℤ) (stands : Stands W H x p) where
-    pub forward_stands : Stands W H (level_forward W w h x) (forward_level columns_first w h p)
-    forward_stands = subst (λ (pass : OnLine ℤ). Stands W H (level_forward W w h x) (level_columns_first pass (λ low. pass) w h p)) forward_kernel_lem
-        (columns_then_rows (worked_from forward_kernel) (from_reads forward_kernel) W H w h in_w_lem in_h_lem x p stands)
-
 -- ---- the steps fit
 
 module _ (W w h b : ℕ) (in_w_lem : w ≤ W) (x : ℕ → ℤ) (small : BoundedPart b w h (plane_at W x)) where
@@ -118,34 +111,3 @@ module _ (W w h b : ℕ) (in_w_lem : w ≤ W) (x : ℕ → ℤ) (small : Bounded
     columns_sized r c i j = sized_as (m * b) _ _
         (columns_stand (worked_from k) (from_reads k) W h 0 w h x (plane_at W x) (omega arith) (omega arith) (λ r c i j. refl) r c i (omega arith) ∙ columns_in (worked_from k) 0 w h (plane_at W x) r c i (omega arith) (omega arith))
         (grows h b (λ n. plane_at W x n c) (λ n a. small n c a j) r i)
-
--- ---- how large a transform's values become
-
-forward_keeps : (order : Order) → Keeps (forward_level order)
-forward_keeps columns_first = columns_first_keeps reversible_pass (λ low. reversible_pass)
-forward_keeps rows_first = rows_first_keeps reversible_pass (λ low. reversible_pass)
-
-pass_grows : Grows 2 reversible_pass
-pass_grows = subst (Grows 2) forward_kernel_lem forward_grows
-
--- within the part that a level works
-part_size : (order : Order) (w h b : ℕ) (p : Plane ℤ) → BoundedPart b w h p → BoundedPart (4 * b) w h (forward_level order w h p)
-part_size columns_first w h b p s r c i j = sized_as (4 * b) _ _ (columns_first_in reversible_pass (λ low. reversible_pass) w h p r c i j)
-    (omega (arith, pass_grows w (2 * b) (λ k. reversible_pass h (λ m. p m k) r) (λ k a. pass_grows h b (λ m. p m k) (λ m e. s m k e a) r i) c j))
-part_size rows_first w h b p s r c i j = sized_as (4 * b) _ _ (rows_first_in reversible_pass (λ low. reversible_pass) w h p r c i j)
-    (omega (arith, pass_grows h (2 * b) (λ m. reversible_pass w (p m) c) (λ m a. pass_grows w b (p m) (λ n e. s m n a e) c j) r i))
-
-level_size : (order : Order) (v u w h b : ℕ) → v ≤ w → u ≤ h → (p : Plane ℤ) → BoundedPart b w h p → BoundedPart (4 * b) w h (forward_level order v u p)
-level_size order v u w h b in_w_lem in_h_lem p s = by_part (λ r c. r < h → c < w → nat_abs (forward_level order v u p r c) ≤ 4 * b) v u
-    (λ r c i j x y. part_size order v u b p (λ m n a e. s m n (omega arith) (omega arith)) r c i j)
-    (λ r c i x y. sized_as (4 * b) _ _ ((forward_keeps order).below v u p r c i) (omega (arith, s r c x y)))
-    (λ r c j x y. sized_as (4 * b) _ _ ((forward_keeps order).beyond v u p r c j) (omega (arith, s r c x y)))
-
--- samples of 12 bits: after k levels at most 2^11 * 4^k
-pub forward_sized : (order : Order) (w h k : ℕ) (p : Plane ℤ) → BoundedPart (2 ^ 11) w h p → BoundedPart (2 ^ 11 * 4 ^ k) w h (forward order k w h p)
-unfolding forward levels
-forward_sized order w h zero p s = s
-forward_sized order w h (suc k) p s =
-    let t : BoundedPart (4 * (2 ^ 11 * 4 ^ k)) w h (forward order (suc k) w h p) =
-    level_size order (side k w) (side k h) w h (2 ^ 11 * 4 ^ k) (side_le k w) (side_le k h) (forward order k w h p) (forward_sized order w h k p s) in
-    λ r c i j. omega (arith, t r c i j)

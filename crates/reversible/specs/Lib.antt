@@ -4,17 +4,13 @@
 --   Calls            the forward call and the back call: the answer, and each lent slice afterwards
 --   Claims           what holds of exact copies: return, uniqueness, and when the way back is done or refused 11
 -- Proved of them:
---   CaseLaws         pass-is, back-is: the 5/3 by cases is the 5/3
 --   ReversibleLaws   forward-back, back-forward: each inverts the other, in either order
---   PictureLaws      has-picture: the way back gives pixels exactly where a picture has the plane in that order
---   CallLaws         the claims: makes-copy, there-and-back; gives-picture, back-and-there; done-exactly, eleven-exactly
---   OneToOne         the claim one-picture: two pictures with one transform are equal
 --   TwoOrders        worked copies: the two orders are two
 -- For the proofs of the code, which is that of the forward call; the way back is the crate reversible_back:
 --   Sizes            the kernel of the code is the pass; how large its values become
 --   Columns          the columns of a picture, line by line into the plane
 --   LevelLaws        a level in memory
---   LoopLaws         levels one after another in memory
+--   LoopLaws         what levels one after another in memory have done
 --   Preconditions    what the functions ask of their callers
 --   StepLaws         samples in, levels, the work area cleared
 --   AnswerLaws       the order of refusals, step by step, and when a call is allowed
@@ -22,10 +18,7 @@ pub mod Reversible
 pub mod Cases
 pub mod Calls
 pub mod Claims
-pub mod CaseLaws
 pub mod ReversibleLaws
-pub mod PictureLaws
-pub mod CallLaws
 pub mod Sizes
 pub mod LevelLaws
 pub mod Columns
@@ -33,5 +26,4 @@ pub mod LoopLaws
 pub mod Preconditions
 pub mod StepLaws
 pub mod AnswerLaws
-pub mod OneToOne
 pub mod TwoOrders

@@ -24,7 +24,7 @@ use Rattle.reversible.specs.LevelLaws.{plane_at}
 use Rattle.reversible.specs.StepLaws.{twice_middle}
 use Rattle.reversible.specs.Preconditions.{CallRoom}
 use Rattle.reversible_back.specs.BackLaws.{BackDone}
-use Rattle.reversible.specs.PictureLaws.{by_place}
+use Rattle.reversible.proofs.PictureLaws.{by_place}
 use Rattle.width_table.specs.Table.{max_depth}
 
 -- the values of samples of depth B

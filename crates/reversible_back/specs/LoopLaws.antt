@@ -7,7 +7,8 @@ use Rattle.lines.specs.Planes.{Plane, inverse_levels, side}
 use Rattle.lines.specs.PlaneLaws.{side_le, Agree}
 use Rattle.reversible.specs.Reversible.{Order, inverse_level, inverse}
 use Rattle.reversible.specs.ReversibleLaws.{back_forward, back_agrees}
-use Rattle.reversible.specs.LevelLaws.{BoundedPart, plane_at, forward_sized}
+use Rattle.reversible.specs.LevelLaws.{BoundedPart, plane_at}
+use Rattle.reversible.proofs.LevelLaws.{forward_sized}
 use Rattle.reversible.specs.LoopLaws.{four_pow}
 use Rattle.reversible_back.specs.LevelLaws.{level_inverse, back_stands}
 use Rattle.width_table.specs.Table.{max_levels}

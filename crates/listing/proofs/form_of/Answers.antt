@@ -10,7 +10,7 @@ use Rattle.refusals.specs.Told.{told}
 use Rattle.pictures.specs.Pictures.{side_answer, length_answer}
 use Rattle.listing.specs.declared.Head.{Head}
 use Rattle.listing.specs.Listing.{copy_depth, copy_levels, copy_width, copy_height, copy_size, head_in, max_pixels}
-use Rattle.listing.specs.InputLaws.{sizes_done, form_short, form_limits, form_size, form_cut, form_long, form_right_lem}
+use Rattle.listing.proofs.InputLaws.{sizes_done, form_short, form_limits, form_size, form_cut, form_long, form_right_lem}
 use Rattle.listing.proofs.form_of.Goals as goal
 
 -- what is judged of the head that was read is judged of the input's

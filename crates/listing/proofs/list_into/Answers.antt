@@ -6,8 +6,8 @@ use borrow.Author.Rules.{rules}
 use Rattle.refusals.specs.Answers.{passed}
 use Rattle.listing.specs.Listing.{copy_form}
 use Rattle.listing.specs.Writing.{put_same}
-use Rattle.listing.specs.InputLaws.{form_done}
-use Rattle.listing.specs.AnswerLaws.{text_form}
+use Rattle.listing.proofs.InputLaws.{form_done}
+use Rattle.listing.proofs.AnswerLaws.{text_form}
 use Rattle.listing.proofs.list_into.Goals as goal
 
 pub head_of-requires : goal.head_of-requires

@@ -7,7 +7,7 @@ use borrow.Author.Rules.{rules}
 use lib.ListN.{length}
 use lib.Seq.{length-take-le}
 use Rattle.listing.specs.Writing.{put_same}
-use Rattle.listing.specs.AnswerLaws.{area, refused_text, plane_text}
+use Rattle.listing.proofs.AnswerLaws.{area, refused_text, plane_text}
 use Rattle.listing.proofs.list_picture.Goals as goal
 
 pub overflow_mul-n : goal.overflow_mul-n

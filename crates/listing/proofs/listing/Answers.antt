@@ -7,7 +7,7 @@ use borrow.Author.Rules.{rules}
 use lib.ListN.{length}
 use Rattle.numbers.specs.Lists.{over}
 use Rattle.listing.specs.Writing.{put_over}
-use Rattle.listing.specs.AnswerLaws.{listed_short, listed_whole}
+use Rattle.listing.proofs.AnswerLaws.{listed_short, listed_whole}
 use Rattle.listing.proofs.listing.Goals as goal
 
 pub returns-then-text-lt-MAX_TEXT : goal.returns-then-text-lt-MAX_TEXT

@@ -5,7 +5,7 @@ use lib.ListN.{length-set}
 use Rattle.slices.specs.Patch.{patch_none}
 use Rattle.slices.specs.FrontLaws.{patch_next, patch_over}
 use Rattle.listing.specs.Listing.{copy_pixels}
-use Rattle.listing.specs.InputLaws.{pixels_length, pixel_at_lem}
+use Rattle.listing.proofs.InputLaws.{pixels_length, pixel_at_lem}
 use Rattle.listing.proofs.read_pixels.Goals as goal
 
 pub loop-i-init : goal.loop-i-init

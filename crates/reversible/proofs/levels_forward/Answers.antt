@@ -10,7 +10,8 @@ use Rattle.lines.specs.PlaneLaws.{side_one, side_more, side_le}
 use Rattle.slices.specs.Patch.{at}
 use Rattle.slices.specs.Pixels.{loaded}
 use Rattle.reversible.specs.LevelLaws.{level_forward}
-use Rattle.reversible.specs.LoopLaws.{ForwardDone, forward_first, forward_more, forward_part}
+use Rattle.reversible.specs.LoopLaws.{ForwardDone}
+use Rattle.reversible.proofs.LoopLaws.{forward_first, forward_more, forward_part}
 use Rattle.reversible.specs.Preconditions.{levels_room, level_room}
 use Rattle.reversible.specs.StepLaws.{first_room, loaded_small}
 use Rattle.pictures.specs.Pictures.{max_side}

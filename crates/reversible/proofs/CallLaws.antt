@@ -20,7 +20,7 @@ use Rattle.pictures.specs.PictureLaws.{Room, room_answer, sized_then, sized_done
 use Rattle.reversible.specs.Reversible.{Order, forward, inverse}
 use Rattle.reversible.specs.ReversibleLaws.{take-add, forward_agrees}
 use Rattle.reversible.specs.Claims.{PixelsOf, copy_of, Copied, MakesCopy, ThereAndBack, GivesPicture, BackAndThere, ElevenExactly, DoneExactly}
-use Rattle.reversible.specs.PictureLaws.{goes_back, found_picture, found_plane, pixel_is, has_picture_lem}
+use Rattle.reversible.proofs.PictureLaws.{goes_back, found_picture, found_plane, pixel_is, has_picture_lem}
 use Rattle.reversible.specs.Calls.{limit_answer, forward_answer, forward_plane, pixels_back, is_pixel, has_picture, back_allowed, back_answer, back_pixels}
 
 -- ---- there and back

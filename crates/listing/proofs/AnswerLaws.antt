@@ -18,14 +18,7 @@ use Rattle.reversible.specs.Reversible.{columns_first, forward}
 use Rattle.reversible.specs.Calls.{limit_answer, forward_answer, forward_plane}
 use Rattle.listing.specs.declared.Head.{Head}
 use Rattle.listing.specs.Listing.{line, row_lines, refused_line, head_bytes, max_pixels, max_input, max_text, copy_depth, copy_levels, copy_width, copy_height, copy_size, copy_pixels, copy_form, copy_answer, head_in, head_text, copy_lines, copy_text, listed}
-use Rattle.listing.specs.InputLaws.{Formed, form_done, pixels_length, form_too_long, why_same}
-
--- memory for all that the program admits
-pub record Memory (pixels : List ℕ) (plane work : List ℤ) (text : List ℕ) : Type 0 where
-  pub for_pixels : max_pixels ≤ length pixels
-  pub for_plane : max_pixels ≤ length plane
-  pub for_work : max_pixels ≤ length work
-  pub for_text : max_text ≤ length text
+use Rattle.listing.proofs.InputLaws.{Formed, form_done, pixels_length, form_too_long, why_same}
 
 module _ (bytes : List ℕ) where
   pub count : Formed bytes → length (copy_pixels bytes) ≡ copy_size bytes

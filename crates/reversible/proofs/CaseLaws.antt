@@ -14,13 +14,13 @@ use Rattle.reversible.specs.Cases.{predict_end, update_end, inverse_predict_end,
 
 -- ---- the reduced equations
 
-pub predict_end_lem : Reduced ◌≡◌ predict predict_end
-unfolding predict predict_end
-predict_end_lem own x = ap (λ (z : ℤ). own -ℤ z) (sym (half_twice x))
-
 pub update_end_lem : Reduced ◌≡◌ update update_end
 unfolding update update_end
 update_end_lem own y = ap (λ (z : ℤ). own +ℤ z) (sym (quarter_twice y))
+
+pub predict_end_lem : Reduced ◌≡◌ predict predict_end
+unfolding predict predict_end
+predict_end_lem own x = ap (λ (z : ℤ). own -ℤ z) (sym (half_twice x))
 
 pub inverse_predict_end_lem : Reduced ◌≡◌ inverse_predict inverse_predict_end
 unfolding inverse_predict inverse_predict_end

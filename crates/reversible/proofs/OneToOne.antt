@@ -8,7 +8,7 @@ use Rattle.lines.specs.RowLaws.{rows_length}
 use Rattle.pictures.specs.Pictures.{sample, plane_of}
 use Rattle.reversible.specs.Reversible.{Order, forward, inverse}
 use Rattle.reversible.specs.Claims.{PixelsOf, copy_of, OnePicture}
-use Rattle.reversible.specs.PictureLaws.{by_place, goes_back}
+use Rattle.reversible.proofs.PictureLaws.{by_place, goes_back}
 use Rattle.reversible.specs.ReversibleLaws.{take-add}
 
 module _ (order : Order) (B L w h : ℕ) (some : 1 ≤ w) (p q : List ℕ) (same : copy_of order B L w h p ≡ copy_of order B L w h q) where

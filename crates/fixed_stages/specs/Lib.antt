@@ -10,14 +10,14 @@
 --   Kernels      a pass as a kernel of that crate, a single sample as a scaling, and the stages that the code hands over
 --   Safe         when a pass can be worked in memory: limits of its bits, values below a power of 2 in magnitude
 -- Proved of them:
---   CaseLaws     pass-is: the pass by cases is the pass
---   ConstantLaws no-tie, is-nearest: a constant at F bits is the nearest multiple, for F from 1 to 24
---   RoundingLaws rounded-is: the constants at 32 bits round to the nearest at fewer
---   Sizes        sum-size, product-size, cut-size: 64 bits hold the sum of a stage, and its product before and after its cut
---   StepLaws     step-applied, scale-applied, single-applied: the steps make the stages
---   KernelLaws   worked-fixed, single-fixed: the kernel makes the pass
---   SafeLaws     kernel-safe: no number on the way leaves its machine type where the values are sized
---   LineLaws     line-safe: so a line can be worked in memory; bits-right: the bits of an accepted table are within their limits
+--   CaseLaws     pass_is: the pass by cases is the pass
+--   ConstantLaws no_tie, is_nearest: a constant at F bits is the nearest multiple, for F from 1 to 24
+--   RoundingLaws rounded_is: the constants at 32 bits round to the nearest at fewer
+--   Sizes        sum_size, product_size, cut_size: 64 bits hold the sum of a stage, and its product before and after its cut
+--   StepLaws     step_applied, scale_applied, single_applied: the steps make the stages
+--   KernelLaws   worked_fixed, single_fixed: the kernel makes the pass
+--   SafeLaws     kernel_safe: no number on the way leaves its machine type where the values are sized
+--   LineLaws     line_safe: so a line can be worked in memory; bits_right: the bits of an accepted table are within their limits
 --   LevelBits    what is read of a level of an accepted table, and its stages by the bits that their products are cut to
 pub mod Fixed
 pub mod Cases

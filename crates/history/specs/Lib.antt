@@ -7,13 +7,13 @@
 --   EarlierView      the analysis of viewing before job 6
 --   EarlierLifting   the transforms before jobs 6 and 7
 -- Proved of them:
---   Job3Forms        form-changes, present-changes: exactly which of document 01's answers job 3 changed; Job3Calls: the same at the C interface
---   Job6Sides        exact-unchanged, fixed-unchanged, forward-unchanged, back-unchanged, view-unchanged: sides that were admitted before give
+--   Job3Forms        form_changes, present_changes: exactly which of document 01's answers job 3 changed; Job3Calls: the same at the C interface
+--   Job6Sides        exact_unchanged, fixed_unchanged, forward_unchanged, back_unchanged, view_unchanged: sides that were admitted before give
 --                    what they gave
---   Job6Verdicts     same-verdict: no verdict changes; Job6View: viewable-still: no table is newly viewable
+--   Job6Verdicts     same_verdict: no verdict changes; Job6View: viewable_still: no table is newly viewable
 --   Job7Forms        tables without tag 5 are read, named and written as before
---   Job7Analysis     old-bounds, old-verdict: and have their old ranges, errors and verdict
---   Job7Lifting      old-coefficients: and give their old coefficients
+--   Job7Analysis     old_bounds, old_verdict_lem: and have their old ranges, errors and verdict
+--   Job7Lifting      old_coefficients: and give their old coefficients
 --   Job7Calls        the same at the C interface
 -- Worked:
 --   EarlierBytes     heads and tables read before jobs 3 and 7

@@ -5,7 +5,7 @@
 --   Cases      the same by cases, ends apart from the middle
 --   Strips     where the columns of a plane come from and go to (`source`, `inverted`); what the steps of a strip ask and leave
 -- Proved of them:
---   CaseLaws   back-is: the inverse by cases is the inverse
+--   CaseLaws   back_is: the inverse by cases is the inverse
 --   Steps      a line inverted step by step, its four stages together as a pipeline
 --   Examples   worked lines
 -- For the code:

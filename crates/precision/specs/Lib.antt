@@ -4,8 +4,8 @@
 --   BoundCalls  the call that tells range and error of a node
 -- Proved of them:
 --   Promise     promise : Accepted t → AcceptPromise t, accept : AcceptPromise t → Accepted t
---   LongLaws    same-bound: lines of two samples or more (LongLines) have the bounds of all lines
---   FirstNode   first-node-refused: level 1 row P1 with IB 2 is refused 6, whatever the other numbers
+--   LongLaws    same_bound: lines of two samples or more (LongLines) have the bounds of all lines
+--   FirstNode   first_node_refused: level 1 row P1 with IB 2 is refused 6, whatever the other numbers
 -- For the program:
 --   Places      nodes, passes and bounds by number
 --   ProductReads   the width of a product as a number

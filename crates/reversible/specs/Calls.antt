@@ -44,7 +44,7 @@ pixels_back order B L w h plane = row_by_row w h (λ r c. inverse order L w h (p
 abbrev pub is_pixel : ℕ → ℤ → Bool
 is_pixel B z = le_z (pos 0) z && lt_z z (pos (2 ^ B))
 
--- The way back of that order gives a pixel, 0 to 2^B - 1, at every place (has-picture of PictureLaws: exactly then a picture has the plane).
+-- The way back of that order gives a pixel, 0 to 2^B - 1, at every place (has_picture_lem of PictureLaws: exactly then a picture has the plane).
 unfoldable pub has_picture : Order → ℕ → ℕ → ℕ → ℕ → List ℤ → Bool
 has_picture order B L w h plane = every (is_pixel B) (pixels_back order B L w h plane)
 

@@ -4,7 +4,7 @@
 --   Calls            the forward call and the back call: the answer, and each lent slice afterwards
 --   Claims           what holds of exact copies: return, uniqueness, and when the way back is done or refused 11
 -- Proved of them:
---   ReversibleLaws   forward-back, back-forward: each inverts the other, in either order
+--   ReversibleLaws   forward_back, back_forward: each inverts the other, in either order
 --   TwoOrders        worked copies: the two orders are two
 -- For the proofs of the code, which is that of the forward call; the way back is the crate reversible_back:
 --   Sizes            the kernel of the code is the pass; how large its values become

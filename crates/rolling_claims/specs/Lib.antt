@@ -5,8 +5,8 @@
 --   History     facts: what holds after any calls, by induction over them
 --   NearLaws    demand 3 of a strip's lines in turn
 --   NotFourteen rules that never answer 14
---   Theorems    the claims, proved: ready-lines, before-end, after-end, counts, one-width, begin-fourteen, fourteen, refused-keeps,
---               sound-left, in-widths, near-before-end, near-after-end
+--   Theorems    the claims, proved: ready_lines, before_end, after_end, counts, one_width, begin_fourteen, fourteen, refused_keeps,
+--               sound_left, in_widths, near_before_end, near_after_end
 --   Examples    worked strips of 1 to 6 lines, and some one pixel wide, by computation, without and with widths of products
 --   Satisfiable  the promises can be kept, and every strip can be scanned
 pub mod Claims

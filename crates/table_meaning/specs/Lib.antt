@@ -4,8 +4,8 @@
 --   NodeWidths    the width of a node: the values that it holds
 --   Subbands      the kept nodes, and which of them gave each place of a plane
 -- Proved of them:
---   ProductLaws   none-cut: without tag 5 no product has a width
---   SubbandLaws   kept-LL, kept-HL, kept-LH, kept-HH: the kept node of each subband of each level; kept-everywhere: each place has one
+--   ProductLaws   none_cut: without tag 5 no product has a width
+--   SubbandLaws   kept_LL, kept_HL, kept_LH, kept_HH: the kept node of each subband of each level; kept_everywhere: each place has one
 pub mod Products
 pub mod NodeWidths
 pub mod Subbands

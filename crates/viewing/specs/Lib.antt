@@ -10,7 +10,7 @@
 --   Words      every value that a level takes or leaves is at most 2^15
 --   WidthLaws  refusal 12, subband by subband
 --   PixelSteps a pixel below the depth, above it or inside
---   LevelSteps a level in memory: level-at, level-safe
+--   LevelSteps a level in memory: level_at, level_safe
 --   RowSteps   the rows of the first level, each inverted, shown and cleared
 --   CallSteps  what the steps of the call ask of each other
 pub mod View

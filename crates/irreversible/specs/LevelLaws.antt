@@ -1,6 +1,6 @@
 -- A level in memory: its rows, then the columns of row-low, then those of row-high. Where a plane stands and its values are
 -- sized, every pass is safe (`level_safe`), and what the level leaves stands (`level_stands`).
-use Rattle.std.specs.Prelude.{ℕ, ◌+◌, ◌*◌, ◌-◌, ◌<◌, ◌≤◌, Bool, ◌≡◌, ltb, ℤ}
+use Rattle.std.specs.Prelude.{ℕ, ◌+◌, ◌*◌, ◌<◌, ◌≤◌, Bool, ◌≡◌, ltb, ℤ}
 use Rattle.std.proofs.Math.Bool.{true, false}
 use Rattle.std.proofs.Math.Path.{sym, subst}
 use Rattle.std.proofs.Common.{◌∙◌, ap, arith}

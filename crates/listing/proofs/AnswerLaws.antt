@@ -1,5 +1,5 @@
 -- The program's answer is that of the forward call on what its input holds, and its text is that of the plane that comes back.
-use Rattle.std.specs.Prelude.{ℕ, zero, suc, ◌+◌, ◌*◌, ◌-◌, ◌<◌, ◌≤◌, Bool, true, false, ◌&&◌, List, [], ◌++◌, ◌≡◌, refl, ℤ, pos, length, get_or, take}
+use Rattle.std.specs.Prelude.{ℕ, zero, suc, ◌+◌, ◌*◌, ◌<◌, ◌≤◌, Bool, true, false, ◌&&◌, List, [], ◌++◌, ◌≡◌, refl, ℤ, pos, length, get_or, take}
 use Rattle.std.proofs.Common.{sym, ◌∙◌, subst, le-leb, take_all, length-take-le}
 use Rattle.std.proofs.Math.Path.{ap}
 use native.Mathlib.Omega.{arith}

@@ -1,7 +1,6 @@
 -- The bounds of a pass over lines of two samples or more.
 use Rattle.std.specs.Prelude.{ℕ}
 use Rattle.stages.specs.Stages.{low, high, Product}
-use Rattle.stages.specs.Rule as Rule
 use Rattle.stages.specs.Rule.{Bound}
 use Rattle.width_table.specs.Nodes.{Node, P1, U1, P2, U2, G1, G2}
 use Rattle.precision.specs.Bounds.{bound_after}

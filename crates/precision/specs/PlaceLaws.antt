@@ -1,6 +1,6 @@
 -- The bounds of a pass by place numbers are those of Bounds, and are small where what enters the pass is small.
 use Prim.Native.Nat.{ℕ, zero, suc, ◌+◌, ◌*◌, ◌-◌, ◌^◌, ◌<◌, ◌≤◌, max}
-use Rattle.std.specs.Prelude.{Bool, true, false, List, [], ◌≡◌, eqb, ltb, get_or}
+use Rattle.std.specs.Prelude.{Bool, true, false, List, ◌≡◌, eqb, ltb, get_or}
 use Rattle.std.proofs.Math.Path.{refl, sym}
 use Rattle.std.proofs.Common.{◌∙◌, ap, le_trans}
 use native.Mathlib.Omega.{arith}

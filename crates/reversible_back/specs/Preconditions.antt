@@ -1,5 +1,5 @@
 -- What the functions of the way back ask of their callers.
-use Rattle.std.specs.Prelude.{ℕ, ◌*◌, ◌-◌, ◌^◌, List, ◌≡◌, refl, ℤ, length}
+use Rattle.std.specs.Prelude.{ℕ, ◌*◌, ◌^◌, List, ◌≡◌, refl, ℤ, length}
 use Rattle.std.proofs.Common.{sym, subst, arith}
 use Rattle.slices.specs.Patch.{at}
 use Rattle.reversible.specs.LevelLaws.{BoundedPart, plane_at, rows_from, columns_from, rows_sized, columns_sized}

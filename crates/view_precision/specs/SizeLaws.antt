@@ -1,5 +1,5 @@
 -- What the program computes of a pass fits in 64 bits, and what a pass gives on grows by no more than what is stored (`gives_most`).
-use Prim.Native.Nat.{ℕ, zero, suc, ◌+◌, ◌*◌, ◌-◌, ◌^◌, ◌<◌, ◌≤◌}
+use Prim.Native.Nat.{ℕ, zero, suc, ◌+◌, ◌*◌, ◌^◌, ◌<◌, ◌≤◌}
 use Rattle.std.specs.Prelude.{Bool, true, false, List, [], ◌∷◌, ◌≡◌, eqb, ltb, get_or, set}
 use Rattle.std.proofs.Common.{sym, ◌∙◌, mul-le-mul_right, le_trans, lit≤, lit<}
 use Rattle.std.proofs.Math.Path.{ap, subst}

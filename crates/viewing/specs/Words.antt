@@ -1,5 +1,5 @@
 -- For the code: what every level takes and leaves is at most 2^15 in magnitude (`columns_bounded`, `level_bounded`).
-use Rattle.std.specs.Prelude.{ℕ, ◌-◌, ◌^◌, ◌<◌, ◌≤◌, ltb, ℤ}
+use Rattle.std.specs.Prelude.{ℕ, ◌<◌, ◌≤◌, ltb, ℤ}
 use Rattle.std.proofs.Common.{sym}
 use Rattle.std.proofs.Math.Path.{subst}
 use Rattle.std.proofs.Math.IntN.{nat_abs}

@@ -2,7 +2,6 @@
 use mathlib.Core.Path.{◌≡◌, sym, ◌∙◌, ap}
 use Rattle.refusals.specs.Told.{told}
 use native.Mathlib.Omega.{arith}
-use borrow.Author.Rules.{rules}
 use Rattle.refusals.specs.Answers.{passed}
 use Rattle.listing.specs.Listing.{copy_form}
 use Rattle.listing.specs.Writing.{put_same}

@@ -3,7 +3,6 @@ use mathlib.Core.Path.{sym, ap}
 use Rattle.refusals.specs.Told.{told}
 use Prim.Native.Nat.{◌*◌, ◌≤◌}
 use native.Mathlib.Omega.{arith}
-use borrow.Author.Rules.{rules}
 use lib.ListN.{length}
 use lib.Seq.{length-take-le}
 use Rattle.listing.specs.Writing.{put_same}

@@ -1,7 +1,6 @@
 -- `reversible::columns_from` meets its contract: a single value stays, and two or more are worked by the kernel.
 use mathlib.Core.Path.{◌∙◌}
 use native.Mathlib.Omega.{arith}
-use borrow.Author.Rules.{rules}
 use Rattle.slices.specs.Patch.{at}
 use Rattle.reversible.specs.LevelLaws.{columns_one, columns_more}
 use Rattle.reversible.proofs.columns_from.Goals as goal

@@ -1,7 +1,6 @@
 -- `reversible::first_level` meets its contract: samples of a picture keep each step inside its type.
 use mathlib.Core.Path.{ap, ◌∙◌}
 use native.Mathlib.Omega.{arith}
-use borrow.Author.Rules.{rules}
 use Rattle.reversible.specs.Sizes.{forward_kernel}
 use Rattle.reversible.specs.LevelLaws.{rows_from}
 use Rattle.reversible.specs.Preconditions.{first_rows}

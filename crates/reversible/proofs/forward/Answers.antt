@@ -1,7 +1,6 @@
 -- `reversible::forward` meets its contract: the refusals in their order, then the transform.
 use mathlib.Core.Path.{sym, ◌∙◌, ap}
 use Rattle.refusals.specs.Told.{told}
-use borrow.Author.Rules.{rules}
 use lib.ListN.{length}
 use Rattle.reversible.specs.AnswerLaws.{allowed_room, forward_not_allowed, forward_pixel, forward_done, forward_room}
 use Rattle.reversible.proofs.forward.Goals as goal

@@ -1,7 +1,6 @@
 -- `reversible::level_forward` meets its contract: values of the size asked give both passes room.
 use mathlib.Core.Path.{ap, ◌∙◌}
 use native.Mathlib.Omega.{arith}
-use borrow.Author.Rules.{rules}
 use Rattle.reversible.specs.Sizes.{forward_kernel}
 use Rattle.reversible.specs.LevelLaws.{rows_from}
 use Rattle.reversible.specs.Preconditions.{forward_columns, forward_rows_lem, first_forward, then_forward_rows}

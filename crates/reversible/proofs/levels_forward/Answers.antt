@@ -5,7 +5,6 @@ use native.Mathlib.Omega.{arith}
 use lib.IntN.{ℤ}
 use lib.ListN.{length}
 use Rattle.lines.specs.Lines.{lows}
-use Rattle.lines.specs.Planes.{side}
 use Rattle.lines.specs.PlaneLaws.{side_one, side_more, side_le}
 use Rattle.slices.specs.Patch.{at}
 use Rattle.slices.specs.Pixels.{loaded}

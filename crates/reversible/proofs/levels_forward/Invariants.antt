@@ -1,19 +1,10 @@
-use mathlib.Core.Path.{◌≡◌, refl, ap, ◌∙◌, subst}
-use Prim.Native.Nat.{ℕ, ◌-◌, ◌≤◌, ◌^◌}
-use native.Mathlib.Omega.{arith}
+use mathlib.Core.Path.{◌≡◌}
+use Prim.Native.Nat.{ℕ, ◌≤◌}
 use lib.IntN.{ℤ}
 use lib.ListN.{length}
-use Rattle.lines.specs.Lines.{lows}
 use Rattle.lines.specs.Planes.{side}
-use Rattle.lines.specs.PlaneLaws.{side_one, side_more, side_le}
 use Rattle.slices.specs.Patch.{at}
-use Rattle.slices.specs.Pixels.{loaded}
-use Rattle.reversible.specs.LevelLaws.{level_forward}
 use Rattle.reversible.specs.LoopLaws.{ForwardDone}
-use Rattle.reversible.proofs.LoopLaws.{forward_first, forward_more, forward_part}
-use Rattle.reversible.specs.Preconditions.{levels_room, level_room}
-use Rattle.reversible.specs.StepLaws.{first_room, loaded_small}
-use Rattle.pictures.specs.Pictures.{max_side}
 use Rattle.reversible.proofs.levels_forward.Given as goal
 
 abbrev pub invariant-loop-k : goal.invariant-loop-k

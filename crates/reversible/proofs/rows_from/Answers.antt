@@ -1,7 +1,6 @@
 -- `reversible::rows_from` meets its contract: a single value stays, and two or more are worked by the kernel.
 use mathlib.Core.Path.{◌∙◌}
 use native.Mathlib.Omega.{arith}
-use borrow.Author.Rules.{rules}
 use Rattle.slices.specs.Patch.{at}
 use Rattle.reversible.specs.LevelLaws.{rows_one, rows_more}
 use Rattle.reversible.proofs.rows_from.Goals as goal

@@ -2,7 +2,6 @@
 use mathlib.Core.Path.{sym, ◌∙◌}
 use Prim.Native.Nat.{◌*◌}
 use native.Mathlib.Omega.{arith}
-use borrow.Author.Rules.{rules}
 use lib.Seq.{length-take-le, length_front}
 use Rattle.slices.specs.FrontLaws.{zeroed_part}
 use Rattle.reversible.specs.Preconditions.{other_slices}

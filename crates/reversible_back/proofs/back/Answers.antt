@@ -1,5 +1,4 @@
 -- `reversible_back::back` meets its contract: the way back of a new copy.
-use borrow.Author.Rules.{rules}
 use Rattle.reversible_back.proofs.back.Goals as goal
 
 pub returns : goal.returns

@@ -1,5 +1,4 @@
 -- `reversible_back::back_rows_first` meets its contract: the way back of a copy made earlier.
-use borrow.Author.Rules.{rules}
 use Rattle.reversible_back.proofs.back_rows_first.Goals as goal
 
 pub returns : goal.returns

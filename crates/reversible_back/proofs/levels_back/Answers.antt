@@ -1,9 +1,8 @@
 -- `reversible_back::levels_back` meets its contract. The loop's invariant: so many levels are left, and what they will give is what was asked.
 use mathlib.Core.Path.{◌≡◌, refl, sym, ◌∙◌, subst}
-use Prim.Native.Nat.{ℕ, ◌-◌, ◌≤◌}
+use Prim.Native.Nat.{ℕ, ◌-◌}
 use native.Mathlib.Omega.{arith}
 use lib.Dec.{T}
-use lib.ListN.{length}
 use Rattle.slices.specs.Patch.{at}
 use Rattle.reversible_back.specs.LevelLaws.{level_inverse}
 use Rattle.reversible_back.specs.LoopLaws.{BackLeft, one_more, back_none, back_more}

@@ -1,14 +1,9 @@
-use mathlib.Core.Path.{◌≡◌, refl, sym, ◌∙◌, subst}
-use Prim.Native.Nat.{ℕ, ◌-◌, ◌≤◌}
-use native.Mathlib.Omega.{arith}
-use lib.Dec.{T}
+use mathlib.Core.Path.{◌≡◌}
+use Prim.Native.Nat.{◌≤◌}
 use lib.ListN.{length}
 use Rattle.slices.specs.Patch.{at}
-use Rattle.reversible_back.specs.LevelLaws.{level_inverse}
-use Rattle.reversible_back.specs.LoopLaws.{BackLeft, one_more, back_none, back_more}
-use Rattle.reversible.specs.Preconditions.{level_room, part_here}
+use Rattle.reversible_back.specs.LoopLaws.{BackLeft}
 use Rattle.reversible_back.specs.Orders.{order_of}
-use Rattle.reversible_back.specs.BackLaws.{look_small, look_large, back_all, largest}
 use Rattle.reversible_back.proofs.levels_back.Given as goal
 
 abbrev pub invariant-loop-k : goal.invariant-loop-k

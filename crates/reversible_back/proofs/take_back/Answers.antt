@@ -1,5 +1,4 @@
 -- Where a picture is found its pixels are written, and the work area is cleared either way.
-use mathlib.Core.List.{◌++◌}
 use mathlib.Core.Path.{◌≡◌, sym, ◌∙◌, subst}
 use Prim.Native.Nat.{◌*◌}
 use native.Mathlib.Omega.{arith}

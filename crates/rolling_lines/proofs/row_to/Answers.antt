@@ -9,7 +9,6 @@ use Rattle.lifting.specs.declared.Kernel.{Kernel}
 use Rattle.lifting.specs.declared.Kernel.TheVariants.{Two}
 use Rattle.slices.specs.Patch.{at, patch}
 use Rattle.lifting.specs.Kernels.{worked}
-use Rattle.slices.specs.Pixels.{pixel_line}
 use Rattle.pictures.specs.Pictures.{sample}
 use Rattle.precision.specs.Promise.{promise}
 use Rattle.fixed_stages.specs.declared.Stages.{Stages}

@@ -3,8 +3,7 @@ use mathlib.Core.Path.{◌≡◌, ◌∙◌, ap}
 use native.Mathlib.Omega.{arith}
 use lib.Dec.{lit≤}
 use Rattle.width_table.specs.Limits.{form_levels}
-use Rattle.bounds_rule.specs.Carried.{as_bound}
-use Rattle.view_precision.specs.LevelLaws.{Reached, reached_first, reached_next, reached_small, reached_last}
+use Rattle.view_precision.specs.LevelLaws.{reached_first, reached_next, reached_small, reached_last}
 use Rattle.view_precision.proofs.work_levels.Goals as goal
 
 pub stored_bound-bound-requires : goal.stored_bound-bound-requires

@@ -1,10 +1,5 @@
-use mathlib.Core.Bool.{◌&&◌}
-use mathlib.Core.Path.{◌∙◌, ap}
-use native.Mathlib.Omega.{arith}
-use lib.Dec.{lit≤}
-use Rattle.width_table.specs.Limits.{form_levels}
 use Rattle.bounds_rule.specs.Carried.{as_bound}
-use Rattle.view_precision.specs.LevelLaws.{Reached, reached_first, reached_next, reached_small, reached_last}
+use Rattle.view_precision.specs.LevelLaws.{Reached}
 use Rattle.view_precision.proofs.work_levels.Given as goal
 
 abbrev pub invariant-loop-level : goal.invariant-loop-level

@@ -1,7 +1,6 @@
 -- `viewing::answer` meets its contract: the steps in their order, the last one where those before it passed.
 use mathlib.Core.Path.{sym, ◌∙◌, ap}
 use lib.ListN.{length}
-use borrow.Author.Rules.{rules}
 use Rattle.refusals.specs.Told.{told}
 use Rattle.refusals.specs.AnswerLaws.{then_right, then_refused}
 use Rattle.pictures.specs.PictureLaws.{room_answer, sized_then}

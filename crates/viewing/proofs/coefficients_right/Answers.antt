@@ -1,11 +1,9 @@
 -- `viewing::coefficients_right` meets its contract. The loop's invariant: what lies outside of the part that the levels so far leave is right.
-use Prim.Native.Nat.{◌-◌, ◌≤◌}
 use mathlib.Core.Path.{◌≡◌, sym, ◌∙◌, ap}
 use native.Mathlib.Omega.{arith}
 use Rattle.lines.specs.Lines.{lows}
-use Rattle.lines.specs.Planes.{side}
 use Rattle.lines.specs.PlaneLaws.{side_none, side_more}
-use Rattle.viewing.specs.WidthLaws.{RightOutside, right_none, last_level, look_part, look_ready, right_next, details_wrong, low_low_done, low_low_wrong}
+use Rattle.viewing.specs.WidthLaws.{right_none, last_level, look_part, look_ready, right_next, details_wrong, low_low_done, low_low_wrong}
 use Rattle.viewing.proofs.coefficients_right.Goals as goal
 
 pub details_fit-requires : goal.details_fit-requires

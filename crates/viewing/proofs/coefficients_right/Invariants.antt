@@ -1,10 +1,7 @@
 use Prim.Native.Nat.{◌-◌, ◌≤◌}
-use mathlib.Core.Path.{◌≡◌, sym, ◌∙◌, ap}
-use native.Mathlib.Omega.{arith}
-use Rattle.lines.specs.Lines.{lows}
+use mathlib.Core.Path.{◌≡◌}
 use Rattle.lines.specs.Planes.{side}
-use Rattle.lines.specs.PlaneLaws.{side_none, side_more}
-use Rattle.viewing.specs.WidthLaws.{RightOutside, right_none, last_level, look_part, look_ready, right_next, details_wrong, low_low_done, low_low_wrong}
+use Rattle.viewing.specs.WidthLaws.{RightOutside}
 use Rattle.viewing.proofs.coefficients_right.Given as goal
 
 abbrev pub invariant-loop-k : goal.invariant-loop-k

@@ -1,14 +1,8 @@
-use mathlib.Core.Path.{◌≡◌, refl, sym, ◌∙◌, subst}
-use Prim.Native.Nat.{ℕ, suc, ◌-◌, ◌<◌, ◌≤◌}
-use native.Mathlib.Numerals.{add-one}
-use native.Mathlib.Omega.{arith}
-use lib.IntN.{ℤ}
+use mathlib.Core.Path.{◌≡◌}
+use Prim.Native.Nat.{◌≤◌}
 use lib.ListN.{length}
 use Rattle.slices.specs.Patch.{at}
-use Rattle.slices.specs.Runs.{as_type}
-use Rattle.viewing.specs.LevelSteps.{level_inverse}
-use Rattle.viewing.specs.CallSteps.{LevelReady, LevelsLeft}
-use Rattle.viewing.proofs.CallStepLaws.{levels_some, levels_few, left_all, level_ready, left_less}
+use Rattle.viewing.specs.CallSteps.{LevelsLeft}
 use Rattle.viewing.proofs.levels_back.Given as goal
 
 abbrev pub invariant-loop-k : goal.invariant-loop-k

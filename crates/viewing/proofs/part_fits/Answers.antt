@@ -2,7 +2,6 @@
 use Prim.Native.Nat.{ℕ, ◌+◌, ◌-◌, ◌≤◌, ◌<◌}
 use mathlib.Core.Path.{◌≡◌, ◌∙◌, ap₂, subst}
 use native.Mathlib.Omega.{arith}
-use borrow.Author.Rules.{rules}
 use Rattle.precision.specs.Promise.{promise}
 use Rattle.width_table.specs.Limits.{integer_read, fraction_read}
 use Rattle.width_table.specs.Numbered.{node_of, pass_of, IsPass, IsNode}

@@ -1,5 +1,4 @@
 -- `viewing::stored_bits` meets its contract: what is read of the table, in 32 bits.
-use borrow.Author.Rules.{rules}
 use Rattle.fixed_stages.specs.LevelBits.{fraction_is}
 use Rattle.viewing.proofs.stored_bits.Goals as goal
 

@@ -1,7 +1,6 @@
 -- `viewing::view` meets its contract: the answer, then the picture.
 use mathlib.Core.Path.{◌≡◌, sym, ◌∙◌, ap}
 use native.Mathlib.Omega.{arith}
-use borrow.Author.Rules.{rules}
 use Rattle.refusals.specs.Answers.{passed}
 use Rattle.refusals.specs.Told.{told}
 use Rattle.viewing.specs.Calls.{view_answer}

@@ -375,8 +375,9 @@ fn put_four(table: WidthTable, lent: &mut [u8])
     put_field(lent, levels, LEVELS_TAG, &count);
     let constants = table.constants;
     put_field(lent, levels, CONSTANTS_TAG, &constants);
+    let nodes = table.nodes;
     let n = WidthTable::LEVEL_BYTES * (levels as usize);
-    put_field(lent, levels, NODES_TAG, &table.nodes[..n]);
+    put_field(lent, levels, NODES_TAG, &nodes[..n]);
 }
 
 // The bytes of the whole table: these, and tag 5 where the table has it.

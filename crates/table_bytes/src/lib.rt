@@ -380,7 +380,8 @@ fn put_four(table: WidthTable, lent: &mut [u8])
     put_field(lent, levels, NODES_TAG, &nodes[..n]);
 }
 
-// The bytes of the whole table: these, and tag 5 where the table has it.
+// The bytes of the whole table: these, and tag 5 where the table has it. A frame of its own keeps it off the stack while the form is judged.
+#[inline(never)]
 fn put_table(table: WidthTable, lent: &mut [u8])
     requires { (table.levels ≤ max_levels) × (table_size table.has_products table.levels ≤ length lent.old) }
     ensures { lent.new ≡ over (bytes_of_table table) lent.old }

@@ -1,5 +1,5 @@
 -- Bounds as the program holds them, and what is carried to a place by a table of gains (document 01: the judge).
-use Rattle.std.specs.Prelude.{ℕ, zero, suc, ◌+◌, ◌*◌, ◌^◌, List, [], get_or}
+use Rattle.std.specs.Prelude.{ℕ, zero, suc, ◌+◌, ◌^◌, List, [], get_or}
 use Rattle.stages.specs.Rule.{Bound, times_gain}
 use Rattle.bounds_rule.specs.declared.Bound as Code
 
@@ -25,10 +25,6 @@ carried_to gains x j (suc n) = carried_to gains x j n + times_gain (get_or x n 0
 -- what is multiplied by a gain
 abbrev pub most_carried : ℕ
 most_carried = 2 ^ 49
-
--- the product of such a number with any gain stays in 64 bits
-abbrev pub most_once : ℕ
-most_once = 15 * 2 ^ 42
 
 -- the largest gain of either pass
 abbrev pub most_gain : ℕ

@@ -5,7 +5,7 @@
 ghost use Rattle.std.specs.Prelude.{◌≡◌, ◌<◌, ◌≤◌, ◌^◌};
 ghost use Rattle.stages.specs.Stages.{cut_to};
 ghost use Rattle.stages.specs.Rule.{times_gain, loss, product_loss, own_lift, own_scale};
-ghost use Rattle.bounds_rule.specs.Carried.{most_carried, most_once, most_gain, most_multiplied};
+ghost use Rattle.bounds_rule.specs.Carried.{most_carried, most_gain, most_multiplied};
 
 // Range and error.
 #[derive(Clone, Copy)]
@@ -28,14 +28,6 @@ pub fn times_gain(x: u64, gain: u64) -> u64
     ensures { result ≡ times_gain x gain }
 {
     x / GAIN_ONE * gain + (x % GAIN_ONE * gain + (GAIN_ONE - 1)) / GAIN_ONE
-}
-
-// The same by one product, where it stays in 64 bits.
-pub fn times_gain_once(x: u64, gain: u64) -> u64
-    requires { (x ≤ most_once) × (gain ≤ most_gain) }
-    ensures { result ≡ times_gain x gain }
-{
-    (x * gain + (GAIN_ONE - 1)) / GAIN_ONE
 }
 
 // 2^-f where f is below the full precision.
@@ -71,10 +63,7 @@ pub fn own_lift(width: u8, constant: u8, multiplied: u8, other: u8, f: u8, total
     let full = constant + multiplied;
     numbers::up_div(total, constant as u32)
         + product_loss(width, full)
-        + loss_of(
-            f,
-            numbers::larger_bits(other, numbers::smaller_bits(width, full)),
-        )
+        + loss_of(f, other.max(width.min(full)))
 }
 
 // Own error of a stage that scales.

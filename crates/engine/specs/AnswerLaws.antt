@@ -1,14 +1,13 @@
 -- What the answers of the calls below say of the C interface's.
 use Prim.Native.Nat.{ℕ}
-use Rattle.std.specs.Prelude.{Bool, true, List, ◌≡◌, leb, length}
+use Rattle.std.specs.Prelude.{Bool, true, List, ◌≡◌, leb, length, Result, Ok, Err, IfOk}
 use Rattle.std.proofs.Math.Path.{refl, sym, ap, subst}
-use Rattle.std.proofs.Common.{◌∙◌, ap₂, subst₂}
+use Rattle.std.proofs.Common.{◌∙◌, ap₂}
+use Rattle.std.proofs.lemmas.Result.{IfOk-at_ok}
 use Rattle.numbers.specs.Lists.{over}
 use Rattle.refusals.specs.declared.Refusal.{Refusal}
-use Rattle.refusals.specs.declared.Outcome.{Outcome}
-use Rattle.refusals.specs.declared.Outcome.TheVariants.{Done, Refused}
-use Rattle.refusals.specs.Answers.{Reason, Answer, done, refused, passed, asks, ◌then◌, answered, code}
-use Rattle.refusals.specs.AnswerLaws.{gives_done, gives_refused, then_right, then_refused}
+use Rattle.refusals.specs.Answers.{Reason, Answer, done, refused, passed, asks, ◌then◌, answered}
+use Rattle.refusals.specs.AnswerLaws.{gives_done, gives_refused, then_right, then_refused, answered_done, answered_refused}
 use Rattle.refusals.specs.Told.{told_refusal, told}
 use Rattle.width_table.specs.declared.WidthTable.{WidthTable}
 use Rattle.width_table.specs.Table.{form_right}
@@ -19,8 +18,10 @@ use Rattle.width_table.specs.Changes.{width_answer, with_width, table_after_widt
 use Rattle.table_bytes.specs.RoundTrip.{read_sized}
 use Rattle.width_table.specs.Lists.{FullLists}
 use Rattle.width_table.specs.ChangeLaws.{width_form, constant_form, product_form}
-use Rattle.table_calls.specs.CallLaws.{unread, unread_if_done, form_right_lem, table_held}
-use Rattle.engine.specs.Answers.{start_after, length_after, new_table_answer, new_table_out}
+use Rattle.table_calls.specs.Calls.{form_then}
+use Rattle.table_calls.specs.CallLaws.{unread, unread_if_done, read}
+use Rattle.std.specs.Result.{MatchResult}
+use Rattle.engine.specs.Answers.{start_after, length_after, new_table_answer, new_table_out, Changed}
 
 -- ---- a tag that is named
 
@@ -60,80 +61,105 @@ module _ (t : WidthTable) (lent : List ℕ) where
   unfolding writing
   write_refused r e = gives_refused (write_answer t lent) _ r e
 
+-- ---- a call on the table that was read
+
+-- what gives something besides its answer: the answer, by whether it gave it
+module _ {A : Type 0} {own : Answer Unit} {r : Result A Refusal} (outcome : told r then passed ≡ own) where
+  pub own_refused : {why : Refusal} → r ≡ Err why → refused (told_refusal why) ≡ own
+  own_refused e = sym (ap (λ (r : Result A Refusal). told r then passed) e) ∙ outcome
+
+  pub own_done : {x : A} → r ≡ Ok x → passed ≡ own
+  own_done e = sym (ap (λ (r : Result A Refusal). told r then passed) e) ∙ outcome
+
+-- reading, and then a call
+pub read_then : (bytes : List ℕ) (r : Result WidthTable Refusal) → (told r then passed ≡ form bytes) × IfOk r (λ t. t ≡ table_read bytes) → (call : WidthTable → Answer Unit) (a : Result Unit Refusal)
+    → MatchResult r (λ t. told a ≡ call t) (λ why. a ≡ Err why) → told a ≡ form_then bytes call
+read_then bytes (Ok t) reads call a gives = read bytes reads {held = t} refl call gives
+read_then bytes (Err why) reads call a gives = ap (λ (a : Result Unit Refusal). told a) gives ∙ unread bytes reads {why = why} refl _
+
 -- ---- a new table from the old one
 
--- a change's answer and its table went to the lent bytes
-abbrev Written : List ℕ → Answer Unit → WidthTable → ℕ → List ℕ → Type 0
-Written out answer made r l = (r ≡ code (answer then write_answer made out)) × (l ≡ answered answer (bytes_after made out) out)
+-- a change on the table that the bytes hold
+module _ (change : WidthTable → Result WidthTable Refusal → Type 0) (bytes out : List ℕ) {held : WidthTable} {made : Result WidthTable Refusal} (right : form bytes ≡ passed) (held_is : held ≡ table_in bytes) (gives : change held made) where
+  here : change (table_in bytes) made
+  here = subst (λ (t : WidthTable). change t made) held_is gives
+
+  pub refused_change : {why : Refusal} → made ≡ Err why → Changed change bytes out (refused (told_refusal why)) out
+  refused_change e answer new given =
+      let own = sym (own_refused (given made right here).0 e) in
+      (sym (then_right (form bytes) _ right ∙ then_refused answer _ _ own), sym (answered_refused (bytes_after new out) out (then_right (form bytes) answer right ∙ own)))
+
+  pub made_change : {t : WidthTable} → made ≡ Ok t → Changed change bytes out (write_answer t out) (bytes_after t out)
+  made_change e answer new given =
+      let h = given made right here in
+      let own = sym (own_done h.0 e) in
+      let t_is = IfOk-at_ok (λ (t : WidthTable). t ≡ new) e h.1 in
+      (ap (λ (t : WidthTable). write_answer t out) t_is ∙ sym (then_right (form bytes) _ right ∙ then_right answer _ own), ap (λ (t : WidthTable). bytes_after t out) t_is ∙ sym (answered_done (bytes_after new out) out (then_right (form bytes) answer right ∙ own)))
 
 -- what the call gives
-abbrev NewTable : List ℕ → Answer Unit → WidthTable → List ℕ → ℕ → List ℕ → Type 0
-NewTable bytes change new out r l = (r ≡ code (new_table_answer bytes change out)) × (l ≡ new_table_out bytes change out new)
+abbrev NewTable : List ℕ → Answer Unit → WidthTable → List ℕ → Answer Unit → List ℕ → Type 0
+NewTable bytes change new out r l = (r ≡ new_table_answer bytes change out) × (l ≡ new_table_out bytes change out new)
 
--- what reading promises of its outcome and of its table
-module _ (bytes : List ℕ) {o : Outcome} {held : WidthTable} (reads : (told o ≡ form bytes) × (held ≡ table_read bytes)) where
-  pub change_unread : {why : Refusal} → o ≡ Refused why → (change : Answer Unit) (new : WidthTable) (out : List ℕ) {r : ℕ} → r ≡ code {A = Unit} (refused (told_refusal why)) → NewTable bytes change new out r out
+-- what reading promises of its answer and of its table
+module _ (bytes : List ℕ) {o : Result WidthTable Refusal} (reads : (told o then passed ≡ form bytes) × IfOk o (λ t. t ≡ table_read bytes)) where
+  pub change_unread : {why : Refusal} → o ≡ Err why → (change : Answer Unit) (new : WidthTable) (out : List ℕ) {r : Answer Unit} → r ≡ refused (told_refusal why) → NewTable bytes change new out r out
   unfolding new_table_answer new_table_out
-  change_unread e change new out r-is = (r-is ∙ ap code (unread bytes reads e _), unread_if_done bytes reads e _ (over (bytes_of_table new) out) out)
+  change_unread e change new out r-is = (r-is ∙ unread bytes reads e _, unread_if_done bytes reads e _ (over (bytes_of_table new) out) out)
 
-  module _ (e : o ≡ Done) (out : List ℕ) where
-    -- an accepted change keeps the form, the levels and whether tag 5 is there, so that 9 alone is left
-    change_read : (rule : WidthTable → Answer Unit) (made_by : WidthTable → WidthTable) {answer : Answer Unit} {made : WidthTable} {r : ℕ} {l : List ℕ}
-        → (made_by (table_in bytes)).levels ≡ levels_in bytes → (made_by (table_in bytes)).has_products ≡ has_fifth bytes → (rule (table_in bytes) ≡ passed → form_right (made_by (table_in bytes)) ≡ true)
-        → (answer ≡ rule held) × (made ≡ answered (rule held) (made_by held) held) → Written out answer made r l
-        → NewTable bytes (rule (table_in bytes)) (made_by (table_in bytes)) out r l
+-- the table that a change leaves, which is written as any other
+abbrev Written : List ℕ → Answer Unit → WidthTable → List ℕ → Answer Unit → List ℕ → Type 0
+Written bytes change made out r l = (r ≡ form bytes then change then write_answer made out) × (l ≡ answered (form bytes then change) (bytes_after made out) out)
+
+module _ (bytes out : List ℕ) where
+  abbrev t : WidthTable
+  t = table_in bytes
+
+  -- an accepted change keeps the form, the levels and whether tag 5 is there, so that 9 alone is left
+  module _ (change : Answer Unit) (new : WidthTable) (levels : new.levels ≡ levels_in bytes) (has_products : new.has_products ≡ has_fifth bytes) (right : form bytes ≡ passed → change ≡ passed → form_right new ≡ true) where
+    abbrev room : Bool → ℕ → Answer Unit
+    room has_products L = asks (leb (table_size has_products L) (length out)) 9 passed
+
+    abbrev rest : Answer Unit
+    rest = room (has_fifth bytes) (levels_in bytes)
+
+    written_new : {r : Answer Unit} {l : List ℕ} → Written bytes change (answered change new t) out r l → NewTable bytes change new out r l
     unfolding new_table_answer new_table_out write_answer bytes_after
-    change_read rule made_by {r = r} {l = l} levels has_products right (answer_is, made-is) written =
-        go (rule t) refl
-        (subst₂ (λ (a : Answer Unit) (m : WidthTable). Written out a m r l) (answer_is ∙ ap rule held_is) (made-is ∙ ap (λ (t : WidthTable). answered (rule t) (made_by t) t) held_is) written)
+    written_new {r} {l} (r-is, l-is) = go (form bytes) refl change refl
       where
-        t : WidthTable
-        t = table_in bytes
+        go : (f : Answer Unit) → form bytes ≡ f → (a : Answer Unit) → change ≡ a → NewTable bytes change new out r l
+        go (refused why) e a q =
+            let none : new_table_answer bytes change out ≡ refused why = then_refused (form bytes) (change then rest) why e in (
+              r-is ∙ then_refused (form bytes) _ why e ∙ sym none,
+              l-is ∙ answered_refused _ out (then_refused (form bytes) change why e) ∙ sym (answered_refused _ out none),
+            )
+        go (done u) e (refused why) q =
+            let none : new_table_answer bytes change out ≡ refused why = then_right (form bytes) (change then rest) e ∙ then_refused change rest why q in (
+              r-is ∙ then_right (form bytes) _ e ∙ then_refused change _ why q ∙ sym none,
+              l-is ∙ answered_refused _ out (then_right (form bytes) change e ∙ q) ∙ sym (answered_refused _ out none),
+            )
+        go (done u) e (done v) q =
+            let made : answered change new t ≡ new = answered_done new t q in
+            let formed : write_answer new out ≡ rest = ap (λ (b : Bool). asks b 4 (room new.has_products new.levels)) (right e q) ∙ ap₂ room has_products levels in
+            let all : new_table_answer bytes change out ≡ write_answer new out = then_right (form bytes) (change then rest) e ∙ then_right change rest q ∙ sym formed in (
+              r-is ∙ then_right (form bytes) _ e ∙ then_right change _ q ∙ ap (λ (t : WidthTable). write_answer t out) made ∙ sym all,
+              l-is ∙ answered_done _ out (then_right (form bytes) change e ∙ q) ∙ ap (λ (t : WidthTable). bytes_after t out) made ∙ ap (λ (a : Answer Unit). answered a (over (bytes_of_table new) out) out) (sym all),
+            )
 
-        new : WidthTable
-        new = made_by t
+  sized : form bytes ≡ passed → FullLists t
+  sized right = read_sized bytes right
 
-        held_is : held ≡ t
-        held_is = table_held bytes reads e
+  module _ {r : Answer Unit} {l : List ℕ} where
+    pub width_changed : (level pass node IB f : ℕ) → Written bytes (width_answer t level pass node IB f) (table_after_width t level pass node IB f) out r l
+        → NewTable bytes (width_answer t level pass node IB f) (with_width t level pass node IB f) out r l
+    unfolding table_after_width table_in
+    width_changed level pass node IB f = written_new (width_answer t level pass node IB f) (with_width t level pass node IB f) refl refl (λ right. width_form t (sized right) level pass node IB f)
 
-        room : Bool → ℕ → Answer Unit
-        room has_products L = asks (leb (table_size has_products L) (length out)) 9 passed
+    pub constant_changed : (node F : ℕ) → Written bytes (constant_answer t node F) (table_after_constant t node F) out r l
+        → NewTable bytes (constant_answer t node F) (with_constant t node F) out r l
+    unfolding table_after_constant table_in
+    constant_changed node F = written_new (constant_answer t node F) (with_constant t node F) refl refl (λ right. constant_form t (sized right) node F)
 
-        rest : Answer Unit
-        rest = room (has_fifth bytes) (levels_in bytes)
-
-        formed : rule t ≡ passed → write_answer new out ≡ new_table_answer bytes (rule t) out
-        formed q =
-            ap (λ (b : Bool). asks b 4 (room new.has_products new.levels)) (right q) ∙ ap₂ room has_products levels
-            ∙ sym (then_right (form bytes) _ (form_right_lem bytes reads e) ∙ then_right (rule t) rest q)
-
-        unchanged : (why : Reason) → rule t ≡ refused why → refused why ≡ new_table_answer bytes (rule t) out
-        unchanged why q = sym (then_right (form bytes) _ (form_right_lem bytes reads e) ∙ then_refused (rule t) rest why q)
-
-        gives : {a : Answer Unit} → a ≡ new_table_answer bytes (rule t) out → (r ≡ code a) × (l ≡ answered a (over (bytes_of_table new) out) out) → NewTable bytes (rule t) new out r l
-        gives q (r-is, l-is) = (r-is ∙ ap code q, l-is ∙ ap (λ (a : Answer Unit). answered a (over (bytes_of_table new) out) out) q)
-
-        go : (a : Answer Unit) → rule t ≡ a → Written out a (answered a new t) r l → NewTable bytes (rule t) new out r l
-        go (done tt) q w = gives (formed q) w
-        go (refused why) q w = gives (unchanged why q) w
-
-    sized : FullLists (table_in bytes)
-    sized = read_sized bytes (form_right_lem bytes reads e)
-
-    module _ {answer : Answer Unit} {made : WidthTable} {r : ℕ} {l : List ℕ} where
-      pub width_changed : (level pass node IB f : ℕ) → (answer ≡ width_answer held level pass node IB f) × (made ≡ table_after_width held level pass node IB f)
-          → Written out answer made r l → NewTable bytes (width_answer (table_in bytes) level pass node IB f) (with_width (table_in bytes) level pass node IB f) out r l
-      unfolding table_after_width table_in
-      width_changed level pass node IB f =
-          change_read (λ (t : WidthTable). width_answer t level pass node IB f) (λ (t : WidthTable). with_width t level pass node IB f) refl refl (width_form (table_in bytes) sized level pass node IB f)
-
-      pub constant_changed : (node F : ℕ) → (answer ≡ constant_answer held node F) × (made ≡ table_after_constant held node F)
-          → Written out answer made r l → NewTable bytes (constant_answer (table_in bytes) node F) (with_constant (table_in bytes) node F) out r l
-      unfolding table_after_constant table_in
-      constant_changed node F = change_read (λ (t : WidthTable). constant_answer t node F) (λ (t : WidthTable). with_constant t node F) refl refl (constant_form (table_in bytes) sized node F)
-
-      pub product_changed : (level pass product fp : ℕ) → (answer ≡ product_answer held level pass product fp) × (made ≡ table_after_product held level pass product fp)
-          → Written out answer made r l → NewTable bytes (product_answer (table_in bytes) level pass product fp) (with_product (table_in bytes) level pass product fp) out r l
-      unfolding table_after_product table_in
-      product_changed level pass product fp =
-          change_read (λ (t : WidthTable). product_answer t level pass product fp) (λ (t : WidthTable). with_product t level pass product fp) refl refl (product_form (table_in bytes) sized level pass product fp)
+    pub product_changed : (level pass product fp : ℕ) → Written bytes (product_answer t level pass product fp) (table_after_product t level pass product fp) out r l
+        → NewTable bytes (product_answer t level pass product fp) (with_product t level pass product fp) out r l
+    unfolding table_after_product table_in
+    product_changed level pass product fp = written_new (product_answer t level pass product fp) (with_product t level pass product fp) refl refl (λ right. product_form t (sized right) level pass product fp)

@@ -4,14 +4,9 @@ use Rattle.std.proofs.Math.Path.{refl, ap, subst}
 use Rattle.std.proofs.Common.{sym, ◌∙◌, arith, le→leb}
 use Rattle.std.proofs.Math.Decide.{dec_lt}
 use Rattle.numbers.specs.Lists.{over}
-use Rattle.refusals.specs.declared.Refusal.{Refusal}
-use Rattle.refusals.specs.declared.Outcome.{Outcome}
-use Rattle.refusals.specs.declared.Outcome.TheVariants.{Done, Refused}
-use Rattle.refusals.specs.Answers.{Reason, Answer, done, refused, passed, asks, ◌then◌, answered, code}
-use Rattle.refusals.specs.AnswerLaws.{asks_right, asks_wrong, gives_done, then_right, then_refused, answered_done, answered_refused}
-use Rattle.table_bytes.specs.Bytes.{form, table_in, table_read}
-use Rattle.refusals.specs.Told.{told_refusal, told}
-use Rattle.width_table.specs.declared.WidthTable.{WidthTable}
+use Rattle.refusals.specs.Answers.{Reason, Answer, done, refused, passed, asks, ◌then◌, answered}
+use Rattle.refusals.specs.AnswerLaws.{asks_right, asks_wrong, gives_done, then_done, then_right, then_refused, answered_done, answered_refused}
+use Rattle.table_bytes.specs.Bytes.{form, table_in}
 use Rattle.precision.specs.Promise.{promise}
 use Rattle.rolling.specs.declared.Scan.{Scan}
 use Rattle.rolling.specs.Calls.{begin_answer, scan_of, line_answer, given_by_line, scan_after, LineLeft, LineCall, end_answer, given_by_end, scan_ended, EndLeft, EndCall}
@@ -21,7 +16,6 @@ use Rattle.rolling_claims.specs.History.{line_right, end_right}
 use Rattle.rolling_claims.specs.Satisfiable.{line_few, end_few}
 use Rattle.scan_bytes.specs.ScanBytes.{scan_length, state_bytes, keepable, scan_held, scan_in, state_after, numbers_after}
 use Rattle.scan_bytes.specs.ByteLaws.{can_keep, no_room, kept, read_is, renewed_written}
-use Rattle.table_calls.specs.CallLaws.{unread, read, table_held}
 use Rattle.std.proofs.lemmas.Bool.{lt-leb}
 use Rattle.engine.specs.ScanAnswers.{begins, scan_begin_answer, scan_begin_state, scan_line_answer, scan_line_state, scan_line_given, ScanLineLeft, scan_end_answer, scan_end_state, scan_end_given, ScanEndLeft, given_after}
 
@@ -78,73 +72,49 @@ module _ (state : List ℕ) where
       go (no h) = let long : scan_length ≤ length state = omega arith in answered_done (over (state_bytes s) state) state (is_roomy long) ∙ kept s state can long
 
 module _ (bytes state : List ℕ) where
-  -- what suz_scan_begin leaves
-  abbrev BeginLeaves : ℕ → List ℕ → Type 0
-  BeginLeaves r state' = (r ≡ code (scan_begin_answer bytes state)) × (state' ≡ scan_begin_state bytes state)
-
-  abbrev left : Answer Unit → List ℕ
-  left o = answered o (over (state_bytes (scan_of (table_in bytes))) state) state
-
-  gives : (o : Answer Unit) → o ≡ begins bytes → {r : ℕ} {state' : List ℕ} → r ≡ code (o then roomy state) → state' ≡ left (o then roomy state) → BeginLeaves r state'
+  -- a table that begins no scan
+  pub begin_refused : {why : Reason} → begins bytes ≡ refused why → (scan_begin_answer bytes state ≡ refused why) × (scan_begin_state bytes state ≡ state)
   unfolding scan_begin_answer scan_begin_state
-  gives o e r-is state-is = (r-is ∙ ap (λ (o : Answer Unit). code (o then roomy state)) e, state-is ∙ ap (λ (o : Answer Unit). left (o then roomy state)) e)
+  begin_refused e =
+      let none = then_refused (begins bytes) (roomy state) _ e in
+      (none, answered_refused _ state none)
 
-  -- what reading promises of its outcome and of its table
-  module _ {o : Outcome} {held : WidthTable} (reads : (told o ≡ form bytes) × (held ≡ table_read bytes)) where
-    pub begin_unread : {why : Refusal} → o ≡ Refused why → {r : ℕ} → r ≡ code {A = Unit} (refused (told_refusal why)) → BeginLeaves r state
-    unfolding begins
-    begin_unread {why} e r-is = gives (refused (told_refusal why)) (unread bytes reads e _) r-is refl
-
-    pub begin_read : o ≡ Done → {answer : Answer Unit} {s : Scan} {r : ℕ} {state' : List ℕ} → (answer ≡ begin_answer held) × (s ≡ scan_of held)
-        → (r ≡ code (answer then roomy state)) × (state' ≡ answered answer (state_after s state) state) → BeginLeaves r state'
-    unfolding begins scan_of
-    begin_read e {answer} {s} (answer_is, scan_is) (r-is, state-is) =
-        gives answer (read bytes reads e begin_answer answer_is) r-is (state-is ∙ go answer (answer_is ∙ ap begin_answer held_is))
-      where
-        held_is : held ≡ table_in bytes
-        held_is = table_held bytes reads e
-
-        go : (o : Answer Unit) → o ≡ begin_answer (table_in bytes) → answered o (state_after s state) state ≡ left (o then roomy state)
-        go (done tt) q =
-            let new = scan_of (table_in bytes) in
-            ap (λ (s : Scan). state_after s state) (scan_is ∙ ap scan_of held_is) ∙ sym (roomy_put state new (begun_kept new (sym q) (omega arith)))
-        go (refused r) q = refl
+  -- a table that begins one: 9 alone is left
+  pub begin_done : begins bytes ≡ passed → {s : Scan} → s ≡ scan_of (table_in bytes) → (scan_begin_answer bytes state ≡ roomy state) × (state_after s state ≡ scan_begin_state bytes state)
+  unfolding scan_begin_answer scan_begin_state begins scan_of
+  begin_done e s-is =
+      let new = scan_of (table_in bytes) in
+      let all = then_right (begins bytes) (roomy state) e in
+      let begun = (then_done (form bytes) (begin_answer (table_in bytes)) e).1 in
+      (all, ap (λ (s : Scan). state_after s state) s-is ∙ sym (roomy_put state new (begun_kept new begun (omega arith))) ∙ ap (λ (o : Answer Unit). answered o (over (state_bytes new) state) state) (sym all))
 
 -- ---- a line, and the end
 
 module _ (state : List ℕ) where
   -- the answer, the state and the number of lines given, of a call whose answer is o
-  abbrev Went : Answer Unit → Scan → ℕ → ℕ → ℕ → List ℕ → ℕ → Type 0
-  Went o after m given r state' given' = (r ≡ code o) × (state' ≡ answered o (over (state_bytes after) state) state) × (given' ≡ answered o m given)
+  abbrev Went : Answer Unit → Scan → ℕ → ℕ → Answer Unit → List ℕ → ℕ → Type 0
+  Went o after m given r state' given' = (r ≡ o) × (state' ≡ answered o (over (state_bytes after) state) state) × (given' ≡ answered o m given)
 
   -- a state that holds no scan
-  none : (o : Answer Unit) (after : Scan) (m given : ℕ) {r : ℕ} (why : Reason) → scan_in state ≡ refused why → r ≡ code {A = Unit} (refused why) → Went (scan_in state then o) after m given r state given
+  none : (o : Answer Unit) (after : Scan) (m given : ℕ) {r : Answer Unit} (why : Reason) → scan_in state ≡ refused why → r ≡ refused why → Went (scan_in state then o) after m given r state given
   none o after m given {r} why e r-is = subst (λ (o : Answer Unit). Went o after m given r state given) (sym (then_refused (scan_in state) o why e)) (r-is, refl, refl)
 
   -- a state that holds one
   some : (s : Scan) → scan_in state ≡ done s → (o : Answer Unit) (after : Scan) (m given : ℕ) → (o ≡ passed → Renews s after)
-      → {answer : Answer ℕ} {s' : Scan} {r : ℕ} {state' : List ℕ} {given' : ℕ} → answer ≡ o then done m → s' ≡ answered o after s
-      → r ≡ code answer → state' ≡ answered answer (numbers_after s'.width s'.taken s'.ended state) state → given' ≡ given_after answer given
+      → {answer : Answer ℕ} {s' : Scan} {r : Answer Unit} {state' : List ℕ} {given' : ℕ} → answer ≡ o then done m → s' ≡ answered o after s
+      → r ≡ answer then passed → state' ≡ answered answer (numbers_after s'.width s'.taken s'.ended state) state → given' ≡ given_after answer given
       → Went (scan_in state then o) after m given r state' given'
   some s e o after m given renews {answer} {s'} {r} {state'} {given'} answer_is scan_is r-is state-is given_is =
       subst (λ (o : Answer Unit). Went o after m given r state' given') (sym (then_right (scan_in state) o e))
-      (go o renews (r-is ∙ ap (λ (a : Answer ℕ). code a) answer_is) (state-is ∙ (λ i. answered (answer_is i) (numbers (scan_is i)) state)) (given_is ∙ ap (λ (a : Answer ℕ). given_after a given) answer_is))
+      (go o renews (r-is ∙ ap (λ (a : Answer ℕ). a then passed) answer_is) (state-is ∙ (λ i. answered (answer_is i) (numbers (scan_is i)) state)) (given_is ∙ ap (λ (a : Answer ℕ). given_after a given) answer_is))
     where
       numbers : Scan → List ℕ
       numbers s = numbers_after s.width s.taken s.ended state
 
-      go : (o : Answer Unit) → (o ≡ passed → Renews s after) → r ≡ code (o then done m) → state' ≡ answered (o then done m) (numbers (answered o after s)) state → given' ≡ given_after (o then done m) given
+      go : (o : Answer Unit) → (o ≡ passed → Renews s after) → r ≡ (o then done m) then passed → state' ≡ answered (o then done m) (numbers (answered o after s)) state → given' ≡ given_after (o then done m) given
           → Went o after m given r state' given'
       go (done tt) renews r-is state-is given_is = let k = renews refl in (r-is, state-is ∙ renewed_written state s e after k.table k.narrow, given_is)
       go (refused why) renews r-is state-is given_is = (r-is, state-is, given_is)
-
-  -- what reading promises of its outcome and of its scan
-  module _ (s : Scan) {o : Outcome} (reads : told o then done s ≡ scan_in state) where
-    holds_none : {why : Refusal} → o ≡ Refused why → scan_in state ≡ refused (told_refusal why)
-    holds_none e = sym reads ∙ ap (λ (o : Outcome). told o then done s) e
-
-    holds : o ≡ Done → scan_in state ≡ done s
-    holds e = sym reads ∙ ap (λ (o : Outcome). told o then done s) e
 
   -- the scan that is read is the one that the state holds
   is_held : {s : Scan} → scan_in state ≡ done s → scan_in state ≡ done (scan_held state)
@@ -152,26 +122,24 @@ module _ (state : List ℕ) where
 
 module _ (state pixels : List ℕ) (w : ℕ) (held out : List ℤ) (given : ℕ) where
   -- what suz_scan_line leaves
-  abbrev LineLeaves : ℕ → List ℕ → List ℤ → List ℤ → ℕ → Type 0
+  abbrev LineLeaves : Answer Unit → List ℕ → List ℤ → List ℤ → ℕ → Type 0
   LineLeaves r state' held' out' given' =
-      (r ≡ code (scan_line_answer state pixels w held out))
+      (r ≡ scan_line_answer state pixels w held out)
       × ((state' ≡ scan_line_state state pixels w held out) × ((given' ≡ scan_line_given state pixels w held out given) × ScanLineLeft state pixels w held out held' out'))
 
-  pub line_none : (s : Scan) {o : Outcome} {why : Refusal} {r : ℕ} → told o then done s ≡ scan_in state → o ≡ Refused why → r ≡ code {A = Unit} (refused (told_refusal why)) → LineLeaves r state held out given
+  pub line_none : (why : Reason) {r : Answer Unit} → scan_in state ≡ refused why → r ≡ refused why → LineLeaves r state held out given
   unfolding scan_line_answer scan_line_state scan_line_given
-  line_none read {why = why} reads is r-is =
-      let e = holds_none state read reads is in
+  line_none why e r-is =
       let s = scan_held state in
       let own = line_answer s pixels w held out in
-      let (a, b, c) = none state own (scan_after s pixels w held out) (length (given_by_line s pixels w held out)) given (told_refusal why) e r-is in
-      (a, (b, (c, subst (λ (o : Answer Unit). LineLeft s pixels w held out o held out) (sym (then_refused (scan_in state) own (told_refusal why) e)) (line_stays s pixels w held out (told_refusal why)))))
+      let (a, b, c) = none state own (scan_after s pixels w held out) (length (given_by_line s pixels w held out)) given why e r-is in
+      (a, (b, (c, subst (λ (o : Answer Unit). LineLeft s pixels w held out o held out) (sym (then_refused (scan_in state) own why e)) (line_stays s pixels w held out why))))
 
-  pub line_some : {s : Scan} {o : Outcome} {answer : Answer ℕ} {after : Scan} {r : ℕ} {state' : List ℕ} {held' out' : List ℤ} {given' : ℕ} → told o then done s ≡ scan_in state → o ≡ Done
-      → LineCall s pixels w held out answer after held' out' → (r ≡ code answer) × ((state' ≡ answered answer (numbers_after after.width after.taken after.ended state) state) × (given' ≡ given_after answer given))
+  pub line_some : {s : Scan} {answer : Answer ℕ} {after : Scan} {r : Answer Unit} {state' : List ℕ} {held' out' : List ℤ} {given' : ℕ} → scan_in state ≡ done s
+      → LineCall s pixels w held out answer after held' out' → (r ≡ answer then passed) × ((state' ≡ answered answer (numbers_after after.width after.taken after.ended state) state) × (given' ≡ given_after answer given))
       → LineLeaves r state' held' out' given'
   unfolding scan_line_answer scan_line_state scan_line_given
-  line_some {s = read} {answer = answer} {after} {held' = held'} {out' = out'} reads is call (r-is, (state-is, given_is)) =
-      let e = holds state read reads is in
+  line_some {answer = answer} {after} {held' = held'} {out' = out'} e call (r-is, (state-is, given_is)) =
       let s = scan_held state in
       let own = line_answer s pixels w held out in
       let there = subst (λ (s : Scan). LineCall s pixels w held out answer after held' out') (sym (read_is state _ e)) call in
@@ -180,26 +148,24 @@ module _ (state pixels : List ℕ) (w : ℕ) (held out : List ℤ) (given : ℕ)
 
 module _ (state : List ℕ) (held out : List ℤ) (given : ℕ) where
   -- what suz_scan_end leaves
-  abbrev EndLeaves : ℕ → List ℕ → List ℤ → List ℤ → ℕ → Type 0
+  abbrev EndLeaves : Answer Unit → List ℕ → List ℤ → List ℤ → ℕ → Type 0
   EndLeaves r state' held' out' given' =
-      (r ≡ code (scan_end_answer state held out))
+      (r ≡ scan_end_answer state held out)
       × ((state' ≡ scan_end_state state held out) × ((given' ≡ scan_end_given state held out given) × ScanEndLeft state held out held' out'))
 
-  pub end_none : (s : Scan) {o : Outcome} {why : Refusal} {r : ℕ} → told o then done s ≡ scan_in state → o ≡ Refused why → r ≡ code {A = Unit} (refused (told_refusal why)) → EndLeaves r state held out given
+  pub end_none : (why : Reason) {r : Answer Unit} → scan_in state ≡ refused why → r ≡ refused why → EndLeaves r state held out given
   unfolding scan_end_answer scan_end_state scan_end_given
-  end_none read {why = why} reads is r-is =
-      let e = holds_none state read reads is in
+  end_none why e r-is =
       let s = scan_held state in
       let own = end_answer s held out in
-      let (a, b, c) = none state own (scan_ended s held out) (length (given_by_end s held out)) given (told_refusal why) e r-is in
-      (a, (b, (c, subst (λ (o : Answer Unit). EndLeft s held out o held out) (sym (then_refused (scan_in state) own (told_refusal why) e)) (end_stays s held out (told_refusal why)))))
+      let (a, b, c) = none state own (scan_ended s held out) (length (given_by_end s held out)) given why e r-is in
+      (a, (b, (c, subst (λ (o : Answer Unit). EndLeft s held out o held out) (sym (then_refused (scan_in state) own why e)) (end_stays s held out why))))
 
-  pub end_some : {s : Scan} {o : Outcome} {answer : Answer ℕ} {after : Scan} {r : ℕ} {state' : List ℕ} {held' out' : List ℤ} {given' : ℕ} → told o then done s ≡ scan_in state → o ≡ Done
-      → EndCall s held out answer after held' out' → (r ≡ code answer) × ((state' ≡ answered answer (numbers_after after.width after.taken after.ended state) state) × (given' ≡ given_after answer given))
+  pub end_some : {s : Scan} {answer : Answer ℕ} {after : Scan} {r : Answer Unit} {state' : List ℕ} {held' out' : List ℤ} {given' : ℕ} → scan_in state ≡ done s
+      → EndCall s held out answer after held' out' → (r ≡ answer then passed) × ((state' ≡ answered answer (numbers_after after.width after.taken after.ended state) state) × (given' ≡ given_after answer given))
       → EndLeaves r state' held' out' given'
   unfolding scan_end_answer scan_end_state scan_end_given
-  end_some {s = read} {answer = answer} {after} {held' = held'} {out' = out'} reads is call (r-is, (state-is, given_is)) =
-      let e = holds state read reads is in
+  end_some {answer = answer} {after} {held' = held'} {out' = out'} e call (r-is, (state-is, given_is)) =
       let s = scan_held state in
       let own = end_answer s held out in
       let there = subst (λ (s : Scan). EndCall s held out answer after held' out') (sym (read_is state _ e)) call in

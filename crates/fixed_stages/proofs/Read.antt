@@ -1,7 +1,7 @@
 -- A signed local holds bits: what is read back from them is the number that was written, where it fits.
 use Prim.Native.Nat.{◌<◌, ◌^◌}
-use mathlib.Core.Path.{◌≡◌, sym, ap₂, subst, ◌∙◌}
-use lib.IntN.{ℤ, ◌*ℤ◌}
+use mathlib.Core.Path.{◌≡◌, sym, subst, ◌∙◌}
+use lib.IntN.{ℤ}
 use lib.Signed.{mag}
 use mir.Syntax.{w64}
 use mir.Val.{SFits, to_z, of_z}
@@ -14,10 +14,6 @@ back z = to_z w64 (of_z w64 z)
 -- what was read back of a call's result
 pub got : {r z : ℤ} → mag r < 2 ^ 63 → r ≡ z → back r ≡ z
 got f e = to_z-of_z {w = w64} (sfits_of {w = w64} f) ∙ e
-
--- a number that fits times such a result
-pub times_got : (k r z : ℤ) → SFits w64 k → mag r < 2 ^ 63 → r ≡ z → back k *ℤ back r ≡ k *ℤ z
-times_got k r z h f e = ap₂ ◌*ℤ◌ (to_z-of_z {w = w64} h) (got f e)
 
 pub fits_at : {z z' : ℤ} → z' ≡ z → SFits w64 z → SFits w64 z'
 fits_at e h = subst (SFits w64) (sym e) h

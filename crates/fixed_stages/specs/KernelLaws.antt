@@ -10,6 +10,7 @@ use Rattle.width_table.specs.Nodes.{Node, P1, U1, P2, U2, G1, G2, Pass}
 use Rattle.width_table.specs.declared.WidthTable.{WidthTable}
 use Rattle.width_table.specs.Table.{constant_bits, fraction_bits, input_bits}
 use Rattle.lifting.specs.declared.Factor.{Factor}
+use Rattle.lifting.specs.declared.TwoPairs.{TwoPairs}
 use Rattle.lifting.specs.declared.Kernel.{Kernel}
 use Rattle.lifting.specs.declared.Kernel.TheVariants.{Two}
 use Rattle.lifting.specs.Steps.{applied, scaled_by, SameFactor}
@@ -18,7 +19,6 @@ use Rattle.lifting.specs.Kernels.{worked, SameKernel, same_two, first_highs, fir
 use Rattle.stages.specs.Stages.{Product}
 use Rattle.stages.specs.Fixed.{cut, step, scale}
 use Rattle.table_meaning.specs.Products.{product_of}
-use Rattle.fixed_stages.specs.declared.Stages.{Stages}
 use Rattle.fixed_stages.specs.Fixed.{at_p1, at_u1, at_p2, at_u2, at_g1, at_g2, fixed_long, fixed_pass, fixed_line}
 use Rattle.fixed_stages.specs.Steps.{stage_of, scaling_of}
 use Rattle.fixed_stages.specs.Kernels.{first_pair, second_pair, kernel_from, kernel_of, single_for, AsStages}
@@ -78,6 +78,6 @@ module _ (t : WidthTable) (l : ℕ) (p : Pass) (n : ℕ) where
   factor_line e one = (fun_ext λ x. fun_ext λ k. e.same (x k)) ∙ single_fixed t l p n one
 
 -- The stages that the code hands over make the kernel of the pass.
-pub stages_kernel : (t : WidthTable) (l : ℕ) (p : Pass) (s : Stages) → AsStages t l p s → SameKernel (kernel_of t l p) (Two s.first s.second s.low s.high)
+pub stages_kernel : (t : WidthTable) (l : ℕ) (p : Pass) (s : TwoPairs) → AsStages t l p s → SameKernel (kernel_of t l p) (Two s)
 unfolding kernel_of
 stages_kernel t l p s a = same_two a.first a.second a.low a.high

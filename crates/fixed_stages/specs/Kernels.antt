@@ -9,11 +9,11 @@ use Rattle.table_meaning.specs.Products.{product_of}
 use Rattle.lifting.specs.declared.Step.{Step}
 use Rattle.lifting.specs.declared.Factor.{Factor}
 use Rattle.lifting.specs.declared.Pair.{Pair}
+use Rattle.lifting.specs.declared.TwoPairs.{TwoPairs}
 use Rattle.lifting.specs.declared.Kernel.{Kernel}
 use Rattle.lifting.specs.declared.Kernel.TheVariants.{Two}
 use Rattle.lifting.specs.Steps.{SameFactor}
 use Rattle.lifting.specs.Kernels.{SamePair}
-use Rattle.fixed_stages.specs.declared.Stages.{Stages}
 use Rattle.fixed_stages.specs.Steps.{stage_of, scaling_of, single_of}
 
 -- One pass: F the bits of the constants, fp the widths of the products, fi the bits of the input, f those of the nodes.
@@ -45,7 +45,7 @@ module _ (F : Node → ℕ) (fp : Node → Product) (fi : ℕ) (f : Node → ℕ
   second_pair = record { highs = s_p2; lows = s_u2 }
 
   abbrev pub kernel_from : Kernel
-  kernel_from = Two first_pair second_pair s_g1 s_g2
+  kernel_from = Two (record { first = first_pair; second = second_pair; low = s_g1; high = s_g2 })
 
 -- the kernel of a pass of level l
 unfoldable pub kernel_of : WidthTable → ℕ → Pass → Kernel
@@ -56,7 +56,7 @@ abbrev pub single_for : WidthTable → ℕ → Pass → Factor
 single_for t l p = single_of (input_bits t l p) (fraction_bits t l p G1)
 
 -- the stages that the code hands over, in whatever form they are run, do what those of the pass do, wherever these may be taken
-pub record AsStages (t : WidthTable) (l : ℕ) (p : Pass) (s : Stages) : Type 0 where
+pub record AsStages (t : WidthTable) (l : ℕ) (p : Pass) (s : TwoPairs) : Type 0 where
   pub first : SamePair (first_pair (constant_bits t) (product_of t l p) (input_bits t l p) (fraction_bits t l p)) s.first
   pub second : SamePair (second_pair (constant_bits t) (product_of t l p) (input_bits t l p) (fraction_bits t l p)) s.second
   pub low : SameFactor (s_g1 (constant_bits t) (product_of t l p) (input_bits t l p) (fraction_bits t l p)) s.low

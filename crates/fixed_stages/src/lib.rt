@@ -16,7 +16,7 @@ ghost use Rattle.fixed_stages.specs.Kernels.{kernel_of, single_for, AsStages};
 ghost use Rattle.precision.specs.Verdict.{IsLevel};
 ghost use Rattle.lifting.specs.Kernels.{SameKernel};
 
-use lifting::{Factor, Kernel, Pair, Step};
+use lifting::{Factor, Kernel, Pair, Step, TwoPairs};
 use width_table::WidthTable;
 
 // The constants of P1, U1, P2, U2, G1 and G2 at so many bits that rounding them once more, to at most MAX_CONSTANT_BITS, gives the
@@ -40,7 +40,7 @@ pub fn signed_power(bits: u8) -> i64
     numbers::power(bits as u32) as i64
 }
 
-// A number over a power of 2, rounded down.
+// A number over a power of 2, rounded down: its callers' definitions have the floor, and not the shift.
 pub fn floor_shifted(z: i64, cut: u8) -> i64
     requires { cut < 64 }
     ensures { result ≡ floor_div z (2 ^ cut) }
@@ -58,25 +58,11 @@ fn nearest_at(node: u8, bits: u8) -> i64
     floor_shifted(FINE[node as usize - 1] + half, cut)
 }
 
-// A product that fits.
-fn times(a: i64, b: i64) -> i64
-    requires { SFits w64 (a *ℤ b) }
-    ensures { result ≡ a *ℤ b }
-{
-    a * b
-}
-
 // A product of so many bits is cut with the sum: no bit of it is cut, or own value and node have no more bits than its width.
 fn cut_together(product: u8, own: u8, kept: u8, width: u8) -> bool
     ensures { result ≡ cut_together (cut_to width) product own kept }
 {
-    if product <= width {
-        return true;
-    }
-    if own <= width {} else {
-        return false;
-    }
-    kept <= width
+    product <= width || (own <= width && kept <= width)
 }
 
 // A step by a constant of so many bits, with one cut: the bits of the neighbours, of the own value and of the node.
@@ -86,8 +72,8 @@ fn once_of(constant: i64, bits: u8, sides: u8, own: u8, kept: u8) -> Step
     ensures { result ≡ once_of constant bits sides own kept }
 {
     let product = bits + sides;
-    let top = numbers::larger_bits(numbers::larger_bits(own, product), kept);
-    let c = times(constant, signed_power(top - product));
+    let top = own.max(product).max(kept);
+    let c = constant * signed_power(top - product);
     Step::Scaled {
         k: (top - own) as u32,
         c,
@@ -100,7 +86,7 @@ fn cut_of(constant: i64, bits: u8, sides: u8, own: u8, kept: u8, width: u8) -> S
     requires { ConstantBits bits × (sides ≤ max_fraction_bits) × (width < bits + sides) × (width < max own kept) }
     ensures { result ≡ cut_of width constant bits sides own kept }
 {
-    let top = numbers::larger_bits(own, kept);
+    let top = own.max(kept);
     Step::Cut {
         k: (top - own) as u32,
         c: constant,
@@ -129,8 +115,8 @@ fn factor_of(constant: i64, bits: u8, value: u8, kept: u8) -> Factor
     ensures { result ≡ factor_of constant bits value kept }
 {
     let product = bits + value;
-    let top = numbers::larger_bits(product, kept);
-    let c = times(constant, signed_power(top - product));
+    let top = product.max(kept);
+    let c = constant * signed_power(top - product);
     Factor::Plain {
         c,
         cut: (top - kept) as u32,
@@ -154,15 +140,6 @@ fn scaling(node: u8, bits: u8, value: u8, kept: u8) -> Factor
     factor_of(nearest_at(node, bits), bits, value, kept)
 }
 
-// The stages of a pass, in the forms in which they are run: two pairs, then the scaling of the lows and that of the highs.
-#[derive(Clone, Copy)]
-pub struct Stages {
-    pub first: Pair,
-    pub second: Pair,
-    pub low: Factor,
-    pub high: Factor,
-}
-
 // The bits that a product is cut to: its width in a table that has tag 5, else the limit, which cuts none.
 fn cut_bits(cuts: bool, width: u8) -> u8
     ensures { result ≡ cut_bits cuts width }
@@ -174,39 +151,36 @@ fn cut_bits(cuts: bool, width: u8) -> u8
     }
 }
 
-// The stages of a pass. Its widths are read once: each call of a method of the table would copy the whole table.
-pub fn stages_of(table: WidthTable, level: u8, pass: u8) -> Stages
+// The stages of a pass, in the forms in which they are run. Its widths are read by their places: each call of a method of the table would
+// copy the whole table.
+pub fn stages_of(table: WidthTable, level: u8, pass: u8) -> TwoPairs
     requires { IsLevel table level × IsPass pass }
     ensures { AsStages table level (pass_of pass) result }
 {
     let enters = table.input_bits(level, pass);
     let at = width_table::node_place(level, pass, WidthTable::P1);
     let from = width_table::product_place(level, pass, WidthTable::P1);
-    let constants = table.constants;
-    let nodes = table.nodes;
-    let cuts = table.has_products;
-    let products = table.products;
-    let p1 = nodes[at + 1];
-    let u1 = nodes[at + 3];
-    let p2 = nodes[at + 5];
-    let u2 = nodes[at + 7];
-    let g1 = nodes[at + 9];
-    let g2 = nodes[at + 11];
-    let w1 = cut_bits(cuts, products[from]);
-    let w2 = cut_bits(cuts, products[from + 1]);
-    let w3 = cut_bits(cuts, products[from + 2]);
-    let w4 = cut_bits(cuts, products[from + 3]);
+    let p1 = table.nodes[at + 1];
+    let u1 = table.nodes[at + 3];
+    let p2 = table.nodes[at + 5];
+    let u2 = table.nodes[at + 7];
+    let g1 = table.nodes[at + 9];
+    let g2 = table.nodes[at + 11];
+    let w1 = cut_bits(table.has_products, table.products[from]);
+    let w2 = cut_bits(table.has_products, table.products[from + 1]);
+    let w3 = cut_bits(table.has_products, table.products[from + 2]);
+    let w4 = cut_bits(table.has_products, table.products[from + 3]);
     let first = Pair {
-        highs: stage(WidthTable::P1, constants[0], enters, enters, p1, w1),
-        lows: stage(WidthTable::U1, constants[1], p1, enters, u1, w2),
+        highs: stage(WidthTable::P1, table.constants[0], enters, enters, p1, w1),
+        lows: stage(WidthTable::U1, table.constants[1], p1, enters, u1, w2),
     };
     let second = Pair {
-        highs: stage(WidthTable::P2, constants[2], u1, p1, p2, w3),
-        lows: stage(WidthTable::U2, constants[3], p2, u1, u2, w4),
+        highs: stage(WidthTable::P2, table.constants[2], u1, p1, p2, w3),
+        lows: stage(WidthTable::U2, table.constants[3], p2, u1, u2, w4),
     };
-    let low = scaling(WidthTable::G1, constants[4], u2, g1);
-    let high = scaling(WidthTable::G2, constants[5], p2, g2);
-    Stages {
+    let low = scaling(WidthTable::G1, table.constants[4], u2, g1);
+    let high = scaling(WidthTable::G2, table.constants[5], p2, g2);
+    TwoPairs {
         first: lifting::fastest_pair(first),
         second: lifting::fastest_pair(second),
         low: lifting::fastest_factor(low),
@@ -219,17 +193,7 @@ pub fn kernel_of(table: WidthTable, level: u8, pass: u8) -> Kernel
     requires { IsLevel table level × IsPass pass }
     ensures { SameKernel (kernel_of table level (pass_of pass)) result }
 {
-    let stages = stages_of(table, level, pass);
-    let first = stages.first;
-    let second = stages.second;
-    let low = stages.low;
-    let high = stages.high;
-    Kernel::Two {
-        first,
-        second,
-        low,
-        high,
-    }
+    Kernel::Two(stages_of(table, level, pass))
 }
 
 // A single sample of so many bits, cut to those of its node, as a scaling by a power of 2.
@@ -237,7 +201,7 @@ fn single_factor(value: u8, kept: u8) -> Factor
     requires { (value ≤ max_fraction_bits) × (kept ≤ max_fraction_bits) }
     ensures { result ≡ single_of value kept }
 {
-    let top = numbers::larger_bits(value, kept);
+    let top = value.max(kept);
     let c = signed_power(top - value);
     Factor::Plain {
         c,

@@ -1,34 +1,34 @@
--- A strip inverted: step after step, each after its low was held.
-use Rattle.std.specs.Prelude.{◌≡◌, refl, List, ℕ, ◌+◌, ◌*◌, ◌-◌, ◌<◌, ◌≤◌, min, ℤ, pos}
+-- A strip inverted: step after step, each after its low came next.
+use Rattle.std.specs.Prelude.{◌≡◌, refl, List, ℕ, ◌+◌, ◌*◌, ◌-◌, ◌<◌, ◌≤◌, min, ℤ, pos, drop}
 use Rattle.std.proofs.Math.Path.{sym}
-use Rattle.std.proofs.Common.{ap, subst, ◌∙◌, arith}
+use Rattle.std.proofs.Common.{ap, subst, ◌∙◌, arith, get_or-drop}
 use Rattle.std.proofs.Math.Decide.{dec_lt}
 use Rattle.lines.specs.Lines.{lows, highs, Liftable}
 use Rattle.lines.specs.LineLaws.{even_place_lem, odd_place, by_parity}
 use Rattle.slices.specs.Patch.{at}
 use Rattle.slices.specs.PatchLines.{line_at, lines_is}
 use Rattle.slices.specs.PartLaws.{same_line}
-use Rattle.inverse_lifting.specs.declared.ColumnStrip.{ColumnStrip}
 use Rattle.inverse_lifting.specs.declared.ColumnsAt.{ColumnsAt}
+use Rattle.inverse_lifting.specs.declared.ColumnsOf.{ColumnsOf}
 use Rattle.inverse_lifting.specs.Fixed.{fixed_inverse_long, fixed_inverse}
 use Rattle.inverse_lifting.specs.Single.{back_long}
 use Rattle.inverse_lifting.specs.Steps.{PipelineHolds, Gives, step_held, step_gives, line_u1, line_p1}
-use Rattle.inverse_lifting.specs.Columns.{pipeline_in, pipeline_out, column_line, ColumnReady, column_line_lem}
+use Rattle.inverse_lifting.specs.Columns.{pipeline_in, pipeline_out, held_of, column_line, ColumnReady, column_line_lem}
 use Rattle.inverse_lifting.specs.Strips.{source, inverted, Placed, Fed, high_place, even_place, PlaneStepped, StripReady, source_low, source_high, pick}
 
 -- the steps before step i are taken
-pub record StripDone (plane work work' state : List ℤ) (a : ColumnsAt) (b : ColumnStrip) (i : ℕ) : Type 0 where
-  pub held : (j : ℕ) → j < b.columns → 1 ≤ i → PipelineHolds (column_line b (source a b.lines (at plane) (at work) j)) (i - 1) (pipeline_in (at state) j)
-  pub low : (j : ℕ) → j < b.columns → 1 ≤ i → at state (4 * b.room + j) ≡ source a b.lines (at plane) (at work) j (min (i - 1) (lows b.lines - 1))
+pub record StripDone (plane work work' low : List ℤ) (held : List (List ℤ)) (a : ColumnsAt) (b : ColumnsOf) (i : ℕ) : Type 0 where
+  pub holds : (j : ℕ) → j < b.columns → 1 ≤ i → PipelineHolds (column_line b (source a b.lines (at plane) (at work) j)) (i - 1) (pipeline_in (held_of held j))
+  pub lows_are : (j : ℕ) → j < b.columns → 1 ≤ i → at low j ≡ source a b.lines (at plane) (at work) j (min (i - 1) (lows b.lines - 1))
   pub even : (k j : ℕ) → k < i - 2 → j < b.columns → at work' (line_at a.from a.stride (2 * k) + j) ≡ line_u1 (column_line b (source a b.lines (at plane) (at work) j)) k
   pub odd : (k j : ℕ) → k < i - 2 → k < highs b.lines → j < b.columns → at work' (line_at a.from a.stride (2 * k + 1) + j) ≡ line_p1 (column_line b (source a b.lines (at plane) (at work) j)) k
   pub kept : (p : ℕ) → ((k j : ℕ) → k < i - 2 → j < b.columns → p ≡ line_at a.from a.stride (2 * k) + j → ⊥)
       → ((k j : ℕ) → k < i - 2 → k < highs b.lines → j < b.columns → p ≡ line_at a.from a.stride (2 * k + 1) + j → ⊥) → at work' p ≡ at work p
 
-pub none_taken : (plane work state : List ℤ) (a : ColumnsAt) (b : ColumnStrip) → StripDone plane work work state a b 0
-none_taken plane work state a b = record {
-  held = λ j h g. absurd (omega arith);
-  low = λ j h g. absurd (omega arith);
+pub none_taken : (plane work low : List ℤ) (held : List (List ℤ)) (a : ColumnsAt) (b : ColumnsOf) → StripDone plane work work low held a b 0
+none_taken plane work low held a b = record {
+  holds = λ j h g. absurd (omega arith);
+  lows_are = λ j h g. absurd (omega arith);
   even = λ k j h g. absurd (omega arith);
   odd = λ k j h g f. absurd (omega arith);
   kept = λ p f g. refl;
@@ -45,12 +45,12 @@ module _ (a : ColumnsAt) (w : ℕ) (narrow : w ≤ a.stride) where
   other_line : (r k j v : ℕ) → j < w → v < w → (r ≡ k → ⊥) → line_at a.from a.stride r + j ≡ line_at a.from a.stride k + v → ⊥
   other_line r k j v hj hv ne e = ne (same_line a.from a.stride r k j v (omega arith) (omega arith) e).0
 
-module _ {plane work work' state : List ℤ} {a : ColumnsAt} {b : ColumnStrip} {i : ℕ} {state₀ line₀ : ℕ} (ready : StripReady plane work state₀ line₀ a b) (done : StripDone plane work work' state a b i) (within : i < lows b.lines + 2) where
+module _ {plane work work' low : List ℤ} {held : List (List ℤ)} {a : ColumnsAt} {b : ColumnsOf} {i : ℕ} {line : ℕ} (ready : StripReady plane work line a b) (done : StripDone plane work work' low held a b i) (within : i < lows b.lines + 2) where
   two : Liftable b.lines
   two = ready.placed.two
 
   apart : (r k j v : ℕ) → j < b.columns → v < b.columns → (r ≡ k → ⊥) → line_at a.from a.stride r + j ≡ line_at a.from a.stride k + v → ⊥
-  apart = other_line a b.columns (omega (arith, ready.placed.lies.narrow))
+  apart = other_line a b.columns (omega (arith, ready.placed.narrow))
 
   -- low i is still where it was
   source_now : (j : ℕ) → j < b.columns → i < lows b.lines → source a b.lines (at plane) (at work') j i ≡ source a b.lines (at plane) (at work) j i
@@ -60,43 +60,33 @@ module _ {plane work work' state : List ℤ} {a : ColumnsAt} {b : ColumnStrip} {
       (done.kept _ (λ k v l m e. apart (2 * i) (2 * k) j v h m (omega arith) e) (λ k v l q m e. apart (2 * i) (2 * k + 1) j v h m (omega arith) e))
       ∙ sym (source_low a b.lines (at plane) (at work) j i g)
 
-  module _ {state' : List ℤ} (fed : Fed plane work' state state' a b i) where
-    low_now : (j : ℕ) → j < b.columns → at state' (4 * b.room + j) ≡ source a b.lines (at plane) (at work) j (min i (lows b.lines - 1))
+  module _ {low' : List ℤ} (fed : Fed plane work' low low' a b i) where
+    low_now : (j : ℕ) → j < b.columns → at low' j ≡ source a b.lines (at plane) (at work) j (min i (lows b.lines - 1))
     low_now j h = go (dec_lt i (lows b.lines))
       where
-        go : Dec (i < lows b.lines) → at state' (4 * b.room + j) ≡ source a b.lines (at plane) (at work) j (min i (lows b.lines - 1))
+        go : Dec (i < lows b.lines) → at low' j ≡ source a b.lines (at plane) (at work) j (min i (lows b.lines - 1))
         go (yes l) =
             let e : i ≡ min i (lows b.lines - 1) = omega arith in
-            fed.low j h l ∙ source_now j h l ∙ ap (source a b.lines (at plane) (at work) j) e
+            fed.next j h l ∙ source_now j h l ∙ ap (source a b.lines (at plane) (at work) j) e
         go (no f) =
-            fed.past j (omega arith) ∙ done.low j h (omega (arith, two)) ∙ ap (source a b.lines (at plane) (at work) j) (last_low i (lows b.lines) (omega arith) (omega (arith, two)))
+            fed.past j (omega arith) ∙ done.lows_are j h (omega (arith, two)) ∙ ap (source a b.lines (at plane) (at work) j) (last_low i (lows b.lines) (omega arith) (omega (arith, two)))
 
-    step_same : (j : ℕ) → j < b.columns → pipeline_in (at state) j ≡ pipeline_in (at state') j
-    step_same j h =
-        let n = ready.placed.narrow in
-        λ u. record {
-          g2 = sym (fed.others (4 * j) (omega arith)) u;
-          u2 = sym (fed.others (4 * j + 1) (omega arith)) u;
-          p2 = sym (fed.others (4 * j + 2) (omega arith)) u;
-          u1 = sym (fed.others (4 * j + 3) (omega arith)) u;
-          even = pos 0;
-          odd = pos 0;
-        }
+    abbrev high : List ℤ
+    high = drop (high_place a b i) plane
 
     -- every column can take its step
-    pub column_ready : (j : ℕ) → j < b.columns
-        → ColumnReady b i (pipeline_in (at state') j) (at state' (4 * b.room + j)) (at plane (high_place a b i + j)) (source a b.lines (at plane) (at work) j)
+    pub column_ready : (j : ℕ) → j < b.columns → ColumnReady b i (pipeline_in (held_of held j)) (at low' j) (at high j) (source a b.lines (at plane) (at work) j)
     column_ready j h = record {
       safe = ready.safe j h;
-      held = λ g. subst (PipelineHolds _ (i - 1)) (step_same j h) (done.held j h g);
+      held = λ g. done.holds j h g;
       low_is = low_now j h;
-      high_is = sym (source_high a b.lines (at plane) (at work) j _ (omega arith));
+      high_is = get_or-drop (high_place a b i) plane j (pos 0) ∙ sym (source_high a b.lines (at plane) (at work) j _ (omega arith));
     }
 
     -- one step more
-    module _ {work'' state'' : List ℤ} (stepped : PlaneStepped plane work' work'' state' state'' a b i) where
+    module _ {work'' : List ℤ} {held' : List (List ℤ)} (stepped : PlaneStepped high low' held held' work' work'' a b i) where
       gives : (j : ℕ) → (h : j < b.columns)
-          → Gives (column_line b (source a b.lines (at plane) (at work) j)) i (pipeline_out (at state'') (at work'' (even_place a i + j)) (at work'' (even_place a i + a.stride + j)) j)
+          → Gives (column_line b (source a b.lines (at plane) (at work) j)) i (pipeline_out (held_of held' j) (at work'' (even_place a i + j)) (at work'' (even_place a i + a.stride + j)))
       gives j h = step_gives (column_line_lem (column_ready j h) two within) (stepped.stepped j h)
 
       old_even : (k j : ℕ) → k < i - 2 → j < b.columns → at work'' (line_at a.from a.stride (2 * k) + j) ≡ at work' (line_at a.from a.stride (2 * k) + j)
@@ -105,13 +95,13 @@ module _ {plane work work' state : List ℤ} {a : ColumnsAt} {b : ColumnStrip} {
       old_odd : (k j : ℕ) → k < i - 2 → j < b.columns → at work'' (line_at a.from a.stride (2 * k + 1) + j) ≡ at work' (line_at a.from a.stride (2 * k + 1) + j)
       old_odd k j h g = stepped.kept _ (λ l v m e. apart (2 * k + 1) (2 * (i - 2)) j v g m (omega arith) e) (λ l q v m e. apart (2 * k + 1) (2 * (i - 2) + 1) j v g m (omega arith) (omega arith))
 
-      pub strip_more : StripDone plane work work'' state'' a b (i + 1)
+      pub strip_more : StripDone plane work work'' low' held' a b (i + 1)
       strip_more = record {
-        held = λ j h g.
+        holds = λ j h g.
             let t = step_held (column_line_lem (column_ready j h) two within) (stepped.stepped j h) in
             let e : i ≡ i + 1 - 1 = omega arith in
-            subst (λ (k : ℕ). PipelineHolds (column_line b (source a b.lines (at plane) (at work) j)) k (pipeline_in (at state'') j)) e (record { g2 = t.g2; u2 = t.u2; p2 = t.p2; u1 = t.u1 });
-        low = λ j h g. let e : i ≡ i + 1 - 1 = omega arith in stepped.lows j h ∙ low_now j h ∙ ap (λ (k : ℕ). source a b.lines (at plane) (at work) j (min k (lows b.lines - 1))) e;
+            subst (λ (k : ℕ). PipelineHolds (column_line b (source a b.lines (at plane) (at work) j)) k (pipeline_in (held_of held' j))) e (record { g2 = t.g2; u2 = t.u2; p2 = t.p2; u1 = t.u1 });
+        lows_are = λ j h g. let e : i ≡ i + 1 - 1 = omega arith in low_now j h ∙ ap (λ (k : ℕ). source a b.lines (at plane) (at work) j (min k (lows b.lines - 1))) e;
         even = λ k j h g. evens k j h g (dec_lt k (i - 2));
         odd = λ k j h q g. odds k j h q g (dec_lt k (i - 2));
         kept = λ p f g.
@@ -133,7 +123,7 @@ module _ {plane work work' state : List ℤ} {a : ColumnsAt} {b : ColumnStrip} {
               subst (λ (m : ℕ). at work'' (line_at a.from a.stride (2 * m + 1) + j) ≡ line_p1 (column_line b (source a b.lines (at plane) (at work) j)) m) e (ap (at work'') o ∙ (gives j g).odd (omega arith) (omega arith))
 
 -- all steps are taken
-module _ {plane work work' state : List ℤ} {a : ColumnsAt} {b : ColumnStrip} {state₀ line₀ : ℕ} (ready : StripReady plane work state₀ line₀ a b) (done : StripDone plane work work' state a b (lows b.lines + 2)) where
+module _ {plane work work' low : List ℤ} {held : List (List ℤ)} {a : ColumnsAt} {b : ColumnsOf} {line : ℕ} (ready : StripReady plane work line a b) (done : StripDone plane work work' low held a b (lows b.lines + 2)) where
   new : ℕ → ℕ → ℤ
   new r j = fixed_inverse b.lowbits b.highbits b.lines (source a b.lines (at plane) (at work) j) r
 
@@ -145,17 +135,17 @@ module _ {plane work work' state : List ℤ} {a : ColumnsAt} {b : ColumnStrip} {
 
   pub strip_all : at work' ≡ inverted a b.lowbits b.highbits b.columns b.lines (at plane) (at work)
   unfolding new
-  strip_all = lines_is (line_at a.from a.stride) b.columns new (at work) (λ u v l p q hp hq e. other_line a b.columns (omega (arith, ready.placed.lies.narrow)) u v p q hp hq (omega arith) e) b.lines (at work')
+  strip_all = lines_is (line_at a.from a.stride) b.columns new (at work) (λ u v l p q hp hq e. other_line a b.columns (omega (arith, ready.placed.narrow)) u v p q hp hq (omega arith) e) b.lines (at work')
       (λ r j h g. long r j h g ∙ sym (back_long b.lowbits b.highbits b.lines (source a b.lines (at plane) (at work) j) r ready.placed.two))
       (λ p off. done.kept p (λ k j h g e. off (2 * k) j (omega arith) g (sym e)) (λ k j h q g e. off (2 * k + 1) j (omega arith) g (sym e)))
 
--- the same, of slices as long
-pub placed_as : {plane work state line : ℕ} {a : ColumnsAt} {b : ColumnStrip} → Placed plane work state line a b → (w l m : ℕ) → w ≡ work → l ≡ state → m ≡ line → Placed plane w l m a b
-placed_as q w l m ew el em = record {
+-- of slices as long
+pub placed_as : {work line : ℕ} {a : ColumnsAt} {b : ColumnsOf} → Placed work line a b → (w m : ℕ) → w ≡ work → m ≡ line → Placed w m a b
+placed_as q w m ew em = record {
   two = q.two;
-  lies = record { few = q.lies.few; narrow = q.lies.narrow; in_plane = q.lies.in_plane; in_work = λ k h. omega (arith, q.lies.in_work k h) };
+  few = q.few;
   narrow = q.narrow;
-  room = omega (arith, q.room);
+  in_work = λ k h. omega (arith, q.in_work k h);
   spare = omega (arith, q.spare);
   lowbits = q.lowbits;
   highbits = q.highbits;

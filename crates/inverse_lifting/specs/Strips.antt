@@ -5,16 +5,16 @@ use Rattle.std.proofs.Math.Path.{ap, fun_ext}
 use native.Mathlib.Omega.{arith}
 use Rattle.lines.specs.Lines.{lows, highs, Liftable}
 use Rattle.numbers.specs.Tests.{ltb-true, ltb-false}
-use Rattle.slices.specs.Patch.{at, patch, patch_in, patch_below, patch_above}
+use Rattle.slices.specs.Patch.{at, patch, patch_above}
 use Rattle.slices.specs.PatchLines.{line_at, patch_lines, lines_out, lines_none, lines_more}
 use Rattle.slices.specs.PartLaws.{value_as_was, strips_more}
 use Rattle.stages.specs.Fixed.{cut}
-use Rattle.inverse_lifting.specs.declared.ColumnStrip.{ColumnStrip}
 use Rattle.inverse_lifting.specs.declared.ColumnsAt.{ColumnsAt}
+use Rattle.inverse_lifting.specs.declared.ColumnsOf.{ColumnsOf}
 use Rattle.inverse_lifting.specs.Fixed.{node_bits, fixed_inverse}
 use Rattle.inverse_lifting.specs.Planes.{Safe}
 use Rattle.inverse_lifting.specs.Single.{back_single}
-use Rattle.inverse_lifting.specs.Columns.{pipeline_in, ColumnReady, SteppedAt}
+use Rattle.inverse_lifting.specs.Columns.{pipeline_in, held_of, ColumnReady, SteppedAt}
 
 -- Column j of n values, the lows first. The highs are stored: value k stands on line k of the plane. So do the lows where they are stored;
 -- else a coarser level left them in the work area, low k on line 2 k.
@@ -40,48 +40,50 @@ pub record Lies (plane work : ℕ) (a : ColumnsAt) (w n : ℕ) : Type 0 where
   pub in_plane : (k : ℕ) → k < n → line_at a.from a.width k + w ≤ plane
   pub in_work : (k : ℕ) → k < n → line_at a.from a.stride k + w ≤ work
 
--- a strip of two lines or more lies there, and what is held of it has room
-pub record Placed (plane work state line : ℕ) (a : ColumnsAt) (b : ColumnStrip) : Type 0 where
+-- a strip of two lines or more lies in a work area of so many values, and has room in a line of so many
+pub record Placed (work line : ℕ) (a : ColumnsAt) (b : ColumnsOf) : Type 0 where
   pub two : Liftable b.lines
-  pub lies : Lies plane work a b.columns b.lines
-  pub narrow : b.columns ≤ b.room
-  pub room : 5 * b.room ≤ state
-  pub spare : 2 * b.room ≤ line
+  pub few : b.lines < 2 ^ 31
+  pub narrow : a.from + b.columns ≤ a.stride
+  pub in_work : (k : ℕ) → k < b.lines → line_at a.from a.stride k + b.columns ≤ work
+  pub spare : 2 * b.columns ≤ line
   pub lowbits : b.lowbits ≤ node_bits
   pub highbits : b.highbits ≤ node_bits
 
--- ---- low i is held
+-- ---- low i comes next
 
-pub record Fed (plane work state state' : List ℤ) (a : ColumnsAt) (b : ColumnStrip) (i : ℕ) : Type 0 where
-  pub low : (j : ℕ) → j < b.columns → i < lows b.lines → at state' (4 * b.room + j) ≡ source a b.lines (at plane) (at work) j i
-  pub past : (j : ℕ) → lows b.lines ≤ i → at state' (4 * b.room + j) ≡ at state (4 * b.room + j)
-  pub others : (p : ℕ) → p < 4 * b.room → at state' p ≡ at state p
+pub record Fed (plane work low low' : List ℤ) (a : ColumnsAt) (b : ColumnsOf) (i : ℕ) : Type 0 where
+  pub next : (j : ℕ) → j < b.columns → i < lows b.lines → at low' j ≡ source a b.lines (at plane) (at work) j i
+  pub past : (j : ℕ) → lows b.lines ≤ i → at low' j ≡ at low j
 
 -- ---- step i of a strip
 
 -- where its high, or the last one, stands in the plane, and where its first line goes
-abbrev pub high_place : ColumnsAt → ColumnStrip → ℕ → ℕ
+abbrev pub high_place : ColumnsAt → ColumnsOf → ℕ → ℕ
 high_place a b i = line_at a.from a.width (lows b.lines + min i (highs b.lines - 1))
 
 abbrev pub even_place : ColumnsAt → ℕ → ℕ
 even_place a i = line_at a.from a.stride (2 * (i - 2))
 
-pub record PlaneStep (plane work state : List ℤ) (line : ℕ) (a : ColumnsAt) (b : ColumnStrip) (i : ℕ) : Type 0 where
-  pub placed : Placed (length plane) (length work) (length state) line a b
+pub record PlaneStep (high low : List ℤ) (held : List (List ℤ)) (work line : ℕ) (a : ColumnsAt) (b : ColumnsOf) (i : ℕ) : Type 0 where
+  pub placed : Placed work line a b
+  pub some_high : b.columns ≤ length high
+  pub some_low : b.columns ≤ length low
+  pub room : b.columns ≤ length held
   pub within : i < lows b.lines + 2
   pub y : ℕ → ℕ → ℤ
-  pub ready : (j : ℕ) → j < b.columns → ColumnReady b i (pipeline_in (at state) j) (at state (4 * b.room + j)) (at plane (high_place a b i + j)) (y j)
+  pub ready : (j : ℕ) → j < b.columns → ColumnReady b i (pipeline_in (held_of held j)) (at low j) (at high j) (y j)
 
-pub record PlaneStepped (plane work work' state state' : List ℤ) (a : ColumnsAt) (b : ColumnStrip) (i : ℕ) : Type 0 where
-  pub stepped : (j : ℕ) → j < b.columns → SteppedAt (at plane) (high_place a b i) (at state) (at state') (at work') (even_place a i) a.stride b i j
-  pub lows : (j : ℕ) → j < b.columns → at state' (4 * b.room + j) ≡ at state (4 * b.room + j)
+pub record PlaneStepped (high low : List ℤ) (held held' : List (List ℤ)) (work work' : List ℤ) (a : ColumnsAt) (b : ColumnsOf) (i : ℕ) : Type 0 where
+  pub stepped : (j : ℕ) → j < b.columns → SteppedAt high low held held' (λ k. at work' (even_place a i + k)) (λ k. at work' (even_place a i + a.stride + k)) b i j
   pub kept : (p : ℕ) → (2 ≤ i → (j : ℕ) → j < b.columns → p ≡ even_place a i + j → ⊥)
       → (2 ≤ i → i - 2 < highs b.lines → (j : ℕ) → j < b.columns → p ≡ even_place a i + a.stride + j → ⊥) → at work' p ≡ at work p
 
 -- ---- a strip
 
-pub record StripReady (plane work : List ℤ) (state line : ℕ) (a : ColumnsAt) (b : ColumnStrip) : Type 0 where
-  pub placed : Placed (length plane) (length work) state line a b
+pub record StripReady (plane work : List ℤ) (line : ℕ) (a : ColumnsAt) (b : ColumnsOf) : Type 0 where
+  pub placed : Placed (length work) line a b
+  pub in_plane : (k : ℕ) → k < b.lines → line_at a.from a.width k + b.columns ≤ length plane
   pub safe : (j : ℕ) → j < b.columns → Safe b.lowbits b.highbits b.lines (source a b.lines (at plane) (at work) j)
 
 -- ---- proved of them
@@ -105,20 +107,13 @@ module _ (a : ColumnsAt) (n : ℕ) (plane work : ℕ → ℤ) (j k : ℕ) where
   unfolding source
   source_high h = ap (pick (pick (plane (line_at a.from a.width k + j)) (work (line_at a.from a.stride (2 * k) + j)) a.stored) (plane (line_at a.from a.width k + j))) (ltb-false k (lows n) h)
 
--- low i is held: from the plane or from the work area
-module _ (plane work state state' : List ℤ) (a : ColumnsAt) (b : ColumnStrip) (i : ℕ) (among : i < lows b.lines) (new : ℕ → ℤ) (is : at state' ≡ patch (4 * b.room) b.columns new (at state)) where
-  fed : ((j : ℕ) → j < b.columns → new j ≡ source a b.lines (at plane) (at work) j i) → Fed plane work state state' a b i
-  fed same = record {
-    low = λ j h g. ap (λ (f : ℕ → ℤ). f (4 * b.room + j)) is ∙ patch_in (4 * b.room) b.columns new (at state) j h ∙ same j h;
-    past = λ j h. absurd (omega arith);
-    others = λ p h. ap (λ (f : ℕ → ℤ). f p) is ∙ patch_below (4 * b.room) b.columns new (at state) p h;
-  }
+-- low i comes next: from the plane or from the work area
+module _ (plane work low low' : List ℤ) (a : ColumnsAt) (b : ColumnsOf) (i : ℕ) (among : i < lows b.lines) where
+  pub fed_stored : a.stored ≡ true → ((j : ℕ) → j < b.columns → at low' j ≡ at plane (line_at a.from a.width i + j)) → Fed plane work low low' a b i
+  fed_stored e same = record { next = λ j h g. same j h ∙ sym (source_stored a b.lines (at plane) (at work) j i among e); past = λ j h. absurd (omega arith) }
 
-  pub fed_stored : a.stored ≡ true → ((j : ℕ) → new j ≡ at plane (line_at a.from a.width i + j)) → Fed plane work state state' a b i
-  fed_stored e same = fed (λ j h. same j ∙ sym (source_stored a b.lines (at plane) (at work) j i among e))
-
-  pub fed_left : a.stored ≡ false → ((j : ℕ) → new j ≡ at work (line_at a.from a.stride (2 * i) + j)) → Fed plane work state state' a b i
-  fed_left e same = fed (λ j h. same j ∙ sym (source_left a b.lines (at plane) (at work) j i among e))
+  pub fed_left : a.stored ≡ false → ((j : ℕ) → j < b.columns → at low' j ≡ at work (line_at a.from a.stride (2 * i) + j)) → Fed plane work low low' a b i
+  fed_left e same = record { next = λ j h g. same j h ∙ sym (source_left a b.lines (at plane) (at work) j i among e); past = λ j h. absurd (omega arith) }
 
 -- ---- strip by strip: the first d columns are inverted
 

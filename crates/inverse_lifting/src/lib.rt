@@ -2,7 +2,7 @@
 // columns side by side in strips, so that memory is passed over once. A single value has no stages (document 02, job 6).
 #![tactic(auto)]
 
-ghost use Rattle.std.specs.Prelude.{◌≡◌, true, ℕ, ◌+◌, ◌*◌, ◌<◌, ◌≤◌, min, length, nat_abs};
+ghost use Rattle.std.specs.Prelude.{◌≡◌, true, ℕ, ◌+◌, ◌-◌, ◌*◌, ◌<◌, ◌≤◌, min, length, take, drop, nat_abs};
 ghost use Rattle.slices.specs.Patch.{at, Free, patch};
 ghost use Rattle.slices.specs.Parts.{Part, row_of};
 ghost use Rattle.inverse_lifting.specs.Fixed.{node_bits, limit};
@@ -10,7 +10,7 @@ ghost use Rattle.inverse_lifting.specs.Planes.{Safe, rows_inverse};
 ghost use Rattle.inverse_lifting.specs.Stages.{Inside, Constant, moved_by, ended_by, scaled_by};
 ghost use Rattle.inverse_lifting.specs.Steps.{LowAsks, LowStepped, HighAsks, HighStepped, SomeReady, Stepped};
 ghost use Rattle.inverse_lifting.specs.Rows.{RowReady, RowSteps, RowStepped, RowInverted};
-ghost use Rattle.inverse_lifting.specs.Columns.{pipeline_in, Kept, ColumnStep, ColumnStepped, StripStep, StripStepped};
+ghost use Rattle.inverse_lifting.specs.Columns.{ColumnStep, ColumnStepped, StripStep, StripStepped};
 ghost use Rattle.inverse_lifting.specs.Strips.{source, inverted, singles, Lies, Fed, high_place, PlaneStep, PlaneStepped, StripReady};
 
 // ---- the constants
@@ -79,62 +79,72 @@ struct Pipeline {
     odd: i64,
 }
 
-// Low k of a line with a stage inverted, by cases. Past the last one, what was kept.
-fn on_low(
+// Nothing is held.
+const NONE: Pipeline = Pipeline {
+    g2: 0,
+    u2: 0,
+    p2: 0,
+    u1: 0,
+    even: 0,
+    odd: 0,
+};
+
+// Place k of a line of so many lows and highs.
+#[derive(Clone, Copy)]
+struct Place {
     k: usize,
     lows: usize,
     highs: usize,
+}
+
+// What a stage is inverted of: a value with its neighbours, and what was kept, which stays past the line's last place.
+#[derive(Clone, Copy)]
+struct Stage {
     kept: i64,
     own: i64,
     before: i64,
     after: i64,
-    c: i64,
-) -> i64
-    requires { LowAsks k lows highs own before after × Constant c }
-    ensures { LowStepped (moved_by c) (ended_by c) k lows highs kept own before after result }
+}
+
+// Low k of a line with a stage inverted, by cases. Past the last one, what was kept.
+fn on_low(p: Place, x: Stage, c: i64) -> i64
+    requires { LowAsks p.k p.lows p.highs x.own x.before x.after × Constant c }
+    ensures { LowStepped (moved_by c) (ended_by c) p.k p.lows p.highs x.kept x.own x.before x.after result }
 {
-    if lows <= k {
-        return kept;
+    if p.lows <= p.k {
+        return x.kept;
     }
     // the first low: source document 003, equation 3, inverted
-    if k == 0 {
-        return moved_end(own, after, c);
+    if p.k == 0 {
+        return moved_end(x.own, x.after, c);
     }
     // the last low of an odd length, in the same style
-    if highs <= k {
-        return moved_end(own, before, c);
+    if p.highs <= p.k {
+        return moved_end(x.own, x.before, c);
     }
-    moved(own, before, after, c)
+    moved(x.own, x.before, x.after, c)
 }
 
 // High k of a line with a stage inverted, by cases. Past the last one, what was kept.
-fn on_high(
-    k: usize,
-    lows: usize,
-    highs: usize,
-    kept: i64,
-    own: i64,
-    before: i64,
-    after: i64,
-    c: i64,
-) -> i64
-    requires { HighAsks k lows highs own before after × Constant c }
-    ensures { HighStepped (moved_by c) (ended_by c) k lows highs kept own before after result }
+fn on_high(p: Place, x: Stage, c: i64) -> i64
+    requires { HighAsks p.k p.lows p.highs x.own x.before x.after × Constant c }
+    ensures { HighStepped (moved_by c) (ended_by c) p.k p.lows p.highs x.kept x.own x.before x.after result }
 {
-    if highs <= k {
-        return kept;
+    if p.highs <= p.k {
+        return x.kept;
     }
     // the last high of an even length: source document 003, equation 4, inverted
-    if lows <= k + 1 {
-        return moved_end(own, before, c);
+    if p.lows <= p.k + 1 {
+        return moved_end(x.own, x.before, c);
     }
-    moved(own, before, after, c)
+    moved(x.own, x.before, x.after, c)
 }
 
-// A step away from the ends of a line.
-fn inner_step(t: Pipeline, low: i64, high: i64, i: usize, lows: usize, highs: usize) -> Pipeline
-    requires { SomeReady i lows highs t low high × (2 ≤ i) × (i < highs) }
-    ensures { Stepped i lows highs t low high result }
+// Step k away from the ends of a line. It is no plainer as one function with `end_step`, whose stages have cases and whose first steps end
+// early; the chain of the stages is proved once for both.
+fn inner_step(t: Pipeline, low: i64, high: i64, p: Place) -> Pipeline
+    requires { SomeReady p.k p.lows p.highs t low high × (2 ≤ p.k) × (p.k < p.highs) }
+    ensures { Stepped p.k p.lows p.highs t low high result }
 {
     let u2 = moved(low, t.g2, high, DELTA);
     let p2 = moved(t.g2, t.u2, u2, GAMMA);
@@ -142,84 +152,99 @@ fn inner_step(t: Pipeline, low: i64, high: i64, i: usize, lows: usize, highs: us
     let p1 = moved(t.p2, t.u1, u1, ALPHA);
     Pipeline {
         g2: high,
-        u2: u2,
-        p2: p2,
-        u1: u1,
+        u2,
+        p2,
+        u1,
         even: t.u1,
         odd: p1,
     }
 }
 
-// Any step: each stage as far as its place is one of the line's.
-fn end_step(t: Pipeline, low: i64, high: i64, i: usize, lows: usize, highs: usize) -> Pipeline
-    requires { SomeReady i lows highs t low high }
-    ensures { Stepped i lows highs t low high result }
+// Any step k: each stage as far as its place is one of the line's.
+fn end_step(t: Pipeline, low: i64, high: i64, p: Place) -> Pipeline
+    requires { SomeReady p.k p.lows p.highs t low high }
+    ensures { Stepped p.k p.lows p.highs t low high result }
 {
-    let u2 = on_low(i, lows, highs, t.u2, low, t.g2, high, DELTA);
-    if i == 0 {
-        return Pipeline {
-            g2: high,
-            u2: u2,
-            p2: 0,
-            u1: 0,
-            even: 0,
-            odd: 0,
-        };
-    }
-    let p2 = on_high(i - 1, lows, highs, t.p2, t.g2, t.u2, u2, GAMMA);
-    let u1 = on_low(i - 1, lows, highs, t.u1, t.u2, t.p2, p2, BETA);
-    if i == 1 {
-        return Pipeline {
-            g2: high,
-            u2: u2,
-            p2: p2,
-            u1: u1,
-            even: 0,
-            odd: 0,
-        };
-    }
-    let p1 = on_high(i - 2, lows, highs, 0, t.p2, t.u1, u1, ALPHA);
-    Pipeline {
+    let u2 = on_low(
+        p,
+        Stage {
+            kept: t.u2,
+            own: low,
+            before: t.g2,
+            after: high,
+        },
+        DELTA,
+    );
+    let first = Pipeline {
         g2: high,
-        u2: u2,
-        p2: p2,
-        u1: u1,
+        u2,
+        ..NONE
+    };
+    if p.k == 0 {
+        return first;
+    }
+    let before = Place { k: p.k - 1, ..p };
+    let p2 = on_high(
+        before,
+        Stage {
+            kept: t.p2,
+            own: t.g2,
+            before: t.u2,
+            after: u2,
+        },
+        GAMMA,
+    );
+    let u1 = on_low(
+        before,
+        Stage {
+            kept: t.u1,
+            own: t.u2,
+            before: t.p2,
+            after: p2,
+        },
+        BETA,
+    );
+    let second = Pipeline { p2, u1, ..first };
+    if p.k == 1 {
+        return second;
+    }
+    let p1 = on_high(
+        Place { k: p.k - 2, ..p },
+        Stage {
+            kept: 0,
+            own: t.p2,
+            before: t.u1,
+            after: u1,
+        },
+        ALPHA,
+    );
+    Pipeline {
         even: t.u1,
         odd: p1,
+        ..second
     }
 }
 
-// Step i of a line, which takes a low and a high, scaled. Away from the ends, where `inner` may be set, it is quicker.
-fn stepped(
-    t: Pipeline,
-    low: i64,
-    high: i64,
-    i: usize,
-    lows: usize,
-    highs: usize,
-    inner: bool,
-) -> Pipeline
-    requires { SomeReady i lows highs t low high × (inner ≡ true → (2 ≤ i) × (i < highs)) }
-    ensures { Stepped i lows highs t low high result }
+// Step k of a line, which takes a low and a high, scaled. Away from the ends, where it may be INNER, it is quicker.
+fn stepped<const INNER: bool>(t: Pipeline, low: i64, high: i64, p: Place) -> Pipeline
+    requires { SomeReady p.k p.lows p.highs t low high × (INNER ≡ true → (2 ≤ p.k) × (p.k < p.highs)) }
+    ensures { Stepped p.k p.lows p.highs t low high result }
 {
-    if inner {
-        return inner_step(t, low, high, i, lows, highs);
+    if INNER {
+        return inner_step(t, low, high, p);
     }
-    end_step(t, low, high, i, lows, highs)
+    end_step(t, low, high, p)
 }
 
 // ---- places
 
 // The place that step i reads: i, or the last one where i is past it (what stands there is then not used). Where i is known not to be past
-// it, `inner` may be set.
-fn place(i: usize, last: usize, inner: bool) -> usize
-    requires { inner ≡ true → i ≤ last }
+// it, it may be INNER.
+fn up_to<const INNER: bool>(i: usize, last: usize) -> usize
+    requires { INNER ≡ true → i ≤ last }
     ensures { result ≡ min i last }
 {
-    if inner {
-        return i;
-    }
-    numbers::smaller(i, last)
+    if INNER { i } else { i.min(last) }
 }
 
 // ---- a row
@@ -228,8 +253,8 @@ fn place(i: usize, last: usize, inner: bool) -> usize
 pub const ROW_START: usize = 4;
 
 // Steps start to end - 1 of the row of w values from place `from` on; step i leaves its two values at places 2 i and 2 i + 1 of the line.
-// Away from the row's ends `inner` may be set.
-fn row_steps(
+// Away from the row's ends they may be INNER.
+fn row_steps<const INNER: bool>(
     work: &[i64],
     line: &mut [i64],
     from: usize,
@@ -237,30 +262,25 @@ fn row_steps(
     start: usize,
     end: usize,
     held: Pipeline,
-    inner: bool,
 ) -> Pipeline
-    requires { RowSteps work.now line.old from w start end held inner }
+    requires { RowSteps work.now line.old from w start end held INNER }
     ensures { RowStepped work.now line.new from w end result }
 {
-    let low = (w + 1) / 2;
-    let high = w / 2;
+    let lows = (w + 1) / 2;
+    let highs = w / 2;
     let mut t = held;
+    // the index names two places of the row and two of the line
     for i in start..end {
-        let a = place(i, low - 1, inner);
-        let b = place(i, high - 1, inner);
-        t = stepped(
+        let a = up_to::<INNER>(i, lows - 1);
+        let b = up_to::<INNER>(i, highs - 1);
+        t = stepped::<INNER>(
             t,
             scaled(work[from + a], ZETA_INVERSE, CONSTANT_BITS),
-            scaled(work[from + low + b], ZETA, CONSTANT_BITS),
-            i,
-            low,
-            high,
-            inner,
+            scaled(work[from + lows + b], ZETA, CONSTANT_BITS),
+            Place { k: i, lows, highs },
         );
-        let even = t.even;
-        line[2 * i] = even;
-        let odd = t.odd;
-        line[2 * i + 1] = odd;
+        line[2 * i] = t.even;
+        line[2 * i + 1] = t.odd;
     }
     t
 }
@@ -273,21 +293,13 @@ pub fn row(work: &[i64], line: &mut [i64], from: usize, w: usize)
     ensures line { Free line.old line.new }
 {
     if w < 2 {
-        slices::copy_run_wide(work, from, line, ROW_START, w);
+        slices::copy_run(work, from, line, ROW_START, w);
         return;
     }
-    let none = Pipeline {
-        g2: 0,
-        u2: 0,
-        p2: 0,
-        u1: 0,
-        even: 0,
-        odd: 0,
-    };
-    let first = row_steps(work, line, from, w, 0, 2, none, false);
-    let end = numbers::larger(2, w / 2);
-    let then = row_steps(work, line, from, w, 2, end, first, true);
-    row_steps(work, line, from, w, end, (w + 1) / 2 + 2, then, false);
+    let end = (w / 2).max(2);
+    let first = row_steps::<false>(work, line, from, w, 0, 2, NONE);
+    let then = row_steps::<true>(work, line, from, w, 2, end, first);
+    row_steps::<false>(work, line, from, w, end, (w + 1) / 2 + 2, then);
 }
 
 // The first w values of each of h rows, row r starting at r * stride, inverted in place.
@@ -301,117 +313,10 @@ pub fn rows(work: &mut [i64], line: &mut [i64], stride: usize, w: usize, h: usiz
     if w < 2 {
         return;
     }
+    // r numbers a row: rows lie stride apart
     for r in 0..h {
         row(work, line, r * stride, w);
-        slices::copy_run_wide(line, ROW_START, work, r * stride, w);
-    }
-}
-
-// ---- a strip: neighbouring columns, inverted step by step side by side
-
-// A strip of so many lines and columns; the lows have lowbits bits, the highs highbits. What is held of its columns, `room` at most, stands
-// in `state`: four values of each column, and after those the low of each that comes next.
-#[derive(Clone, Copy)]
-struct ColumnStrip {
-    lines: usize,
-    columns: usize,
-    room: usize,
-    lowbits: u32,
-    highbits: u32,
-}
-
-// What is held of column j.
-fn held(state: &[i64], j: usize) -> Pipeline
-    requires { 4 * j + 3 < length state.now }
-    ensures { result ≡ pipeline_in (at state.now) j }
-{
-    Pipeline {
-        g2: state[4 * j],
-        u2: state[4 * j + 1],
-        p2: state[4 * j + 2],
-        u1: state[4 * j + 3],
-        even: 0,
-        odd: 0,
-    }
-}
-
-// A step is held of column j.
-fn keep(state: &mut [i64], j: usize, t: Pipeline)
-    requires { 4 * j + 3 < length state.old }
-    ensures { Kept j t (at state.old) (at state.new) }
-{
-    let g2 = t.g2;
-    state[4 * j] = g2;
-    let u2 = t.u2;
-    state[4 * j + 1] = u2;
-    let p2 = t.p2;
-    state[4 * j + 2] = p2;
-    let u1 = t.u1;
-    state[4 * j + 3] = u1;
-}
-
-// Step i of column j of a strip, whose high stands at a place of the plane: its two values go to places to + j and to + gap + j.
-fn column_step(
-    plane: &[i32],
-    high: usize,
-    state: &mut [i64],
-    out: &mut [i64],
-    to: usize,
-    gap: usize,
-    b: ColumnStrip,
-    i: usize,
-    inner: bool,
-    j: usize,
-)
-    requires { ColumnStep plane.now high state.old (length out.old) to gap b i inner j }
-    ensures { ColumnStepped plane.now high state.old state.new out.old out.new to gap b i j }
-{
-    let room = b.room;
-    let n = b.lines;
-    let lowbits = b.lowbits;
-    let highbits = b.highbits;
-    let t = stepped(
-        held(state, j),
-        scaled(
-            state[4 * room + j],
-            ZETA_INVERSE,
-            CONSTANT_BITS - NODE_BITS + lowbits,
-        ),
-        scaled(
-            plane[high + j] as i64,
-            ZETA,
-            CONSTANT_BITS - NODE_BITS + highbits,
-        ),
-        i,
-        (n + 1) / 2,
-        n / 2,
-        inner,
-    );
-    keep(state, j, t);
-    let even = t.even;
-    out[to + j] = even;
-    let odd = t.odd;
-    out[to + gap + j] = odd;
-}
-
-// Step i of every column of a strip.
-fn steps(
-    plane: &[i32],
-    high: usize,
-    state: &mut [i64],
-    out: &mut [i64],
-    to: usize,
-    gap: usize,
-    b: ColumnStrip,
-    i: usize,
-    inner: bool,
-)
-    requires { StripStep plane.now high state.old (length out.old) to gap b i inner }
-    ensures { StripStepped plane.now high state.old state.new out.old out.new to gap b i }
-{
-    let n = b.columns;
-    for j in 0..n {
-        column_step(plane, high, state, out, to, gap, b, i, inner, j);
+        slices::copy_run(line, ROW_START, work, r * stride, w);
     }
 }
 
@@ -427,124 +332,186 @@ pub struct ColumnsAt {
     pub stored: bool,
 }
 
-// The n coefficients from place `from` on go to dst from place `to` on.
-fn load(plane: &[i32], from: usize, dst: &mut [i64], to: usize, n: usize)
-    requires { (from + n ≤ length plane.now) × (to + n ≤ length dst.old) }
-    ensures { at dst.new ≡ patch to n (λ j. at plane.now (from + j)) (at dst.old) }
+// So many columns of so many lines; the lows have lowbits bits, the highs highbits.
+#[derive(Clone, Copy)]
+pub struct ColumnsOf {
+    pub columns: usize,
+    pub lines: usize,
+    pub lowbits: u32,
+    pub highbits: u32,
+}
+
+// ---- a strip: neighbouring columns, inverted step by step side by side
+
+// Where the columns of a strip are, and how many.
+#[derive(Clone, Copy)]
+struct Strip {
+    place: ColumnsAt,
+    size: ColumnsOf,
+}
+
+// Step i of a column of which g2, u2, p2 and u1 are held, and whose low and high come next.
+fn column_step<const INNER: bool>(
+    held: [i64; 4],
+    low: i64,
+    high: i32,
+    b: ColumnsOf,
+    i: usize,
+) -> Pipeline
+    requires { ColumnStep held low high b i INNER }
+    ensures { ColumnStepped held low high b i result }
 {
-    for j in 0..n {
-        dst[to + j] = plane[from + j] as i64;
+    stepped::<INNER>(
+        Pipeline {
+            g2: held[0],
+            u2: held[1],
+            p2: held[2],
+            u1: held[3],
+            ..NONE
+        },
+        scaled(low, ZETA_INVERSE, CONSTANT_BITS - NODE_BITS + b.lowbits),
+        scaled(high as i64, ZETA, CONSTANT_BITS - NODE_BITS + b.highbits),
+        Place {
+            k: i,
+            lows: (b.lines + 1) / 2,
+            highs: b.lines / 2,
+        },
+    )
+}
+
+// Step i of every column of a strip: of each four values are held, its low and its high come next, and what it gives goes to a place of
+// `even` and one of `odd`.
+fn steps<const INNER: bool>(
+    high: &[i32],
+    low: &[i64],
+    held: &mut [[i64; 4]],
+    even: &mut [i64],
+    odd: &mut [i64],
+    b: ColumnsOf,
+    i: usize,
+)
+    requires { StripStep high.now low.now held.old (length even.old) (length odd.old) b i INNER }
+    ensures { StripStepped high.now low.now held.old held.new even.old even.new odd.old odd.new b i }
+{
+    // the index names a place of five slices: of what a zip of lent ones leaves nothing is known
+    for j in 0..b.columns {
+        let t = column_step::<INNER>(held[j], low[j], high[j], b, i);
+        held[j] = [t.g2, t.u2, t.p2, t.u1];
+        even[j] = t.even;
+        odd[j] = t.odd;
     }
 }
 
-// Low i of every column of a strip is held, if there is one.
-fn feed(plane: &[i32], work: &[i64], state: &mut [i64], a: ColumnsAt, b: ColumnStrip, i: usize)
-    requires { Lies (length plane.now) (length work.now) a b.columns b.lines × (b.columns ≤ b.room) × (5 * b.room ≤ length state.old) }
-    ensures { Fed plane.now work.now state.old state.new a b i }
+// The coefficients go to dst.
+fn load(values: &[i32], dst: &mut [i64])
+    requires { length dst.old ≡ length values.now }
+    ensures { (j : ℕ) → j < length values.now → at dst.new j ≡ at values.now j }
 {
-    let n = b.lines;
-    if (n + 1) / 2 <= i {
+    // of what a zip of a lent slice leaves nothing is known
+    for (j, x) in dst.iter_mut().enumerate() {
+        *x = values[j] as i64;
+    }
+}
+
+// Low i of every column of a strip comes next, if there is one.
+fn feed(plane: &[i32], work: &[i64], next: &mut [i64], s: Strip, i: usize)
+    requires { Lies (length plane.now) (length work.now) s.place s.size.columns s.size.lines × (length next.old ≡ s.size.columns) }
+    ensures { Fed plane.now work.now next.old next.new s.place s.size i }
+{
+    if (s.size.lines + 1) / 2 <= i {
         return;
     }
-    let room = b.room;
-    let columns = b.columns;
-    let from = a.from;
-    let width = a.width;
-    let stride = a.stride;
-    if a.stored {
-        load(plane, from + i * width, state, 4 * room, columns);
+    if s.place.stored {
+        let from = s.place.from + i * s.place.width;
+        load(&plane[from..from + s.size.columns], next);
         return;
     }
-    slices::copy_run_wide(work, from + 2 * i * stride, state, 4 * room, columns);
+    slices::copy_run(
+        work,
+        s.place.from + 2 * i * s.place.stride,
+        next,
+        0,
+        s.size.columns,
+    );
 }
 
 // Step i of a strip at the ends of its columns: what it gives goes to the work area by way of `line`, as far as there are such lines.
 fn outer_step(
-    plane: &[i32],
+    high: &[i32],
+    low: &[i64],
+    held: &mut [[i64; 4]],
     work: &mut [i64],
-    state: &mut [i64],
     line: &mut [i64],
-    high: usize,
-    a: ColumnsAt,
-    b: ColumnStrip,
+    s: Strip,
     i: usize,
 )
-    requires { PlaneStep plane.now work.old state.old (length line.old) a b i × (high ≡ high_place a b i) }
-    ensures { PlaneStepped plane.now work.old work.new state.old state.new a b i }
+    requires { PlaneStep high.now low.now held.old (length work.old) (length line.old) s.place s.size i }
+    ensures { PlaneStepped high.now low.now held.old held.new work.old work.new s.place s.size i }
 {
-    let room = b.room;
-    steps(plane, high, state, line, 0, room, b, i, false);
+    let (even, odd) = line.split_at_mut(s.size.columns);
+    steps::<false>(high, low, held, even, odd, s.size, i);
     if i < 2 {
         return;
     }
-    let n = b.lines;
-    let columns = b.columns;
-    let from = a.from;
-    let stride = a.stride;
-    let to = from + 2 * (i - 2) * stride;
-    slices::copy_run_wide(line, 0, work, to, columns);
-    if i - 2 < n / 2 {
-        slices::copy_run_wide(line, room, work, to + stride, columns);
+    let to = s.place.from + 2 * (i - 2) * s.place.stride;
+    slices::copy_run(even, 0, work, to, s.size.columns);
+    if i - 2 < s.size.lines / 2 {
+        slices::copy_run(odd, 0, work, to + s.place.stride, s.size.columns);
     }
+}
+
+// Step i of a strip away from the ends of its columns: what it gives goes to two lines `stride` apart.
+fn middle_step(
+    high: &[i32],
+    low: &[i64],
+    held: &mut [[i64; 4]],
+    lines: &mut [i64],
+    stride: usize,
+    b: ColumnsOf,
+    i: usize,
+)
+    requires { StripStep high.now low.now held.old stride (length lines.old - stride) b i true × (stride ≤ length lines.old) }
+    ensures { StripStepped high.now low.now held.old held.new (take stride lines.old) (take stride lines.new) (drop stride lines.old) (drop stride lines.new) b i }
+{
+    let (even, odd) = lines.split_at_mut(stride);
+    steps::<true>(high, low, held, even, odd, b, i);
 }
 
 // Step i of a strip: it leaves lines 2 (i - 2) and 2 (i - 2) + 1 in the work area, as far as there are such lines.
 fn strip_step(
     plane: &[i32],
+    low: &[i64],
+    held: &mut [[i64; 4]],
     work: &mut [i64],
-    state: &mut [i64],
     line: &mut [i64],
-    a: ColumnsAt,
-    b: ColumnStrip,
+    s: Strip,
     i: usize,
 )
-    requires { PlaneStep plane.now work.old state.old (length line.old) a b i }
-    ensures { PlaneStepped plane.now work.old work.new state.old state.new a b i }
+    requires { PlaneStep (drop (high_place s.place s.size i) plane.now) low.now held.old (length work.old) (length line.old) s.place s.size i × (high_place s.place s.size i + s.size.columns ≤ length plane.now) }
+    ensures { PlaneStepped (drop (high_place s.place s.size i) plane.now) low.now held.old held.new work.old work.new s.place s.size i }
 {
-    let n = b.lines;
-    let from = a.from;
-    let width = a.width;
-    let stride = a.stride;
-    let high = n / 2;
-    let top = from + ((n + 1) / 2 + numbers::smaller(i, high - 1)) * width;
-    if i < 2 {
-        outer_step(plane, work, state, line, top, a, b, i);
+    let highs = s.size.lines / 2;
+    let high = &plane[s.place.from + ((s.size.lines + 1) / 2 + i.min(highs - 1)) * s.place.width..];
+    if i < 2 || highs <= i {
+        outer_step(high, low, held, work, line, s, i);
         return;
     }
-    if high <= i {
-        outer_step(plane, work, state, line, top, a, b, i);
-        return;
-    }
-    steps(
-        plane,
-        top,
-        state,
-        work,
-        from + 2 * (i - 2) * stride,
-        stride,
-        b,
-        i,
-        true,
-    );
+    let lines = &mut work[s.place.from + 2 * (i - 2) * s.place.stride..];
+    middle_step(high, low, held, lines, s.place.stride, s.size, i);
 }
 
-// A strip, inverted.
-fn inverse_strip(
-    plane: &[i32],
-    work: &mut [i64],
-    state: &mut [i64],
-    line: &mut [i64],
-    a: ColumnsAt,
-    b: ColumnStrip,
-)
-    requires { StripReady plane.now work.old (length state.old) (length line.old) a b }
-    ensures { at work.new ≡ inverted a b.lowbits b.highbits b.columns b.lines (at plane.now) (at work.old) }
+// A strip, inverted. Of each column four values are held in `state`, and after those the low of each that comes next.
+fn inverse_strip(plane: &[i32], work: &mut [i64], state: &mut [i64], line: &mut [i64], s: Strip)
+    requires { StripReady plane.now work.old (length line.old) s.place s.size × (5 * s.size.columns ≤ length state.old) }
+    ensures { at work.new ≡ inverted s.place s.size.lowbits s.size.highbits s.size.columns s.size.lines (at plane.now) (at work.old) }
 {
-    let n = b.lines;
-    let low = (n + 1) / 2;
-    for i in 0..low + 2 {
-        feed(plane, work, state, a, b, i);
-        strip_step(plane, work, state, line, a, b, i);
+    let (held, next) = state.split_at_mut(4 * s.size.columns);
+    let (held, _) = held.as_chunks_mut::<4>();
+    let low = &mut next[..s.size.columns];
+    // i numbers a step: two come after the last low
+    for i in 0..(s.size.lines + 1) / 2 + 2 {
+        feed(plane, work, low, s, i);
+        strip_step(plane, low, held, work, line, s, i);
     }
 }
 
@@ -553,11 +520,11 @@ fn single_low(plane: &[i32], work: &[i64], a: ColumnsAt, j: usize) -> i64
     requires { (a.from + j < length plane.now) × (a.from + j < length work.now) }
     ensures { result ≡ source a 1 (at plane.now) (at work.now) j 0 }
 {
-    let from = a.from;
     if a.stored {
-        return plane[from + j] as i64;
+        plane[a.from + j] as i64
+    } else {
+        work[a.from + j]
     }
-    work[from + j]
 }
 
 // w columns of a single line: each low, of lowbits bits, goes to the work area at the bits of a node; nothing is cut.
@@ -566,60 +533,52 @@ fn single_line(plane: &[i32], work: &mut [i64], a: ColumnsAt, w: usize, lowbits:
     requires by_index { (j : ℕ) → j < w → nat_abs (source a 1 (at plane.now) (at work.old) j 0) ≤ limit }
     ensures { at work.new ≡ singles a lowbits w (at plane.now) (at work.old) }
 {
-    let from = a.from;
+    // the index names a column of the plane and one of the work area
     for j in 0..w {
-        work[from + j] = scaled(single_low(plane, work, a, j), ONE, lowbits);
+        work[a.from + j] = scaled(single_low(plane, work, a, j), ONE, lowbits);
     }
 }
 
-// w columns of h lines, inverted strip by strip: a fifth as many columns at once as `state` has elements; a single line by itself. The lows
-// have lowbits bits, the highs highbits.
+// The columns, inverted strip by strip: a fifth as many at once as `state` has elements; a single line by itself.
 pub fn columns(
     plane: &[i32],
     work: &mut [i64],
     state: &mut [i64],
     line: &mut [i64],
     a: ColumnsAt,
-    w: usize,
-    h: usize,
-    lowbits: u32,
-    highbits: u32,
+    b: ColumnsOf,
 )
-    requires lies { Lies (length plane.now) (length work.old) a w h × (5 ≤ length state.old) × (2 * length state.old ≤ 5 * length line.old) × (lowbits ≤ node_bits) × (highbits ≤ node_bits) }
-    requires by_index { (j : ℕ) → j < w → Safe lowbits highbits h (source a h (at plane.now) (at work.old) j) }
-    ensures work { at work.new ≡ inverted a lowbits highbits w h (at plane.now) (at work.old) }
+    requires lies { Lies (length plane.now) (length work.old) a b.columns b.lines × (5 ≤ length state.old) × (2 * length state.old ≤ 5 * length line.old) × (b.lowbits ≤ node_bits) × (b.highbits ≤ node_bits) }
+    requires by_index { (j : ℕ) → j < b.columns → Safe b.lowbits b.highbits b.lines (source a b.lines (at plane.now) (at work.old) j) }
+    ensures work { at work.new ≡ inverted a b.lowbits b.highbits b.columns b.lines (at plane.now) (at work.old) }
     ensures state { Free state.old state.new }
     ensures line { Free line.old line.new }
 {
-    if h == 0 {
+    if b.lines == 0 {
         return;
     }
-    if h == 1 {
-        single_line(plane, work, a, w, lowbits);
+    if b.lines == 1 {
+        single_line(plane, work, a, b.columns, b.lowbits);
         return;
     }
     let room = state.len() / 5;
-    let width = a.width;
-    let stride = a.stride;
-    let from = a.from;
-    let stored = a.stored;
     let mut done = 0;
-    while done < w {
-        let s = numbers::smaller(room, w - done);
-        let at = ColumnsAt {
-            width: width,
-            stride: stride,
-            from: from + done,
-            stored: stored,
-        };
-        let b = ColumnStrip {
-            lines: h,
-            columns: s,
-            room: room,
-            lowbits: lowbits,
-            highbits: highbits,
-        };
-        inverse_strip(plane, work, state, line, at, b);
+    // no plainer as a `step_by`: the strip's width needs the place all the same
+    while done < b.columns {
+        let s = room.min(b.columns - done);
+        inverse_strip(
+            plane,
+            work,
+            state,
+            line,
+            Strip {
+                place: ColumnsAt {
+                    from: a.from + done,
+                    ..a
+                },
+                size: ColumnsOf { columns: s, ..b },
+            },
+        );
         done += s;
     }
 }

@@ -16,33 +16,41 @@ ghost use Rattle.slices.specs.Parts.{columns_by};
 ghost use Rattle.slices.specs.Pixels.{loaded};
 
 use lifting::{Factor, Kernel, Pair, Step};
-use refusals::Outcome;
+use refusals::Refusal;
+use slices::Part;
 use width_table::WidthTable;
 
-// The rows of a level: the first w values of h rows of a plane whose rows are `stride` long.
-fn work_rows(
-    table: WidthTable,
-    level: u8,
-    plane: &mut [i32],
-    buffer: &mut [i32],
+// w columns and h rows at the front of a plane whose rows are `stride` long: a part from column 0 on, as the laws of specs/Memory have it.
+#[derive(Clone, Copy)]
+struct Front {
     stride: usize,
     w: usize,
     h: usize,
-)
-    requires { RowsReady table level plane.old buffer.old stride w h }
-    ensures { at plane.new ≡ rowed table level stride w h (at plane.old) }
+}
+
+// The rows of a level.
+fn work_rows(table: WidthTable, level: u8, plane: &mut [i32], buffer: &mut [i32], front: Front)
+    requires { RowsReady table level plane.old buffer.old front.stride front.w front.h }
+    ensures { at plane.new ≡ rowed table level front.stride front.w front.h (at plane.old) }
 {
-    if w < 2 {
-        let single = fixed_stages::single_of(table, level, WidthTable::ROWS);
-        lifting::scale_part(plane, stride, 0, w, h, single);
+    let part = Part {
+        stride: front.stride,
+        from: 0,
+        w: front.w,
+        h: front.h,
+    };
+    if front.w < 2 {
+        lifting::scale_part(
+            plane,
+            part,
+            fixed_stages::single_of(table, level, WidthTable::ROWS),
+        );
         return;
     }
     lifting::rows(
         plane,
         buffer,
-        stride,
-        w,
-        h,
+        part,
         fixed_stages::kernel_of(table, level, WidthTable::ROWS),
     );
 }
@@ -54,83 +62,51 @@ fn columns_by(
     pass: u8,
     plane: &mut [i32],
     buffer: &mut [i32],
-    stride: usize,
-    from: usize,
-    w: usize,
-    h: usize,
+    part: Part,
 )
-    requires { ColumnsReady table level (pass_of pass) plane.old buffer.old stride from w h × IsPass pass }
-    ensures { at plane.new ≡ columns_by (fixed_line table level (pass_of pass)) stride from w h (at plane.old) }
+    requires { ColumnsReady table level (pass_of pass) plane.old buffer.old part.stride part.from part.w part.h × IsPass pass }
+    ensures { at plane.new ≡ columns_by (fixed_line table level (pass_of pass)) part.stride part.from part.w part.h (at plane.old) }
 {
-    if h < 2 {
-        let single = fixed_stages::single_of(table, level, pass);
-        lifting::scale_part(plane, stride, from, w, h, single);
+    if part.h < 2 {
+        lifting::scale_part(plane, part, fixed_stages::single_of(table, level, pass));
         return;
     }
     lifting::columns(
         plane,
         buffer,
-        stride,
-        from,
-        w,
-        h,
+        part,
         fixed_stages::kernel_of(table, level, pass),
     );
 }
 
-// The columns of a level of the w columns and h rows at the front of a plane whose rows are `stride` long.
-fn work_columns(
-    table: WidthTable,
-    level: u8,
-    plane: &mut [i32],
-    buffer: &mut [i32],
-    stride: usize,
-    w: usize,
-    h: usize,
-)
-    requires { BothReady table level plane.old buffer.old stride w h }
-    ensures { at plane.new ≡ columned table level stride w h (at plane.old) }
+// The columns of a level.
+fn work_columns(table: WidthTable, level: u8, plane: &mut [i32], buffer: &mut [i32], front: Front)
+    requires { BothReady table level plane.old buffer.old front.stride front.w front.h }
+    ensures { at plane.new ≡ columned table level front.stride front.w front.h (at plane.old) }
 {
-    let low = (w + 1) / 2;
-    columns_by(
-        table,
-        level,
-        WidthTable::LOW_COLUMNS,
-        plane,
-        buffer,
-        stride,
-        0,
-        low,
-        h,
-    );
-    columns_by(
-        table,
-        level,
-        WidthTable::HIGH_COLUMNS,
-        plane,
-        buffer,
-        stride,
-        low,
-        w / 2,
-        h,
-    );
+    let low = Part {
+        stride: front.stride,
+        from: 0,
+        w: (front.w + 1) / 2,
+        h: front.h,
+    };
+    columns_by(table, level, WidthTable::LOW_COLUMNS, plane, buffer, low);
+    let high = Part {
+        stride: front.stride,
+        from: low.w,
+        w: front.w / 2,
+        h: front.h,
+    };
+    columns_by(table, level, WidthTable::HIGH_COLUMNS, plane, buffer, high);
 }
 
 // One level: its rows, then its columns.
-fn work_level(
-    table: WidthTable,
-    level: u8,
-    plane: &mut [i32],
-    buffer: &mut [i32],
-    stride: usize,
-    w: usize,
-    h: usize,
-)
-    requires { LevelReady table level plane.old buffer.old stride w h }
-    ensures { at plane.new ≡ level_worked table level stride w h (at plane.old) }
+fn work_level(table: WidthTable, level: u8, plane: &mut [i32], buffer: &mut [i32], front: Front)
+    requires { LevelReady table level plane.old buffer.old front.stride front.w front.h }
+    ensures { at plane.new ≡ level_worked table level front.stride front.w front.h (at plane.old) }
 {
-    work_rows(table, level, plane, buffer, stride, w, h);
-    work_columns(table, level, plane, buffer, stride, w, h);
+    work_rows(table, level, plane, buffer, front);
+    work_columns(table, level, plane, buffer, front);
 }
 
 // The rows of the first level, from the pixels.
@@ -148,7 +124,8 @@ fn pixel_rows(
     let middle = pictures::middle(table.depth);
     if w < 2 {
         lifting::put_pixels(pixels, middle, plane, w * h);
-        work_rows(table, 1, plane, buffer, w, w, h);
+        let front = Front { stride: w, w, h };
+        work_rows(table, 1, plane, buffer, front);
         return;
     }
     let kernel = fixed_stages::kernel_of(table, 1, WidthTable::ROWS);
@@ -168,7 +145,8 @@ fn first_level(
     ensures { at plane.new ≡ level_worked table 1 w w h (loaded pixels.now (2 ^ (table.depth - 1)) w h (at plane.old)) }
 {
     pixel_rows(table, pixels, plane, buffer, w, h);
-    work_columns(table, 1, plane, buffer, w, w, h);
+    let front = Front { stride: w, w, h };
+    work_columns(table, 1, plane, buffer, front);
 }
 
 // The plane of a picture.
@@ -183,12 +161,17 @@ fn transform(
     requires { Ready table pixels.now plane.old buffer.old w h }
     ensures { plane.new ≡ over (row_by_row w h (fixed_plane table pixels.now w h)) plane.old }
 {
-    let levels = table.levels;
     first_level(table, pixels, plane, buffer, w, h);
     let mut across = (w + 1) / 2;
     let mut down = (h + 1) / 2;
-    for k in 1..levels {
-        work_level(table, k + 1, plane, buffer, w, across, down);
+    // k numbers the level, and the sides that it has go with it
+    for k in 1..table.levels {
+        let front = Front {
+            stride: w,
+            w: across,
+            h: down,
+        };
+        work_level(table, k + 1, plane, buffer, front);
         across = (across + 1) / 2;
         down = (down + 1) / 2;
     }
@@ -202,18 +185,12 @@ fn answer(
     h: usize,
     second: usize,
     third: usize,
-) -> Outcome
+) -> Result<(), Refusal>
     ensures { told result ≡ fixed_answer_of table w h pixels.now second third }
 {
-    match precision::judge(table) {
-        Outcome::Refused(why) => Outcome::Refused(why),
-        Outcome::Done => {
-            match pictures::room_right(w, h, pixels.len(), second, third) {
-                Outcome::Refused(why) => Outcome::Refused(why),
-                Outcome::Done => pictures::pixels_right(table.depth, w, h, pixels),
-            }
-        }
-    }
+    precision::judge(table)?;
+    pictures::room_right(w, h, pixels.len(), second, third)?;
+    pictures::pixels_right(table.depth, w, h, pixels)
 }
 
 // The 9/7 transform of a picture. Success leaves the coefficients in the plane, row by row, and zeros in the work area;
@@ -225,18 +202,14 @@ pub fn forward(
     h: usize,
     plane: &mut [i32],
     work: &mut [i32],
-) -> Outcome
+) -> Result<(), Refusal>
     ensures answer { told result ≡ fixed_answer table w h pixels.now plane.old work.old }
     ensures plane { plane.new ≡ fixed_plane_after table w h pixels.now plane.old work.old }
     ensures work { work.new ≡ fixed_work table w h pixels.now plane.old work.old }
 {
-    match answer(table, pixels, w, h, plane.len(), work.len()) {
-        Outcome::Refused(why) => Outcome::Refused(why),
-        Outcome::Done => {
-            let n = w * h;
-            transform(table, pixels, plane, &mut work[..n], w, h);
-            slices::clear(work, n);
-            Outcome::Done
-        }
-    }
+    answer(table, pixels, w, h, plane.len(), work.len())?;
+    let n = w * h;
+    transform(table, pixels, plane, &mut work[..n], w, h);
+    slices::clear(work, n);
+    Ok(())
 }

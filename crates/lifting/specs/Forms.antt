@@ -1,5 +1,5 @@
 -- The steps and the scaling that are run in biased forms, by their numbers.
-use Rattle.std.specs.Prelude.{Bool, true, false}
+use Rattle.std.specs.Prelude.{Bool}
 use Rattle.lifting.specs.declared.Step.{Step}
 use Rattle.lifting.specs.declared.Step.TheVariants.{Separate, Combined, BiasedCut}
 use Rattle.lifting.specs.declared.Factor.{Factor}
@@ -15,11 +15,6 @@ separate_step down f = Separate down f.by f.c f.base f.cut
 -- `by` is k: the own value is cut with the product
 abbrev pub combined_step : Bool → BiasedForm → Step
 combined_step down f = Combined down f.by f.c f.offset f.base f.cut
-
--- one or the other
-abbrev pub biased_step : Bool → Bool → BiasedForm → Step
-biased_step true = separate_step
-biased_step false = combined_step
 
 -- the product is cut first
 abbrev pub cut_step : Bool → CutForm → Step

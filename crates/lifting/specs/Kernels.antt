@@ -3,10 +3,12 @@ use Rattle.std.specs.Prelude.{◌≡◌, refl, Bool, true, false, T, ℕ, ◌+�
 use Rattle.std.proofs.Common.{sym}
 use Rattle.std.proofs.Math.Path.{fun_ext}
 use Rattle.lines.specs.Lines.{lows, highs, on_highs, on_lows, lows_first, interleaved}
-use Rattle.slices.specs.Parts.{rows_by, columns_by}
+use Rattle.slices.specs.PatchLines.{line_at, patch_lines}
+use Rattle.slices.specs.Parts.{row_of, columns_by}
 use Rattle.lifting.specs.declared.Step.{Step}
 use Rattle.lifting.specs.declared.Factor.{Factor}
 use Rattle.lifting.specs.declared.Pair.{Pair}
+use Rattle.lifting.specs.declared.TwoPairs.{TwoPairs}
 use Rattle.lifting.specs.declared.Kernel.{Kernel}
 use Rattle.lifting.specs.declared.Kernel.TheVariants.{One, Two, Inverse}
 use Rattle.lifting.specs.Steps.{applied, Safe, SameStep, scaled_by, FactorSafe, SameFactor}
@@ -40,13 +42,13 @@ module _ (pair : Pair) (n : ℕ) (y : ℕ → ℤ) where
 -- what a kernel makes of a line of n values
 unfoldable pub worked : Kernel → ℕ → (ℕ → ℤ) → ℕ → ℤ
 worked (One pair) n x = lows_first n (lifted_lows pair n (evens x) (odds x)) (lifted_highs pair n (evens x) (odds x))
-worked (Two first second low high) n x = lows_first n (λ i. scaled_by low (second_lows first second n x i)) (λ i. scaled_by high (second_highs first second n x i))
+worked (Two by) n x = lows_first n (λ i. scaled_by by.low (second_lows by.first by.second n x i)) (λ i. scaled_by by.high (second_highs by.first by.second n x i))
 worked (Inverse pair) n x = interleaved (lows_inverted pair n x) (highs_inverted pair n x)
 
 -- a kernel that is worked forward
 abbrev pub forwards : Kernel → Bool
 forwards (One pair) = true
-forwards (Two first second low high) = true
+forwards (Two by) = true
 forwards (Inverse pair) = false
 
 abbrev pub Forward : Kernel → Type 0
@@ -54,11 +56,11 @@ Forward k = T (forwards k)
 
 -- ---- every number on the way fits
 
-pub record SafeTwo (first second : Pair) (low high : Factor) (n : ℕ) (x : ℕ → ℤ) : Type 0 where
-  pub at_first : SafePair first n (evens x) (odds x)
-  pub at_second : SafePair second n (first_lows first second n x) (first_highs first second n x)
-  pub at_lows : (i : ℕ) → i < lows n → FactorSafe low (second_lows first second n x i)
-  pub at_highs : (i : ℕ) → i < highs n → FactorSafe high (second_highs first second n x i)
+pub record SafeTwo (by : TwoPairs) (n : ℕ) (x : ℕ → ℤ) : Type 0 where
+  pub at_first : SafePair by.first n (evens x) (odds x)
+  pub at_second : SafePair by.second n (first_lows by.first by.second n x) (first_highs by.first by.second n x)
+  pub at_lows : (i : ℕ) → i < lows n → FactorSafe by.low (second_lows by.first by.second n x i)
+  pub at_highs : (i : ℕ) → i < highs n → FactorSafe by.high (second_highs by.first by.second n x i)
 
 pub record SafeInverse (pair : Pair) (n : ℕ) (y : ℕ → ℤ) : Type 0 where
   pub on_lows_lem : (i : ℕ) → i < lows n → on_lows (Safe pair.lows) n y (λ i. y (lows n + i)) i
@@ -66,7 +68,7 @@ pub record SafeInverse (pair : Pair) (n : ℕ) (y : ℕ → ℤ) : Type 0 where
 
 abbrev pub SafeKernel : Kernel → ℕ → (ℕ → ℤ) → Type 0
 SafeKernel (One pair) n x = SafePair pair n (evens x) (odds x)
-SafeKernel (Two first second low high) n x = SafeTwo first second low high n x
+SafeKernel (Two by) n x = SafeTwo by n x
 SafeKernel (Inverse pair) n x = SafeInverse pair n x
 
 -- r does what k does, wherever k may be used
@@ -100,30 +102,30 @@ module _ {p r : Pair} (e : SamePair p r) (n : ℕ) {l l' h h' : ℕ → ℤ} (el
     on_lows_lem = λ i q. e.on_lows_lem.safe _ _ _ (as_type (λ u. on_lows (Safe p.lows) n (sym el u) (sym same_highs u) i) (safe.on_lows_lem i q));
   }
 
-pub same_two : {p q r t : Pair} {g1 g2 f1 f2 : Factor} → SamePair p r → SamePair q t → SameFactor g1 f1 → SameFactor g2 f2 → SameKernel (Two p q g1 g2) (Two r t f1 f2)
+pub same_two : {p r : TwoPairs} → SamePair p.first r.first → SamePair p.second r.second → SameFactor p.low r.low → SameFactor p.high r.high → SameKernel (Two p) (Two r)
 unfolding worked
-same_two {p} {q} {r} {t} {g1} {g2} {f1} {f2} ep eq eg fg = record {
+same_two {p} {r} ep eq eg fg = record {
   same = fun_ext λ n. fun_ext λ x. λ u. lows_first n (λ i. same_scaled eg u (l2 n x u i)) (λ i. same_scaled fg u (h2 n x u i));
   way = λ h. tt;
   safe = λ n x s. record {
     at_first = same_safe ep n refl refl s.at_first;
     at_second = same_safe eq n (same_lows ep n refl refl) (same_highs ep n refl refl) s.at_second;
-    at_lows = λ i h. as_type (λ u. FactorSafe f1 (sym (l2 n x) u i)) (eg.safe _ (s.at_lows i h));
-    at_highs = λ i h. as_type (λ u. FactorSafe f2 (sym (h2 n x) u i)) (fg.safe _ (s.at_highs i h));
+    at_lows = λ i h. as_type (λ u. FactorSafe r.low (sym (l2 n x) u i)) (eg.safe _ (s.at_lows i h));
+    at_highs = λ i h. as_type (λ u. FactorSafe r.high (sym (h2 n x) u i)) (fg.safe _ (s.at_highs i h));
   };
 }
   where
-    h2 : (n : ℕ) (x : ℕ → ℤ) → second_highs r t n x ≡ second_highs p q n x
+    h2 : (n : ℕ) (x : ℕ → ℤ) → second_highs r.first r.second n x ≡ second_highs p.first p.second n x
     h2 n x = same_highs eq n (same_lows ep n refl refl) (same_highs ep n refl refl)
 
-    l2 : (n : ℕ) (x : ℕ → ℤ) → second_lows r t n x ≡ second_lows p q n x
+    l2 : (n : ℕ) (x : ℕ → ℤ) → second_lows r.first r.second n x ≡ second_lows p.first p.second n x
     l2 n x = same_lows eq n (same_lows ep n refl refl) (same_highs ep n refl refl)
 
 -- ---- rows and columns of a plane in memory
 
--- the first w values of h rows, each row by a kernel; w columns of h rows, from column `from` on, each column by a kernel
-abbrev pub rows_worked : Kernel → ℕ → ℕ → ℕ → (ℕ → ℤ) → ℕ → ℤ
-rows_worked k = rows_by (worked k)
+-- w columns of h rows, from column `from` on: each row by a kernel, and each column by a kernel
+abbrev pub rows_worked : Kernel → ℕ → ℕ → ℕ → ℕ → (ℕ → ℤ) → ℕ → ℤ
+rows_worked k stride from w h x = patch_lines (line_at from stride) w h (λ r. worked k w (row_of stride from x r)) x
 
 abbrev pub columns_worked : Kernel → ℕ → ℕ → ℕ → ℕ → (ℕ → ℤ) → ℕ → ℤ
 columns_worked k = columns_by (worked k)

@@ -2,6 +2,7 @@
 --   Steps      one lifting step on unlimited integers, and what keeps the machine's step inside its types
 --   Forms      the steps and the scaling in biased forms, by their numbers
 --   SafeRuns   the same at each place of a run
+--   Made       what a function makes of the places of a run
 --   Passes, Kernels   a pass over a line, over rows and over columns of a plane
 --   Buffers    a step at each high or low of the columns of a line buffer; a line buffer filled with lines; a row
 -- Proved of them:
@@ -14,6 +15,7 @@
 pub mod Steps
 pub mod Forms
 pub mod SafeRuns
+pub mod Made
 pub mod Passes
 pub mod Buffers
 pub mod Kernels

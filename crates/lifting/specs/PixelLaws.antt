@@ -29,10 +29,10 @@ unfolding worked
 worked_same (One pair) n works x y e =
     let new = lifted_same pair n works (evens_equal n e) (odds_equal n e) in
     first_equal n new.0 new.1
-worked_same (Two first second low high) n works x y e =
-    let mid = lifted_same first n works (evens_equal n e) (odds_equal n e) in
-    let new = lifted_same second n works mid.0 mid.1 in
-    first_equal n (λ i p. ap (scaled_by low) (new.0 i p)) (λ i p. ap (scaled_by high) (new.1 i p))
+worked_same (Two by) n works x y e =
+    let mid = lifted_same by.first n works (evens_equal n e) (odds_equal n e) in
+    let new = lifted_same by.second n works mid.0 mid.1 in
+    first_equal n (λ i p. ap (scaled_by by.low) (new.0 i p)) (λ i p. ap (scaled_by by.high) (new.1 i p))
 worked_same (Inverse pair) n works x y e =
     let h = highs_equal n e in
     let l = on_lows_equal n (lows_equal n e) h (applied pair.lows) (some_highs_lem n works) in
@@ -67,7 +67,7 @@ module _ (k : Kernel) (pixels : List ℕ) (middle w h : ℕ) (x : ℕ → ℤ) (
   sample_at_lem i c a b = sym (ap (loaded pixels middle w h x) (let e : line_at 0 w i + c ≡ 0 + (i * w + c) = omega arith in e) ∙ patch_in 0 (w * h) _ x (i * w + c) (place_in w h some i c a b))
 
   -- the rows that the pixels give are those of the plane that holds them
-  pub pixel_rows_worked : Liftable w → patch_lines (line_at 0 w) w h (λ r. worked k w (pixel_line pixels middle (r * w))) x ≡ rows_worked k w w h (loaded pixels middle w h x)
+  pub pixel_rows_worked : Liftable w → patch_lines (line_at 0 w) w h (λ r. worked k w (pixel_line pixels middle (r * w))) x ≡ rows_worked k w 0 w h (loaded pixels middle w h x)
   pixel_rows_worked works = lines_is (line_at 0 w) w _ (loaded pixels middle w h x) rows_apart h _
       (λ i j a b. lines_in (line_at 0 w) w _ x rows_apart h i j a b ∙ worked_same k w works _ _ (λ c d. sample_at_lem i c a d) j b)
       (λ p off. lines_out (line_at 0 w) w _ x h p off ∙ sym (patch_above 0 (w * h) _ x p (omega (arith, past p off))))

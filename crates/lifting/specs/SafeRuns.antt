@@ -1,13 +1,13 @@
 -- A step at each place of a run, where every number on the way fits.
-use Rattle.std.specs.Prelude.{◌≡◌, List, ℕ, ◌+◌, ◌<◌, ◌^◌, ℤ, set}
+use Rattle.std.specs.Prelude.{ℕ, ℤ, ◌≡◌, List, ◌+◌, ◌<◌, ◌^◌, set}
+use Rattle.slices.specs.Runs.{SafeBy, Runs}
+use Rattle.lifting.specs.declared.Step.{Step}
+use Rattle.lifting.specs.Steps.{Safe, applied}
 use Rattle.std.specs.Int.Signed.{mag}
 use Rattle.std.specs.Int.{w32}
 use mir.Val.{hbits}
 use Rattle.slices.specs.Patch.{at}
-use Rattle.slices.specs.Runs.{Runs, SafeBy}
 use Rattle.slices.specs.SignedRuns.{back, Running, turn_safe, turn_done}
-use Rattle.lifting.specs.declared.Step.{Step}
-use Rattle.lifting.specs.Steps.{applied, Safe}
 
 abbrev pub SafeRun : Step → ℕ → ℕ → ℕ → ℕ → (ℕ → ℤ) → Type 0
 SafeRun s = SafeBy (Safe s)

@@ -1,5 +1,5 @@
 -- One lifting step on unlimited integers, and what keeps the machine's step from overflowing.
-use Rattle.std.specs.Prelude.{◌≡◌, ℕ, ◌+◌, ◌*◌, ◌<◌, ◌≤◌, ◌^◌, Bool, true, false, T, ℤ, pos, neg_ℤ, ◌+ℤ◌, ◌-ℤ◌, ◌*ℤ◌}
+use Rattle.std.specs.Prelude.{◌≡◌, ℕ, ◌+◌, ◌*◌, ◌<◌, ◌≤◌, ◌^◌, Bool, true, false, ℤ, pos, neg_ℤ, ◌+ℤ◌, ◌-ℤ◌, ◌*ℤ◌}
 use Rattle.std.specs.Int.Signed.{shr_z}
 use Rattle.std.specs.Int.{w32, w64}
 use Rattle.std.proofs.Common.{SFits}
@@ -65,21 +65,6 @@ ended (Separate down rise c base cut) own x = scaled_end (cut + rise) (signed do
 ended (Combined down k c offset base cut) own x = scaled_end k (signed down c) cut own x
 ended (Cut k c first up cut) own x = cut_first_end k c first up cut own x
 ended (BiasedCut down k c offset first up base cut) own x = cut_first_end k (signed down c) first up cut own x
-
--- a step that is not in a biased form
-abbrev pub plain : Step → Bool
-plain Predict = true
-plain Update = true
-plain InversePredict = true
-plain InverseUpdate = true
-plain (Scaled k c cut) = true
-plain (Separate down rise c base cut) = false
-plain (Combined down k c offset base cut) = false
-plain (Cut k c first up cut) = true
-plain (BiasedCut down k c offset first up base cut) = false
-
-abbrev pub PlainStep : Step → Type 0
-PlainStep s = T (plain s)
 
 -- ---- every number on the way fits
 

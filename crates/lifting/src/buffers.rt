@@ -54,10 +54,8 @@ pub fn lift(buffer: &mut [i32], s: usize, n: usize, pair: Pair)
     requires lift_safe { LiftSafe pair s n (at buffer.old) }
     ensures { at buffer.new ≡ lifted_buffer pair s n (at buffer.old) }
 {
-    let highs = pair.highs;
-    let lows = pair.lows;
-    on_highs(buffer, s, n, highs);
-    on_lows(buffer, s, n, lows);
+    on_highs(buffer, s, n, pair.highs);
+    on_lows(buffer, s, n, pair.lows);
 }
 
 // A pair inverted: the lows, then the highs.
@@ -66,15 +64,13 @@ pub fn inverse_lift(buffer: &mut [i32], s: usize, n: usize, pair: Pair)
     requires inverse_lift_safe { InverseLiftSafe pair s n (at buffer.old) }
     ensures { at buffer.new ≡ inverse_lifted_buffer pair s n (at buffer.old) }
 {
-    let highs = pair.highs;
-    let lows = pair.lows;
-    on_lows(buffer, s, n, lows);
-    on_highs(buffer, s, n, highs);
+    on_lows(buffer, s, n, pair.lows);
+    on_highs(buffer, s, n, pair.highs);
 }
 
 // ---- lines in and out
 
-// n lines of m values: line i of src starts at from + i * step, line i of dst at to + i * leap. Lines without a gap are one run.
+// (Two sides with steps of their own, and so eight numbers.) n lines of m values: line i of src starts at from + i * step, line i of dst at to + i * leap. Lines without a gap are one run.
 pub fn copy_lines(
     src: &[i32],
     from: usize,
@@ -88,12 +84,11 @@ pub fn copy_lines(
     requires { Lying src.now from step n m × Lying dst.old to leap n m }
     ensures { at dst.new ≡ patch_lines (line_at to leap) m n (λ i j. at src.now (line_at from step i + j)) (at dst.old) }
 {
-    if step == m {
-        if leap == m {
-            slices::copy_run(src, from, dst, to, n * m);
-            return;
-        }
+    if step == m && leap == m {
+        slices::copy_run(src, from, dst, to, n * m);
+        return;
     }
+    // i numbers a line on both sides, whose lines lie apart by other steps
     for i in 0..n {
         slices::copy_run(src, from + i * step, dst, to + i * leap, m);
     }
@@ -118,23 +113,25 @@ pub fn scale_lines(
         scale_run(src, from, dst, to, n * m, g);
         return;
     }
+    // i numbers a line on both sides, whose lines lie apart by other steps
     for i in 0..n {
         scale_run(src, from + i * m, dst, to + i * leap, m, g);
     }
 }
 
-// The w values of each of h lines, line r from place from + r * stride on, scaled in place. Lines without a gap are one run.
-pub fn scale_part(plane: &mut [i32], stride: usize, from: usize, w: usize, h: usize, g: Factor)
-    requires part { Part plane.old stride from w h }
-    requires by_index { (r j : ℕ) → r < h → j < w → FactorSafe g (at plane.old (line_at from stride r + j)) }
-    ensures { at plane.new ≡ patch_lines (line_at from stride) w h (λ r j. scaled_by g (at plane.old (line_at from stride r + j))) (at plane.old) }
+// The values of a part, scaled in place. Lines without a gap are one run.
+pub fn scale_part(plane: &mut [i32], part: slices::Part, g: Factor)
+    requires part { Part plane.old part.stride part.from part.w part.h }
+    requires by_index { (r j : ℕ) → r < part.h → j < part.w → FactorSafe g (at plane.old (line_at part.from part.stride r + j)) }
+    ensures { at plane.new ≡ patch_lines (line_at part.from part.stride) part.w part.h (λ r j. scaled_by g (at plane.old (line_at part.from part.stride r + j))) (at plane.old) }
 {
-    if stride == w {
-        scale_here(plane, from, h * w, g);
+    if part.stride == part.w {
+        scale_here(plane, part.from, part.h * part.w, g);
         return;
     }
-    for r in 0..h {
-        scale_here(plane, from + r * stride, w, g);
+    // r numbers a row: rows lie part.stride apart
+    for r in 0..part.h {
+        scale_here(plane, part.from + r * part.stride, part.w, g);
     }
 }
 
@@ -148,60 +145,90 @@ fn copy_pair(src: &[i32], a: usize, b: usize, dst: &mut [i32], c: usize, d: usiz
 }
 
 // The strip's lines go to the line buffer, the even ones first.
-fn split_lines(plane: &[i32], buffer: &mut [i32], stride: usize, from: usize, s: usize, n: usize)
-    requires { StripRoom plane.now buffer.old stride from s n }
-    ensures { BufferHolds s n (λ j. evens (column_of stride from (at plane.now) j)) (λ j. odds (column_of stride from (at plane.now) j)) (at buffer.new) }
+fn split_lines(plane: &[i32], buffer: &mut [i32], part: slices::Part)
+    requires { StripRoom plane.now buffer.old part.stride part.from part.w part.h }
+    ensures { BufferHolds part.w part.h (λ j. evens (column_of part.stride part.from (at plane.now) j)) (λ j. odds (column_of part.stride part.from (at plane.now) j)) (at buffer.new) }
 {
-    let low = (n + 1) / 2;
-    let high = n / 2;
-    let top = low * s;
+    let low = (part.h + 1) / 2;
+    let high = part.h / 2;
+    let top = low * part.w;
+    // i numbers two lines of the plane and one of either half of the buffer
     for i in 0..high {
-        let a = from + 2 * i * stride;
-        let c = i * s;
-        copy_pair(plane, a, a + stride, buffer, c, top + c, s);
+        let a = part.from + 2 * i * part.stride;
+        let c = i * part.w;
+        copy_pair(plane, a, a + part.stride, buffer, c, top + c, part.w);
     }
     if high < low {
-        slices::copy_run(plane, from + 2 * high * stride, buffer, high * s, s);
+        slices::copy_run(
+            plane,
+            part.from + 2 * high * part.stride,
+            buffer,
+            high * part.w,
+            part.w,
+        );
     }
 }
 
 // The line buffer's lines go to the strip's, those of the lows to the even ones.
-fn merge_lines(buffer: &[i32], plane: &mut [i32], stride: usize, from: usize, s: usize, n: usize)
-    requires { StripRoom plane.old buffer.now stride from s n }
-    ensures { at plane.new ≡ patch_lines (line_at from stride) s n (λ i j. interleaved (column s (at buffer.now) j) (high_column s n (at buffer.now) j) i) (at plane.old) }
+fn merge_lines(buffer: &[i32], plane: &mut [i32], part: slices::Part)
+    requires { StripRoom plane.old buffer.now part.stride part.from part.w part.h }
+    ensures { at plane.new ≡ patch_lines (line_at part.from part.stride) part.w part.h (λ i j. interleaved (column part.w (at buffer.now) j) (high_column part.w part.h (at buffer.now) j) i) (at plane.old) }
 {
-    let low = (n + 1) / 2;
-    let high = n / 2;
-    let top = low * s;
+    let low = (part.h + 1) / 2;
+    let high = part.h / 2;
+    let top = low * part.w;
+    // i numbers two lines of the plane and one of either half of the buffer
     for i in 0..high {
-        let a = from + 2 * i * stride;
-        let c = i * s;
-        copy_pair(buffer, c, top + c, plane, a, a + stride, s);
+        let a = part.from + 2 * i * part.stride;
+        let c = i * part.w;
+        copy_pair(buffer, c, top + c, plane, a, a + part.stride, part.w);
     }
     if high < low {
-        slices::copy_run(buffer, high * s, plane, from + 2 * high * stride, s);
+        slices::copy_run(
+            buffer,
+            high * part.w,
+            plane,
+            part.from + 2 * high * part.stride,
+            part.w,
+        );
     }
 }
 
 // The same two, with a loop of its own for a row.
-pub fn split(plane: &[i32], buffer: &mut [i32], stride: usize, from: usize, s: usize, n: usize)
-    requires { StripRoom plane.now buffer.old stride from s n }
-    ensures { BufferHolds s n (λ j. evens (column_of stride from (at plane.now) j)) (λ j. odds (column_of stride from (at plane.now) j)) (at buffer.new) }
+pub fn split(plane: &[i32], buffer: &mut [i32], part: slices::Part)
+    requires { StripRoom plane.now buffer.old part.stride part.from part.w part.h }
+    ensures { BufferHolds part.w part.h (λ j. evens (column_of part.stride part.from (at plane.now) j)) (λ j. odds (column_of part.stride part.from (at plane.now) j)) (at buffer.new) }
 {
-    if stride == 1 {
-        split_lines(plane, buffer, 1, from, 1, n);
+    if part.stride == 1 {
+        split_lines(
+            plane,
+            buffer,
+            slices::Part {
+                stride: 1,
+                w: 1,
+                ..part
+            },
+        );
     } else {
-        split_lines(plane, buffer, stride, from, s, n);
+        split_lines(plane, buffer, part);
     }
 }
 
-pub fn merge(buffer: &[i32], plane: &mut [i32], stride: usize, from: usize, s: usize, n: usize)
-    requires { StripRoom plane.old buffer.now stride from s n }
-    ensures { at plane.new ≡ patch_lines (line_at from stride) s n (λ i j. interleaved (column s (at buffer.now) j) (high_column s n (at buffer.now) j) i) (at plane.old) }
+pub fn merge(buffer: &[i32], plane: &mut [i32], part: slices::Part)
+    requires { StripRoom plane.old buffer.now part.stride part.from part.w part.h }
+    ensures { at plane.new ≡ patch_lines (line_at part.from part.stride) part.w part.h (λ i j. interleaved (column part.w (at buffer.now) j) (high_column part.w part.h (at buffer.now) j) i) (at plane.old) }
 {
-    if stride == 1 {
-        merge_lines(buffer, plane, 1, from, 1, n);
+    if part.stride == 1 {
+        merge_lines(
+            buffer,
+            plane,
+            slices::Part {
+                stride: 1,
+                w: 1,
+                ..part
+            },
+        );
     } else {
-        merge_lines(buffer, plane, stride, from, s, n);
+        merge_lines(buffer, plane, part);
     }
 }

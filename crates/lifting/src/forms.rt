@@ -5,14 +5,11 @@ ghost use Rattle.lifting.specs.Kernels.{SamePair};
 
 use crate::{Factor, Pair, Step};
 
-// The size of a number, where it is below 2 ^ 31.
+// The size of a number, where it is below 2 ^ 31. A number past it, and no Option: each form tests it with its other limits.
 fn size(z: i64) -> u32
     ensures { result < 2147483648 → result ≡ nat_abs z }
 {
-    if z < -2147483647 {
-        return 2147483648;
-    }
-    if 2147483647 < z {
+    if z < -2147483647 || 2147483647 < z {
         return 2147483648;
     }
     if z < 0 { (0 - z) as u32 } else { z as u32 }
@@ -62,27 +59,13 @@ fn quick(k: u32, c: i64, cut: u32) -> Step
     ensures { SameStep (Step.Scaled k c cut) result }
 {
     let f = size(c);
-    if 2147483647 < f {
+    if 2147483647 < f || cut == 0 || 61 < cut {
         return Step::Scaled { k, c, cut };
     }
-    if cut == 0 {
-        return Step::Scaled { k, c, cut };
+    if k <= 30 && k < cut {
+        return combined(c < 0, k, f, cut);
     }
-    if 61 < cut {
-        return Step::Scaled { k, c, cut };
-    }
-    if k <= 30 {
-        if k < cut {
-            return combined(c < 0, k, f, cut);
-        }
-    }
-    if k < cut {
-        return Step::Scaled { k, c, cut };
-    }
-    if 31 < cut {
-        return Step::Scaled { k, c, cut };
-    }
-    if 31 < k - cut {
+    if k < cut || 31 < cut || 31 < k - cut {
         return Step::Scaled { k, c, cut };
     }
     separate(c < 0, k - cut, f, cut)
@@ -112,16 +95,8 @@ fn quick_cut(k: u32, c: i64, first: u32, up: u32, cut: u32) -> Step
     ensures { SameStep (Step.Cut k c first up cut) result }
 {
     let f = size(c);
-    if f < 268435456 {
-        if k <= 30 {
-            if up <= first {
-                if cut <= 31 {
-                    if first <= 58 - cut {
-                        return biased_cut(c < 0, k, f, first, up, cut);
-                    }
-                }
-            }
-        }
+    if f < 268435456 && k <= 30 && up <= first && cut <= 31 && first <= 58 - cut {
+        return biased_cut(c < 0, k, f, first, up, cut);
     }
     Step::Cut {
         k,
@@ -154,16 +129,7 @@ fn quick_factor(c: i64, cut: u32) -> Factor
     ensures { SameFactor (Factor.Plain c cut) result }
 {
     let f = size(c);
-    if 2147483647 < f {
-        return Factor::Plain { c, cut };
-    }
-    if c < 0 {
-        return Factor::Plain { c, cut };
-    }
-    if cut == 0 {
-        return Factor::Plain { c, cut };
-    }
-    if 61 < cut {
+    if 2147483647 < f || c < 0 || cut == 0 || 61 < cut {
         return Factor::Plain { c, cut };
     }
     let total = (f as u64) * 2147483648;
@@ -190,10 +156,8 @@ pub fn fastest_factor(g: Factor) -> Factor
 pub fn fastest_pair(pair: Pair) -> Pair
     ensures { SamePair pair result }
 {
-    let highs = pair.highs;
-    let lows = pair.lows;
     Pair {
-        highs: fastest(highs),
-        lows: fastest(lows),
+        highs: fastest(pair.highs),
+        lows: fastest(pair.lows),
     }
 }

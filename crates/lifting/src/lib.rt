@@ -83,7 +83,7 @@ pub enum Factor {
     },
 }
 
-// The numbers of a step in the form `Separate` or `Combined`, with no sign: `separate_step` and `combined_step` of specs/Forms.
+// The numbers of a step in the form `Separate` or `Combined`, with no sign (the variants stay as the laws of specs/Forms name them): `separate_step` and `combined_step` of specs/Forms.
 #[derive(Clone, Copy)]
 struct BiasedForm {
     by: u32,
@@ -121,13 +121,13 @@ pub struct Pair {
     pub lows: Step,
 }
 
-// What `Kernel::Two` holds.
+// Two pairs of lifting steps, and a scaling of the lows and one of the highs.
 #[derive(Clone, Copy)]
-struct TwoPairs {
-    first: Pair,
-    second: Pair,
-    low: Factor,
-    high: Factor,
+pub struct TwoPairs {
+    pub first: Pair,
+    pub second: Pair,
+    pub low: Factor,
+    pub high: Factor,
 }
 
 // What a pass does with a line: `worked` of specs/Kernels.
@@ -136,12 +136,7 @@ pub enum Kernel {
     // a pair (5/3)
     One(Pair),
     // two pairs and a scaling (9/7)
-    Two {
-        first: Pair,
-        second: Pair,
-        low: Factor,
-        high: Factor,
-    },
+    Two(TwoPairs),
     // a pair inverted
     Inverse(Pair),
 }

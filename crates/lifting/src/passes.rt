@@ -10,8 +10,8 @@ ghost use Rattle.slices.specs.Pixels.{pixel_line};
 
 use crate::buffers::lift;
 use crate::runs::scale_here;
-use crate::strips::{finish, strip, strip_forward, strip_inverse};
-use crate::{Factor, Kernel, Pair};
+use crate::strips::{finish, strip};
+use crate::{Kernel, TwoPairs};
 
 // A pixel less the middle of its range.
 pub fn centred(pixel: u16, middle: u16) -> i32
@@ -35,6 +35,7 @@ fn split_pixels(pixels: &[u16], from: usize, buffer: &mut [i32], n: usize, middl
 {
     let low = (n + 1) / 2;
     let high = n / 2;
+    // i numbers two pixels and a place of either half of the buffer
     for i in 0..high {
         let a = from + 2 * i;
         put_pixel(pixels, a, buffer, i, middle);
@@ -50,32 +51,24 @@ pub fn put_pixels(pixels: &[u16], middle: u16, plane: &mut [i32], n: usize)
     requires { (n ≤ length pixels.now) × (n ≤ length plane.old) }
     ensures { at plane.new ≡ patch 0 n (pixel_line pixels.now middle 0) (at plane.old) }
 {
-    for j in 0..n {
-        plane[j] = centred(pixels[j], middle);
+    // of what a zip of a lent part leaves a proof knows nothing
+    for (j, x) in plane[..n].iter_mut().enumerate() {
+        *x = centred(pixels[j], middle);
     }
 }
 
 // A line of w pixels, each less the middle of its range, split into a row and worked there by two pairs and a scaling.
-fn pixel_row(
-    pixels: &[u16],
-    middle: u16,
-    row: &mut [i32],
-    w: usize,
-    first: Pair,
-    second: Pair,
-    low: Factor,
-    high: Factor,
-)
+fn pixel_row(pixels: &[u16], middle: u16, row: &mut [i32], w: usize, by: TwoPairs)
     requires w_bound { (w < 2 ^ 31) × Liftable w × (w ≤ length pixels.now) × (w ≤ length row.old) }
-    requires safe_kernel { SafeKernel (Kernel.Two first second low high) w (pixel_line pixels.now middle 0) }
-    ensures { (i : ℕ) → i < w → at row.new i ≡ worked (Kernel.Two first second low high) w (pixel_line pixels.now middle 0) i }
+    requires safe_kernel { SafeKernel (Kernel.Two by) w (pixel_line pixels.now middle 0) }
+    ensures { (i : ℕ) → i < w → at row.new i ≡ worked (Kernel.Two by) w (pixel_line pixels.now middle 0) i }
 {
     split_pixels(pixels, 0, row, w, middle);
-    lift(row, 1, w, first);
-    lift(row, 1, w, second);
+    lift(row, 1, w, by.first);
+    lift(row, 1, w, by.second);
     let half = (w + 1) / 2;
-    scale_here(row, 0, half, low);
-    scale_here(row, half, w / 2, high);
+    scale_here(row, 0, half, by.low);
+    scale_here(row, half, w / 2, by.high);
 }
 
 // The same in a plane, from place `from` on.
@@ -85,17 +78,14 @@ pub fn pixel_line(
     plane: &mut [i32],
     from: usize,
     w: usize,
-    first: Pair,
-    second: Pair,
-    low: Factor,
-    high: Factor,
+    by: TwoPairs,
 )
     requires w_bound { (w < 2 ^ 31) × Liftable w × (w ≤ length pixels.now) × (from + w ≤ length plane.old) }
-    requires safe_kernel { SafeKernel (Kernel.Two first second low high) w (pixel_line pixels.now middle 0) }
-    ensures { at plane.new ≡ patch from w (worked (Kernel.Two first second low high) w (pixel_line pixels.now middle 0)) (at plane.old) }
+    requires safe_kernel { SafeKernel (Kernel.Two by) w (pixel_line pixels.now middle 0) }
+    ensures { at plane.new ≡ patch from w (worked (Kernel.Two by) w (pixel_line pixels.now middle 0)) (at plane.old) }
 {
     let row = &mut plane[from..from + w];
-    pixel_row(pixels, middle, row, w, first, second, low, high);
+    pixel_row(pixels, middle, row, w, by);
 }
 
 // h rows of w pixels, each less the middle of its range, worked on their way into a plane as wide.
@@ -113,93 +103,60 @@ pub fn pixel_rows(
     ensures plane { at plane.new ≡ patch_lines (line_at 0 w) w h (λ r. worked kernel w (pixel_line pixels.now middle (r * w))) (at plane.old) }
     ensures buffer { Free buffer.old buffer.new }
 {
+    // r numbers a row of the pixels and one of the plane
     for r in 0..h {
         let from = r * w;
         split_pixels(pixels, from, buffer, w, middle);
-        finish(plane, buffer, 1, from, 1, w, kernel);
+        let row = slices::Part {
+            stride: 1,
+            from,
+            w: 1,
+            h: w,
+        };
+        finish(plane, buffer, row, kernel);
     }
 }
 
-// The first w values of each of h rows, row r starting at r * stride, a pair inverted in place through the line buffer.
-fn inverse_rows(
-    plane: &mut [i32],
-    buffer: &mut [i32],
-    stride: usize,
-    w: usize,
-    h: usize,
-    pair: Pair,
-)
-    requires part { Part plane.old stride 0 w h × Liftable w × (w ≤ length buffer.old) }
-    requires by_index { (r : ℕ) → r < h → SafeKernel (Kernel.Inverse pair) w (row_of stride 0 (at plane.old) r) }
-    ensures { at plane.new ≡ rows_worked (Kernel.Inverse pair) stride w h (at plane.old) }
-{
-    for r in 0..h {
-        strip_inverse(plane, buffer, 1, r * stride, 1, w, pair);
-    }
-}
-
-// The same by a kernel that is worked forward.
-fn forward_rows(
-    plane: &mut [i32],
-    buffer: &mut [i32],
-    stride: usize,
-    w: usize,
-    h: usize,
-    kernel: Kernel,
-)
-    requires part { Part plane.old stride 0 w h × Liftable w × (w ≤ length buffer.old) × Forward kernel }
-    requires by_index { (r : ℕ) → r < h → SafeKernel kernel w (row_of stride 0 (at plane.old) r) }
-    ensures { at plane.new ≡ rows_worked kernel stride w h (at plane.old) }
-{
-    for r in 0..h {
-        strip_forward(plane, buffer, 1, r * stride, 1, w, kernel);
-    }
-}
-
-// The first w values of each of h rows, row r starting at r * stride, worked in place through the line buffer. Which way is told once.
-pub fn rows(
-    plane: &mut [i32],
-    buffer: &mut [i32],
-    stride: usize,
-    w: usize,
-    h: usize,
-    kernel: Kernel,
-)
-    requires part { Part plane.old stride 0 w h × Liftable w × (w ≤ length buffer.old) }
-    requires by_index { (r : ℕ) → r < h → SafeKernel kernel w (row_of stride 0 (at plane.old) r) }
-    ensures plane { at plane.new ≡ rows_worked kernel stride w h (at plane.old) }
+// The part's rows, worked in place through the line buffer.
+pub fn rows(plane: &mut [i32], buffer: &mut [i32], part: slices::Part, kernel: Kernel)
+    requires part { Part plane.old part.stride part.from part.w part.h × Liftable part.w × (part.w ≤ length buffer.old) }
+    requires by_index { (r : ℕ) → r < part.h → SafeKernel kernel part.w (row_of part.stride part.from (at plane.old) r) }
+    ensures plane { at plane.new ≡ rows_worked kernel part.stride part.from part.w part.h (at plane.old) }
     ensures buffer { Free buffer.old buffer.new }
 {
-    match kernel {
-        Kernel::Inverse(pair) => inverse_rows(plane, buffer, stride, w, h, pair),
-        Kernel::One(_) => forward_rows(plane, buffer, stride, w, h, kernel),
-        Kernel::Two { .. } => forward_rows(plane, buffer, stride, w, h, kernel),
+    // r numbers a row: rows lie part.stride apart
+    for r in 0..part.h {
+        let row = slices::Part {
+            stride: 1,
+            from: part.from + r * part.stride,
+            w: 1,
+            h: part.w,
+        };
+        strip(plane, buffer, row, kernel);
     }
 }
 
 // As many columns as a strip has at most.
 const STRIP: usize = 64;
 
-// w columns of h rows, from column `from` on, worked in place through the line buffer, strip by strip.
-pub fn columns(
-    plane: &mut [i32],
-    buffer: &mut [i32],
-    stride: usize,
-    from: usize,
-    w: usize,
-    h: usize,
-    kernel: Kernel,
-)
-    requires part { Part plane.old stride from w h × Liftable h × (h ≤ length buffer.old) }
-    requires by_index { (j : ℕ) → j < w → SafeKernel kernel h (column_of stride from (at plane.old) j) }
-    ensures plane { at plane.new ≡ columns_worked kernel stride from w h (at plane.old) }
+// The part's columns, worked in place through the line buffer, strip by strip.
+pub fn columns(plane: &mut [i32], buffer: &mut [i32], part: slices::Part, kernel: Kernel)
+    requires part { Part plane.old part.stride part.from part.w part.h × Liftable part.h × (part.h ≤ length buffer.old) }
+    requires by_index { (j : ℕ) → j < part.w → SafeKernel kernel part.h (column_of part.stride part.from (at plane.old) j) }
+    ensures plane { at plane.new ≡ columns_worked kernel part.stride part.from part.w part.h (at plane.old) }
     ensures buffer { Free buffer.old buffer.new }
 {
-    let most = numbers::smaller(STRIP, buffer.len() / h);
+    let most = STRIP.min(buffer.len() / part.h);
     let mut done = 0;
-    while done < w {
-        let s = numbers::smaller(most, w - done);
-        strip(plane, buffer, stride, from + done, s, h, kernel);
+    // no plainer as a `step_by`: the strip's width needs the place all the same
+    while done < part.w {
+        let s = most.min(part.w - done);
+        let next = slices::Part {
+            from: part.from + done,
+            w: s,
+            ..part
+        };
+        strip(plane, buffer, next, kernel);
         done += s;
     }
 }

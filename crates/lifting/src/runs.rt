@@ -1,48 +1,32 @@
 // A lifting step, or a scaling, at each place of a run.
 ghost use Rattle.std.specs.Prelude.{◌≡◌, ℕ, ◌+◌, ◌<◌, ◌≤◌, length};
-ghost use Rattle.lifting.specs.Steps.{applied, PlainStep, scaled_by, FactorSafe};
-ghost use Rattle.lifting.specs.Forms.{separate_step, combined_step, biased_step, cut_step, biased_factor};
+ghost use Rattle.lifting.specs.Steps.{applied, scaled_by, FactorSafe};
+ghost use Rattle.lifting.specs.Forms.{separate_step, combined_step, cut_step};
 ghost use Rattle.slices.specs.Patch.{at, patch};
-ghost use Rattle.slices.specs.Runs.{ran, Runs};
+ghost use Rattle.slices.specs.Runs.{ran, Runs, SafeBy};
 ghost use Rattle.lifting.specs.SafeRuns.{SafeRun};
+ghost use Rattle.lifting.specs.Made.{Made};
 
-use crate::steps::{apply, apply_end, biased_by, biased_cut_of, biased_of, scaled_by};
+use crate::steps::{
+    apply_end, biased_by, biased_cut_of, combined_of, cut_of, inverse_predicted, inverse_updated,
+    predicted, scaled_by, scaled_of, separate_of, updated,
+};
 use crate::{BiasedForm, CutForm, Factor, FactorForm, Step};
 
-// A step at each of n places from t on, each with the places as far from a and from b.
-fn run(buf: &mut [i32], t: usize, a: usize, b: usize, n: usize, step: Step)
-    requires plain_step { PlainStep step × Runs buf.old t a b n }
-    requires safe_run { SafeRun step t a b n (at buf.old) }
-    ensures { at buf.new ≡ ran (applied step) t a b n (at buf.old) }
-{
-    for j in 0..n {
-        let v = apply(step, buf[t + j], buf[a + j], buf[b + j]);
-        buf[t + j] = v;
-    }
-}
-
-// A run of a biased step. Each call with a constant in place of a flag is compiled to a loop of its own.
-fn biased_run(
-    buf: &mut [i32],
-    t: usize,
-    a: usize,
-    b: usize,
-    n: usize,
-    separate: bool,
-    down: bool,
-    form: BiasedForm,
-)
+// What f makes of each of n places from t on and of the places as far from a and from b. Each call compiles a loop of its own.
+fn run<F: Fn(i32, i32, i32) -> i32>(buf: &mut [i32], t: usize, a: usize, b: usize, n: usize, f: F)
     requires runs { Runs buf.old t a b n }
-    requires safe_run { SafeRun (biased_step separate down form) t a b n (at buf.old) }
-    ensures { at buf.new ≡ ran (applied (biased_step separate down form)) t a b n (at buf.old) }
+    requires callable { SafeBy (F.pre f) t a b n (at buf.old) }
+    ensures { Made (λ j. F.post f (at buf.old (t + j)) (at buf.old (a + j)) (at buf.old (b + j))) t n buf.old buf.new }
 {
+    // an index, since the three places lie in one buffer
     for j in 0..n {
-        let v = biased_of(separate, down, form, buf[t + j], buf[a + j], buf[b + j]);
+        let v = f(buf[t + j], buf[a + j], buf[b + j]);
         buf[t + j] = v;
     }
 }
 
-// A run of the step `Separate`.
+// A run of the step `Separate`. The sign is data; with a constant sign each closure is a loop of its own.
 fn separate_run(
     buf: &mut [i32],
     t: usize,
@@ -57,22 +41,43 @@ fn separate_run(
     ensures { at buf.new ≡ ran (applied (separate_step down form)) t a b n (at buf.old) }
 {
     if form.by == 0 {
-        let level = BiasedForm {
-            by: 0,
-            c: form.c,
-            offset: 0,
-            base: form.base,
-            cut: form.cut,
-        };
         if down {
-            biased_run(buf, t, a, b, n, true, true, level);
+            run(
+                buf,
+                t,
+                a,
+                b,
+                n,
+                |own, x, y| separate_of(true, BiasedForm { by: 0, ..form }, own, x, y),
+            );
         } else {
-            biased_run(buf, t, a, b, n, true, false, level);
+            run(
+                buf,
+                t,
+                a,
+                b,
+                n,
+                |own, x, y| separate_of(false, BiasedForm { by: 0, ..form }, own, x, y),
+            );
         }
     } else if down {
-        biased_run(buf, t, a, b, n, true, true, form);
+        run(
+            buf,
+            t,
+            a,
+            b,
+            n,
+            |own, x, y| separate_of(true, form, own, x, y),
+        );
     } else {
-        biased_run(buf, t, a, b, n, true, false, form);
+        run(
+            buf,
+            t,
+            a,
+            b,
+            n,
+            |own, x, y| separate_of(false, form, own, x, y),
+        );
     }
 }
 
@@ -91,54 +96,28 @@ fn combined_run(
     ensures { at buf.new ≡ ran (applied (combined_step down form)) t a b n (at buf.old) }
 {
     if down {
-        biased_run(buf, t, a, b, n, false, true, form);
+        run(
+            buf,
+            t,
+            a,
+            b,
+            n,
+            |own, x, y| combined_of(true, form, own, x, y),
+        );
     } else {
-        biased_run(buf, t, a, b, n, false, false, form);
+        run(
+            buf,
+            t,
+            a,
+            b,
+            n,
+            |own, x, y| combined_of(false, form, own, x, y),
+        );
     }
 }
 
-// A run of the step `BiasedCut`.
-fn biased_cut_run(
-    buf: &mut [i32],
-    t: usize,
-    a: usize,
-    b: usize,
-    n: usize,
-    down: bool,
-    form: CutForm,
-)
-    requires runs { Runs buf.old t a b n }
-    requires safe_run { SafeRun (cut_step down form) t a b n (at buf.old) }
-    ensures { at buf.new ≡ ran (applied (cut_step down form)) t a b n (at buf.old) }
-{
-    for j in 0..n {
-        let v = biased_cut_of(down, form, buf[t + j], buf[a + j], buf[b + j]);
-        buf[t + j] = v;
-    }
-}
-
-// The same, with a loop of its own for either sign.
-fn signed_cut_run(
-    buf: &mut [i32],
-    t: usize,
-    a: usize,
-    b: usize,
-    n: usize,
-    down: bool,
-    form: CutForm,
-)
-    requires runs { Runs buf.old t a b n }
-    requires safe_run { SafeRun (cut_step down form) t a b n (at buf.old) }
-    ensures { at buf.new ≡ ran (applied (cut_step down form)) t a b n (at buf.old) }
-{
-    if down {
-        biased_cut_run(buf, t, a, b, n, true, form);
-    } else {
-        biased_cut_run(buf, t, a, b, n, false, form);
-    }
-}
-
-// The same, with a loop of its own where nothing is cut after the sum, and where the own value is not shifted either.
+// A run of the step `BiasedCut`, with a loop of its own for either sign, where nothing is cut after the sum, and where the own value is not
+// shifted either.
 fn cut_run(buf: &mut [i32], t: usize, a: usize, b: usize, n: usize, down: bool, form: CutForm)
     requires runs { Runs buf.old t a b n }
     requires safe_run { SafeRun (cut_step down form) t a b n (at buf.old) }
@@ -146,43 +125,82 @@ fn cut_run(buf: &mut [i32], t: usize, a: usize, b: usize, n: usize, down: bool, 
 {
     if form.cut == 0 {
         if form.k == 0 {
-            let whole = CutForm {
-                k: 0,
-                c: form.c,
-                offset: form.offset,
-                first: form.first,
-                up: form.up,
-                base: form.base,
-                cut: 0,
-            };
-            signed_cut_run(buf, t, a, b, n, down, whole);
+            if down {
+                run(
+                    buf,
+                    t,
+                    a,
+                    b,
+                    n,
+                    |own, x, y| biased_cut_of(
+                        true,
+                        CutForm {
+                            k: 0,
+                            cut: 0,
+                            ..form
+                        },
+                        own,
+                        x,
+                        y,
+                    ),
+                );
+            } else {
+                run(
+                    buf,
+                    t,
+                    a,
+                    b,
+                    n,
+                    |own, x, y| biased_cut_of(
+                        false,
+                        CutForm {
+                            k: 0,
+                            cut: 0,
+                            ..form
+                        },
+                        own,
+                        x,
+                        y,
+                    ),
+                );
+            }
+        } else if down {
+            run(
+                buf,
+                t,
+                a,
+                b,
+                n,
+                |own, x, y| biased_cut_of(true, CutForm { cut: 0, ..form }, own, x, y),
+            );
         } else {
-            let uncut = CutForm {
-                k: form.k,
-                c: form.c,
-                offset: form.offset,
-                first: form.first,
-                up: form.up,
-                base: form.base,
-                cut: 0,
-            };
-            signed_cut_run(buf, t, a, b, n, down, uncut);
+            run(
+                buf,
+                t,
+                a,
+                b,
+                n,
+                |own, x, y| biased_cut_of(false, CutForm { cut: 0, ..form }, own, x, y),
+            );
         }
+    } else if down {
+        run(
+            buf,
+            t,
+            a,
+            b,
+            n,
+            |own, x, y| biased_cut_of(true, form, own, x, y),
+        );
     } else {
-        signed_cut_run(buf, t, a, b, n, down, form);
-    }
-}
-
-// The step `Cut` by its numbers.
-fn cut_step(k: u32, c: i64, first: u32, up: u32, cut: u32) -> Step
-    ensures { result ≡ Step.Cut k c first up cut }
-{
-    Step::Cut {
-        k,
-        c,
-        first,
-        up,
-        cut,
+        run(
+            buf,
+            t,
+            a,
+            b,
+            n,
+            |own, x, y| biased_cut_of(false, form, own, x, y),
+        );
     }
 }
 
@@ -193,11 +211,18 @@ pub fn lift_run(buf: &mut [i32], t: usize, a: usize, b: usize, n: usize, step: S
     ensures { at buf.new ≡ ran (applied step) t a b n (at buf.old) }
 {
     match step {
-        Step::Predict => run(buf, t, a, b, n, Step::Predict),
-        Step::Update => run(buf, t, a, b, n, Step::Update),
-        Step::InversePredict => run(buf, t, a, b, n, Step::InversePredict),
-        Step::InverseUpdate => run(buf, t, a, b, n, Step::InverseUpdate),
-        Step::Scaled { k, c, cut } => run(buf, t, a, b, n, Step::Scaled { k, c, cut }),
+        Step::Predict => run(buf, t, a, b, n, predicted),
+        Step::Update => run(buf, t, a, b, n, updated),
+        Step::InversePredict => run(buf, t, a, b, n, inverse_predicted),
+        Step::InverseUpdate => run(buf, t, a, b, n, inverse_updated),
+        Step::Scaled { k, c, cut } => run(
+            buf,
+            t,
+            a,
+            b,
+            n,
+            |own, x, y| scaled_of(k, c, cut, own, x, y),
+        ),
         Step::Separate {
             down,
             rise,
@@ -247,7 +272,14 @@ pub fn lift_run(buf: &mut [i32], t: usize, a: usize, b: usize, n: usize, step: S
             first,
             up,
             cut,
-        } => run(buf, t, a, b, n, cut_step(k, c, first, up, cut)),
+        } => run(
+            buf,
+            t,
+            a,
+            b,
+            n,
+            |own, x, y| cut_of(k, c, first, up, cut, own, x, y),
+        ),
         Step::BiasedCut {
             down,
             k,
@@ -283,42 +315,20 @@ pub fn end_run(buf: &mut [i32], t: usize, a: usize, n: usize, step: Step)
     requires safe_run { SafeRun step t a a n (at buf.old) }
     ensures { at buf.new ≡ ran (applied step) t a a n (at buf.old) }
 {
-    for j in 0..n {
-        let v = apply_end(step, buf[t + j], buf[a + j]);
-        buf[t + j] = v;
-    }
+    run(buf, t, a, a, n, |own, x, _| apply_end(step, own, x));
 }
 
 // ---- values scaled
 
-// The n values of src from place `from` on, each scaled, go to dst from place `to` on.
-fn plain_scale_run(src: &[i32], from: usize, dst: &mut [i32], to: usize, n: usize, c: i64, cut: u32)
+// What f makes of the n values of src from place `from` on goes to dst from place `to` on.
+fn map_run<F: Fn(i32) -> i32>(src: &[i32], from: usize, dst: &mut [i32], to: usize, n: usize, f: F)
     requires n_in_bounds { (from + n ≤ length src.now) × (to + n ≤ length dst.old) }
-    requires by_index { (j : ℕ) → j < n → FactorSafe (Factor.Plain c cut) (at src.now (from + j)) }
-    ensures { at dst.new ≡ patch to n (λ j. scaled_by (Factor.Plain c cut) (at src.now (from + j))) (at dst.old) }
+    requires callable { (j : ℕ) → j < n → F.pre f (at src.now (from + j)) }
+    ensures { Made (λ j. F.post f (at src.now (from + j))) to n dst.old dst.new }
 {
-    for j in 0..n {
-        let v = scaled_by(c, cut, src[from + j]);
-        dst[to + j] = v;
-    }
-}
-
-// The same by biased values.
-fn biased_scale_run(
-    src: &[i32],
-    from: usize,
-    dst: &mut [i32],
-    to: usize,
-    n: usize,
-    form: FactorForm,
-)
-    requires n_in_bounds { (from + n ≤ length src.now) × (to + n ≤ length dst.old) }
-    requires by_index { (j : ℕ) → j < n → FactorSafe (biased_factor form) (at src.now (from + j)) }
-    ensures { at dst.new ≡ patch to n (λ j. scaled_by (biased_factor form) (at src.now (from + j))) (at dst.old) }
-{
-    for j in 0..n {
-        let v = biased_by(form, src[from + j]);
-        dst[to + j] = v;
+    // of what a zip of a lent part leaves a proof knows nothing
+    for (j, x) in dst[to..to + n].iter_mut().enumerate() {
+        *x = f(src[from + j]);
     }
 }
 
@@ -329,75 +339,58 @@ pub fn scale_run(src: &[i32], from: usize, dst: &mut [i32], to: usize, n: usize,
     ensures { at dst.new ≡ patch to n (λ j. scaled_by g (at src.now (from + j))) (at dst.old) }
 {
     match g {
-        Factor::Plain { c, cut } => plain_scale_run(src, from, dst, to, n, c, cut),
+        Factor::Plain { c, cut } => map_run(src, from, dst, to, n, |x| scaled_by(c, cut, x)),
         Factor::Biased {
             c,
             offset,
             base,
             cut,
-        } => biased_scale_run(
-            src,
-            from,
-            dst,
-            to,
-            n,
-            FactorForm {
+        } => {
+            let form = FactorForm {
                 c,
                 offset,
                 base,
                 cut,
-            },
-        ),
+            };
+            map_run(src, from, dst, to, n, |x| biased_by(form, x));
+        }
+    }
+}
+
+// What f makes of each of n values from place `from` on, where it stands.
+fn map_here<F: Fn(i32) -> i32>(buf: &mut [i32], from: usize, n: usize, f: F)
+    requires n_in_bounds { from + n ≤ length buf.old }
+    requires callable { (j : ℕ) → j < n → F.pre f (at buf.old (from + j)) }
+    ensures { Made (λ j. F.post f (at buf.old (from + j))) from n buf.old buf.new }
+{
+    // an index: through `iter_mut` what f asks at a value that is still as it was did not prove
+    for j in 0..n {
+        let v = f(buf[from + j]);
+        buf[from + j] = v;
     }
 }
 
 // n values from place `from` on, each scaled where it stands.
-fn plain_scale_here(buf: &mut [i32], from: usize, n: usize, c: i64, cut: u32)
-    requires n_in_bounds { from + n ≤ length buf.old }
-    requires by_index { (j : ℕ) → j < n → FactorSafe (Factor.Plain c cut) (at buf.old (from + j)) }
-    ensures { at buf.new ≡ patch from n (λ j. scaled_by (Factor.Plain c cut) (at buf.old (from + j))) (at buf.old) }
-{
-    for j in 0..n {
-        let v = scaled_by(c, cut, buf[from + j]);
-        buf[from + j] = v;
-    }
-}
-
-// The same by biased values.
-fn biased_scale_here(buf: &mut [i32], from: usize, n: usize, form: FactorForm)
-    requires n_in_bounds { from + n ≤ length buf.old }
-    requires by_index { (j : ℕ) → j < n → FactorSafe (biased_factor form) (at buf.old (from + j)) }
-    ensures { at buf.new ≡ patch from n (λ j. scaled_by (biased_factor form) (at buf.old (from + j))) (at buf.old) }
-{
-    for j in 0..n {
-        let v = biased_by(form, buf[from + j]);
-        buf[from + j] = v;
-    }
-}
-
-// The same by a scaling in either form, dispatched once.
 pub fn scale_here(buf: &mut [i32], from: usize, n: usize, g: Factor)
     requires n_in_bounds { from + n ≤ length buf.old }
     requires by_index { (j : ℕ) → j < n → FactorSafe g (at buf.old (from + j)) }
     ensures { at buf.new ≡ patch from n (λ j. scaled_by g (at buf.old (from + j))) (at buf.old) }
 {
     match g {
-        Factor::Plain { c, cut } => plain_scale_here(buf, from, n, c, cut),
+        Factor::Plain { c, cut } => map_here(buf, from, n, |x| scaled_by(c, cut, x)),
         Factor::Biased {
             c,
             offset,
             base,
             cut,
-        } => biased_scale_here(
-            buf,
-            from,
-            n,
-            FactorForm {
+        } => {
+            let form = FactorForm {
                 c,
                 offset,
                 base,
                 cut,
-            },
-        ),
+            };
+            map_here(buf, from, n, |x| biased_by(form, x));
+        }
     }
 }

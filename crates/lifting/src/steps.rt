@@ -3,8 +3,8 @@ ghost use Rattle.std.specs.Prelude.{◌≡◌, ◌+◌, ◌*◌, ◌/◌, ◌<�
 ghost use Rattle.std.specs.Int.Signed.{shr_z};
 ghost use Rattle.std.specs.Int.{w32, w64};
 ghost use Rattle.std.proofs.Common.{SFits};
-ghost use Rattle.lifting.specs.Steps.{applied, ended, PlainStep, Safe, SumSafe, signed_sum, signed, scaled_by, FactorSafe};
-ghost use Rattle.lifting.specs.Forms.{separate_step, combined_step, biased_step, cut_step, biased_factor};
+ghost use Rattle.lifting.specs.Steps.{applied, ended, Safe, SumSafe, signed_sum, signed, scaled_by, FactorSafe};
+ghost use Rattle.lifting.specs.Forms.{separate_step, combined_step, cut_step, biased_factor};
 ghost use Rattle.slices.specs.Biased.{biased};
 ghost use Rattle.lifting.specs.BiasedCut.{joined, JoinSafe};
 
@@ -27,7 +27,7 @@ pub fn updated(own: i32, x: i32, y: i32) -> i32
 }
 
 // What inverts `predicted`.
-fn inverse_predicted(own: i32, x: i32, y: i32) -> i32
+pub fn inverse_predicted(own: i32, x: i32, y: i32) -> i32
     requires { Safe Step.InversePredict own x y }
     ensures { result ≡ applied Step.InversePredict own x y }
 {
@@ -35,12 +35,14 @@ fn inverse_predicted(own: i32, x: i32, y: i32) -> i32
 }
 
 // What inverts `updated`.
-fn inverse_updated(own: i32, x: i32, y: i32) -> i32
+pub fn inverse_updated(own: i32, x: i32, y: i32) -> i32
     requires { Safe Step.InverseUpdate own x y }
     ensures { result ≡ applied Step.InverseUpdate own x y }
 {
     own - ((x + y + 2) >> 2)
 }
+
+// Each operator with a bound of its own is a function, so that its range is proved once.
 
 // A value as an i64.
 fn wide(x: i32) -> i64
@@ -75,7 +77,7 @@ fn narrowed(z: i64, cut: u32) -> i32
 }
 
 // The step `Scaled`, in i64.
-fn scaled_of(k: u32, c: i64, cut: u32, own: i32, x: i32, y: i32) -> i32
+pub fn scaled_of(k: u32, c: i64, cut: u32, own: i32, x: i32, y: i32) -> i32
     requires { Safe (Step.Scaled k c cut) own x y }
     ensures { result ≡ applied (Step.Scaled k c cut) own x y }
 {
@@ -103,7 +105,7 @@ fn join(k: u32, up: u32, cut: u32, own: i32, part: i64) -> i32
 }
 
 // The step `Cut`, in i64.
-fn cut_of(k: u32, c: i64, first: u32, up: u32, cut: u32, own: i32, x: i32, y: i32) -> i32
+pub fn cut_of(k: u32, c: i64, first: u32, up: u32, cut: u32, own: i32, x: i32, y: i32) -> i32
     requires { Safe (Step.Cut k c first up cut) own x y }
     ensures { result ≡ applied (Step.Cut k c first up cut) own x y }
 {
@@ -169,7 +171,7 @@ fn product(down: bool, c: u32, offset: u64, x: i32, y: i32) -> u64
 }
 
 // The step `Separate`: the own value is taken out of the cut.
-fn separate_of(down: bool, form: BiasedForm, own: i32, x: i32, y: i32) -> i32
+pub fn separate_of(down: bool, form: BiasedForm, own: i32, x: i32, y: i32) -> i32
     requires { Safe (separate_step down form) own x y }
     ensures { result ≡ applied (separate_step down form) own x y }
 {
@@ -178,7 +180,7 @@ fn separate_of(down: bool, form: BiasedForm, own: i32, x: i32, y: i32) -> i32
 }
 
 // The step `Combined`: the own value is cut with the product.
-fn combined_of(down: bool, form: BiasedForm, own: i32, x: i32, y: i32) -> i32
+pub fn combined_of(down: bool, form: BiasedForm, own: i32, x: i32, y: i32) -> i32
     requires { Safe (combined_step down form) own x y }
     ensures { result ≡ applied (combined_step down form) own x y }
 {
@@ -188,18 +190,6 @@ fn combined_of(down: bool, form: BiasedForm, own: i32, x: i32, y: i32) -> i32
         form.cut,
         form.base,
     ))
-}
-
-// Both.
-pub fn biased_of(separate: bool, down: bool, form: BiasedForm, own: i32, x: i32, y: i32) -> i32
-    requires { Safe (biased_step separate down form) own x y }
-    ensures { result ≡ applied (biased_step separate down form) own x y }
-{
-    if separate {
-        separate_of(down, form, own, x, y)
-    } else {
-        combined_of(down, form, own, x, y)
-    }
 }
 
 // A number shifted to the right, and no further back to the left.
@@ -225,28 +215,6 @@ pub fn biased_cut_of(down: bool, form: CutForm, own: i32, x: i32, y: i32) -> i32
         form.cut,
         form.base,
     ))
-}
-
-// One step of one value, not in a biased form.
-pub fn apply(step: Step, own: i32, x: i32, y: i32) -> i32
-    requires { PlainStep step × Safe step own x y }
-    ensures { result ≡ applied step own x y }
-{
-    match step {
-        Step::Predict => predicted(own, x, y),
-        Step::Update => updated(own, x, y),
-        Step::InversePredict => inverse_predicted(own, x, y),
-        Step::InverseUpdate => inverse_updated(own, x, y),
-        Step::Scaled { k, c, cut } => scaled_of(k, c, cut, own, x, y),
-        Step::Cut {
-            k,
-            c,
-            first,
-            up,
-            cut,
-        } => cut_of(k, c, first, up, cut, own, x, y),
-        _ => own,
-    }
 }
 
 // ---- one value at an end of its line, where both neighbours are one: the papers' reduced equations

@@ -1,4 +1,4 @@
-// A strip: s neighbouring columns of n lines, line i from place from + i * stride on; a row is one column with stride 1.
+// A strip: a part of a plane with a few neighbouring columns, worked as columns. A row is a strip of one column whose stride is 1.
 ghost use Rattle.std.specs.Prelude.{◌≡◌, ℕ, ◌<◌};
 ghost use Rattle.slices.specs.Patch.{at};
 ghost use Rattle.lifting.specs.Kernels.{Forward, SafeKernel, columns_worked};
@@ -7,152 +7,110 @@ ghost use Rattle.lifting.specs.Strips.{StripRoom, Ready, Finished};
 
 use crate::buffers::{copy_lines, inverse_lift, lift, merge, scale_lines, split};
 use crate::{Kernel, Pair, TwoPairs};
+use slices::Part;
 
 // A line buffer that holds lines, worked by a pair on their way into the plane.
-fn finish_one(
-    plane: &mut [i32],
-    buffer: &mut [i32],
-    stride: usize,
-    from: usize,
-    s: usize,
-    n: usize,
-    pair: Pair,
-)
-    requires strip_room { StripRoom plane.old buffer.old stride from s n }
-    requires ready { Ready (Kernel.One pair) s n (at buffer.old) }
-    ensures { Finished (Kernel.One pair) stride from s n (at buffer.old) (at plane.old) (at plane.new) }
+fn finish_one(plane: &mut [i32], buffer: &mut [i32], part: Part, pair: Pair)
+    requires strip_room { StripRoom plane.old buffer.old part.stride part.from part.w part.h }
+    requires ready { Ready (Kernel.One pair) part.w part.h (at buffer.old) }
+    ensures { Finished (Kernel.One pair) part.stride part.from part.w part.h (at buffer.old) (at plane.old) (at plane.new) }
 {
-    lift(buffer, s, n, pair);
-    copy_lines(buffer, 0, s, plane, from, stride, n, s);
+    lift(buffer, part.w, part.h, pair);
+    copy_lines(
+        buffer,
+        0,
+        part.w,
+        plane,
+        part.from,
+        part.stride,
+        part.h,
+        part.w,
+    );
 }
 
 // The same, by two pairs and a scaling.
-fn finish_two(
-    plane: &mut [i32],
-    buffer: &mut [i32],
-    stride: usize,
-    from: usize,
-    s: usize,
-    n: usize,
-    by: TwoPairs,
-)
-    requires strip_room { StripRoom plane.old buffer.old stride from s n }
-    requires ready { Ready (Kernel.Two by.first by.second by.low by.high) s n (at buffer.old) }
-    ensures { Finished (Kernel.Two by.first by.second by.low by.high) stride from s n (at buffer.old) (at plane.old) (at plane.new) }
+fn finish_two(plane: &mut [i32], buffer: &mut [i32], part: Part, by: TwoPairs)
+    requires strip_room { StripRoom plane.old buffer.old part.stride part.from part.w part.h }
+    requires ready { Ready (Kernel.Two by) part.w part.h (at buffer.old) }
+    ensures { Finished (Kernel.Two by) part.stride part.from part.w part.h (at buffer.old) (at plane.old) (at plane.new) }
 {
-    let first = by.first;
-    let second = by.second;
-    let low = by.low;
-    let high = by.high;
-    lift(buffer, s, n, first);
-    lift(buffer, s, n, second);
-    let half = (n + 1) / 2;
-    scale_lines(buffer, 0, plane, from, stride, half, s, low);
+    lift(buffer, part.w, part.h, by.first);
+    lift(buffer, part.w, part.h, by.second);
+    let half = (part.h + 1) / 2;
     scale_lines(
         buffer,
-        half * s,
+        0,
         plane,
-        from + half * stride,
-        stride,
-        n / 2,
-        s,
-        high,
+        part.from,
+        part.stride,
+        half,
+        part.w,
+        by.low,
+    );
+    scale_lines(
+        buffer,
+        half * part.w,
+        plane,
+        part.from + half * part.stride,
+        part.stride,
+        part.h / 2,
+        part.w,
+        by.high,
     );
 }
 
 // The same, by a kernel that is worked forward.
-pub fn finish(
-    plane: &mut [i32],
-    buffer: &mut [i32],
-    stride: usize,
-    from: usize,
-    s: usize,
-    n: usize,
-    kernel: Kernel,
-)
-    requires strip_room { StripRoom plane.old buffer.old stride from s n × Forward kernel }
-    requires ready { Ready kernel s n (at buffer.old) }
-    ensures { Finished kernel stride from s n (at buffer.old) (at plane.old) (at plane.new) }
+pub fn finish(plane: &mut [i32], buffer: &mut [i32], part: Part, kernel: Kernel)
+    requires strip_room { StripRoom plane.old buffer.old part.stride part.from part.w part.h × Forward kernel }
+    requires ready { Ready kernel part.w part.h (at buffer.old) }
+    ensures { Finished kernel part.stride part.from part.w part.h (at buffer.old) (at plane.old) (at plane.new) }
 {
     match kernel {
-        Kernel::One(pair) => finish_one(plane, buffer, stride, from, s, n, pair),
-        Kernel::Two {
-            first,
-            second,
-            low,
-            high,
-        } => finish_two(
-            plane,
-            buffer,
-            stride,
-            from,
-            s,
-            n,
-            TwoPairs {
-                first,
-                second,
-                low,
-                high,
-            },
-        ),
+        Kernel::One(pair) => finish_one(plane, buffer, part, pair),
+        Kernel::Two(by) => finish_two(plane, buffer, part, by),
         Kernel::Inverse(_) => {}
     }
 }
 
 // The strip, worked forward through the line buffer.
-pub fn strip_forward(
-    plane: &mut [i32],
-    buffer: &mut [i32],
-    stride: usize,
-    from: usize,
-    s: usize,
-    n: usize,
-    kernel: Kernel,
-)
-    requires strip_room { StripRoom plane.old buffer.old stride from s n × Forward kernel }
-    requires by_index { (j : ℕ) → j < s → SafeKernel kernel n (column_of stride from (at plane.old) j) }
-    ensures { at plane.new ≡ columns_worked kernel stride from s n (at plane.old) }
+pub fn strip_forward(plane: &mut [i32], buffer: &mut [i32], part: Part, kernel: Kernel)
+    requires strip_room { StripRoom plane.old buffer.old part.stride part.from part.w part.h × Forward kernel }
+    requires by_index { (j : ℕ) → j < part.w → SafeKernel kernel part.h (column_of part.stride part.from (at plane.old) j) }
+    ensures { at plane.new ≡ columns_worked kernel part.stride part.from part.w part.h (at plane.old) }
 {
-    split(plane, buffer, stride, from, s, n);
-    finish(plane, buffer, stride, from, s, n, kernel);
+    split(plane, buffer, part);
+    finish(plane, buffer, part, kernel);
 }
 
 // The strip, a pair inverted.
-pub fn strip_inverse(
-    plane: &mut [i32],
-    buffer: &mut [i32],
-    stride: usize,
-    from: usize,
-    s: usize,
-    n: usize,
-    pair: Pair,
-)
-    requires strip_room { StripRoom plane.old buffer.old stride from s n }
-    requires by_index { (j : ℕ) → j < s → SafeKernel (Kernel.Inverse pair) n (column_of stride from (at plane.old) j) }
-    ensures { at plane.new ≡ columns_worked (Kernel.Inverse pair) stride from s n (at plane.old) }
+pub fn strip_inverse(plane: &mut [i32], buffer: &mut [i32], part: Part, pair: Pair)
+    requires strip_room { StripRoom plane.old buffer.old part.stride part.from part.w part.h }
+    requires by_index { (j : ℕ) → j < part.w → SafeKernel (Kernel.Inverse pair) part.h (column_of part.stride part.from (at plane.old) j) }
+    ensures { at plane.new ≡ columns_worked (Kernel.Inverse pair) part.stride part.from part.w part.h (at plane.old) }
 {
-    copy_lines(plane, from, stride, buffer, 0, s, n, s);
-    inverse_lift(buffer, s, n, pair);
-    merge(buffer, plane, stride, from, s, n);
+    copy_lines(
+        plane,
+        part.from,
+        part.stride,
+        buffer,
+        0,
+        part.w,
+        part.h,
+        part.w,
+    );
+    inverse_lift(buffer, part.w, part.h, pair);
+    merge(buffer, plane, part);
 }
 
-// The strip, worked through the line buffer.
-pub fn strip(
-    plane: &mut [i32],
-    buffer: &mut [i32],
-    stride: usize,
-    from: usize,
-    s: usize,
-    n: usize,
-    kernel: Kernel,
-)
-    requires strip_room { StripRoom plane.old buffer.old stride from s n }
-    requires by_index { (j : ℕ) → j < s → SafeKernel kernel n (column_of stride from (at plane.old) j) }
-    ensures { at plane.new ≡ columns_worked kernel stride from s n (at plane.old) }
+// The strip, worked through the line buffer. By cases of the kernel, which a table decides: each hands its own steps to the loops.
+pub fn strip(plane: &mut [i32], buffer: &mut [i32], part: Part, kernel: Kernel)
+    requires strip_room { StripRoom plane.old buffer.old part.stride part.from part.w part.h }
+    requires by_index { (j : ℕ) → j < part.w → SafeKernel kernel part.h (column_of part.stride part.from (at plane.old) j) }
+    ensures { at plane.new ≡ columns_worked kernel part.stride part.from part.w part.h (at plane.old) }
 {
     match kernel {
-        Kernel::Inverse(pair) => strip_inverse(plane, buffer, stride, from, s, n, pair),
-        Kernel::One(_) => strip_forward(plane, buffer, stride, from, s, n, kernel),
-        Kernel::Two { .. } => strip_forward(plane, buffer, stride, from, s, n, kernel),
+        Kernel::Inverse(pair) => strip_inverse(plane, buffer, part, pair),
+        Kernel::One(_) => strip_forward(plane, buffer, part, kernel),
+        Kernel::Two(_) => strip_forward(plane, buffer, part, kernel),
     }
 }

@@ -1,16 +1,16 @@
 // The exact-copy program's answer: its input parsed and judged, and its text, on slices. specs/Listing says what is printed.
 #![tactic(auto)]
 
-ghost use Rattle.std.specs.Prelude.{◌≡◌, ◌∷◌, [], ◌++◌, ◌+◌, ◌*◌, ◌<◌, ◌≤◌, length, nat_abs};
+ghost use Rattle.std.specs.Prelude.{◌≡◌, ◌∷◌, [], ◌++◌, ◌+◌, ◌*◌, ◌<◌, ◌≤◌, length};
 ghost use Rattle.numbers.specs.Lists.{over};
-ghost use Rattle.refusals.specs.Answers.{passed, ◌then◌};
+ghost use Rattle.refusals.specs.Answers.{done, passed, ◌then◌};
 ghost use Rattle.refusals.specs.Told.{told_refusal, told};
 ghost use Rattle.pictures.specs.Pictures.{side_answer, length_answer, plane_of};
 ghost use Rattle.listing.specs.Listing.{number_bytes, max_number, head_bytes, head_numbers, natural, decimal, line, row_lines, refused_word, refused_line, copy_pixels, copy_form, head_in, head_text, copy_text, listed, Memory, max_pixels, max_input};
 ghost use Rattle.listing.specs.Writing.{Put};
 
 use pictures::{sides_right, slice_holds};
-use refusals::{Outcome, Refusal};
+use refusals::Refusal;
 use width_table::limits_right;
 
 // The pixels that there is memory for.
@@ -34,7 +34,8 @@ pub const MAX_TEXT: usize = MAX_NUMBER * (HEAD_NUMBERS + MAX_PIXELS);
 // The bytes of a head: depth, levels, width and height.
 const HEAD: usize = 6;
 
-// Writes a byte at a place of the text, and gives the place after it, as all that write here do.
+// Writes a byte at a place of the text, and gives the place after it, as all that write here do. (A struct of the lent bytes and the place
+// is no plainer: each clause would also say that it lends the same bytes on.)
 fn put(text: &mut [u8], at: usize, byte: u8) -> usize
     requires { at < length text.old }
     ensures { Put (byte ∷ []) text.old at text.new result }
@@ -43,7 +44,8 @@ fn put(text: &mut [u8], at: usize, byte: u8) -> usize
     at + 1
 }
 
-// Writes the digits of n: those of its tenth part, then the last one.
+// Writes the digits of n: those of its tenth part, then the last one. (A write by the library's Display promises what it leaves where it
+// answers Ok alone, and here each text is written whole.)
 fn put_natural(text: &mut [u8], at: usize, n: u32) -> usize
     requires { at + length (natural n) ≤ length text.old }
     ensures { Put (natural n) text.old at text.new result }
@@ -55,29 +57,17 @@ fn put_natural(text: &mut [u8], at: usize, n: u32) -> usize
     put(text, next, b'0' + ((n % 10) as u8))
 }
 
-// The number without its sign.
-fn magnitude(z: i32) -> u32
-    ensures { result ≡ nat_abs z }
-{
-    if z < 0 {
-        (-(z as i64)) as u32
-    } else {
-        z as u32
-    }
-}
-
 // Writes a number, of NUMBER_BYTES at most.
 fn put_number(text: &mut [u8], at: usize, z: i32) -> usize
     requires { at + number_bytes ≤ length text.old }
     ensures { Put (decimal z) text.old at text.new result × (result ≤ at + number_bytes) }
 {
-    let n = magnitude(z);
+    let n = z.unsigned_abs();
     if z < 0 {
         let next = put(text, at, b'-');
-        put_natural(text, next, n)
-    } else {
-        put_natural(text, at, n)
+        return put_natural(text, next, n);
     }
+    put_natural(text, at, n)
 }
 
 // Writes a line of numbers.
@@ -87,8 +77,8 @@ fn put_line(text: &mut [u8], at: usize, numbers: &[i32]) -> usize
 {
     let last = numbers.len() - 1;
     let mut next = at;
-    for i in 0..last {
-        next = put_number(text, next, numbers[i]);
+    for z in &numbers[..last] {
+        next = put_number(text, next, *z);
         next = put(text, next, b' ');
     }
     next = put_number(text, next, numbers[last]);
@@ -101,6 +91,7 @@ fn put_rows(text: &mut [u8], at: usize, plane: &[i32], w: usize, h: usize) -> us
     ensures { Put (row_lines w (plane_of w plane.now) 0 h) text.old at text.new result }
 {
     let mut next = at;
+    // r numbers a row, as `row_lines` of specs/Listing counts them
     for r in 0..h {
         let start = r * w;
         next = put_line(text, next, &plane[start..start + w]);
@@ -113,10 +104,8 @@ fn put_all(text: &mut [u8], at: usize, bytes: &[u8]) -> usize
     requires { at + length bytes.now ≤ length text.old }
     ensures { Put bytes.now text.old at text.new result }
 {
-    let mut next = at;
-    for i in 0..bytes.len() {
-        next = put(text, next, bytes[i]);
-    }
+    let next = at + bytes.len();
+    text[at..next].copy_from_slice(bytes);
     next
 }
 
@@ -126,8 +115,7 @@ fn put_refused(text: &mut [u8], why: Refusal) -> usize
     ensures { Put (refused_line (told_refusal why).0) text.old 0 text.new result }
 {
     let next = put_all(text, 0, b"refused ");
-    let numbers = [refusals::number(why) as i32];
-    put_line(text, next, &numbers)
+    put_line(text, next, &[why.number() as i32])
 }
 
 // The pixels of an input that holds n of them and no more.
@@ -135,8 +123,8 @@ fn read_pixels(bytes: &[u8], pixels: &mut [u16], n: usize)
     requires { (length bytes.now ≡ head_bytes + 2 * n) × (n ≤ length pixels.old) }
     ensures { pixels.new ≡ over (copy_pixels bytes.now) pixels.old }
 {
-    for i in 0..n {
-        pixels[i] = numbers::two(bytes[HEAD + 2 * i], bytes[HEAD + 2 * i + 1]);
+    for (i, p) in pixels[..n].iter_mut().enumerate() {
+        *p = numbers::two(bytes[HEAD + 2 * i], bytes[HEAD + 2 * i + 1]);
     }
 }
 
@@ -154,52 +142,44 @@ fn head_of(bytes: &[u8]) -> Head
     requires { head_bytes ≤ length bytes.now }
     ensures { result ≡ head_in bytes.now }
 {
-    let w = numbers::two(bytes[2], bytes[3]);
-    let h = numbers::two(bytes[4], bytes[5]);
     Head {
         depth: bytes[0],
         levels: bytes[1],
-        w,
-        h,
+        w: numbers::two(bytes[2], bytes[3]),
+        h: numbers::two(bytes[4], bytes[5]),
     }
 }
 
-// Refusals 8 and 9: admitted sides, and no more pixels than there is memory for.
-fn size_right(w: usize, h: usize) -> Outcome
-    ensures { told result ≡ side_answer w h then length_answer (w * h) max_pixels }
+// How many pixels there are: refusals 8 and 9, for admitted sides, and no more pixels than there is memory for.
+fn size_right(w: usize, h: usize) -> Result<usize, Refusal>
+    ensures { told result ≡ (side_answer w h then length_answer (w * h) max_pixels) then done (w * h) }
 {
-    match sides_right(w, h) {
-        Outcome::Refused(why) => Outcome::Refused(why),
-        Outcome::Done => slice_holds(w * h, MAX_PIXELS),
-    }
+    sides_right(w, h)?;
+    let n = w * h;
+    slice_holds(n, MAX_PIXELS)?;
+    Ok(n)
 }
 
-// All that is judged before the pixels' values: refusals 1, 4, 8, 9, 1 and 5, in that order.
-fn form_of(bytes: &[u8]) -> Outcome
-    ensures { told result ≡ copy_form bytes.now }
+// The head of an input of a right form. All that is judged before the pixels' values: refusals 1, 4, 8, 9, 1 and 5, in that order.
+fn form_of(bytes: &[u8]) -> Result<Head, Refusal>
+    ensures { told result ≡ copy_form bytes.now then done (head_in bytes.now) }
 {
     if bytes.len() < HEAD {
-        return Outcome::Refused(Refusal::CutShort);
+        return Err(Refusal::CutShort);
     }
     let head = head_of(bytes);
-    if limits_right(head.depth, head.levels) {} else {
-        return Outcome::Refused(Refusal::OutsideLimits);
+    if !limits_right(head.depth, head.levels) {
+        return Err(Refusal::OutsideLimits);
     }
-    let w = head.w as usize;
-    let h = head.h as usize;
-    match size_right(w, h) {
-        Outcome::Refused(why) => Outcome::Refused(why),
-        Outcome::Done => {
-            let body = bytes.len() - HEAD;
-            if body < 2 * (w * h) {
-                return Outcome::Refused(Refusal::CutShort);
-            }
-            if 2 * (w * h) < body {
-                return Outcome::Refused(Refusal::TrailingBytes);
-            }
-            Outcome::Done
-        }
+    let n = size_right(head.w as usize, head.h as usize)?;
+    let body = bytes.len() - HEAD;
+    if body < 2 * n {
+        return Err(Refusal::CutShort);
     }
+    if 2 * n < body {
+        return Err(Refusal::TrailingBytes);
+    }
+    Ok(head)
 }
 
 // Writes the lines of a plane at the front of the text: the head, then the rows.
@@ -207,17 +187,15 @@ fn put_plane(text: &mut [u8], head: Head, plane: &[i32]) -> usize
     requires { (1 ≤ head.w) × (head.w * head.h ≤ length plane.now) × (max_number * head_numbers + max_number * (head.w * head.h) ≤ length text.old) }
     ensures { Put (head_text head ++ row_lines head.w (plane_of head.w plane.now) 0 head.h) text.old 0 text.new result }
 {
-    let w = head.w;
-    let h = head.h;
     let numbers = [
         53,
         head.depth as i32,
         head.levels as i32,
-        w as i32,
-        h as i32,
+        head.w as i32,
+        head.h as i32,
     ];
     let next = put_line(text, 0, &numbers);
-    put_rows(text, next, plane, w as usize, h as usize)
+    put_rows(text, next, plane, head.w as usize, head.h as usize)
 }
 
 // The listing of an input of a right form.
@@ -237,8 +215,8 @@ fn list_picture(
     let n = w * h;
     read_pixels(bytes, pixels, n);
     match reversible::forward(head.depth, head.levels, &pixels[..n], w, h, plane, work) {
-        Outcome::Refused(why) => put_refused(text, why),
-        Outcome::Done => put_plane(text, head, plane),
+        Err(why) => put_refused(text, why),
+        Ok(()) => put_plane(text, head, plane),
     }
 }
 
@@ -254,8 +232,8 @@ fn list_into(
     ensures { Put (copy_text bytes.now) text.old 0 text.new result }
 {
     match form_of(bytes) {
-        Outcome::Refused(why) => put_refused(text, why),
-        Outcome::Done => list_picture(bytes, head_of(bytes), pixels, plane, work, text),
+        Err(why) => put_refused(text, why),
+        Ok(head) => list_picture(bytes, head, pixels, plane, work, text),
     }
 }
 

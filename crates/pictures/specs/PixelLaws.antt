@@ -1,12 +1,12 @@
 -- The largest of some pixels, and refusals 8 to 10 as the code finds them.
-use Rattle.std.specs.Prelude.{◌≡◌, ℕ, suc, ◌+◌, ◌*◌, ◌%◌, ◌^◌, ◌<◌, ◌≤◌, Bool, true, false, ◌&&◌, ltb, List, [], ◌∷◌, ◌++◌, length, take, nat_le, nat_lt, slice_index, slice_index_or, refl}
-use Rattle.std.proofs.Common.{sym, ◌∙◌, arith, mul-le-mul, lt-ltb, le-ltb, le-leb, pow_pos, shl_exact, take-suc, take_all}
+use Rattle.std.specs.Prelude.{◌≡◌, ℕ, suc, ◌+◌, ◌*◌, ◌%◌, ◌^◌, ◌<◌, ◌≤◌, max, Bool, true, false, ◌&&◌, ltb, List, [], ◌∷◌, ◌++◌, length, take, nat_lt, slice_index, refl, nat_le, slice_index_or}
+use Rattle.std.proofs.Common.{sym, ◌∙◌, arith, mul-le-mul, lt-ltb, le-ltb, pow_pos, shl_exact, take-suc, le-leb, take_all}
 use Rattle.std.proofs.Math.Path.{ap}
 use Rattle.std.proofs.lemmas.Bool.{lt-leb}
 use Rattle.numbers.specs.Tests.{every, by_ltb}
 use Rattle.refusals.specs.Answers.{refused, passed, asks}
 use Rattle.pictures.specs.PictureLaws.{sided_done}
-use Rattle.pictures.specs.Pictures.{max_side, side_right, side_answer, length_answer, pixel_answer}
+use Rattle.pictures.specs.Pictures.{side_right, side_answer, length_answer, pixel_answer, max_side}
 
 -- 1, shifted
 pub one_shifted : (k w : ℕ) → 1 + k ≤ w → (1 * 2 ^ k) % 2 ^ w ≡ 2 ^ k
@@ -88,6 +88,11 @@ module _ (l : List ℕ) (i m : ℕ) (h : i < length l) (is : Largest (take i l) 
 
   pub largest_grows : m < slice_index l i → Largest (take (i + 1) l) (slice_index l i)
   largest_grows q b s = both_below b s ∙ by_ltb (λ t. nat_lt m b && t ≡ t) (slice_index l i) b (λ j. ap (λ (t : Bool). t && true) (lt-ltb m b (omega arith))) (λ j. and_false (nat_lt m b))
+
+  pub largest_more : Largest (take (i + 1) l) (max m (slice_index l i))
+  largest_more b s = both_below b s ∙ by_ltb (λ t. t && nat_lt (slice_index l i) b ≡ nat_lt (max m (slice_index l i)) b) m b
+      (λ j. by_ltb (λ t. t ≡ nat_lt (max m (slice_index l i)) b) (slice_index l i) b (λ k. sym (lt-ltb _ b (omega arith))) (λ k. sym (le-ltb _ b (omega arith))))
+      (λ j. sym (le-ltb _ b (omega arith)))
 
 pub largest_all : (l : List ℕ) (i m : ℕ) → Largest (take i l) m → length l ≤ i → Largest l m
 largest_all l i m is h b s = ap (every (λ p. ltb p b)) (sym (take_all i l h)) ∙ is b s

@@ -1,11 +1,12 @@
 -- What a look over values tells (refusals 11 and 12).
-use Rattle.std.specs.Prelude.{◌≡◌, ℕ, suc, ◌+◌, ◌*◌, ◌/◌, ◌%◌, ◌^◌, ◌<◌, ◌≤◌, Bool, true, false, ◌&&◌, T, ℤ, pos, negsuc, neg_ℤ, ◌≤ℤ◌, ◌<ℤ◌, FitsSigned, bit_or, nat_lt, refl}
-use Rattle.std.proofs.Common.{sym, subst, arith, ltb→lt, lt→ltb, pow_pos, pow_mono}
+use Rattle.std.specs.Prelude.{◌≡◌, ℕ, suc, ◌+◌, ◌*◌, ◌/◌, ◌%◌, ◌^◌, ◌<◌, ◌≤◌, Bool, true, false, ◌&&◌, T, List, length, take, drop, ℤ, pos, negsuc, neg_ℤ, ◌-ℤ◌, ◌≤ℤ◌, ◌<ℤ◌, FitsSigned, bit_or, nat_lt, refl}
+use Rattle.std.proofs.Common.{sym, ◌∙◌, subst, length-take-le, length-drop, get_or-take, get_or-drop, arith, ltb→lt, lt→ltb, pow_pos, pow_mono}
 use Rattle.std.proofs.Math.Decide.{ℕ_discrete}
 use Rattle.std.proofs.lemmas.Nat.{or_lt, and_le_l, and_le_r}
 use Rattle.std.specs.Int.Bits.{or_add_and}
 use Rattle.std.specs.Int.Signed.{mag}
 use Rattle.std.specs.Int.{w32}
+use Rattle.slices.specs.Patch.{at}
 use Rattle.slices.specs.Biased.{biased}
 use Rattle.numbers.specs.Dif.{by_dif, difs}
 use Rattle.numbers.specs.Tests.{both, and_intro}
@@ -28,6 +29,16 @@ tells_same true false t u = absurd (u.told (t.holds tt))
 tells_same false true t u = absurd (t.told (u.holds tt))
 tells_same false false t u = refl
 
+pub tells_both : {P Q : Type 0} {r : Bool} → (P → Q) → (Q → P) → Tells P r → Tells Q r
+tells_both there back t = record { holds = λ h. there (t.holds h); told = λ q. t.told (back q) }
+
+-- numbers below q and not below -q lie between two numbers
+pub below_between : (q z : ℤ) → (neg_ℤ q ≤ℤ z) × (z <ℤ q) → Between (neg_ℤ q) (q -ℤ pos 1) z
+below_between = by_dif _ λ a b. by_dif _ λ c d. simp difs (omega arith)
+
+pub between_below : (q z : ℤ) → Between (neg_ℤ q) (q -ℤ pos 1) z → (neg_ℤ q ≤ℤ z) × (z <ℤ q)
+between_below = by_dif _ λ a b. by_dif _ λ c d. simp difs (omega arith)
+
 -- ---- what holds at every place below n
 
 module _ (P : ℕ → Type 0) where
@@ -46,6 +57,20 @@ module _ (P : ℕ → Type 0) where
       go : T r × T s → (j : ℕ) → j < n + 1 → Dec (j ≡ n) → P j
       go k j h (yes e) = subst P (sym e) (u.holds k.1)
       go k j h (no f) = t.holds k.0 j (omega arith)
+
+-- a look at a row of n values, from place s of a plane on
+pub row_tells : (Q : ℤ → Type 0) (values : List ℤ) (s n w : ℕ) (r : Bool) → n ≡ w → s + w ≤ length values
+    → Tells ((j : ℕ) → j < length (take n (drop s values)) → Q (at (take n (drop s values)) j)) r → Tells ((j : ℕ) → j < w → Q (at values (s + j))) r
+row_tells Q values s n w r e room t = record {
+  holds = λ k j h. subst Q (there j h) (t.holds k j (omega (arith, long)));
+  told = λ p. t.told (λ j h. let i : j < w = omega (arith, long) in subst Q (sym (there j i)) (p j i));
+}
+  where
+    long : length (take n (drop s values)) ≡ w
+    long = length-take-le n (drop s values) (omega (arith, length-drop s values)) ∙ e
+
+    there : (j : ℕ) → j < w → at (take n (drop s values)) j ≡ at values (s + j)
+    there j h = get_or-take n (drop s values) j (pos 0) (omega arith) ∙ get_or-drop s values j (pos 0)
 
 -- ---- numbers of k bits beside the sign
 

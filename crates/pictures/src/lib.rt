@@ -1,7 +1,8 @@
 // Pictures and planes in memory: refusals 8, 9 and 10, looks over values, the middle of the pixels.
 #![tactic(auto)]
 
-ghost use Rattle.std.specs.Prelude.{◌≡◌, ℕ, ◌+◌, ◌-◌, ◌*◌, ◌^◌, ◌<◌, ◌≤◌, length};
+ghost use Rattle.std.specs.Prelude.{◌≡◌, ℕ, ◌+◌, ◌-◌, ◌*◌, ◌^◌, ◌<◌, ◌≤◌, length, List, ℤ, Bool};
+ghost use Rattle.std.specs.Fn.{FnReturnsAt};
 ghost use Rattle.width_table.specs.Table.{max_depth};
 ghost use Rattle.lines.specs.Planes.{side};
 ghost use Rattle.slices.specs.Patch.{at};
@@ -13,7 +14,8 @@ ghost use Rattle.pictures.specs.Pictures.{max_side, side_right, side_answer, len
 ghost use Rattle.pictures.specs.PixelLaws.{Largest};
 ghost use Rattle.pictures.specs.RangeChecks.{Tells, Between, OfBits, above_least};
 
-use refusals::{Outcome, Refusal};
+use refusals::Refusal;
+use slices::Part;
 
 // The limit of a side of a picture.
 pub const MAX_SIDE: usize = 4096;
@@ -22,54 +24,44 @@ pub const MAX_SIDE: usize = 4096;
 pub fn side_admitted(side: usize) -> bool
     ensures { result ≡ side_right side }
 {
-    if MAX_SIDE < side {
-        return false;
-    }
-    1 <= side
+    1 <= side && side <= MAX_SIDE
 }
 
 // Refusal 8.
-pub fn sides_right(w: usize, h: usize) -> Outcome
+pub fn sides_right(w: usize, h: usize) -> Result<(), Refusal>
     ensures { told result ≡ side_answer w h }
 {
-    if side_admitted(w) {} else {
-        return Outcome::Refused(Refusal::SideNotAdmitted);
+    if !side_admitted(w) || !side_admitted(h) {
+        return Err(Refusal::SideNotAdmitted);
     }
-    if side_admitted(h) {} else {
-        return Outcome::Refused(Refusal::SideNotAdmitted);
-    }
-    Outcome::Done
+    Ok(())
 }
 
 // Refusal 9, for a slice of so many elements that is to hold n.
-pub fn slice_holds(n: usize, length: usize) -> Outcome
+pub fn slice_holds(n: usize, length: usize) -> Result<(), Refusal>
     ensures { told result ≡ length_answer n length }
 {
     if length < n {
-        return Outcome::Refused(Refusal::SliceTooShort);
+        return Err(Refusal::SliceTooShort);
     }
-    Outcome::Done
+    Ok(())
 }
 
 // Refusals 8 and 9, for three slices of so many elements.
-pub fn room_right(w: usize, h: usize, first: usize, second: usize, third: usize) -> Outcome
+pub fn room_right(
+    w: usize,
+    h: usize,
+    first: usize,
+    second: usize,
+    third: usize,
+) -> Result<(), Refusal>
     ensures { told result ≡ side_answer w h then length_answer (w * h) first then length_answer (w * h) second then length_answer (w * h) third }
 {
-    match sides_right(w, h) {
-        Outcome::Refused(why) => Outcome::Refused(why),
-        Outcome::Done => {
-            let n = w * h;
-            match slice_holds(n, first) {
-                Outcome::Refused(why) => Outcome::Refused(why),
-                Outcome::Done => {
-                    match slice_holds(n, second) {
-                        Outcome::Refused(why) => Outcome::Refused(why),
-                        Outcome::Done => slice_holds(n, third),
-                    }
-                }
-            }
-        }
-    }
+    sides_right(w, h)?;
+    let n = w * h;
+    slice_holds(n, first)?;
+    slice_holds(n, second)?;
+    slice_holds(n, third)
 }
 
 // The largest of some pixels; 0 of none.
@@ -77,26 +69,23 @@ fn largest(pixels: &[u16]) -> u16
     ensures { Largest pixels.now result }
 {
     let mut most: u16 = 0;
-    for i in 0..pixels.len() {
-        let p = pixels[i];
-        if most < p {
-            most = p;
-        }
+    for p in pixels {
+        most = most.max(*p);
     }
     most
 }
 
 // Refusal 10: looks at all of the first w * h pixels.
-pub fn pixels_right(depth: u8, w: usize, h: usize, pixels: &[u16]) -> Outcome
+pub fn pixels_right(depth: u8, w: usize, h: usize, pixels: &[u16]) -> Result<(), Refusal>
     requires { (depth ≤ max_depth) × (w ≤ max_side) × (h ≤ max_side) × (w * h ≤ length pixels.now) }
     ensures { told result ≡ pixel_answer depth w h pixels.now }
 {
     let n = w * h;
     let most = largest(&pixels[..n]);
     if most < (1u16 << depth) {
-        Outcome::Done
+        Ok(())
     } else {
-        Outcome::Refused(Refusal::PixelTooLarge)
+        Err(Refusal::PixelTooLarge)
     }
 }
 
@@ -114,7 +103,7 @@ pub fn side_after(n: usize, k: u8) -> usize
     ensures { result ≡ side k n }
 {
     let mut m = n;
-    for i in 0..k {
+    for _ in 0..k {
         m = (m + 1) / 2;
     }
     m
@@ -124,45 +113,41 @@ pub fn side_after(n: usize, k: u8) -> usize
 fn in_range(v: i32, least: i32, most: i32) -> bool
     ensures { Tells (Between least most v) result }
 {
-    if v < least {
-        return false;
-    }
-    if most < v {
-        return false;
-    }
-    true
+    least <= v && v <= most
 }
 
-// Whether n values from a place on lie between two numbers.
-pub fn all_between(values: &[i32], from: usize, n: usize, least: i32, most: i32) -> bool
-    requires { from + n ≤ length values.now }
-    ensures { Tells ((j : ℕ) → j < n → Between least most (at values.now (from + j))) result }
+// Whether values lie between two numbers. With no early stop, so that the loop is compiled to vectors, as the next ones.
+pub fn all_between(values: &[i32], least: i32, most: i32) -> bool
+    ensures { Tells ((j : ℕ) → j < length values.now → Between least most (at values.now j)) result }
 {
     let mut fits = true;
-    for j in 0..n {
-        fits = fits & in_range(values[from + j], least, most);
+    for v in values {
+        fits = fits & in_range(*v, least, most);
+    }
+    fits
+}
+
+// Whether a look at each row of a part, which starts at a place and has w columns and h rows, tells so.
+fn rows_tell<F: Fn(&[i32]) -> bool>(values: &[i32], part: Part, look: F) -> bool
+    requires part { (i : ℕ) → i < part.h → line_at part.from part.stride i + part.w ≤ length values.now }
+    requires callable { F.IsAlwaysCallable look }
+    ensures { (least most : ℤ) → ((row : List ℤ) (r : Bool) → FnReturnsAt F.Fn look row r → Tells ((j : ℕ) → j < length row → Between least most (at row j)) r) → Tells ((i : ℕ) → i < part.h → (j : ℕ) → j < part.w → Between least most (row_of part.stride part.from (at values.now) i j)) result }
+{
+    let mut fits = true;
+    // i numbers a row: rows lie part.stride apart
+    for i in 0..part.h {
+        let start = part.from + i * part.stride;
+        fits = fits & look(&values[start..start + part.w]);
     }
     fits
 }
 
 // Whether the values of a part of w columns and h rows, which starts at a place, lie between two numbers.
-pub fn part_between(
-    values: &[i32],
-    from: usize,
-    stride: usize,
-    w: usize,
-    h: usize,
-    least: i32,
-    most: i32,
-) -> bool
-    requires { (i : ℕ) → i < h → line_at from stride i + w ≤ length values.now }
-    ensures { Tells ((i : ℕ) → i < h → (j : ℕ) → j < w → Between least most (row_of stride from (at values.now) i j)) result }
+pub fn part_between(values: &[i32], part: Part, least: i32, most: i32) -> bool
+    requires { (i : ℕ) → i < part.h → line_at part.from part.stride i + part.w ≤ length values.now }
+    ensures { Tells ((i : ℕ) → i < part.h → (j : ℕ) → j < part.w → Between least most (row_of part.stride part.from (at values.now) i j)) result }
 {
-    let mut fits = true;
-    for i in 0..h {
-        fits = fits & all_between(values, from + i * stride, w, least, most);
-    }
-    fits
+    rows_tell(values, part, |row| all_between(row, least, most))
 }
 
 // How far a value lies above -top, where 2 ^ 32 counts as 0.
@@ -173,35 +158,23 @@ fn above(v: i32, top: u32) -> u32
     std::num::wrapping_add_u32(bits, top)
 }
 
-// Whether n values from a place on are numbers of so many bits beside the sign. The bits of what they lie above the least are gathered,
-// and looked at once.
-fn all_of_bits(values: &[i32], from: usize, n: usize, bits: u8) -> bool
-    requires { (bits ≤ 31) × (from + n ≤ length values.now) }
-    ensures { Tells ((j : ℕ) → j < n → OfBits bits (at values.now (from + j))) result }
+// Whether values are numbers of so many bits beside the sign. The bits of what they lie above the least are gathered, and looked at once.
+fn all_of_bits(values: &[i32], bits: u8) -> bool
+    requires { bits ≤ 31 }
+    ensures { Tells ((j : ℕ) → j < length values.now → OfBits bits (at values.now j)) result }
 {
     let top = 1u32 << bits;
     let mut gathered: u32 = 0;
-    for j in 0..n {
-        gathered = gathered | above(values[from + j], top);
+    for v in values {
+        gathered = gathered | above(*v, top);
     }
     gathered / 2 < top
 }
 
 // Whether the values of a part of w columns and h rows, which starts at a place, are numbers of so many bits beside the sign.
-pub fn part_of_bits(
-    values: &[i32],
-    from: usize,
-    stride: usize,
-    w: usize,
-    h: usize,
-    bits: u8,
-) -> bool
-    requires { (bits ≤ 31) × ((i : ℕ) → i < h → line_at from stride i + w ≤ length values.now) }
-    ensures { Tells ((i : ℕ) → i < h → (j : ℕ) → j < w → OfBits bits (row_of stride from (at values.now) i j)) result }
+pub fn part_of_bits(values: &[i32], part: Part, bits: u8) -> bool
+    requires { (bits ≤ 31) × ((i : ℕ) → i < part.h → line_at part.from part.stride i + part.w ≤ length values.now) }
+    ensures { Tells ((i : ℕ) → i < part.h → (j : ℕ) → j < part.w → OfBits bits (row_of part.stride part.from (at values.now) i j)) result }
 {
-    let mut fits = true;
-    for i in 0..h {
-        fits = fits & all_of_bits(values, from + i * stride, w, bits);
-    }
-    fits
+    rows_tell(values, part, |row| all_of_bits(row, bits))
 }

@@ -130,6 +130,10 @@ module _ {t : WidthTable} {l : ℕ} where
   left_by : (p : ℕ) (n : Node) (before : List TableNode) (o : Answer Unit) (b : Code.Bound) → At t l p → b ≡ as_held (bound_of t (node_at l (pass_of p) n)) → o ≡ first_refusal t before → (o ≡ passed → first_refusal t (pass_nodes l (pass_of p)) ≡ passed) → Goes t before (bound_of t (node_at l (pass_of p) n)) o b
   left_by p n before o b h d e f = (e, λ x. record { is = d; small = subst (λ (c : Code.Bound). c.range + c.error ≤ most_fitting) (sym d) (accepted_small h n (f x)) })
 
+  -- the same of one pass, which is accepted
+  pub left_reached : {p : ℕ} {b : Code.Bound} (n : Node) → At t l p → b ≡ as_held (bound_of t (node_at l (pass_of p) n)) → first_refusal t (pass_nodes l (pass_of p)) ≡ passed → Reached (bound_of t (node_at l (pass_of p) n)) b
+  left_reached n h d e = record { is = d; small = subst (λ (c : Code.Bound). c.range + c.error ≤ most_fitting) (sym d) (accepted_small h n e) }
+
   -- what enters pass p of the level
   pub enters : {p : ℕ} {b : Code.Bound} → At t l p → Reached (fed_after t l (p - 1)) b → Enters t l p b
   enters {p} h x = record {
@@ -151,6 +155,23 @@ module _ {t : WidthTable} {l : ℕ} where
   -- what it leaves then
   pub next_left : {p : ℕ} (n : Node) {o : Answer Unit} {b : Code.Bound} → At t l p → first_refusal t (take ((p - 1) * nodes_per_pass) (level_nodes l)) ≡ passed → o ≡ first_refusal t (pass_nodes l (pass_of p)) → b ≡ as_held (bound_of t (node_at l (pass_of p) n)) → Goes t (take (p * nodes_per_pass) (level_nodes l)) (bound_of t (node_at l (pass_of p) n)) o b
   next_left {p} n {o} {b} h before e d = left_by p n _ o b h d (e ∙ sym (pass_next h before)) (λ x. sym e ∙ x)
+
+  -- it passes, or it stops the passes
+  pub pass_passes : {p : ℕ} → At t l p → first_refusal t (take ((p - 1) * nodes_per_pass) (level_nodes l)) ≡ passed → passed ≡ first_refusal t (pass_nodes l (pass_of p)) → first_refusal t (take (p * nodes_per_pass) (level_nodes l)) ≡ passed
+  pass_passes h e d = pass_next h e ∙ sym d
+
+  pub pass_stops : {p : ℕ} (k : ℕ) {r : Reason} → At t l p → p ≤ k → first_refusal t (take ((p - 1) * nodes_per_pass) (level_nodes l)) ≡ passed → refused r ≡ first_refusal t (pass_nodes l (pass_of p)) → refused r ≡ first_refusal t (take (k * nodes_per_pass) (level_nodes l))
+  pass_stops {p} k {r} h le e d = sym (stays t r (level_nodes l) (p * nodes_per_pass) (k * nodes_per_pass) (omega arith) (pass_next h e ∙ sym d))
+
+module _ (t : WidthTable) (l : ℕ) where
+  -- before the first pass
+  pub none_before : first_refusal t (take (0 * nodes_per_pass) (level_nodes l)) ≡ passed
+  unfolding first_refusal
+  none_before = refl
+
+  -- all that are asked for
+  pub passes_done : (k m : ℕ) → m ≡ k → first_refusal t (take (k * nodes_per_pass) (level_nodes l)) ≡ passed → passed ≡ first_refusal t (take (m * nodes_per_pass) (level_nodes l))
+  passes_done k m e d = sym (ap (λ (m : ℕ). first_refusal t (take (m * nodes_per_pass) (level_nodes l))) e ∙ d)
 
 -- ---- into a level
 

@@ -16,6 +16,7 @@ pub fn read_full<R: Read>(from: &mut R, buf: &mut [u8]) -> io::Result<usize>
     ensures whole { IfOk result (λ n. n < length buf.new → IsAtEnd (R.remaining from.new)) }
 {
     let mut done = 0;
+    // no plainer as a `for`: how far a turn gets is what its read gives
     while done < buf.len() {
         let n = from.read(&mut buf[done..])?;
         if n == 0 {

@@ -1,10 +1,8 @@
 -- What the code's answers say, in the documents' numbers and values.
-use Rattle.std.specs.Prelude.{[], ◌∷◌}
+use Rattle.std.specs.Prelude.{[], ◌∷◌, Result, Ok, Err}
 use Rattle.refusals.specs.declared.Refusal.{Refusal}
 use Rattle.refusals.specs.declared.Refusal.TheVariants.{CutShort, WrongTag, WrongLength, OutsideLimits, TrailingBytes, DoesNotFit, ErrorTooLarge, SideNotAdmitted, SliceTooShort, PixelTooLarge, NoPicture, OutsideWidth, NotViewable, OutOfTurn}
-use Rattle.refusals.specs.declared.Outcome.{Outcome}
-use Rattle.refusals.specs.declared.Outcome.TheVariants.{Done, Refused}
-use Rattle.refusals.specs.Answers.{Reason, Answer, passed, refused}
+use Rattle.refusals.specs.Answers.{Reason, Answer, done, refused}
 
 -- document 01, "Why a strip or book comes back"; 12 and 13: document 02, job 1; 14: job 5
 abbrev pub told_refusal : Refusal → Reason
@@ -23,6 +21,7 @@ told_refusal OutsideWidth = (12, [])
 told_refusal NotViewable = (13, [])
 told_refusal OutOfTurn = (14, [])
 
-abbrev pub told : Outcome → Answer Unit
-told Done = passed
-told (Refused r) = refused (told_refusal r)
+-- what a call gives, or its refusal
+abbrev pub told : {A : Type 0} → Result A Refusal → Answer A
+told (Ok a) = done a
+told (Err r) = refused (told_refusal r)

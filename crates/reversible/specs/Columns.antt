@@ -1,8 +1,8 @@
 -- The columns of a picture worked line by line into a plane: line i of the highs, then line i of the lows.
 use Prim.Native.Nat.{ℕ, suc, ◌+◌, ◌*◌, ◌-◌, ◌<◌, ◌≤◌}
-use Rattle.std.specs.Prelude.{List, ◌≡◌, refl, ℤ, length}
+use Rattle.std.specs.Prelude.{List, ◌≡◌, refl, ℤ, pos, length, set}
 use Rattle.std.proofs.Math.Path.{sym, ap}
-use Rattle.std.proofs.Common.{◌∙◌, mul-le-mul_right, mul_comm}
+use Rattle.std.proofs.Common.{◌∙◌, mul-le-mul_right, mul_comm, get_or-set_same, get_or-set_other}
 use native.Mathlib.Omega.{arith}
 use Rattle.std.proofs.Math.Decide.{ℕ_discrete}
 use Rattle.lines.specs.Lines.{lows, highs, Liftable, low_after, high_before, high_after, on_highs, on_lows}
@@ -12,7 +12,7 @@ use Rattle.lifting.specs.declared.Step.TheVariants.{Predict, Update}
 use Rattle.lifting.specs.Steps.{applied}
 use Rattle.lifting.specs.Passes.{evens, odds}
 use Rattle.lifting.specs.Kernels.{worked, SafeKernel, columns_worked}
-use Rattle.slices.specs.Patch.{patch, patch_in, patch_below, patch_above}
+use Rattle.slices.specs.Patch.{at, patch, patch_in, patch_below, patch_above}
 use Rattle.slices.specs.Pixels.{pixel_line, loaded}
 use Rattle.lifting.specs.PixelLaws.{pixel_columns_worked}
 use Rattle.reversible.specs.Sizes.{forward_kernel}
@@ -52,6 +52,14 @@ lines_few w h some = omega (arith, mul-le-mul_right {m = 1} {n = w} h some)
 -- what a loop reads past the places that it has written
 pub read_past : (to j q : ℕ) (new x y : ℕ → ℤ) → y ≡ patch to j new x → to + j ≤ q → y q ≡ x q
 read_past to j q new x y is far = ap (λ (f : ℕ → ℤ). f q) is ∙ patch_above to j new x q far
+
+-- one place more holds what it is to hold
+pub place_more : (l : List ℤ) (i : ℕ) (v : ℤ) (new : ℕ → ℤ) → i < length l → ((k : ℕ) → k < i → at l k ≡ new k) → v ≡ new i → (k : ℕ) → k < i + 1 → at (set l i v) k ≡ new k
+place_more l i v new fits below here k h = go (ℕ_discrete k i)
+  where
+    go : Dec (k ≡ i) → at (set l i v) k ≡ new k
+    go (yes e) = rw e (get_or-set_same l i v (pos 0) fits ∙ here)
+    go (no f) = get_or-set_other l i k v (pos 0) f ∙ below k (omega arith)
 
 -- ---- what a line's step takes, in the middle and at the ends; for values and for what keeps them inside their types
 

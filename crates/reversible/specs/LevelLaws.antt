@@ -47,7 +47,7 @@ module _ (k : Kernel) (W w h : ℕ) (x : ℕ → ℤ) where
   pub columns_one : w ≤ W → h < 2 → x ≡ columns_from k W w h x
   columns_one in_w_lem one = lines_is (line_at 0 W) w _ x (apart in_w_lem) h x (λ r c i j. sym (one_single (λ v. v) (worked k) h (column_of W 0 x c) r one)) (λ p off. refl)
 
-  pub rows_more : Liftable w → rows_worked k W w h x ≡ rows_from k W w h x
+  pub rows_more : Liftable w → rows_worked k W 0 w h x ≡ rows_from k W w h x
   rows_more works = λ u. patch_lines (line_at 0 W) w h (λ r. sym (long_line_lem (λ v. v) (worked k) w works) u (row_of W 0 x r)) x
 
   pub columns_more : Liftable h → columns_worked k W 0 w h x ≡ columns_from k W w h x

@@ -23,7 +23,8 @@ ghost use Rattle.reversible.specs.LoopLaws.{ForwardDone};
 ghost use Rattle.reversible.specs.Preconditions.{RowsRoom, ColumnsRoom, LevelRoom, PictureRoom, FirstRoom, ForwardRoom};
 
 use lifting::{Kernel, Pair, Step};
-use refusals::{Outcome, Refusal};
+use refusals::Refusal;
+use slices::Part;
 
 // A pass of the 5/3.
 const FORWARD_PASS: Kernel = Kernel::One(Pair {
@@ -40,11 +41,11 @@ pub fn allowed(
     first: usize,
     second: usize,
     third: usize,
-) -> Outcome
+) -> Result<(), Refusal>
     ensures { told result ≡ limit_answer depth levels then side_answer w h then length_answer (w * h) first then length_answer (w * h) second then length_answer (w * h) third }
 {
-    if width_table::limits_right(depth, levels) {} else {
-        return Outcome::Refused(Refusal::OutsideLimits);
+    if !width_table::limits_right(depth, levels) {
+        return Err(Refusal::OutsideLimits);
     }
     pictures::room_right(w, h, first, second, third)
 }
@@ -64,7 +65,17 @@ pub fn rows_from(
     if w < 2 {
         return;
     }
-    lifting::rows(plane, buffer, stride, w, h, kernel);
+    lifting::rows(
+        plane,
+        buffer,
+        Part {
+            stride,
+            from: 0,
+            w,
+            h,
+        },
+        kernel,
+    );
 }
 
 // The columns likewise.
@@ -82,7 +93,17 @@ pub fn columns_from(
     if h < 2 {
         return;
     }
-    lifting::columns(plane, buffer, stride, 0, w, h, kernel);
+    lifting::columns(
+        plane,
+        buffer,
+        Part {
+            stride,
+            from: 0,
+            w,
+            h,
+        },
+        kernel,
+    );
 }
 
 // One level forward, of a part of w columns and h rows: the columns, then the rows.
@@ -110,13 +131,12 @@ fn high_line(
     requires by_index { (j : ℕ) → j < n → Safe Step.Predict (pixel_line pixels.now middle own j) (pixel_line pixels.now middle before j) (pixel_line pixels.now middle after j) }
     ensures { at plane.new ≡ patch to n (λ j. applied Step.Predict (pixel_line pixels.now middle own j) (pixel_line pixels.now middle before j) (pixel_line pixels.now middle after j)) (at plane.old) }
 {
-    for j in 0..n {
-        let v = lifting::predicted(
+    for (j, x) in plane[to..to + n].iter_mut().enumerate() {
+        *x = lifting::predicted(
             lifting::centred(pixels[own + j], middle),
             lifting::centred(pixels[before + j], middle),
             lifting::centred(pixels[after + j], middle),
         );
-        plane[to + j] = v;
     }
 }
 
@@ -134,16 +154,16 @@ fn high_end(
     requires by_index { (j : ℕ) → j < n → Safe Step.Predict (pixel_line pixels.now middle own j) (pixel_line pixels.now middle beside j) (pixel_line pixels.now middle beside j) }
     ensures { at plane.new ≡ patch to n (λ j. applied Step.Predict (pixel_line pixels.now middle own j) (pixel_line pixels.now middle beside j) (pixel_line pixels.now middle beside j)) (at plane.old) }
 {
-    for j in 0..n {
-        let v = lifting::predicted_end(
+    for (j, x) in plane[to..to + n].iter_mut().enumerate() {
+        *x = lifting::predicted_end(
             lifting::centred(pixels[own + j], middle),
             lifting::centred(pixels[beside + j], middle),
         );
-        plane[to + j] = v;
     }
 }
 
-// A line of n lows: the pixels from place `own` on, with the lines of highs beside them in the plane. Equation 2.
+// A line of n lows: the pixels from place `own` on, with the lines of highs beside them in the plane. Equation 2. By an index: it
+// reads and writes one plane.
 fn low_line(
     pixels: &[u16],
     middle: u16,
@@ -159,17 +179,16 @@ fn low_line(
     ensures { at plane.new ≡ patch to n (λ j. applied Step.Update (pixel_line pixels.now middle own j) (at plane.old (before + j)) (at plane.old (after + j))) (at plane.old) }
 {
     for j in 0..n {
-        let v = lifting::updated(
+        plane[to + j] = lifting::updated(
             lifting::centred(pixels[own + j], middle),
             plane[before + j],
             plane[after + j],
         );
-        plane[to + j] = v;
     }
 }
 
 // The first line of lows, with the first line of highs beside it, and the last one of an odd height, with the last line of highs:
-// equations 4 and 6.
+// equations 4 and 6. By an index: it reads and writes one plane.
 fn low_end(
     pixels: &[u16],
     middle: u16,
@@ -184,8 +203,10 @@ fn low_end(
     ensures { at plane.new ≡ patch to n (λ j. applied Step.Update (pixel_line pixels.now middle own j) (at plane.old (beside + j)) (at plane.old (beside + j))) (at plane.old) }
 {
     for j in 0..n {
-        let v = lifting::updated_end(lifting::centred(pixels[own + j], middle), plane[beside + j]);
-        plane[to + j] = v;
+        plane[to + j] = lifting::updated_end(
+            lifting::centred(pixels[own + j], middle),
+            plane[beside + j],
+        );
     }
 }
 
@@ -232,6 +253,7 @@ fn pixel_columns(pixels: &[u16], middle: u16, plane: &mut [i32], w: usize, h: us
     ensures { at plane.new ≡ columns_worked forward_kernel w 0 w h (loaded pixels.now middle w h (at plane.old)) }
 {
     let high = h / 2;
+    // i numbers a line of the highs and one of the lows
     for i in 0..high {
         high_at(pixels, middle, plane, w, h, i);
         low_at(pixels, middle, plane, w, h, i);
@@ -277,12 +299,14 @@ fn levels_forward(
     ensures { ForwardDone w h levels (loaded pixels.now (2 ^ (depth - 1)) w h (at plane.old)) (at plane.new) }
 {
     first_level(pixels, depth, plane, buffer, w, h);
-    let mut across = (w + 1) / 2;
-    let mut down = (h + 1) / 2;
     for k in 1..levels {
-        level_forward(plane, buffer, w, across, down);
-        across = (across + 1) / 2;
-        down = (down + 1) / 2;
+        level_forward(
+            plane,
+            buffer,
+            w,
+            pictures::side_after(w, k),
+            pictures::side_after(h, k),
+        );
     }
 }
 
@@ -314,19 +338,13 @@ pub fn forward(
     h: usize,
     plane: &mut [i32],
     work: &mut [i32],
-) -> Outcome
+) -> Result<(), Refusal>
     ensures answer { told result ≡ forward_answer depth levels w h pixels.now plane.old work.old }
     ensures plane { plane.new ≡ forward_plane columns_first depth levels w h pixels.now plane.old work.old }
     ensures work { work.new ≡ forward_work depth levels w h pixels.now plane.old work.old }
 {
-    match allowed(depth, levels, w, h, pixels.len(), plane.len(), work.len()) {
-        Outcome::Refused(why) => Outcome::Refused(why),
-        Outcome::Done => match pictures::pixels_right(depth, w, h, pixels) {
-            Outcome::Refused(why) => Outcome::Refused(why),
-            Outcome::Done => {
-                transform(depth, levels, pixels, w, h, plane, work);
-                Outcome::Done
-            }
-        },
-    }
+    allowed(depth, levels, w, h, pixels.len(), plane.len(), work.len())?;
+    pictures::pixels_right(depth, w, h, pixels)?;
+    transform(depth, levels, pixels, w, h, plane, work);
+    Ok(())
 }

@@ -1,8 +1,7 @@
 -- The order of refusals in the way back, step by step.
-use Rattle.std.specs.Prelude.{List, [], ℤ, length, ℕ, ◌*◌, Bool, true, false, not, ◌≡◌}
+use Rattle.std.specs.Prelude.{List, ℤ, length, ℕ, ◌*◌, Bool, true, false, ◌≡◌, [], not}
 use Rattle.std.proofs.Math.Path.{sym, ap}
 use Rattle.std.proofs.Common.{◌∙◌, subst}
-use Rattle.std.proofs.Math.Dec.{T}
 use Rattle.refusals.specs.Answers.{Reason, Answer, refused, passed, asks, ◌then◌}
 use Rattle.refusals.specs.AnswerLaws.{then_right, then_refused, answered_done, answered_refused}
 use Rattle.slices.specs.Fronts.{zeroed}
@@ -10,6 +9,7 @@ use Rattle.pictures.specs.PictureLaws.{room_answer}
 use Rattle.reversible.specs.Reversible.{Order}
 use Rattle.reversible.specs.Calls.{limit_answer, has_picture, back_allowed, back_answer, back_pixels, back_work}
 use Rattle.reversible_back.specs.FoundLaws.{TakenBack}
+use Rattle.std.proofs.Math.Dec.{T}
 
 module _ (order : Order) (B L w h : ℕ) (plane : List ℤ) (pixels : List ℕ) (work : List ℤ) where
   abbrev may : Answer Unit
@@ -33,6 +33,11 @@ module _ (order : Order) (B L w h : ℕ) (plane : List ℤ) (pixels : List ℕ) 
     zero_work : q ≡ back_work B L w h plane pixels work
     unfolding back_work back_allowed
     zero_work = cleared ∙ sym (answered_done _ work e)
+
+    pub backed : (r : Bool) → r ≡ has_picture order B L w h plane → TakenBack order B L w h plane pixels p r → Backed (asks (has_picture order B L w h plane) 11 passed) p q
+    unfolding back_pixels
+    backed true e b = (sym last, (b.written tt ∙ sym (answered_done _ pixels (last ∙ ap (λ (t : Bool). asks t 11 passed) (sym e))), zero_work))
+    backed false e b = (sym last, (b.kept tt ∙ sym (answered_refused _ pixels (last ∙ ap (λ (t : Bool). asks t 11 passed) (sym e))), zero_work))
 
     pub back_done : (r : Bool) → TakenBack order B L w h plane pixels p r → r ≡ true → Backed passed p q
     unfolding back_pixels

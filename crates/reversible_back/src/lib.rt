@@ -4,11 +4,12 @@
 
 ghost use Rattle.std.specs.Prelude.{◌≡◌, ℕ, ◌+◌, ◌*◌, ◌-◌, ◌<◌, ◌≤◌, ◌^◌, length, get_or, pos, nat_abs, neg_ℤ, ◌+ℤ◌, ◌-ℤ◌};
 ghost use Rattle.refusals.specs.Told.{told};
+ghost use Rattle.refusals.specs.Answers.{passed, asks};
 ghost use Rattle.slices.specs.Patch.{at, patch};
 ghost use Rattle.slices.specs.Fronts.{zeroed};
 ghost use Rattle.pictures.specs.RangeChecks.{Tells, Between};
 ghost use Rattle.reversible.specs.Reversible.{columns_first, rows_first};
-ghost use Rattle.reversible.specs.Calls.{back_answer, back_pixels, back_work};
+ghost use Rattle.reversible.specs.Calls.{has_picture, back_answer, back_pixels, back_work};
 ghost use Rattle.reversible_back.specs.Orders.{order_of};
 ghost use Rattle.reversible_back.specs.LevelLaws.{level_inverse};
 ghost use Rattle.reversible.specs.Preconditions.{LevelRoom, LevelsRoom, CallRoom};
@@ -17,7 +18,8 @@ ghost use Rattle.reversible_back.specs.FoundLaws.{IsSample, Found, TakenBack};
 ghost use Rattle.width_table.specs.Table.{max_depth};
 
 use lifting::{Kernel, Pair, Step};
-use refusals::{Outcome, Refusal};
+use refusals::Refusal;
+use slices::Part;
 
 // Elements of the line buffer of the way back: sixteen columns of MAX_SIDE.
 const TILE: usize = 16 * pictures::MAX_SIDE;
@@ -40,7 +42,7 @@ enum CopyOrder {
     RowsFirst,
 }
 
-// One level back, of a part of w columns and h rows: what was worked first is inverted last.
+// One level back, of a part of w columns and h rows: what was worked first is inverted last. Two orders of two calls: no plainer by closures.
 fn level_back(
     values: &mut [i32],
     buffer: &mut [i32],
@@ -64,72 +66,54 @@ fn level_back(
     }
 }
 
+// A copy: the depth and the levels of its picture, the picture's sides, and what its levels worked first.
+#[derive(Clone, Copy)]
+struct CopyForm {
+    pub depth: u8,
+    pub levels: u8,
+    pub w: usize,
+    pub h: usize,
+    pub first: CopyOrder,
+}
+
 // All levels back, the last one first; false where a value lies beyond MIN_VALUE or MAX_VALUE.
-fn levels_back(
-    values: &mut [i32],
-    buffer: &mut [i32],
-    w: usize,
-    h: usize,
-    levels: u8,
-    first: CopyOrder,
-) -> bool
-    requires { LevelsRoom levels w h (length values.old) (length buffer.old) }
-    ensures { BackDone (order_of first) levels w h (at values.old) (at values.new) result }
+// A question, answered by a bool as in specs: the refusal is made once, in `take_back`.
+fn levels_back(values: &mut [i32], buffer: &mut [i32], form: CopyForm) -> bool
+    requires { LevelsRoom form.levels form.w form.h (length values.old) (length buffer.old) }
+    ensures { BackDone (order_of form.first) form.levels form.w form.h (at values.old) (at values.new) result }
 {
-    let mut k = levels;
-    while 0 < k {
-        k -= 1;
-        let across = pictures::side_after(w, k);
-        let down = pictures::side_after(h, k);
-        if pictures::part_between(values, 0, w, across, down, MIN_VALUE, MAX_VALUE) {
-            level_back(values, buffer, w, across, down, first);
-        } else {
+    for k in (0..form.levels).rev() {
+        let part = Part {
+            stride: form.w,
+            from: 0,
+            w: pictures::side_after(form.w, k),
+            h: pictures::side_after(form.h, k),
+        };
+        if !pictures::part_between(values, part, MIN_VALUE, MAX_VALUE) {
             return false;
         }
+        level_back(values, buffer, part.stride, part.w, part.h, form.first);
     }
     true
 }
 
-// The first n values go to another slice.
-fn copy_front(from: &[i32], to: &mut [i32], n: usize)
-    requires { (n ≤ length from.now) × (n ≤ length to.old) }
-    ensures { at to.new ≡ patch 0 n (at from.now) (at to.old) }
-{
-    for i in 0..n {
-        to[i] = from[i];
-    }
-}
-
-// Whether n samples are those of pixels of that depth.
-fn samples_right(values: &[i32], n: usize, depth: u8) -> bool
-    requires { (1 ≤ depth) × (depth ≤ max_depth) × (n ≤ length values.now) }
-    ensures { Tells ((j : ℕ) → j < n → IsSample depth (at values.now j)) result }
+// Whether samples are those of pixels of that depth.
+fn samples_right(values: &[i32], depth: u8) -> bool
+    requires { (1 ≤ depth) × (depth ≤ max_depth) }
+    ensures { Tells ((j : ℕ) → j < length values.now → IsSample depth (at values.now j)) result }
 {
     let half = pictures::middle(depth) as i32;
-    pictures::all_between(values, 0, n, -half, half - 1)
+    pictures::all_between(values, -half, half - 1)
 }
 
 // Takes a plane back in lent values: whether it is the transform of a picture.
-fn found(
-    depth: u8,
-    levels: u8,
-    plane: &[i32],
-    w: usize,
-    h: usize,
-    values: &mut [i32],
-    buffer: &mut [i32; TILE],
-    first: CopyOrder,
-) -> bool
-    requires { CallRoom depth levels w h (length values.old) (length plane.now) (length values.old) }
-    ensures { Found (order_of first) depth levels w h plane.now (at values.new) result }
+fn found(plane: &[i32], values: &mut [i32], buffer: &mut [i32; TILE], form: CopyForm) -> bool
+    requires { CallRoom form.depth form.levels form.w form.h (length values.old) (length plane.now) (length values.old) }
+    ensures { Found (order_of form.first) form.depth form.levels form.w form.h plane.now (at values.new) result }
 {
-    let n = w * h;
-    copy_front(plane, values, n);
-    if levels_back(values, buffer, w, h, levels, first) {
-        samples_right(values, n, depth)
-    } else {
-        false
-    }
+    let n = form.w * form.h;
+    slices::copy_run(plane, 0, values, 0, n);
+    levels_back(values, buffer, form) && samples_right(&values[..n], form.depth)
 }
 
 // A sample as a pixel.
@@ -140,7 +124,8 @@ fn pixel_of(v: i32, half: i32) -> u16
     (v + half) as u16
 }
 
-// The first n samples go to the pixels and become 0.
+// The first n samples go to the pixels and become 0. By an index: of what a zip of two lent slices
+// leaves nothing is known.
 fn write_pixels(values: &mut [i32], pixels: &mut [u16], n: usize, depth: u8)
     requires le_depth { (1 ≤ depth) × (depth ≤ max_depth) × (n ≤ length values.old) × (n ≤ length pixels.old) }
     requires by_index { (j : ℕ) → j < n → IsSample depth (at values.old j) }
@@ -154,59 +139,51 @@ fn write_pixels(values: &mut [i32], pixels: &mut [u16], n: usize, depth: u8)
     }
 }
 
-// What a call back does that is allowed: whether there is a picture, its pixels, and the work area cleared.
+// What a call back does that is allowed: refusal 11, the pixels of a picture, and the work area cleared.
 fn take_back(
-    depth: u8,
-    levels: u8,
+    form: CopyForm,
     plane: &[i32],
-    w: usize,
-    h: usize,
     pixels: &mut [u16],
     work: &mut [i32],
     buffer: &mut [i32; TILE],
-    first: CopyOrder,
-) -> bool
-    requires { CallRoom depth levels w h (length pixels.old) (length plane.now) (length work.old) }
-    ensures taken_back { TakenBack (order_of first) depth levels w h plane.now pixels.old pixels.new result }
-    ensures work_after { work.new ≡ zeroed (w * h) work.old }
+) -> Result<(), Refusal>
+    requires { CallRoom form.depth form.levels form.w form.h (length pixels.old) (length plane.now) (length work.old) }
+    ensures answer { told result ≡ asks (has_picture (order_of form.first) form.depth form.levels form.w form.h plane.now) 11 passed }
+    ensures taken_back { TakenBack (order_of form.first) form.depth form.levels form.w form.h plane.now pixels.old pixels.new (has_picture (order_of form.first) form.depth form.levels form.w form.h plane.now) }
+    ensures work_after { work.new ≡ zeroed (form.w * form.h) work.old }
 {
-    let n = w * h;
-    if found(depth, levels, plane, w, h, &mut work[..n], buffer, first) {
-        write_pixels(work, pixels, n, depth);
-        true
-    } else {
+    let n = form.w * form.h;
+    if !found(plane, &mut work[..n], buffer, form) {
         slices::clear(work, n);
-        false
+        return Err(Refusal::NoPicture);
     }
+    write_pixels(work, pixels, n, form.depth);
+    Ok(())
 }
 
 // The picture of a plane whose levels were worked in an order: refusals 4, 8, 9 and 11. The first w * h elements of the work area become
 // 0, with 11 too. The line buffer is made before anything is judged (docs/DECISIONS.md, the compiler's back end).
 fn back_in(
-    depth: u8,
-    levels: u8,
+    form: CopyForm,
     plane: &[i32],
-    w: usize,
-    h: usize,
     pixels: &mut [u16],
     work: &mut [i32],
-    first: CopyOrder,
-) -> Outcome
-    ensures answer { told result ≡ back_answer (order_of first) depth levels w h plane.now pixels.old work.old }
-    ensures pixels { pixels.new ≡ back_pixels (order_of first) depth levels w h plane.now pixels.old work.old }
-    ensures work { work.new ≡ back_work depth levels w h plane.now pixels.old work.old }
+) -> Result<(), Refusal>
+    ensures answer { told result ≡ back_answer (order_of form.first) form.depth form.levels form.w form.h plane.now pixels.old work.old }
+    ensures pixels { pixels.new ≡ back_pixels (order_of form.first) form.depth form.levels form.w form.h plane.now pixels.old work.old }
+    ensures work { work.new ≡ back_work form.depth form.levels form.w form.h plane.now pixels.old work.old }
 {
     let mut buffer = [0i32; TILE];
-    match reversible::allowed(depth, levels, w, h, pixels.len(), plane.len(), work.len()) {
-        Outcome::Refused(why) => Outcome::Refused(why),
-        Outcome::Done => {
-            if take_back(depth, levels, plane, w, h, pixels, work, &mut buffer, first) {
-                Outcome::Done
-            } else {
-                Outcome::Refused(Refusal::NoPicture)
-            }
-        }
-    }
+    reversible::allowed(
+        form.depth,
+        form.levels,
+        form.w,
+        form.h,
+        pixels.len(),
+        plane.len(),
+        work.len(),
+    )?;
+    take_back(form, plane, pixels, work, &mut buffer)
 }
 
 // The picture of a copy that `forward` made.
@@ -218,21 +195,19 @@ pub fn back(
     h: usize,
     pixels: &mut [u16],
     work: &mut [i32],
-) -> Outcome
+) -> Result<(), Refusal>
     ensures answer { told result ≡ back_answer columns_first depth levels w h plane.now pixels.old work.old }
     ensures pixels { pixels.new ≡ back_pixels columns_first depth levels w h plane.now pixels.old work.old }
     ensures work { work.new ≡ back_work depth levels w h plane.now pixels.old work.old }
 {
-    back_in(
+    let form = CopyForm {
         depth,
         levels,
-        plane,
         w,
         h,
-        pixels,
-        work,
-        CopyOrder::ColumnsFirst,
-    )
+        first: CopyOrder::ColumnsFirst,
+    };
+    back_in(form, plane, pixels, work)
 }
 
 // The picture of a copy made earlier, whose levels were worked rows first.
@@ -244,19 +219,17 @@ pub fn back_rows_first(
     h: usize,
     pixels: &mut [u16],
     work: &mut [i32],
-) -> Outcome
+) -> Result<(), Refusal>
     ensures answer { told result ≡ back_answer rows_first depth levels w h plane.now pixels.old work.old }
     ensures pixels { pixels.new ≡ back_pixels rows_first depth levels w h plane.now pixels.old work.old }
     ensures work { work.new ≡ back_work depth levels w h plane.now pixels.old work.old }
 {
-    back_in(
+    let form = CopyForm {
         depth,
         levels,
-        plane,
         w,
         h,
-        pixels,
-        work,
-        CopyOrder::RowsFirst,
-    )
+        first: CopyOrder::RowsFirst,
+    };
+    back_in(form, plane, pixels, work)
 }

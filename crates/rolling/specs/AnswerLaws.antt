@@ -1,8 +1,8 @@
 -- For the code: what the answers of the calls say of the rules that led to them, and the answer by the rule that does not hold.
-use Rattle.std.specs.Prelude.{ℕ, ◌*◌, ◌<◌, ◌≤◌, Bool, ◌&&◌, ◌||◌, List, [], ◌≡◌, refl, length, ℤ}
+use Rattle.std.specs.Prelude.{ℕ, ◌*◌, ◌<◌, ◌≤◌, Bool, ◌&&◌, ◌||◌, ◌⊎◌, List, [], ◌≡◌, refl, length, ℤ}
 use Rattle.std.proofs.Math.Bool.{true, false, not, cond}
 use Rattle.std.proofs.Math.Path.{sym, ap}
-use Rattle.std.proofs.Common.{◌∙◌, subst, arith}
+use Rattle.std.proofs.Common.{◌∙◌, subst, arith, inl, inr}
 use Rattle.std.proofs.Math.Dec.{T, eqb, eqb→eq, eqb_refl}
 use Rattle.numbers.specs.Tests.{is_true, both, left_false, right_false}
 use Rattle.refusals.specs.Answers.{Reason, Answer, done, refused, passed, asks, ◌then◌, answered}
@@ -13,14 +13,14 @@ use Rattle.pictures.specs.PictureLaws.{side_is, side_right_lem, holds_done, hold
 use Rattle.pictures.specs.PixelLaws.{slice_short}
 use Rattle.precision.specs.Verdict.{verdict, Accepted, IsLevel}
 use Rattle.rolling_lines.specs.declared.Taken.{Taken}
-use Rattle.rolling_lines.specs.declared.Taken.TheVariants.{Zero}
 use Rattle.rolling.specs.declared.Scan.{Scan}
 use Rattle.rolling_lines.specs.Schedule.{next, any_taken, line_gives, end_gives}
-use Rattle.rolling.specs.Calls.{begin_answer, scan_of, line_width_right, goes_on, line_answer_of, line_answer, worked_row, given_by_line, scan_after, LineLeft, LineCall, end_answer_of, end_answer, given_by_end, scan_ended, EndLeft, EndCall}
+use Rattle.rolling.specs.Calls.{begin_answer, line_width_right, goes_on, line_answer_of, line_answer, worked_row, given_by_line, scan_after, LineLeft, LineCall, end_answer_of, end_answer, given_by_end, scan_ended, EndLeft, EndCall, scan_of}
 use Rattle.rolling_lines.specs.LentLines.{held_lines, out_lines, held_in}
 use Rattle.rolling_lines.specs.Memory.{Lent}
 use Rattle.rolling_lines.specs.Rows.{LineRight, row_of}
 use Rattle.rolling_lines.specs.Worked.{LineWorked, EndWorked}
+use Rattle.rolling_lines.specs.declared.Taken.TheVariants.{Zero}
 
 -- ---- tests
 
@@ -164,6 +164,11 @@ module _ (s : Scan) where
     on_unset i = width_unset s.taken s.width tests.1 i
 
 -- ---- the answer of a line, by lengths
+
+-- a line has its turn where it is the first one, or has the scan's width
+pub in_turn : (s : Scan) (w : ℕ) {b : Bool} → b ≡ any_taken s.taken → ((b ≡ true) × (w ≡ s.width)) ⊎ (b ≡ false) → not (any_taken s.taken) || eqb w s.width ≡ true
+in_turn s w e (inl (some, same)) = asked_right _ _ (eqb_true w s.width same)
+in_turn s w e (inr none) = unasked _ _ (sym e ∙ none)
 
 module _ (s : Scan) (pixels : List ℕ) (w held out : ℕ) where
   abbrev in_turn_lem : Bool

@@ -1,5 +1,5 @@
 -- For the code: what is held is sound where it is in the row-low columns, which stand first, and in the row-high ones. Looks over lines of
--- them tell whether it is (`last_tells`, `both_sound`). Zeros are sound (`zeros_sound`).
+-- them tell whether it is (`columns_tell`, `last_tells`, `both_sound`). Zeros are sound (`zeros_sound`).
 use Rattle.std.specs.Prelude.{ℕ, zero, suc, ◌+◌, ◌*◌, ◌-◌, ◌<◌, ◌≤◌, Bool, true, false, List, ◌≡◌, T, length, drop, replicate, ℤ, pos}
 use Rattle.std.proofs.Common.{sym, ◌∙◌, ap, drop-drop, length-take-le, lt-ltb, le-ltb}
 use Rattle.std.proofs.Math.Path.{subst}
@@ -46,6 +46,13 @@ module _ (m : ℕ → ℤ) (w from n lines f : ℕ) (r : Bool) where
 was_true : {P : Type 0} {r : Bool} → Tells P r → r ≡ true → P
 was_true look e = look.holds (subst T (sym e) tt)
 
+-- one look, and another where that one finds nothing
+pub tells_next : {A B : Type 0} {a b v : Bool} → Tells A a → a ≡ true → Tells B b → v ≡ b → Tells (A × B) v
+tells_next {A} {B} x e y is = subst (Tells (A × B)) (sym is) (record { holds = λ q. (was_true x e, y.holds q); told = λ s. y.told s.1 })
+
+pub tells_stop : {A B : Type 0} {a v : Bool} → Tells A a → a ≡ false → v ≡ a → Tells (A × B) v
+tells_stop {A} {B} x e is = subst (Tells (A × B)) (sym (is ∙ e)) (record { holds = λ q. absurd q; told = λ s. subst T e (x.told s.0) })
+
 -- ---- looks over the columns of a pass
 
 -- lines from line k on lie in what is lent
@@ -85,8 +92,20 @@ module _ (t : WidthTable) (p : Pass) (w from n : ℕ) (m : ℕ → ℤ) where
   pub no_u1 : (g : ℕ) → g ≡ fraction_bits t 1 p U1 → (r : Bool) → Tells (FiveIn m w (3 * w + from) n 1 g) r → r ≡ false → Tells (ColumnsSound t p w from n m) false
   no_u1 g e r look l = other r look l (λ s. look_of 3 (fraction_bits t 1 p U1) g e s.u1)
 
-  -- the last look, after three that found none
+  -- four looks, one after the other
   module _ (a b c d : ℕ) (ea : a ≡ input_bits t 1 p) (eb : b ≡ fraction_bits t 1 p P1) (ec : c ≡ fraction_bits t 1 p U1) (ed : d ≡ fraction_bits t 1 p P2) where
+    pub columns_tell : {r : Bool} → Tells (((FiveIn m w from n 2 a × FiveIn m w (2 * w + from) n 1 b) × FiveIn m w (3 * w + from) n 1 c) × FiveIn m w (4 * w + from) n 1 d) r → Tells (ColumnsSound t p w from n m) r
+    columns_tell look = record {
+      holds = λ q. let (((in_a, in_b), in_c), in_d) = look.holds q in record {
+        low = entered a ea in_a 0 (omega arith);
+        high = entered a ea in_a 1 (omega arith);
+        p1 = of_look 2 _ b eb in_b;
+        u1 = of_look 3 _ c ec in_c;
+        p2 = of_look 4 _ d ed in_d;
+      };
+      told = λ s. look.told (((entering a ea s, look_of 2 _ b eb s.p1), look_of 3 _ c ec s.u1), look_of 4 _ d ed s.p2);
+    }
+
     pub last_tells : (x y z r : Bool) → Tells (FiveIn m w from n 2 a) x → x ≡ true → Tells (FiveIn m w (2 * w + from) n 1 b) y → y ≡ true → Tells (FiveIn m w (3 * w + from) n 1 c) z → z ≡ true
         → Tells (FiveIn m w (4 * w + from) n 1 d) r → Tells (ColumnsSound t p w from n m) r
     last_tells x y z r in-a ex in_b ey in_c ez look = record {

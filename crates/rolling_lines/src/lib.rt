@@ -15,15 +15,15 @@ ghost use Rattle.rolling_lines.specs.LentLines.{held_lines, out_lines, held_in, 
 ghost use Rattle.rolling_lines.specs.Memory.{line_in, set_line, moved, staged, SafeStage, scaled_line, SafeScaling, Lent, Apart};
 ghost use Rattle.rolling_lines.specs.Rows.{LineRight, row_of};
 ghost use Rattle.rolling_lines.specs.Worked.{HeldWorked, LineWorked, Later, LowReady, EndWorked};
-ghost use Rattle.rolling_lines.specs.Schedule.{line_gives, end_gives};
+ghost use Rattle.rolling_lines.specs.Schedule.{next, any_taken, line_gives, end_gives};
 ghost use Rattle.pictures.specs.Pictures.{Admitted};
 
-use fixed_stages::Stages;
-use lifting::{Factor, Step};
+use lifting::{Factor, Step, TwoPairs};
+use slices::Part;
 use width_table::WidthTable;
 
 // How many lines a scan has taken, as far as it matters: from five on, whether the number is odd or even.
-#[derive(Clone, Copy)]
+#[derive(Clone, Copy, PartialEq, Eq)]
 pub enum Taken {
     Zero,
     One,
@@ -34,19 +34,39 @@ pub enum Taken {
     EvenMany,
 }
 
+impl Taken {
+    // One line more.
+    pub fn next(self) -> Taken
+        ensures { result ≡ next self }
+    {
+        match self {
+            Taken::Zero => Taken::One,
+            Taken::One => Taken::Two,
+            Taken::Two => Taken::Three,
+            Taken::Three => Taken::Four,
+            Taken::Four | Taken::EvenMany => Taken::OddMany,
+            Taken::OddMany => Taken::EvenMany,
+        }
+    }
+
+    // Whether any line was taken.
+    pub fn any(self) -> bool
+        ensures { result ≡ any_taken self }
+    {
+        self != Taken::Zero
+    }
+}
+
 // ---- lines in memory
+// (`Lent` is said of the slice in each contract: a ghost field beside a `&mut` is little covered, and the laws speak of the slice.)
 
 // Line `to` becomes line `from`.
 fn move_line(held: &mut [i32], w: usize, to: usize, from: usize)
-    requires { Lent held.old w × Apart to from }
+    requires { Lent held.old w × (to < held_lines) × (from < held_lines) }
     ensures { at held.new ≡ moved w to from (at held.old) }
 {
-    let t = to * w;
     let f = from * w;
-    for j in 0..w {
-        let v = held[f + j];
-        held[t + j] = v;
-    }
+    held.copy_within(f..f + w, to * w);
 }
 
 // A stage on line `own`, with lines a and b beside it: `low` in the row-low columns, which stand first, `high` in the row-high ones.
@@ -106,11 +126,7 @@ fn row_to(table: WidthTable, pixels: &[u16], w: usize, held: &mut [i32], line: u
     }
     let middle = pictures::middle(table.depth);
     let stages = fixed_stages::stages_of(table, 1, WidthTable::ROWS);
-    let first = stages.first;
-    let second = stages.second;
-    let low = stages.low;
-    let high = stages.high;
-    lifting::pixel_line(pixels, middle, held, line * w, w, first, second, low, high);
+    lifting::pixel_line(pixels, middle, held, line * w, w, stages);
 }
 
 // ---- what is held
@@ -120,7 +136,13 @@ fn five_bits(held: &[i32], w: usize, from: usize, n: usize, lines: usize, bits: 
     requires { (bits ≤ max_fraction_bits) × ((i : ℕ) → i < lines → line_at from w i + n ≤ length held.now) }
     ensures { Tells ((i : ℕ) → i < lines → (j : ℕ) → j < n → FiveBits bits (at held.now (line_at from w i + j))) result }
 {
-    pictures::part_of_bits(held, from, w, n, lines, bits + 4)
+    let part = Part {
+        stride: w,
+        from,
+        w: n,
+        h: lines,
+    };
+    pictures::part_of_bits(held, part, bits + 4)
 }
 
 // Whether what is held in the n columns from column `from` on, which go by a pass, is sound.
@@ -129,19 +151,13 @@ fn columns_sound(table: WidthTable, held: &[i32], w: usize, from: usize, n: usiz
     ensures { Tells (ColumnsSound table (pass_of pass) w from n (at held.now)) result }
 {
     let enters = table.input_bits(1, pass);
-    if five_bits(held, w, from, n, 2, enters) {} else {
-        return false;
-    }
     let p1 = table.fraction_bits(1, pass, WidthTable::P1);
-    if five_bits(held, w, 2 * w + from, n, 1, p1) {} else {
-        return false;
-    }
     let u1 = table.fraction_bits(1, pass, WidthTable::U1);
-    if five_bits(held, w, 3 * w + from, n, 1, u1) {} else {
-        return false;
-    }
     let p2 = table.fraction_bits(1, pass, WidthTable::P2);
-    five_bits(held, w, 4 * w + from, n, 1, p2)
+    five_bits(held, w, from, n, 2, enters)
+        && five_bits(held, w, 2 * w + from, n, 1, p1)
+        && five_bits(held, w, 3 * w + from, n, 1, u1)
+        && five_bits(held, w, 4 * w + from, n, 1, p2)
 }
 
 // Makes sure that what is held is sound: memory that no scan left may hold anything, and becomes zeros.
@@ -152,22 +168,23 @@ fn make_sound(table: WidthTable, held: &mut [i32], w: usize)
     ensures past { KeptFrom (held_lines * w) held.old held.new }
 {
     let half = (w + 1) / 2;
-    if columns_sound(table, held, w, 0, half, WidthTable::LOW_COLUMNS) {
-        if columns_sound(table, held, w, half, w / 2, WidthTable::HIGH_COLUMNS) {
-            return;
-        }
+    if columns_sound(table, held, w, 0, half, WidthTable::LOW_COLUMNS)
+        && columns_sound(table, held, w, half, w / 2, WidthTable::HIGH_COLUMNS)
+    {
+        return;
     }
     slices::clear(held, 5 * w);
 }
 
 // ---- the stages of the columns
 
-// A table of one level, and its stages in row-low and in row-high columns.
+// A table of one level, and its stages in row-low and in row-high columns. (`AsColumns` is no ghost field: when a step is safe is said by
+// cases, and a ghost field takes a proposition alone.)
 #[derive(Clone, Copy)]
 struct Columns {
     table: WidthTable,
-    low: Stages,
-    high: Stages,
+    low: TwoPairs,
+    high: TwoPairs,
 }
 
 // The stages of the columns under a table.
@@ -188,17 +205,10 @@ fn first_stages(columns: Columns, held: &mut [i32], w: usize, before: usize)
     requires { Lent held.old w × AsColumns columns × FirstFits columns.table w before (at held.old) }
     ensures { at held.new ≡ first_done columns.table w before (at held.old) }
 {
-    let low = columns.low;
-    let high = columns.high;
-    let low_pair = low.first;
-    let high_pair = high.first;
-    let low_p1 = low_pair.highs;
-    let high_p1 = high_pair.highs;
-    let low_u1 = low_pair.lows;
-    let high_u1 = high_pair.lows;
+    let (low, high) = (columns.low.first, columns.high.first);
     move_line(held, w, 6, 1);
-    stage_line(held, w, 6, 0, 5, low_p1, high_p1);
-    stage_line(held, w, 0, before, 6, low_u1, high_u1);
+    stage_line(held, w, 6, 0, 5, low.highs, high.highs);
+    stage_line(held, w, 0, before, 6, low.lows, high.lows);
 }
 
 // P2 and U2 of the lines before those: the U1 after is in line `after`, the P2 before in line 4 or, of the first line, the new one in
@@ -207,16 +217,9 @@ fn second_stages(columns: Columns, held: &mut [i32], w: usize, after: usize, bef
     requires { Lent held.old w × AsColumns columns × SecondFits columns.table w after before (at held.old) }
     ensures { at held.new ≡ second_done columns.table w after before (at held.old) }
 {
-    let low = columns.low;
-    let high = columns.high;
-    let low_pair = low.second;
-    let high_pair = high.second;
-    let low_p2 = low_pair.highs;
-    let high_p2 = high_pair.highs;
-    let low_u2 = low_pair.lows;
-    let high_u2 = high_pair.lows;
-    stage_line(held, w, 2, 3, after, low_p2, high_p2);
-    stage_line(held, w, 3, before, 2, low_u2, high_u2);
+    let (low, high) = (columns.low.second, columns.high.second);
+    stage_line(held, w, 2, 3, after, low.highs, high.highs);
+    stage_line(held, w, 3, before, 2, low.lows, high.lows);
 }
 
 // A low line and a high line go out, to lines `place` and `place` + 1.
@@ -224,14 +227,9 @@ fn give_two(columns: Columns, held: &[i32], out: &mut [i32], w: usize, place: us
     requires { Lent held.now w × AsColumns columns × GiveFits columns.table w (at held.now) × (place + 2 ≤ out_lines) × (out_lines * w ≤ length out.old) }
     ensures { at out.new ≡ two_given columns.table w place (at held.now) (at out.old) }
 {
-    let low = columns.low;
-    let high = columns.high;
-    let low_g1 = low.low;
-    let high_g1 = high.low;
-    let low_g2 = low.high;
-    let high_g2 = high.high;
-    scale_line(held, w, 3, out, place, low_g1, high_g1);
-    scale_line(held, w, 2, out, place + 1, low_g2, high_g2);
+    let (low, high) = (columns.low, columns.high);
+    scale_line(held, w, 3, out, place, low.low, high.low);
+    scale_line(held, w, 2, out, place + 1, low.high, high.high);
 }
 
 // The second stages, and the two lines that they make ready go out.
@@ -325,16 +323,9 @@ fn last_given(columns: Columns, held: &mut [i32], out: &mut [i32], w: usize)
     ensures held { at held.new ≡ set_u2 columns.table w 0 2 2 (at held.old) }
     ensures out { at out.new ≡ last_given columns.table w (at held.old) (at out.old) }
 {
-    let low = columns.low;
-    let high = columns.high;
-    let low_second = low.second;
-    let high_second = high.second;
-    let low_u2 = low_second.lows;
-    let high_u2 = high_second.lows;
-    let low_g1 = low.low;
-    let high_g1 = high.low;
-    stage_line(held, w, 0, 2, 2, low_u2, high_u2);
-    scale_line(held, w, 0, out, 2, low_g1, high_g1);
+    let (low, high) = (columns.low, columns.high);
+    stage_line(held, w, 0, 2, 2, low.second.lows, high.second.lows);
+    scale_line(held, w, 0, out, 2, low.low, high.low);
 }
 
 // After an odd number of lines: the last P1 serves as the one past the last low line, and so does the last P2.
@@ -343,13 +334,8 @@ fn end_odd(columns: Columns, held: &mut [i32], out: &mut [i32], w: usize, before
     ensures held { PastSame w (at held.old) (at held.new) }
     ensures out { at out.new ≡ odd_ended columns.table w before (at held.old) (at out.old) }
 {
-    let low = columns.low;
-    let high = columns.high;
-    let low_first = low.first;
-    let high_first = high.first;
-    let low_u1 = low_first.lows;
-    let high_u1 = high_first.lows;
-    stage_line(held, w, 0, 2, 2, low_u1, high_u1);
+    let (low, high) = (columns.low.first, columns.high.first);
+    stage_line(held, w, 0, 2, 2, low.lows, high.lows);
     second_given(columns, held, out, w, 0, before, 0);
     last_given(columns, held, out, w);
 }
@@ -429,15 +415,7 @@ pub fn work_line(
             later_row(table, pixels, w, held, out, 4);
             2
         }
-        Taken::One => {
-            row_to(table, pixels, w, held, 1);
-            0
-        }
-        Taken::Three => {
-            row_to(table, pixels, w, held, 1);
-            0
-        }
-        Taken::OddMany => {
+        Taken::One | Taken::Three | Taken::OddMany => {
             row_to(table, pixels, w, held, 1);
             0
         }

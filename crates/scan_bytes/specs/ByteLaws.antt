@@ -1,5 +1,6 @@
 -- A scan that was written is read back as itself (`read_written`), and bytes from which one was read are those it is written as
 -- (`written_read`). For the code: what each case of reading and writing gives.
+use Rattle.std.specs.List.{list_all}
 use Rattle.std.specs.Prelude.{ℕ, zero, suc, ◌+◌, ◌*◌, ◌-◌, ◌/◌, ◌%◌, ◌<◌, ◌≤◌, Bool, ◌&&◌, ◌≡◌, get_or, set}
 use Rattle.std.proofs.Math.Bool.{true, false}
 use mathlib.Core.List.{List, [], ◌∷◌, ◌++◌, append_assoc}
@@ -7,10 +8,9 @@ use Rattle.std.proofs.Math.Path.{refl, sym, ap, ap₂}
 use Rattle.std.proofs.Common.{◌∙◌, subst, arith, div-add-mod', le→leb, leb→le, lt→ltb, ltb→lt, eqb→eq, get_or-append-add, take-take, take-add, le-ltb}
 use Rattle.std.proofs.Math.Dec.{T, leb, ltb, eqb}
 use Rattle.std.proofs.Math.ListN.{length, take, drop, replicate, length-append, length-drop, length-replicate, take-append-drop, get_or-append}
-use Rattle.std.proofs.lemmas.List.{replicate-append-replicate, set_at, drop-append-le}
-use Rattle.std.proofs.lemmas.List.Edits.{sets, sets-eq}
+use Rattle.std.proofs.lemmas.List.{replicate-append-replicate, drop-append-le, set_at}
 use Rattle.std.proofs.Math.Seq.{take_at, drop_at, length_front, length-take-le, drop-drop, append_snoc}
-use Rattle.numbers.specs.Lists.{over, next_one, next_two, zeros, zeros_right}
+use Rattle.numbers.specs.Lists.{over, next_two, zeros, zeros_right, next_one}
 use Rattle.numbers.specs.Tests.{every, three, four, is_true, and_intro, left_false, right_false, by_eqb}
 use Rattle.refusals.specs.Answers.{Reason, Answer, done, refused, passed, asks, answered}
 use Rattle.refusals.specs.AnswerLaws.{asks_done, gives_done, asks_right, asks_wrong, answered_done, answered_refused}
@@ -29,6 +29,7 @@ use Rattle.rolling.specs.declared.Scan.{Scan}
 use Rattle.rolling.specs.AnswerLaws.{answered_passed}
 use Rattle.std.proofs.lemmas.Bool.{lt-leb}
 use Rattle.scan_bytes.specs.ScanBytes.{table_room, scan_length, taken_number, ended_number, numbers_of, number_bytes, room_bytes, state_bytes, keepable, taken_of, table_end, scan_held, scan_right, scan_in, ended_scan, scan_read, state_after, numbers_after}
+use Rattle.std.proofs.lemmas.List.Edits.{sets, sets-eq}
 
 -- ---- what bytes can hold
 
@@ -304,7 +305,7 @@ module _ (w : ℕ) (k : Taken) (ended : Bool) (old : List ℕ) where
   numbers_wide h = sym (ap renewed (right_false (leb scan_length (length old)) (ltb w 65536) (le-ltb w 65536 (omega arith))))
 
   module _ (long : scan_length ≤ length old) (narrow : w < 65536) where
-    numbers_are : numbers_after w k ended old ≡ take table_room old ++ numbers_of w k ended ++ drop scan_length old
+    pub numbers_are : numbers_after w k ended old ≡ take table_room old ++ numbers_of w k ended ++ drop scan_length old
     unfolding numbers_after
     numbers_are =
         let b = leb scan_length (length old) && ltb w 65536 in
@@ -415,6 +416,15 @@ zero_next i old h =
     ∙ set_at (replicate i 0) (get_or old i 0) (drop (i + 1) old) 0 i (length-replicate i 0)
     ∙ sym (append_snoc (replicate i 0) 0 (drop (i + 1) old))
     ∙ ap (λ (l : List ℕ). l ++ drop (i + 1) old) (replicate-append-replicate i 1 0)
+
+pub all_zeros : (l : List ℕ) → list_all (λ n. eqb n 0) l ≡ every (eqb 0) l
+unfolding every
+all_zeros [] = refl
+all_zeros (n ∷ l) = ap₂ (λ (a b : Bool). a && b) (go n) (all_zeros l)
+  where
+    go : (n : ℕ) → eqb n 0 ≡ eqb 0 n
+    go zero = refl
+    go (suc n) = by_eqb (λ b. b ≡ eqb 0 (suc n)) (suc n) 0 (λ e. absurd (omega arith)) (λ e. by_eqb (λ b. false ≡ b) 0 (suc n) (λ f. absurd (omega arith)) (λ f. refl))
 
 -- ---- what bytes that hold a scan are
 

@@ -1,25 +1,15 @@
 // A rolling scan as bytes of the caller (include/suzdrepa.h). Definitions in specs/.
 #![tactic(auto)]
 
-ghost use Rattle.std.specs.Prelude.{◌≡◌, ◌+◌, ◌≤◌, eqb, length, get_or, replicate};
-ghost use Rattle.numbers.specs.Tests.{every};
+ghost use Rattle.std.specs.Prelude.{◌≡◌, ◌+◌, ◌≤◌, IfOk, length, get_or};
 ghost use Rattle.numbers.specs.Lists.{over};
-ghost use Rattle.refusals.specs.Answers.{refused};
-ghost use Rattle.refusals.specs.Told.{told_refusal};
-ghost use Rattle.scan_bytes.specs.ScanBytes.{table_room, scan_length, taken_number, ended_number, taken_of, keepable, held_with, table_end, scan_in, ended_scan, scan_read, state_after, numbers_after};
-ghost use Rattle.scan_bytes.specs.Told.{told_read};
+ghost use Rattle.refusals.specs.Told.{told};
+ghost use Rattle.scan_bytes.specs.ScanBytes.{table_room, scan_length, taken_number, keepable, held_with, table_end, scan_in, scan_read, state_after, numbers_after};
 
-use refusals::{Outcome, Refusal};
+use refusals::Refusal;
 use rolling::Scan;
 use rolling_lines::Taken;
 use width_table::WidthTable;
-
-// The answer of reading a scan, with the scan.
-#[derive(Clone, Copy)]
-pub struct ScanRead {
-    pub outcome: Outcome,
-    pub scan: Scan,
-}
 
 // Bytes of a table of one level without tag 5 and with it (document 02, job 7), which is a table's room; and of a scan.
 const FOUR_FIELDS: usize = 56;
@@ -28,57 +18,22 @@ const TABLE_ROOM: usize = 71;
 
 pub const SCAN_LENGTH: usize = 75;
 
-// Whether a scan has ended, as a byte.
-fn ended_number(ended: bool) -> u8
-    ensures { result ≡ ended_number ended }
-{
-    if ended { 1 } else { 0 }
-}
+// Lines taken, by their number. (Not `TryFrom`: an impl of a library's trait stands beside the type, and rolling_lines knows no bytes.)
+const TAKEN: [Taken; 7] = [
+    Taken::Zero,
+    Taken::One,
+    Taken::Two,
+    Taken::Three,
+    Taken::Four,
+    Taken::OddMany,
+    Taken::EvenMany,
+];
 
-// A number of lines taken as a byte, and back.
+// The number of lines taken.
 fn taken_number(taken: Taken) -> u8
     ensures { result ≡ taken_number taken }
 {
-    match taken {
-        Taken::Zero => 0,
-        Taken::One => 1,
-        Taken::Two => 2,
-        Taken::Three => 3,
-        Taken::Four => 4,
-        Taken::OddMany => 5,
-        Taken::EvenMany => 6,
-    }
-}
-
-fn taken_of(number: u8) -> Taken
-    requires { number ≤ 6 }
-    ensures { result ≡ taken_of number }
-{
-    match number {
-        0 => Taken::Zero,
-        1 => Taken::One,
-        2 => Taken::Two,
-        3 => Taken::Three,
-        4 => Taken::Four,
-        5 => Taken::OddMany,
-        _ => Taken::EvenMany,
-    }
-}
-
-// Bytes that hold no scan.
-fn not_read(why: Refusal) -> ScanRead
-    ensures answer { told_read result ≡ refused (told_refusal why) }
-    ensures scan { result.scan ≡ ended_scan }
-{
-    ScanRead {
-        outcome: Outcome::Refused(why),
-        scan: Scan {
-            table: table_bytes::empty(),
-            width: 0,
-            taken: Taken::Zero,
-            ended: true,
-        },
-    }
+    taken as u8
 }
 
 // The scan that right bytes hold, with the table that was read from them.
@@ -89,7 +44,7 @@ fn scan_held(table: WidthTable, state: &[u8]) -> Scan
     Scan {
         table,
         width: numbers::two(state[TABLE_ROOM], state[TABLE_ROOM + 1]) as usize,
-        taken: taken_of(state[TABLE_ROOM + 2]),
+        taken: TAKEN[state[TABLE_ROOM + 2] as usize],
         ended: state[TABLE_ROOM + 3] == 1,
     }
 }
@@ -105,101 +60,64 @@ fn table_end(state: &[u8]) -> usize
     FOUR_FIELDS
 }
 
-// Whether bytes are zeros.
-fn all_zeros(bytes: &[u8]) -> bool
-    ensures { result ≡ every (eqb 0) bytes.now }
-{
-    for i in 0..bytes.len() {
-        if bytes[i] != 0 {
-            return false;
-        }
-    }
-    true
-}
-
 // The scan that bytes hold: 9, 14.
-pub fn read(state: &[u8]) -> ScanRead
-    ensures answer { told_read result ≡ scan_in state.now }
-    ensures scan { result.scan ≡ scan_read state.now }
+#[tactic(auto, unfolding(crate::specs::ScanBytes::scan_in, crate::specs::ScanBytes::scan_read, crate::specs::ScanBytes::scan_right))]
+pub fn read(state: &[u8]) -> Result<Scan, Refusal>
+    ensures answer { told result ≡ scan_in state.now }
+    ensures scan { IfOk result (λ s. s ≡ scan_read state.now) }
 {
     if state.len() < SCAN_LENGTH {
-        return not_read(Refusal::SliceTooShort);
+        return Err(Refusal::SliceTooShort);
     }
-    if 6 < state[TABLE_ROOM + 2] {
-        return not_read(Refusal::OutOfTurn);
-    }
-    if 1 < state[TABLE_ROOM + 3] {
-        return not_read(Refusal::OutOfTurn);
+    if 6 < state[TABLE_ROOM + 2] || 1 < state[TABLE_ROOM + 3] {
+        return Err(Refusal::OutOfTurn);
     }
     let end = table_end(state);
-    if all_zeros(&state[end..TABLE_ROOM]) {} else {
-        return not_read(Refusal::OutOfTurn);
+    if !state[end..TABLE_ROOM].iter().all(|byte| *byte == 0) {
+        return Err(Refusal::OutOfTurn);
     }
-    let read = table_bytes::read(&state[..end]);
-    let outcome = read.outcome;
-    match outcome {
-        Outcome::Refused(_) => not_read(Refusal::OutOfTurn),
-        Outcome::Done => ScanRead {
-            outcome: Outcome::Done,
-            scan: scan_held(read.table, state),
-        },
-    }
+    let Ok(table) = table_bytes::read(&state[..end]) else {
+        return Err(Refusal::OutOfTurn);
+    };
+    Ok(scan_held(table, state))
 }
 
 // Whether bytes can hold a scan.
+#[tactic(auto, unfolding(crate::specs::ScanBytes::keepable))]
 fn keepable(scan: Scan) -> bool
     ensures { result ≡ keepable scan }
 {
-    let table = scan.table;
-    if table.form_right() {} else {
-        return false;
-    }
-    if table.levels == 1 {} else {
-        return false;
-    }
-    scan.width < 65536
+    scan.table.form_right() && scan.table.levels == 1 && scan.width < 65536
 }
 
 // Writes a scan's numbers after the table's bytes that stand there, where there is room for a scan and two bytes hold the width.
+#[tactic(auto, unfolding(crate::specs::ScanBytes::numbers_after))]
 pub fn renew(width: usize, taken: Taken, ended: bool, state: &mut [u8])
     ensures { state.new ≡ numbers_after width taken ended state.old }
 {
-    if state.len() < SCAN_LENGTH {
+    if state.len() < SCAN_LENGTH || 65535 < width {
         return;
     }
-    if 65535 < width {
-        return;
-    }
-    state[TABLE_ROOM] = (width / 256) as u8;
-    state[TABLE_ROOM + 1] = (width % 256) as u8;
-    state[TABLE_ROOM + 2] = taken_number(taken);
-    state[TABLE_ROOM + 3] = ended_number(ended);
-}
-
-// Writes zeros over the front of the caller's bytes.
-fn put_zeros(n: usize, state: &mut [u8])
-    requires { n ≤ length state.old }
-    ensures { state.new ≡ over (replicate n 0) state.old }
-{
-    for i in 0..n {
-        state[i] = 0;
-    }
+    let [high, low] = (width as u16).to_be_bytes();
+    state[TABLE_ROOM..SCAN_LENGTH].copy_from_slice(&[
+        high,
+        low,
+        taken_number(taken),
+        u8::from(ended),
+    ]);
 }
 
 // Writes a scan over the front of the caller's bytes, where they have room for it and can hold it: the table's bytes over zeros in
 // their room, then the numbers.
+#[tactic(auto, unfolding(crate::specs::ScanBytes::state_after))]
 pub fn write(scan: Scan, state: &mut [u8])
     ensures { state.new ≡ state_after scan state.old }
 {
-    if keepable(scan) {} else {
+    if !keepable(scan) || state.len() < SCAN_LENGTH {
         return;
     }
-    if state.len() < SCAN_LENGTH {
-        return;
-    }
-    put_zeros(TABLE_ROOM, state);
-    let table = scan.table;
-    table_bytes::write(table, state);
-    let taken = scan.taken;
-    renew(scan.width, taken, scan.ended, state);
+    state[..TABLE_ROOM].fill(0);
+    // it has the right form, and room
+    let _ = table_bytes::write(scan.table, state);
+    renew(scan.width, scan.taken, scan.ended, state);
 }

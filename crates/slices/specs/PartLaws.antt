@@ -42,13 +42,17 @@ row_patch pass b w y = lines_ext (line_at b 1) 1 _ _ y w (λ i j p g. ap (λ (c 
 
 -- ---- row by row: the first r rows are done, and row r is as it was
 
-module _ (stride w r b : ℕ) (narrow : w ≤ stride) (new : ℕ → ℕ → ℤ) (x y : ℕ → ℤ) (is : y ≡ patch_lines (line_at 0 stride) w r new x) (start : b ≡ line_at 0 stride r) where
-  pub row_kept : (λ i. y (b + i)) ≡ row_of stride 0 x r
-  row_kept = fun_ext λ i. ap (λ (k : ℕ). y (k + i)) start ∙ ap (λ (g : ℕ → ℤ). g (line_at 0 stride r + i)) is
-      ∙ lines_out (line_at 0 stride) w new x r _ (λ u v a g e. omega (arith, mul-le-mul_right {m = suc u} {n = r} stride (omega arith)))
+module _ (stride from w r b : ℕ) (narrow : w ≤ stride) (new : ℕ → ℕ → ℤ) (x y : ℕ → ℤ) (is : y ≡ patch_lines (line_at from stride) w r new x) (start : b ≡ line_at from stride r) where
+  pub part_row_kept : (λ i. y (b + i)) ≡ row_of stride from x r
+  part_row_kept = fun_ext λ i. ap (λ (k : ℕ). y (k + i)) start ∙ ap (λ (g : ℕ → ℤ). g (line_at from stride r + i)) is
+      ∙ lines_out (line_at from stride) w new x r _ (λ u v a g e. omega (arith, mul-le-mul_right {m = suc u} {n = r} stride (omega arith)))
 
-  pub row_as_was : column_of 1 b y 0 ≡ row_of stride 0 x r
-  row_as_was = row_column b 0 y (omega arith) ∙ row_kept
+  pub row_as_was : column_of 1 b y 0 ≡ row_of stride from x r
+  row_as_was = row_column b 0 y (omega arith) ∙ part_row_kept
+
+-- the same from column 0 on
+pub row_kept : (stride w r b : ℕ) → w ≤ stride → (new : ℕ → ℕ → ℤ) (x y : ℕ → ℤ) → y ≡ patch_lines (line_at 0 stride) w r new x → b ≡ line_at 0 stride r → (λ i. y (b + i)) ≡ row_of stride 0 x r
+row_kept stride w r b = part_row_kept stride 0 w r b
 
 -- a row put into the plane, value by value
 pub row_put : (stride w r b : ℕ) (new : ℕ → ℕ → ℤ) (row x y z : ℕ → ℤ) → y ≡ patch_lines (line_at 0 stride) w r new x → b ≡ line_at 0 stride r
@@ -63,8 +67,12 @@ row_next pass stride w r b narrow x y z is start e = lines_more (line_at 0 strid
     (e ∙ ap (λ (k : ℕ). patch k w (pass w (λ i. y (b + i))) y) start)
     (λ j h. ap (λ (c : ℕ → ℤ). pass w c j) (row_kept stride w r b narrow _ x y is start))
 
-pub row_done : (pass : LineFunction) (stride w r b : ℕ) → w ≤ stride → (x y z : ℕ → ℤ) → y ≡ rows_by pass stride w r x → b ≡ line_at 0 stride r → z ≡ columns_by pass 1 b 1 w y → z ≡ rows_by pass stride w (r + 1) x
-row_done pass stride w r b narrow x y z is start e = row_next pass stride w r b narrow x y z is start (e ∙ row_patch pass b w y)
+-- a row more of a part, by a pass over it as a column
+pub row_done : (pass : LineFunction) (stride from w r b : ℕ) → w ≤ stride → (x y z : ℕ → ℤ) → y ≡ patch_lines (line_at from stride) w r (λ i. pass w (row_of stride from x i)) x → b ≡ line_at from stride r
+    → z ≡ columns_by pass 1 b 1 w y → z ≡ patch_lines (line_at from stride) w (r + 1) (λ i. pass w (row_of stride from x i)) x
+row_done pass stride from w r b narrow x y z is start e = lines_more (line_at from stride) w _ x r y z (pass w (λ i. y (b + i))) is
+    (e ∙ row_patch pass b w y ∙ ap (λ (k : ℕ). patch k w (pass w (λ i. y (b + i))) y) start)
+    (λ j h. ap (λ (c : ℕ → ℤ). pass w c j) (part_row_kept stride from w r b narrow _ x y is start))
 
 -- ---- strip by strip: the first d columns are done, and the next s are as they were
 

@@ -4,7 +4,7 @@
 --   Fields     the fields of the bytes, one list: lengths, places and bytes follow from it
 --   Bytes      reading (refusals 1 to 5) and writing (4, 9)
 --   Names      naming a tag (2, then 1 to 5, then 2 for tag 5 where there is none)
---   Told       what the code's answers of writing and naming say
+--   Tags       the code's tags, by their numbers
 -- Proved of them:
 --   BytesLaws  fields and the whole form taken apart, and the values of tags
 --   RoundTrip  read and written, written and read; what a write leaves
@@ -13,7 +13,7 @@
 pub mod Fields
 pub mod Bytes
 pub mod Names
-pub mod Told
+pub mod Tags
 pub mod BytesLaws
 pub mod ReadLaws
 pub mod NameLaws

@@ -165,6 +165,7 @@ module _ (L : ℕ) where
   pub start_next : (tag : ℕ) → IsTag tag → Next tag
   start_next = by_tag Next (λ i. refl) (λ i. refl) (λ i. refl) (λ i. omega arith) (λ i. absurd (omega arith))
 
+  -- a value starts after its own head
   pub start_after_lem : (tag : ℕ) → IsTag tag → value_start L tag - head_bytes + head_bytes ≡ value_start L tag
   start_after_lem = by_tag (λ (tag : ℕ). value_start L tag - head_bytes + head_bytes ≡ value_start L tag) refl refl refl refl (omega arith)
 

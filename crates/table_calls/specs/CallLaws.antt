@@ -1,9 +1,7 @@
 -- Calls that take a width table as its bytes, by what reading the bytes gave: a refusal, or the table.
-use Rattle.std.specs.Prelude.{ℕ, List, ◌≡◌, refl}
-use Rattle.std.proofs.Common.{sym, ◌∙◌, ap}
+use Rattle.std.specs.Prelude.{ℕ, List, ◌≡◌, refl, Result, Ok, Err, IfOk}
+use Rattle.std.proofs.Common.{sym, ◌∙◌, ap, subst}
 use Rattle.refusals.specs.declared.Refusal.{Refusal}
-use Rattle.refusals.specs.declared.Outcome.{Outcome}
-use Rattle.refusals.specs.declared.Outcome.TheVariants.{Done, Refused}
 use Rattle.refusals.specs.Answers.{Answer, done, refused, passed, ◌then◌, answered}
 use Rattle.refusals.specs.AnswerLaws.{then_right, then_refused, answered_done, answered_refused}
 use Rattle.refusals.specs.Told.{told_refusal, told}
@@ -17,12 +15,12 @@ answered_twice : {A : Type 0} (o : Answer Unit) (x none old : A) → answered o 
 answered_twice (done tt) x none old = refl
 answered_twice (refused r) x none old = refl
 
--- what reading promises of its outcome and of its table
-module _ (bytes : List ℕ) {o : Outcome} {held : WidthTable} (reads : (told o ≡ form bytes) × (held ≡ table_read bytes)) where
+-- what reading promises of its answer and of its table
+module _ (bytes : List ℕ) {o : Result WidthTable Refusal} (reads : (told o then passed ≡ form bytes) × IfOk o (λ t. t ≡ table_read bytes)) where
   -- the bytes are refused: so is any call, and what is lent stays as it was
-  module _ {why : Refusal} (e : o ≡ Refused why) where
+  module _ {why : Refusal} (e : o ≡ Err why) where
     form_refused : form bytes ≡ refused (told_refusal why)
-    form_refused = sym reads.0 ∙ ap told e
+    form_refused = sym reads.0 ∙ ap (λ (r : Result WidthTable Refusal). told r then passed) e
 
     pub unread : (own : Answer Unit) → refused (told_refusal why) ≡ form bytes then own
     unread own = sym (then_refused (form bytes) own (told_refusal why) form_refused)
@@ -35,12 +33,12 @@ module _ (bytes : List ℕ) {o : Outcome} {held : WidthTable} (reads : (told o �
     unread_if_done own made old = ap (λ (a : Answer Unit). answered a made old) (unread own)
 
   -- they are read: the call is one with that table
-  module _ (e : o ≡ Done) where
+  module _ {held : WidthTable} (e : o ≡ Ok held) where
     pub form_right_lem : form bytes ≡ passed
-    form_right_lem = sym reads.0 ∙ ap told e
+    form_right_lem = sym reads.0 ∙ ap (λ (r : Result WidthTable Refusal). told r then passed) e
 
     pub table_held : held ≡ table_in bytes
-    table_held = reads.1 ∙ table_read_lem bytes form_right_lem
+    table_held = subst (λ (r : Result WidthTable Refusal). IfOk r (λ t. t ≡ table_read bytes)) e reads.1 ∙ table_read_lem bytes form_right_lem
 
     pub read : (call : WidthTable → Answer Unit) {a : Answer Unit} → a ≡ call held → a ≡ form_then bytes call
     read call q = q ∙ ap call table_held ∙ sym (then_right (form bytes) (call (table_in bytes)) form_right_lem)

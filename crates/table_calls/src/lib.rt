@@ -5,22 +5,14 @@ ghost use Rattle.std.specs.Prelude.{◌≡◌};
 ghost use Rattle.refusals.specs.Told.{told};
 ghost use Rattle.table_calls.specs.Calls.{check_answer, answer97, plane97, work97};
 
-use refusals::Outcome;
+use refusals::Refusal;
 use width_table::WidthTable;
 
 // Reads a width table and judges it: 1 to 5 by fields, then 6 and 7 in node order.
-pub fn check(table: &[u8]) -> Outcome
+pub fn check(table: &[u8]) -> Result<(), Refusal>
     ensures { told result ≡ check_answer table.now }
 {
-    let read = table_bytes::read(table);
-    let outcome = read.outcome;
-    match outcome {
-        Outcome::Refused(why) => Outcome::Refused(why),
-        Outcome::Done => {
-            let held = read.table;
-            precision::judge(held)
-        }
-    }
+    precision::judge(table_bytes::read(table)?)
 }
 
 // 9/7 forward: 1 to 5 of the bytes, then 6, 7, 8, 9, 10.
@@ -31,18 +23,17 @@ pub fn forward(
     height: usize,
     plane: &mut [i32],
     work: &mut [i32],
-) -> Outcome
+) -> Result<(), Refusal>
     ensures answer { told result ≡ answer97 table.now width height pixels.now plane.old work.old }
     ensures plane { plane.new ≡ plane97 table.now width height pixels.now plane.old work.old }
     ensures work { work.new ≡ work97 table.now width height pixels.now plane.old work.old }
 {
-    let read = table_bytes::read(table);
-    let outcome = read.outcome;
-    match outcome {
-        Outcome::Refused(why) => Outcome::Refused(why),
-        Outcome::Done => {
-            let held = read.table;
-            irreversible::forward(held, pixels, width, height, plane, work)
-        }
-    }
+    irreversible::forward(
+        table_bytes::read(table)?,
+        pixels,
+        width,
+        height,
+        plane,
+        work,
+    )
 }

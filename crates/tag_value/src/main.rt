@@ -10,10 +10,8 @@ const MAX_INPUT: usize = 1 + table_bytes::MAX_BYTES + 1;
 fn main(rt: HostRuntime) -> io::Result<()> {
     let mut input = [0u8; MAX_INPUT];
     let n = reading::read_full(&mut rt.stdin(), &mut input)?;
-    if n < 1 {
+    let [tag, table @ ..] = &input[..n] else {
         return Ok(());
-    }
-    let tag = input[0];
-    let value = table_bytes::value_of(&input[1..n], tag);
-    rt.stdout().write_all(value)
+    };
+    rt.stdout().write_all(table_bytes::value_of(table, *tag))
 }

@@ -8,8 +8,8 @@ use native.Mathlib.Omega.{arith}
 use Rattle.std.proofs.Math.Nat.{mul-le-mul, mul-le-mul_right}
 use Rattle.std.proofs.Math.Dec.{T}
 use Rattle.numbers.specs.Tests.{ltb-true, ltb-false, left_false, right_false}
-use Rattle.refusals.specs.Answers.{Reason, passed, refused, answered}
-use Rattle.refusals.specs.AnswerLaws.{asks_done, asks_right, asks_wrong, then_done, then_right, then_refused, answered_done}
+use Rattle.refusals.specs.Answers.{Reason, passed, refused}
+use Rattle.refusals.specs.AnswerLaws.{asks_done, asks_right, asks_wrong, then_done, then_right, then_refused}
 use Rattle.width_table.specs.Nodes.{Node, G1, G2, Pass, LowColumns, HighColumns}
 use Rattle.width_table.specs.declared.WidthTable.{WidthTable}
 use Rattle.width_table.specs.Table.{max_levels, max_integer_bits, integer_bits, fraction_bits, form_right}
@@ -182,6 +182,6 @@ module _ (t : WidthTable) where
   unfolding view_verdict
   viewable_accepted e = (then_done (verdict t) _ e).0
 
-  pub distance_told : view_verdict t ≡ passed → (b : Bound) → b ≡ gives_from t steps_allowed t.levels (start_bound t steps_allowed) → b.error ≡ answered (view_verdict t) (view_distance t) 0
+  pub distance_told : (b : Bound) → b ≡ gives_from t steps_allowed t.levels (start_bound t steps_allowed) → b.error ≡ view_distance t
   unfolding view_distance
-  distance_told e b g = ap (λ (b : Bound). b.error) g ∙ sym (answered_done (view_distance t) 0 e)
+  distance_told b g = ap (λ (b : Bound). b.error) g

@@ -1,11 +1,9 @@
 -- The bounds of a pass by number are those of Bounds.
-use Rattle.std.specs.Prelude.{ℕ, zero, suc, ◌+◌, ◌*◌, ◌-◌, ◌^◌, ◌<◌, ◌≤◌, true, false, List, ◌≡◌, set}
+use Rattle.std.specs.Prelude.{ℕ, zero, suc, ◌+◌, ◌-◌, ◌<◌, ◌≤◌, true, false, List, ◌≡◌, set, ◌*◌, ◌^◌}
 use Rattle.std.proofs.Math.Bool.{Bool}
 use Rattle.std.proofs.Math.Path.{refl, sym, ap, ap₂}
-use Rattle.std.proofs.Common.{◌∙◌, subst, lit≤, lit<, le-leb, eq-eqb, ne_eqb}
+use Rattle.std.proofs.Common.{◌∙◌, lit≤, lit<, eq-eqb, ne_eqb, subst, le-leb}
 use native.Mathlib.Omega.{arith}
-use Rattle.std.proofs.Math.Decide.{dec_lt}
-use Rattle.std.proofs.lemmas.Bool.{lt-leb}
 use Rattle.numbers.specs.Tests.{every, ltb-true, ltb-false, left_false, right_false}
 use Rattle.inverse_lifting.specs.Fixed.{node_bits, inverse_bits, max_value}
 use Rattle.width_table.specs.Nodes.{Node, P1, U1, P2, U2, G1, G2}
@@ -24,6 +22,8 @@ use Rattle.view_precision.specs.Bounds.{larger, bound_after, even, odd, inverse_
 use Rattle.view_precision.specs.Odd.{own_odd, odd_differs}
 use Rattle.view_precision.specs.Places.{stages, sources, scalings, even_stage, node_after, gain_at, bound_from, node_from, total, total_from, inverse_own_error, own_at, owns_below}
 use Rattle.bounds_rule.specs.Carried.{carried_to}
+use Rattle.std.proofs.Math.Decide.{dec_lt}
+use Rattle.std.proofs.lemmas.Bool.{lt-leb}
 
 -- ---- the six stages by number
 

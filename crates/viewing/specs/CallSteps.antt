@@ -1,22 +1,22 @@
 -- What the steps of the viewing call ask of each other.
 use Prim.Native.Nat.{ℕ, ◌+◌, ◌*◌, ◌^◌, ◌<◌, ◌≤◌}
-use Rattle.std.specs.Prelude.{Bool, true, false, List, ◌≡◌, ℤ, length}
-use Rattle.std.proofs.Math.Path.{sym, ap}
-use Rattle.std.proofs.Common.{eq-eqb, ne_eqb}
+use Rattle.std.specs.Prelude.{List, ◌≡◌, ℤ, length, Bool, true, false}
 use Rattle.lines.specs.Planes.{Plane, side}
 use Rattle.width_table.specs.declared.WidthTable.{WidthTable}
-use Rattle.width_table.specs.Nodes.{G1, LowColumns}
-use Rattle.width_table.specs.Table.{fraction_bits}
 use Rattle.slices.specs.Patch.{at}
 use Rattle.slices.specs.PatchLines.{line_at}
 use Rattle.slices.specs.Parts.{Part}
 use Rattle.pictures.specs.Pictures.{plane_of}
 use Rattle.precision.specs.Verdict.{IsLevel}
-use Rattle.inverse_lifting.specs.Fixed.{node_bits}
-use Rattle.viewing.specs.View.{entering_bits, view_from, view_plane}
+use Rattle.viewing.specs.View.{view_from, view_plane, entering_bits}
 use Rattle.viewing.specs.Claims.{Viewable, Stored, EachSmall}
 use Rattle.viewing.specs.Words.{Bounded}
 use Rattle.viewing.specs.LevelSteps.{SafeLevel}
+use Rattle.std.proofs.Math.Path.{sym, ap}
+use Rattle.std.proofs.Common.{eq-eqb, ne_eqb}
+use Rattle.width_table.specs.Nodes.{G1, LowColumns}
+use Rattle.width_table.specs.Table.{fraction_bits}
+use Rattle.inverse_lifting.specs.Fixed.{node_bits}
 
 -- a level can be inverted: w columns and h rows, from a plane whose rows are W long to rows of the work area that are S apart
 pub record LevelReady (t : WidthTable) (l : ℕ) (plane work : List ℤ) (state line W S w h : ℕ) : Type 0 where

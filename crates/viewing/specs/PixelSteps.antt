@@ -1,14 +1,16 @@
--- A pixel as the code finds it: the part below a grey is cut off first; then below the depth, above it or inside.
-use Rattle.std.specs.Prelude.{ℕ, ◌+◌, ◌*◌, ◌-◌, ◌^◌, ◌<◌, ◌≤◌, min, ◌≡◌, ℤ, pos, negsuc, nat_abs, ◌+ℤ◌, ◌-ℤ◌, ◌*ℤ◌, ◌≤ℤ◌, ◌<ℤ◌}
-use Rattle.std.proofs.Common.{sym, ◌∙◌, ap, subst₂, leb→le, ltb→lt, pow_pos, pow_mono, pow-add, mul-pos, mul-le-mul_left}
+-- A pixel as the code finds it: the part below a grey is cut off first, then the grey is limited to the depth.
+use Rattle.std.specs.Int.{int_max, int_min}
+use Rattle.std.proofs.lemmas.Int.{ints, clamps}
+use Rattle.std.specs.Prelude.{ℕ, ◌+◌, ◌*◌, ◌-◌, ◌^◌, ◌<◌, ◌≤◌, min, ◌≡◌, ℤ, pos, negsuc, ◌+ℤ◌, ◌-ℤ◌, ◌*ℤ◌, ◌≤ℤ◌, ◌<ℤ◌, nat_abs}
+use Rattle.std.proofs.Common.{sym, ◌∙◌, ap, subst₂, pow_pos, pow_mono, pow-add, mul-pos, mul-le-mul_left, leb→le, ltb→lt}
 use native.Mathlib.Omega.{arith}
 use Rattle.numbers.specs.Floor.{floor_div, floor_≤, floor_<, floor_unique}
 use Rattle.inverse_lifting.specs.Fixed.{node_bits}
 use Rattle.numbers.specs.Parts.{positive_part}
 use Rattle.numbers.specs.Dif.{by_dif, difs}
-use Rattle.numbers.specs.Laws.{≤ℤ-not-<ℤ}
 use Rattle.width_table.specs.Table.{max_depth}
 use Rattle.viewing.specs.View.{grey, pixel}
+use Rattle.numbers.specs.Laws.{≤ℤ-not-<ℤ}
 
 -- the limits of a depth
 pub largest_some : (B : ℕ) → 1 ≤ 2 ^ B
@@ -53,6 +55,16 @@ module _ (B : ℕ) (v : ℤ) where
   pub pixel_small : pixel B v ≤ 2 ^ B - 1
   unfolding pixel
   pixel_small = omega arith
+
+-- z limited to 0 .. m
+limited : (z : ℤ) (m : ℕ) → int_max (pos 0) (int_min z (pos m)) ≡ pos (min (positive_part z) m)
+limited (pos k) m = omega (arith, ints, clamps)
+limited (negsuc k) m = omega (arith, ints, clamps)
+
+-- a pixel is its grey, limited
+pub pixel_limited : (B : ℕ) (v : ℤ) → int_max (pos 0) (int_min (grey B v) (pos (2 ^ B - 1))) ≡ pos (pixel B v)
+unfolding pixel
+pixel_limited B v = limited (grey B v) (2 ^ B - 1)
 
 -- the greatest pixel
 pub less_one : (n : ℕ) → 1 ≤ n → pos n -ℤ pos 1 ≡ pos (n - 1)

@@ -22,7 +22,9 @@ ghost use Rattle.viewing.specs.LevelSteps.{columned, level_inverse};
 ghost use Rattle.viewing.specs.RowSteps.{RowReady, row_shown, RowsReady, shown_rows, cleared_rows};
 ghost use Rattle.viewing.specs.CallSteps.{LevelReady, ViewReady, LevelsLeft};
 
-use refusals::{Outcome, Refusal};
+use inverse_lifting::{ColumnsAt, ColumnsOf};
+use refusals::Refusal;
+use slices::Part;
 use width_table::WidthTable;
 
 // Elements of what is held of a strip of columns: five for each of 1024 columns.
@@ -34,24 +36,23 @@ const LINE: usize = pictures::MAX_SIDE + 6;
 // The fractional bits of a value.
 const VALUE_BITS: u8 = inverse_lifting::NODE_BITS as u8;
 
-// Whether the coefficients of a part of w columns and h rows, which starts at a place, are in the width of a node.
-fn part_fits(
-    table: WidthTable,
-    level: u8,
+// The part of a plane that holds a subband, and the pass and the node that give its width.
+#[derive(Clone, Copy)]
+struct Subband {
     pass: u8,
     node: u8,
-    plane: &[i32],
-    from: usize,
-    stride: usize,
-    w: usize,
-    h: usize,
-) -> bool
-    requires level { IsLevel table level × IsPass pass × IsNode node }
-    requires by_index { (i : ℕ) → i < h → line_at from stride i + w ≤ length plane.now }
-    ensures { Tells (PartFits table level (pass_of pass) (node_of node) (at plane.now) from stride w h) result }
+    part: Part,
+}
+
+// Whether the coefficients of a subband of a level are in the width of its node.
+fn part_fits(table: WidthTable, level: u8, plane: &[i32], band: Subband) -> bool
+    requires level { IsLevel table level × IsPass band.pass × IsNode band.node }
+    requires by_index { (i : ℕ) → i < band.part.h → line_at band.part.from band.part.stride i + band.part.w ≤ length plane.now }
+    ensures { Tells (PartFits table level (pass_of band.pass) (node_of band.node) (at plane.now) band.part.from band.part.stride band.part.w band.part.h) result }
 {
-    let bits = table.integer_bits(level, pass, node) + table.fraction_bits(level, pass, node);
-    pictures::part_of_bits(plane, from, stride, w, h, bits - 1)
+    let bits = table.integer_bits(level, band.pass, band.node)
+        + table.fraction_bits(level, band.pass, band.node);
+    pictures::part_of_bits(plane, band.part, bits - 1)
 }
 
 // Whether HL, LH and HH of a level are in the widths of their nodes.
@@ -68,79 +69,70 @@ fn details_fit(
 {
     let right = (w + 1) / 2;
     let below = (h + 1) / 2;
-    let high = WidthTable::HIGH_COLUMNS;
-    if part_fits(
-        table,
-        level,
-        high,
-        WidthTable::G1,
-        plane,
-        right,
-        stride,
-        w / 2,
-        below,
-    ) {} else {
-        return false;
-    }
-    let low = WidthTable::LOW_COLUMNS;
-    let start = below * stride;
-    if part_fits(
-        table,
-        level,
-        low,
-        WidthTable::G2,
-        plane,
-        start,
-        stride,
-        right,
-        h / 2,
-    ) {} else {
-        return false;
-    }
-    part_fits(
-        table,
-        level,
-        high,
-        WidthTable::G2,
-        plane,
-        start + right,
-        stride,
-        w / 2,
-        h / 2,
-    )
+    let hl = Subband {
+        pass: WidthTable::HIGH_COLUMNS,
+        node: WidthTable::G1,
+        part: Part {
+            stride,
+            from: right,
+            w: w / 2,
+            h: below,
+        },
+    };
+    let lh = Subband {
+        pass: WidthTable::LOW_COLUMNS,
+        node: WidthTable::G2,
+        part: Part {
+            stride,
+            from: below * stride,
+            w: right,
+            h: h / 2,
+        },
+    };
+    let hh = Subband {
+        pass: WidthTable::HIGH_COLUMNS,
+        node: WidthTable::G2,
+        part: Part {
+            stride,
+            from: below * stride + right,
+            w: w / 2,
+            h: h / 2,
+        },
+    };
+    part_fits(table, level, plane, hl)
+        && part_fits(table, level, plane, lh)
+        && part_fits(table, level, plane, hh)
 }
 
 // Refusal 12: looks at each of the first w * h coefficients.
-fn coefficients_right(table: WidthTable, plane: &[i32], w: usize, h: usize) -> Outcome
+fn coefficients_right(table: WidthTable, plane: &[i32], w: usize, h: usize) -> Result<(), Refusal>
     requires { Lookable table w h (length plane.now) }
     ensures { told result ≡ coefficients_right table w h plane.now }
 {
-    let levels = table.levels;
     let mut across = w;
     let mut down = h;
-    for k in 0..levels {
-        if details_fit(table, k + 1, plane, w, across, down) {} else {
-            return Outcome::Refused(Refusal::OutsideWidth);
+    // k numbers the level, and the sides that it has go with it
+    for k in 0..table.levels {
+        if !details_fit(table, k + 1, plane, w, across, down) {
+            return Err(Refusal::OutsideWidth);
         }
         across = (across + 1) / 2;
         down = (down + 1) / 2;
     }
-    let pass = WidthTable::LOW_COLUMNS;
-    if part_fits(
-        table,
-        levels,
-        pass,
-        WidthTable::G1,
-        plane,
-        0,
-        w,
-        across,
-        down,
-    ) {
-        Outcome::Done
-    } else {
-        Outcome::Refused(Refusal::OutsideWidth)
+    let ll = Subband {
+        pass: WidthTable::LOW_COLUMNS,
+        node: WidthTable::G1,
+        part: Part {
+            stride: w,
+            from: 0,
+            w: across,
+            h: down,
+        },
+    };
+    if !part_fits(table, table.levels, plane, ll) {
+        return Err(Refusal::OutsideWidth);
     }
+    Ok(())
 }
 
 // A value in greys, rounded to the nearest, halves up: half a grey is added, what is below a grey cut off, and the middle added.
@@ -159,15 +151,8 @@ fn shown(v: i64, depth: u8) -> u16
     requires { (1 ≤ depth) × (depth ≤ max_depth) × (nat_abs v ≤ limit) }
     ensures { result ≡ pixel depth v }
 {
-    let g = greys(v, depth);
     let most = fixed_stages::signed_power(depth) - 1;
-    if g < 0 {
-        return 0;
-    }
-    if most < g {
-        return most as u16;
-    }
-    g as u16
+    greys(v, depth).clamp(0, most) as u16
 }
 
 // n values from a place on go to the pixels from another on.
@@ -176,18 +161,9 @@ fn show_row(values: &[i64], first: usize, pixels: &mut [u16], from: usize, n: us
     requires by_index { (j : ℕ) → j < n → nat_abs (at values.now (first + j)) ≤ limit }
     ensures { (λ k. get_or pixels.new k 0) ≡ patch from n (λ j. pixel depth (at values.now (first + j))) (λ k. get_or pixels.old k 0) }
 {
-    for i in 0..n {
-        pixels[from + i] = shown(values[first + i], depth);
-    }
-}
-
-// n elements from a place on become 0.
-fn clear_row(work: &mut [i64], from: usize, n: usize)
-    requires { from + n ≤ length work.old }
-    ensures { at work.new ≡ patch from n (λ j. pos 0) (at work.old) }
-{
-    for i in 0..n {
-        work[from + i] = 0;
+    // of what a zip of lent pixels leaves nothing is known
+    for (i, p) in pixels[from..from + n].iter_mut().enumerate() {
+        *p = shown(values[first + i], depth);
     }
 }
 
@@ -216,15 +192,20 @@ fn spread(w: usize, k: u8) -> usize
     requires { (w ≤ max_side) × (k ≤ max_levels) }
     ensures { result ≡ w * 2 ^ k }
 {
-    let mut stride = w;
-    for i in 0..k {
-        stride = 2 * stride;
-    }
-    stride
+    w << k
 }
 
-// The columns of a level inverted: w columns and h rows, from a plane whose rows are `width` long to rows of the work area that are
-// `stride` apart. What the next coarser level left stands there in every second row.
+// Where a level is inverted: w columns and h rows, from a plane whose rows are `width` long to rows of the work area that are `stride`
+// apart. What the next coarser level left stands there in every second row.
+#[derive(Clone, Copy)]
+struct Site {
+    width: usize,
+    stride: usize,
+    w: usize,
+    h: usize,
+}
+
+// The columns of a level inverted.
 fn columns_back(
     table: WidthTable,
     level: u8,
@@ -232,48 +213,38 @@ fn columns_back(
     work: &mut [i64],
     state: &mut [i64],
     line: &mut [i64],
-    width: usize,
-    stride: usize,
-    w: usize,
-    h: usize,
+    site: Site,
 )
-    requires { LevelReady table level plane.now work.old (length state.old) (length line.old) width stride w h }
-    ensures { at work.new ≡ columned table level width stride w h (at plane.now) (at work.old) }
+    requires { LevelReady table level plane.now work.old (length state.old) (length line.old) site.width site.stride site.w site.h }
+    ensures { at work.new ≡ columned table level site.width site.stride site.w site.h (at plane.now) (at work.old) }
 {
-    let low = (w + 1) / 2;
-    let levels = table.levels;
-    inverse_lifting::columns(
-        plane,
-        work,
-        state,
-        line,
-        inverse_lifting::ColumnsAt {
-            width: width,
-            stride: stride,
-            from: 0,
-            stored: level == levels,
-        },
-        low,
-        h,
-        low_low_bits(table, level),
-        stored_bits(table, level, WidthTable::LOW_COLUMNS, WidthTable::G2),
-    );
-    inverse_lifting::columns(
-        plane,
-        work,
-        state,
-        line,
-        inverse_lifting::ColumnsAt {
-            width: width,
-            stride: stride,
-            from: low,
-            stored: true,
-        },
-        w / 2,
-        h,
-        stored_bits(table, level, WidthTable::HIGH_COLUMNS, WidthTable::G1),
-        stored_bits(table, level, WidthTable::HIGH_COLUMNS, WidthTable::G2),
-    );
+    let low = (site.w + 1) / 2;
+    let low_site = ColumnsAt {
+        width: site.width,
+        stride: site.stride,
+        from: 0,
+        stored: level == table.levels,
+    };
+    let lows = ColumnsOf {
+        columns: low,
+        lines: site.h,
+        lowbits: low_low_bits(table, level),
+        highbits: stored_bits(table, level, WidthTable::LOW_COLUMNS, WidthTable::G2),
+    };
+    inverse_lifting::columns(plane, work, state, line, low_site, lows);
+    let high_site = ColumnsAt {
+        width: site.width,
+        stride: site.stride,
+        from: low,
+        stored: true,
+    };
+    let highs = ColumnsOf {
+        columns: site.w / 2,
+        lines: site.h,
+        lowbits: stored_bits(table, level, WidthTable::HIGH_COLUMNS, WidthTable::G1),
+        highbits: stored_bits(table, level, WidthTable::HIGH_COLUMNS, WidthTable::G2),
+    };
+    inverse_lifting::columns(plane, work, state, line, high_site, highs);
 }
 
 // One level inverted: its columns, then its rows.
@@ -284,16 +255,13 @@ fn level_back(
     work: &mut [i64],
     state: &mut [i64],
     line: &mut [i64],
-    width: usize,
-    stride: usize,
-    w: usize,
-    h: usize,
+    site: Site,
 )
-    requires { LevelReady table level plane.now work.old (length state.old) (length line.old) width stride w h }
-    ensures { at work.new ≡ level_inverse table level width stride w h (at plane.now) (at work.old) }
+    requires { LevelReady table level plane.now work.old (length state.old) (length line.old) site.width site.stride site.w site.h }
+    ensures { at work.new ≡ level_inverse table level site.width site.stride site.w site.h (at plane.now) (at work.old) }
 {
-    columns_back(table, level, plane, work, state, line, width, stride, w, h);
-    inverse_lifting::rows(work, line, stride, w, h);
+    columns_back(table, level, plane, work, state, line, site);
+    inverse_lifting::rows(work, line, site.stride, site.w, site.h);
 }
 
 // All levels but the first inverted, the last one first.
@@ -309,23 +277,14 @@ fn levels_back(
     requires { ViewReady table plane.now (length work.old) (length state.old) (length line.old) w h }
     ensures { LevelsLeft table w h 1 (at plane.now) (at work.old) (at work.new) }
 {
-    let mut k = table.levels;
-    while 1 < k {
-        k -= 1;
-        let across = pictures::side_after(w, k);
-        let down = pictures::side_after(h, k);
-        level_back(
-            table,
-            k + 1,
-            plane,
-            work,
-            state,
-            line,
-            w,
-            spread(w, k),
-            across,
-            down,
-        );
+    for k in (1..table.levels).rev() {
+        let site = Site {
+            width: w,
+            stride: spread(w, k),
+            w: pictures::side_after(w, k),
+            h: pictures::side_after(h, k),
+        };
+        level_back(table, k + 1, plane, work, state, line, site);
     }
 }
 
@@ -344,7 +303,7 @@ fn finish_row(
 {
     inverse_lifting::row(work, line, from, w);
     show_row(line, inverse_lifting::ROW_START, pixels, from, w, depth);
-    clear_row(work, from, w);
+    work[from..from + w].fill(0);
 }
 
 // The rows of the first level, one after the other: each is still in the cache when it is shown and cleared.
@@ -360,12 +319,13 @@ fn finish_rows(
     ensures pixels { (λ k. get_or pixels.new k 0) ≡ shown_rows depth w h (at work.old) (λ k. get_or pixels.old k 0) }
     ensures work { at work.new ≡ cleared_rows w h (at work.old) }
 {
+    // r names a place in the work area and one in the pixels
     for r in 0..h {
         finish_row(work, line, pixels, r * w, w, depth);
     }
 }
 
-// What a call does that is not refused.
+// What a call does that is not refused. What is lent goes one by one (see `Lent` in rolling_lines).
 fn show(
     table: WidthTable,
     plane: &[i32],
@@ -381,7 +341,13 @@ fn show(
     ensures work { work.new ≡ zeroed (w * h) work.old }
 {
     levels_back(table, plane, work, state, line, w, h);
-    columns_back(table, 1, plane, work, state, line, w, w, w, h);
+    let site = Site {
+        width: w,
+        stride: w,
+        w,
+        h,
+    };
+    columns_back(table, 1, plane, work, state, line, site);
     finish_rows(work, line, pixels, w, h, table.depth);
 }
 
@@ -393,18 +359,12 @@ fn answer(
     h: usize,
     first: usize,
     third: usize,
-) -> Outcome
+) -> Result<(), Refusal>
     ensures { told result ≡ view_answer_of table w h plane.now first third }
 {
-    match view_precision::judge(table) {
-        Outcome::Refused(why) => Outcome::Refused(why),
-        Outcome::Done => {
-            match pictures::room_right(w, h, first, plane.len(), third) {
-                Outcome::Refused(why) => Outcome::Refused(why),
-                Outcome::Done => coefficients_right(table, plane, w, h),
-            }
-        }
-    }
+    view_precision::judge(table)?;
+    pictures::room_right(w, h, first, plane.len(), third)?;
+    coefficients_right(table, plane, w, h)
 }
 
 // The picture of a 9/7 plane: refusals 4, 6, 7, 13, 8, 9 and 12. Success leaves the picture in the pixels, row by row, and zeros in the
@@ -416,18 +376,14 @@ pub fn view(
     h: usize,
     pixels: &mut [u16],
     work: &mut [i64],
-) -> Outcome
+) -> Result<(), Refusal>
     ensures answer { told result ≡ view_answer table w h plane.now pixels.old work.old }
     ensures pixels { pixels.new ≡ view_pixels table w h plane.now pixels.old work.old }
     ensures work { work.new ≡ view_work table w h plane.now pixels.old work.old }
 {
     let mut state = [0i64; STATE];
     let mut line = [0i64; LINE];
-    match answer(table, plane, w, h, pixels.len(), work.len()) {
-        Outcome::Refused(why) => Outcome::Refused(why),
-        Outcome::Done => {
-            show(table, plane, w, h, pixels, work, &mut state, &mut line);
-            Outcome::Done
-        }
-    }
+    answer(table, plane, w, h, pixels.len(), work.len())?;
+    show(table, plane, w, h, pixels, work, &mut state, &mut line);
+    Ok(())
 }

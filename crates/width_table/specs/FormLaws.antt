@@ -1,18 +1,21 @@
 -- The form of a table in memory, rule by rule.
-use Rattle.std.specs.Prelude.{ℕ, zero, suc, ◌+◌, ◌-◌, ◌<◌, ◌≤◌, Bool, true, false, ◌&&◌, List, [], ◌∷◌, ◌≡◌, refl, T, eqb, length, get_or, take, drop}
+use Rattle.std.specs.Prelude.{ℕ, zero, suc, ◌+◌, ◌*◌, ◌≤◌, Bool, true, false, ◌&&◌, List, [], ◌∷◌, ◌≡◌, refl, T, eqb, length, get_or, ◌-◌, ◌<◌, take, drop}
+use Rattle.std.specs.List.{list_all}
+use Rattle.std.specs.Simd.{first_chunks}
 use Rattle.std.proofs.Common.{sym, ◌∙◌, ap₂, subst, arith, drop_of_length-le, drop-cons}
 use Rattle.std.proofs.Math.Path.{ap}
 use Rattle.std.proofs.Math.Dec.{leb-zero, leb-suc-zero, eqb-zero-suc}
 use Rattle.width_table.specs.declared.WidthTable.{WidthTable}
-use Rattle.refusals.specs.Answers.{Answer, refused, passed, asks, answered}
-use Rattle.numbers.specs.Lists.{next_two}
-use Rattle.numbers.specs.Tests.{both, three, left_false, right_false, between_≤, between, every}
+use Rattle.refusals.specs.Answers.{refused, passed, asks, Answer, answered}
+use Rattle.refusals.specs.AnswerLaws.{asks_done}
+use Rattle.numbers.specs.Tests.{both, three, four, is_true, left_false, right_false, between_≤, between, every}
 use Rattle.width_table.specs.Nodes.{nodes_per_pass, passes_per_level, products_per_pass}
 use Rattle.width_table.specs.Numbered.{IsNode, IsPass, IsProduct}
-use Rattle.width_table.specs.Table.{max_levels, width_bytes, depth_right, levels_right, constant_right, width_right, product_right, form_right}
-use Rattle.width_table.specs.Lists.{widths_right, node_bytes, product_bytes, used_products, form_lists}
-use Rattle.width_table.specs.Changes.{has_node, width_answer, with_width, table_after_width, constant_answer, with_constant, table_after_constant, has_product, product_answer, with_product, table_after_product}
+use Rattle.width_table.specs.Table.{max_levels, width_bytes, width_right, product_right, form_right, depth_right, levels_right, constant_right}
+use Rattle.width_table.specs.Lists.{widths_right, product_bytes, used_products, node_bytes, form_lists}
+use Rattle.width_table.specs.Changes.{has_node, width_answer, has_product, product_answer, with_product, table_after_product, with_width, table_after_width, constant_answer, with_constant, table_after_constant}
 use Rattle.width_table.specs.Limits.{form_levels}
+use Rattle.numbers.specs.Lists.{next_two}
 
 zero_test : (n : ℕ) → between 0 0 n ≡ eqb 0 n
 zero_test zero = refl
@@ -22,6 +25,32 @@ pub zeros_test : (l : List ℕ) → every (between 0 0) l ≡ every (eqb 0) l
 unfolding every
 zeros_test [] = refl
 zeros_test (a ∷ l) = ap₂ ◌&&◌ (zero_test a) (zeros_test l)
+
+-- ---- tests by the library's words
+
+pub every_all : {A : Type 0} (test : A → Bool) (l : List A) → list_all test l ≡ every test l
+unfolding every
+every_all test [] = refl
+every_all test (a ∷ l) = ap (λ (t : Bool). test a && t) (every_all test l)
+
+-- the width that two numbers are
+abbrev pub pair_width_right : List ℕ → Bool
+pair_width_right w = width_right (get_or w 0 0) (get_or w 1 0)
+
+pub widths_two_by_two : (k : ℕ) (l : List ℕ) → length l ≡ width_bytes * k → list_all pair_width_right (first_chunks width_bytes k l) ≡ widths_right l
+unfolding widths_right
+widths_two_by_two zero [] h = refl
+widths_two_by_two zero (IB ∷ l) h = absurd (omega arith)
+widths_two_by_two (suc k) [] h = absurd (omega arith)
+widths_two_by_two (suc k) (IB ∷ []) h = absurd (omega arith)
+widths_two_by_two (suc k) (IB ∷ f ∷ l) h = ap (λ (t : Bool). width_right IB f && t) (widths_two_by_two k l (omega arith))
+
+pub odd_widths : (k : ℕ) (l : List ℕ) → length l ≡ width_bytes * k + 1 → widths_right l ≡ false
+unfolding widths_right
+odd_widths k [] h = absurd (omega arith)
+odd_widths k (IB ∷ []) h = refl
+odd_widths zero (IB ∷ f ∷ l) h = absurd (omega arith)
+odd_widths (suc k) (IB ∷ f ∷ l) h = right_false (width_right IB f) (widths_right l) (odd_widths k l (omega arith))
 
 -- ---- widths, two by two
 
@@ -228,3 +257,20 @@ module _ (t : WidthTable) (level pass product fp : ℕ) where
 -- a right form has no more levels than a table may have
 pub few_levels : (t : WidthTable) → form_right t ≡ true → t.levels ≤ max_levels
 few_levels t e = (form_levels t (subst T (sym e) tt)).1
+
+-- the place of a change that is made
+pub width_place : (t : WidthTable) (level pass node IB f : ℕ) → width_answer t level pass node IB f ≡ passed → ((1 ≤ level) × (level ≤ max_levels)) × IsPass pass × IsNode node
+unfolding width_answer
+width_place t level pass node IB f e =
+    let h = three (form_right t) (has_node t.levels level pass node) (width_right IB f) (asks_done (form_right t && has_node t.levels level pass node && width_right IB f) _ _ e).0 in
+    let few = few_levels t (is_true (form_right t) h.0) in
+    let (l, p, n) = node_in t.levels level pass node (is_true (has_node t.levels level pass node) h.1) in
+    ((l.0, omega arith), p, n)
+
+pub product_place_lem : (t : WidthTable) (level pass product fp : ℕ) → product_answer t level pass product fp ≡ passed → ((1 ≤ level) × (level ≤ max_levels)) × IsPass pass × IsProduct product
+unfolding product_answer
+product_place_lem t level pass product fp e =
+    let h = four (form_right t) t.has_products (has_product t.levels level pass product) (product_right fp) (asks_done (form_right t && t.has_products && has_product t.levels level pass product && product_right fp) _ _ e).0 in
+    let few = few_levels t (is_true (form_right t) h.0) in
+    let (l, p, n) = product_in t.levels level pass product (is_true (has_product t.levels level pass product) h.2) in
+    ((l.0, omega arith), p, n)

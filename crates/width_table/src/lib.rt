@@ -1,8 +1,8 @@
 // Width tables (document 01: books) in memory. Every definition that the contracts cite is in specs/.
 #![tactic(auto)]
 
-ghost use Rattle.std.specs.Prelude.{◌≡◌, ◌+◌, ◌<◌, ◌≤◌, ◌&&◌, [], get_or};
-ghost use Rattle.refusals.specs.Answers.{refused};
+ghost use Rattle.std.specs.Prelude.{◌≡◌, ◌+◌, ◌*◌, ◌-◌, ◌<◌, ◌≤◌, ◌&&◌, get_or, IfOk};
+ghost use Rattle.refusals.specs.Answers.{passed, asks, ◌then◌};
 ghost use Rattle.refusals.specs.Told.{told};
 ghost use Rattle.numbers.specs.Tests.{between, every};
 ghost use Rattle.width_table.specs.Nodes.{passes_per_level};
@@ -12,11 +12,12 @@ ghost use Rattle.width_table.specs.Lists.{node_bytes, product_bytes, widths_righ
 ghost use Rattle.width_table.specs.Changes.{has_node, width_answer, table_after_width, constant_answer, table_after_constant, has_product, product_answer, table_after_product};
 ghost use Rattle.width_table.specs.Readers.{or_zero, integer_bits_at, fraction_bits_at, input_bits_at};
 
-use refusals::{Outcome, Refusal};
+use refusals::Refusal;
 
 // A width table. Level l, pass p and node k, counted from 1, have their integer bits at place
 // ((l - 1) * PASSES + (p - 1)) * PASS_BYTES + (k - 1) * WIDTH_BYTES of `nodes` and their fractional bits after them; places of unused
-// levels hold 0. `has_products` says whether the table has tag 5; where it has, the product of P1, U1, P2, U2, counted from 1, has its width at
+// levels hold 0. `has_products` says whether the table has tag 5
+// (a flag: the form is judged of the places beside it too, and C hands over both); where it has, the product of P1, U1, P2, U2, counted from 1, has its width at
 // place ((l - 1) * PASSES + (p - 1)) * PRODUCTS + (k - 1) of `products`; all other places there hold 0.
 #[derive(Clone, Copy)]
 pub struct WidthTable {
@@ -51,7 +52,7 @@ impl WidthTable {
 
     pub const PRODUCTS: u8 = 4;
 
-    // The passes, and the nodes.
+    // The passes, and the nodes: numbers, as document 01 counts them in tables, refusals and calls, and the readers below answer for each number.
     pub const ROWS: u8 = 1;
 
     pub const LOW_COLUMNS: u8 = 2;
@@ -86,88 +87,34 @@ impl WidthTable {
     pub const PRODUCT_BYTES: usize = WidthTable::LEVEL_PRODUCTS * (WidthTable::MAX_LEVELS as usize);
 }
 
-// A table with an answer: of a change (the old table where it is refused), and of reading bytes (the empty one then).
-#[derive(Clone, Copy)]
-pub struct TableAnswer {
-    pub outcome: Outcome,
-    pub table: WidthTable,
-}
-
-// A number lies between least and most.
-fn in_between(n: u8, least: u8, most: u8) -> bool
-    ensures { result ≡ between least most n }
-{
-    if n < least {
-        return false;
-    }
-    n <= most
-}
-
-// Each of two numbers lies between its least and its most.
-fn both_between(a: u8, least: u8, most: u8, b: u8, bottom: u8, top: u8) -> bool
-    ensures { result ≡ (between least most a && between bottom top b) }
-{
-    if in_between(a, least, most) {} else {
-        return false;
-    }
-    in_between(b, bottom, top)
-}
-
 // Depth and levels are within their limits.
 pub fn limits_right(depth: u8, levels: u8) -> bool
     ensures { result ≡ (depth_right depth && levels_right levels) }
 {
-    both_between(
-        depth,
-        1,
-        WidthTable::MAX_DEPTH,
-        levels,
-        1,
-        WidthTable::MAX_LEVELS,
-    )
+    (1..=WidthTable::MAX_DEPTH).contains(&depth) && (1..=WidthTable::MAX_LEVELS).contains(&levels)
 }
 
 // The width of a node is within its limits.
 fn width_right(integer: u8, fraction: u8) -> bool
     ensures { result ≡ width_right integer fraction }
 {
-    both_between(
-        integer,
-        1,
-        WidthTable::MAX_INTEGER_BITS,
-        fraction,
-        0,
-        WidthTable::MAX_FRACTION_BITS,
-    )
+    (1..=WidthTable::MAX_INTEGER_BITS).contains(&integer)
+        && fraction <= WidthTable::MAX_FRACTION_BITS
 }
 
 // Every number lies between least and most.
 pub fn all_between(numbers: &[u8], least: u8, most: u8) -> bool
     ensures { result ≡ every (between least most) numbers.now }
 {
-    for i in 0..numbers.len() {
-        if in_between(numbers[i], least, most) {} else {
-            return false;
-        }
-    }
-    true
+    numbers.iter().all(|n| least <= *n && *n <= most)
 }
 
 // Integer bits, then fractional bits, of each node of some levels.
 pub fn widths_right(numbers: &[u8]) -> bool
     ensures { result ≡ widths_right numbers.now }
 {
-    let mut i = 0;
-    while i < numbers.len() {
-        if numbers.len() - i < WidthTable::WIDTH_BYTES {
-            return false;
-        }
-        if width_right(numbers[i], numbers[i + 1]) {} else {
-            return false;
-        }
-        i = i + WidthTable::WIDTH_BYTES;
-    }
-    true
+    let (widths, rest) = numbers.as_chunks::<{ WidthTable::WIDTH_BYTES }>();
+    rest.is_empty() && widths.iter().all(|width| width_right(width[0], width[1]))
 }
 
 impl WidthTable {
@@ -193,41 +140,28 @@ impl WidthTable {
     }
 
     // How many of the products' numbers are widths: none without tag 5.
-    fn used_products(self) -> usize
-        ensures { result ≡ used_products self }
+    fn used_products(&self) -> usize
+        ensures { result ≡ used_products self.now }
     {
         if self.has_products {
-            return WidthTable::LEVEL_PRODUCTS * (self.levels as usize);
+            WidthTable::LEVEL_PRODUCTS * (self.levels as usize)
+        } else {
+            0
         }
-        0
     }
 
     // Whether a table in memory has a right form: else refusal 4.
     pub fn form_right(self) -> bool
         ensures { result ≡ form_right self }
     {
-        let levels = self.levels;
-        if limits_right(self.depth, levels) {} else {
-            return false;
-        }
-        let constants = self.constants;
-        if all_between(&constants, 1, WidthTable::MAX_CONSTANT_BITS) {} else {
-            return false;
-        }
-        let n = WidthTable::LEVEL_BYTES * (levels as usize);
-        let nodes = self.nodes;
-        if widths_right(&nodes[..n]) {} else {
-            return false;
-        }
-        if all_between(&nodes[n..], 0, 0) {} else {
-            return false;
-        }
+        let n = WidthTable::LEVEL_BYTES * (self.levels as usize);
         let used = self.used_products();
-        let products = self.products;
-        if all_between(&products[..used], 0, WidthTable::MAX_PRODUCT_BITS) {} else {
-            return false;
-        }
-        all_between(&products[used..], 0, 0)
+        limits_right(self.depth, self.levels)
+            && all_between(&self.constants, 1, WidthTable::MAX_CONSTANT_BITS)
+            && widths_right(&self.nodes[..n])
+            && all_between(&self.nodes[n..], 0, 0)
+            && all_between(&self.products[..used], 0, WidthTable::MAX_PRODUCT_BITS)
+            && all_between(&self.products[used..], 0, 0)
     }
 }
 
@@ -235,17 +169,14 @@ impl WidthTable {
 fn has_pass(levels: u8, level: u8, pass: u8) -> bool
     ensures { result ≡ (between 1 levels level && between 1 passes_per_level pass) }
 {
-    both_between(level, 1, levels, pass, 1, WidthTable::PASSES)
+    (1..=levels).contains(&level) && (1..=WidthTable::PASSES).contains(&pass)
 }
 
 // It has this pass, and a pass has this one of so many.
 fn has_part(levels: u8, level: u8, pass: u8, part: u8, parts: u8) -> bool
     ensures { result ≡ (between 1 levels level && between 1 passes_per_level pass && between 1 parts part) }
 {
-    if has_pass(levels, level, pass) {} else {
-        return false;
-    }
-    in_between(part, 1, parts)
+    has_pass(levels, level, pass) && (1..=parts).contains(&part)
 }
 
 // A table of so many levels has this node.
@@ -255,13 +186,20 @@ pub fn has_node(levels: u8, level: u8, pass: u8, node: u8) -> bool
     has_part(levels, level, pass, node, WidthTable::NODES)
 }
 
+// How many passes come before this one, in book order.
+fn passes_before(level: u8, pass: u8) -> usize
+    requires { (1 ≤ level) × (level ≤ max_levels) × IsPass pass }
+    ensures { (result ≡ (level - 1) * passes_per_level + (pass - 1)) × (result < max_levels * passes_per_level) }
+{
+    ((level - 1) as usize) * (WidthTable::PASSES as usize) + ((pass - 1) as usize)
+}
+
 // Where a node's integer bits lie.
 pub fn node_place(level: u8, pass: u8, node: u8) -> usize
     requires { (1 ≤ level) × (level ≤ max_levels) × IsPass pass × IsNode node }
     ensures { (result ≡ node_place level pass node) × (result + width_bytes ≤ node_bytes max_levels) }
 {
-    (((level - 1) as usize) * (WidthTable::PASSES as usize) + ((pass - 1) as usize))
-        * WidthTable::PASS_BYTES
+    passes_before(level, pass) * WidthTable::PASS_BYTES
         + ((node - 1) as usize) * WidthTable::WIDTH_BYTES
 }
 
@@ -277,24 +215,22 @@ pub fn product_place(level: u8, pass: u8, product: u8) -> usize
     requires { (1 ≤ level) × (level ≤ max_levels) × IsPass pass × IsProduct product }
     ensures { (result ≡ product_place level pass product) × (result < product_bytes max_levels) }
 {
-    (((level - 1) as usize) * (WidthTable::PASSES as usize) + ((pass - 1) as usize))
-        * (WidthTable::PRODUCTS as usize)
-        + ((product - 1) as usize)
+    passes_before(level, pass) * (WidthTable::PRODUCTS as usize) + ((product - 1) as usize)
 }
 
 impl WidthTable {
-    // The old table, where a change of it is refused.
-    fn not_changed(self) -> TableAnswer
-        ensures outcome { told result.outcome ≡ refused (4, []) }
-        ensures table { result.table ≡ self }
+    // Whether a change may be made, else refusal 4: the form is right, the table has the place that changes, and its new numbers are right.
+    fn takes(&self, has_place: bool, numbers_right: bool) -> Result<(), Refusal>
+        ensures { told result ≡ asks (form_right self.now && has_place && numbers_right) 4 passed }
     {
-        TableAnswer {
-            outcome: Outcome::Refused(Refusal::OutsideLimits),
-            table: self,
+        if self.form_right() && has_place && numbers_right {
+            Ok(())
+        } else {
+            Err(Refusal::OutsideLimits)
         }
     }
 
-    // The table with one node's width changed; the old one where the change is refused.
+    // The table with one node's width changed (else refusal 4).
     pub fn with_width(
         mut self,
         level: u8,
@@ -302,74 +238,50 @@ impl WidthTable {
         node: u8,
         integer: u8,
         fraction: u8,
-    ) -> TableAnswer
-        ensures outcome { told result.outcome ≡ width_answer self level pass node integer fraction }
-        ensures table { result.table ≡ table_after_width self level pass node integer fraction }
+    ) -> Result<WidthTable, Refusal>
+        ensures outcome { told result then passed ≡ width_answer self level pass node integer fraction }
+        ensures table { IfOk result (λ t. t ≡ table_after_width self level pass node integer fraction) }
     {
-        if self.form_right() {} else {
-            return self.not_changed();
-        }
-        let levels = self.levels;
-        if has_node(levels, level, pass, node) {} else {
-            return self.not_changed();
-        }
-        if width_right(integer, fraction) {} else {
-            return self.not_changed();
-        }
+        self.takes(
+            has_node(self.levels, level, pass, node),
+            width_right(integer, fraction),
+        )?;
         let at = node_place(level, pass, node);
         self.nodes[at] = integer;
         self.nodes[at + 1] = fraction;
-        TableAnswer {
-            outcome: Outcome::Done,
-            table: self,
-        }
+        Ok(self)
     }
 
-    // The table with one constant's bits changed; the old one where the change is refused.
-    pub fn with_constant(mut self, node: u8, bits: u8) -> TableAnswer
-        ensures outcome { told result.outcome ≡ constant_answer self node bits }
-        ensures table { result.table ≡ table_after_constant self node bits }
+    // The table with one constant's bits changed (else refusal 4).
+    pub fn with_constant(mut self, node: u8, bits: u8) -> Result<WidthTable, Refusal>
+        ensures outcome { told result then passed ≡ constant_answer self node bits }
+        ensures table { IfOk result (λ t. t ≡ table_after_constant self node bits) }
     {
-        if self.form_right() {} else {
-            return self.not_changed();
-        }
-        if in_between(node, 1, WidthTable::NODES) {} else {
-            return self.not_changed();
-        }
-        if in_between(bits, 1, WidthTable::MAX_CONSTANT_BITS) {} else {
-            return self.not_changed();
-        }
+        self.takes(
+            (1..=WidthTable::NODES).contains(&node),
+            (1..=WidthTable::MAX_CONSTANT_BITS).contains(&bits),
+        )?;
         self.constants[(node - 1) as usize] = bits;
-        TableAnswer {
-            outcome: Outcome::Done,
-            table: self,
-        }
+        Ok(self)
     }
 
-    // The table with one product's width changed; the old one where the change is refused, as it is without tag 5.
-    pub fn with_product(mut self, level: u8, pass: u8, product: u8, bits: u8) -> TableAnswer
-        ensures outcome { told result.outcome ≡ product_answer self level pass product bits }
-        ensures table { result.table ≡ table_after_product self level pass product bits }
+    // The table with one product's width changed (refusal 4, as without tag 5).
+    pub fn with_product(
+        mut self,
+        level: u8,
+        pass: u8,
+        product: u8,
+        bits: u8,
+    ) -> Result<WidthTable, Refusal>
+        ensures outcome { told result then passed ≡ product_answer self level pass product bits }
+        ensures table { IfOk result (λ t. t ≡ table_after_product self level pass product bits) }
     {
-        if self.form_right() {} else {
-            return self.not_changed();
-        }
-        if self.has_products {} else {
-            return self.not_changed();
-        }
-        let levels = self.levels;
-        if has_product(levels, level, pass, product) {} else {
-            return self.not_changed();
-        }
-        if in_between(bits, 0, WidthTable::MAX_PRODUCT_BITS) {} else {
-            return self.not_changed();
-        }
-        let at = product_place(level, pass, product);
-        self.products[at] = bits;
-        TableAnswer {
-            outcome: Outcome::Done,
-            table: self,
-        }
+        self.takes(
+            self.has_products && has_product(self.levels, level, pass, product),
+            bits <= WidthTable::MAX_PRODUCT_BITS,
+        )?;
+        self.products[product_place(level, pass, product)] = bits;
+        Ok(self)
     }
 
     // The integer bits of a node of any level that a table may have, or the fractional bits after them; 0 for any other node.
@@ -377,7 +289,7 @@ impl WidthTable {
         requires { after < width_bytes }
         ensures { result ≡ or_zero (has_node max_levels level pass node) (get_or self.nodes (node_place level pass node + after) 0) }
     {
-        if has_node(WidthTable::MAX_LEVELS, level, pass, node) {} else {
+        if !has_node(WidthTable::MAX_LEVELS, level, pass, node) {
             return 0;
         }
         self.nodes[node_place(level, pass, node) + after]
@@ -401,7 +313,7 @@ impl WidthTable {
     pub fn input_bits(self, level: u8, pass: u8) -> u8
         ensures { result ≡ input_bits_at self level pass }
     {
-        if has_pass(WidthTable::MAX_LEVELS, level, pass) {} else {
+        if !has_pass(WidthTable::MAX_LEVELS, level, pass) {
             return 0;
         }
         if pass == WidthTable::LOW_COLUMNS {

@@ -84,7 +84,12 @@ fn functions(disassembly: &str) -> Vec<Function<'_>> {
         let (Some(place), Some(function)) = (hex(place.trim()), found.last_mut()) else {
             continue;
         };
-        let rest = rest.split(['#', '<']).next().unwrap().trim();
+        // the name of a relocation may be that of a generic function's instance, with `<` in it
+        let rest = if rest.trim().starts_with("R_X86_64_") {
+            rest.trim()
+        } else {
+            rest.split(['#', '<']).next().unwrap().trim()
+        };
         let (operation, operands) = rest.split_once(char::is_whitespace).unwrap_or((rest, ""));
         let operands = operands.trim();
         if operation.starts_with("R_X86_64_") {

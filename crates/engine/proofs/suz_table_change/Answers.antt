@@ -1,18 +1,14 @@
-use Rattle.engine.specs.AnswerLaws.{change_unread, width_changed}
+use Rattle.std.proofs.Common.{◌∙◌, ap, of_calls}
+use Rattle.refusals.specs.Answers.{code}
+use Rattle.table_bytes.specs.Bytes.{table_in}
+use Rattle.width_table.specs.Changes.{width_answer, table_after_width}
+use Rattle.engine.specs.AnswerLaws.{width_changed}
 use Rattle.engine.proofs.suz_table_change.Goals as goal
 
--- the two facts of a law, by the clauses' names
-named : {A B : Type 0} → A × B → record { answer : A; out : B }
-named (answer, out) = record { answer = answer; out = out }
-
-pub returns-in-Refused : goal.returns-in-Refused
-returns-in-Refused c =
-    let read = c.read-read.ensures in
-    named (change_unread _ (read.outcome, read.table) c.in-Refused.is _ _ _ c.refusal_code.ensures)
-
-pub returns-in-Done : goal.returns-in-Done
-returns-in-Done c =
-    let read = c.read-read.ensures in
-    let change = c.with_width.ensures in
-    let written = c.change_written.ensures in
-    named (width_changed _ (read.outcome, read.table) c.in-Done.is _ _ _ _ _ _ (change.outcome, change.table) (written.answer, written.out))
+pub returns : goal.returns
+returns c =
+    let a = c.args in
+    let t = table_in a.table.now in
+    let written = c.change_to.ensures (width_answer t a.level a.pass a.node a.integer a.fraction) (table_after_width t a.level a.pass a.node a.integer a.fraction) (λ made right given. search of_calls) in
+    let (told_is, out-is) = width_changed a.table.now a.out.now a.level a.pass a.node a.integer a.fraction written in
+    record { answer = c.code.ensures ∙ ap code told_is; out = out-is }

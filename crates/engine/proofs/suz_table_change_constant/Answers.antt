@@ -1,18 +1,14 @@
-use Rattle.engine.specs.AnswerLaws.{change_unread, constant_changed}
+use Rattle.std.proofs.Common.{◌∙◌, ap, of_calls}
+use Rattle.refusals.specs.Answers.{code}
+use Rattle.table_bytes.specs.Bytes.{table_in}
+use Rattle.width_table.specs.Changes.{constant_answer, table_after_constant}
+use Rattle.engine.specs.AnswerLaws.{constant_changed}
 use Rattle.engine.proofs.suz_table_change_constant.Goals as goal
 
--- the two facts of a law, by the clauses' names
-named : {A B : Type 0} → A × B → record { answer : A; out : B }
-named (answer, out) = record { answer = answer; out = out }
-
-pub returns-in-Refused : goal.returns-in-Refused
-returns-in-Refused c =
-    let read = c.read-read.ensures in
-    named (change_unread _ (read.outcome, read.table) c.in-Refused.is _ _ _ c.refusal_code.ensures)
-
-pub returns-in-Done : goal.returns-in-Done
-returns-in-Done c =
-    let read = c.read-read.ensures in
-    let change = c.with_constant.ensures in
-    let written = c.change_written.ensures in
-    named (constant_changed _ (read.outcome, read.table) c.in-Done.is _ _ _ (change.outcome, change.table) (written.answer, written.out))
+pub returns : goal.returns
+returns c =
+    let a = c.args in
+    let t = table_in a.table.now in
+    let written = c.change_to.ensures (constant_answer t a.node a.bits) (table_after_constant t a.node a.bits) (λ made right given. search of_calls) in
+    let (told_is, out-is) = constant_changed a.table.now a.out.now a.node a.bits written in
+    record { answer = c.code.ensures ∙ ap code told_is; out = out-is }

@@ -1,18 +1,14 @@
-use Rattle.engine.specs.AnswerLaws.{change_unread, product_changed}
+use Rattle.std.proofs.Common.{◌∙◌, ap, of_calls}
+use Rattle.refusals.specs.Answers.{code}
+use Rattle.table_bytes.specs.Bytes.{table_in}
+use Rattle.width_table.specs.Changes.{product_answer, table_after_product}
+use Rattle.engine.specs.AnswerLaws.{product_changed}
 use Rattle.engine.proofs.suz_table_change_product.Goals as goal
 
--- the two facts of a law, by the clauses' names
-named : {A B : Type 0} → A × B → record { answer : A; out : B }
-named (answer, out) = record { answer = answer; out = out }
-
-pub returns-in-Refused : goal.returns-in-Refused
-returns-in-Refused c =
-    let read = c.read-read.ensures in
-    named (change_unread _ (read.outcome, read.table) c.in-Refused.is _ _ _ c.refusal_code.ensures)
-
-pub returns-in-Done : goal.returns-in-Done
-returns-in-Done c =
-    let read = c.read-read.ensures in
-    let change = c.with_product.ensures in
-    let written = c.change_written.ensures in
-    named (product_changed _ (read.outcome, read.table) c.in-Done.is _ _ _ _ _ (change.outcome, change.table) (written.answer, written.out))
+pub returns : goal.returns
+returns c =
+    let a = c.args in
+    let t = table_in a.table.now in
+    let written = c.change_to.ensures (product_answer t a.level a.pass a.product a.bits) (table_after_product t a.level a.pass a.product a.bits) (λ made right given. search of_calls) in
+    let (told_is, out-is) = product_changed a.table.now a.out.now a.level a.pass a.product a.bits written in
+    record { answer = c.code.ensures ∙ ap code told_is; out = out-is }

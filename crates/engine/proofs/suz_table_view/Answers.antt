@@ -1,18 +1,16 @@
-use Rattle.std.proofs.Common.{◌∙◌, ap}
+use Rattle.std.proofs.Common.{rules, ◌≡◌, ◌∙◌, ap, of_calls}
+use Rattle.std.specs.Prelude.{Err}
+use Rattle.std.specs.Result.{MatchResult}
 use Rattle.refusals.specs.Answers.{code}
+use Rattle.refusals.specs.Told.{told}
 use Rattle.view_precision.specs.Bounds.{view_verdict}
-use Rattle.table_calls.specs.CallLaws.{unread, read}
+use Rattle.engine.specs.AnswerLaws.{read_then}
 use Rattle.engine.specs.Answers.{view_check_answer}
 use Rattle.engine.proofs.suz_table_view.Goals as goal
 
-pub returns-in-Refused : goal.returns-in-Refused
+pub returns : goal.returns
 unfolding view_check_answer
-returns-in-Refused c =
-    let v = c.read-read.ensures in
-    c.refusal_code.ensures ∙ ap code (unread _ (v.outcome, v.table) c.in-Refused.is _)
-
-pub returns-in-Done : goal.returns-in-Done
-unfolding view_check_answer
-returns-in-Done c =
-    let v = c.read-read.ensures in
-    c.code.ensures ∙ ap code (read _ (v.outcome, v.table) c.in-Done.is view_verdict c.judge.ensures)
+returns c =
+    let r = c.read.ensures in
+    let e : MatchResult c.read.result (λ t. told c.and_then.result ≡ view_verdict t) (λ why. c.and_then.result ≡ Err why) = search (rules, of_calls) in
+    c.code.ensures ∙ ap code (read_then _ _ (r.outcome, r.table) view_verdict _ e)

@@ -1,15 +1,16 @@
-use Rattle.std.proofs.Common.{sym, ◌∙◌, ap}
-use Rattle.refusals.specs.Answers.{code}
-use Rattle.table_bytes.specs.Told.{told_written}
+use Rattle.std.proofs.Common.{rules, ◌≡◌, sym, ◌∙◌, ap}
+use Rattle.refusals.specs.Answers.{refused}
+use Rattle.refusals.specs.Told.{told_refusal, told}
 use Rattle.engine.specs.AnswerLaws.{write_done, write_refused}
 use Rattle.engine.proofs.table_written.Goals as goal
 
-pub returns-in-Bytes-clause-answer : goal.returns-in-Bytes-clause-answer
-returns-in-Bytes-clause-answer c =
+pub returns-in_err-write-clause-answer : goal.returns-in_err-write-clause-answer
+returns-in_err-write-clause-answer c =
     let a = c.args in
-    sym (ap code (write_done a.table a.out.now _ (sym c.write.ensures.answer ∙ ap told_written c.in-Bytes.is)))
+    let e : told c.from_residual.result ≡ refused (told_refusal c.in_err-write.field-0.0) = search rules in
+    e ∙ sym (write_refused a.table a.out.now _ (sym c.write.ensures.answer ∙ ap told c.in_err-write.was))
 
-pub returns-in-NotWritten-clause-answer : goal.returns-in-NotWritten-clause-answer
-returns-in-NotWritten-clause-answer c =
+pub returns-clause-answer : goal.returns-clause-answer
+returns-clause-answer c =
     let a = c.args in
-    c.refusal_code.ensures ∙ sym (ap code (write_refused a.table a.out.now _ (sym c.write.ensures.answer ∙ ap told_written c.in-NotWritten.is)))
+    sym (write_done a.table a.out.now _ (sym c.write.ensures.answer ∙ ap told c.in_ok-write.was))

@@ -5,7 +5,4 @@ use Rattle.fixed_stages.proofs.kernel_of.Goals as goal
 pub returns : goal.returns
 returns c =
     let a = c.args in
-    stages_kernel a.table a.level (pass_of a.pass) c.stages_of-stages.result c.stages_of-stages.ensures
-
-pub stages_of-stages-requires : goal.stages_of-stages-requires
-stages_of-stages-requires c = c.requires
+    stages_kernel a.table a.level (pass_of a.pass) c.stages_of.result c.stages_of.ensures

@@ -1,9 +1,8 @@
-use mathlib.Core.Path.{ap, ◌∙◌}
+use mathlib.Core.Path.{ap}
 use Prim.Native.Nat.{ℕ, ◌+◌, ◌-◌, ◌^◌, max}
 use native.Mathlib.Omega.{arith}
 use lib.IntN.{ℤ, pos, ◌*ℤ◌}
 use Rattle.width_table.specs.Numbered.{node_of}
-use Rattle.fixed_stages.specs.Steps.{factor_of}
 use Rattle.fixed_stages.specs.SafeLaws.{constant_scaled_up}
 use Rattle.fixed_stages.proofs.Read.{got, fits_at}
 use Rattle.fixed_stages.proofs.scaling.Goals as goal
@@ -16,12 +15,3 @@ factor_of-requires c =
       constant_bits = (c.requires.1, c.requires.2, c.requires.3);
       sfits = fits_at (ap (λ (z : ℤ). z *ℤ pos (2 ^ (top - (a.bits + a.value)))) constant) (constant_scaled_up (node_of a.node) a.bits a.value top c.requires.1 (omega arith) (omega arith));
     }
-
-pub returns : goal.returns
-returns c =
-    let a = c.args in
-    let constant = got c.nearest_at.type_inv c.nearest_at.ensures in
-    c.factor_of.ensures ∙ ap (λ (z : ℤ). factor_of z a.bits a.value a.kept) constant
-
-pub nearest_at-requires : goal.nearest_at-requires
-nearest_at-requires c = (c.requires.0, c.requires.1)

@@ -1,10 +1,9 @@
-use mathlib.Core.Path.{ap, ◌∙◌}
+use mathlib.Core.Path.{ap}
 use Prim.Native.Nat.{ℕ, ◌+◌, ◌-◌, ◌^◌}
 use native.Mathlib.Omega.{arith}
 use lib.IntN.{ℤ, pos, ◌*ℤ◌}
-use Rattle.stages.specs.Stages.{cut_to}
 use Rattle.width_table.specs.Numbered.{node_of}
-use Rattle.fixed_stages.specs.Steps.{step_top, step_of}
+use Rattle.fixed_stages.specs.Steps.{step_top}
 use Rattle.fixed_stages.specs.SafeLaws.{constant_scaled_up}
 use Rattle.fixed_stages.proofs.Read.{got, fits_at}
 use Rattle.fixed_stages.proofs.stage.Goals as goal
@@ -17,12 +16,3 @@ step_of-requires c =
       constant_bits = (c.requires.1, c.requires.2, c.requires.3, c.requires.4);
       sfits = fits_at (ap (λ (z : ℤ). z *ℤ pos (2 ^ (top - (a.bits + a.sides)))) constant) (constant_scaled_up (node_of a.node) a.bits a.sides top c.requires.1 (omega arith) (omega arith));
     }
-
-pub returns : goal.returns
-returns c =
-    let a = c.args in
-    let constant = got c.nearest_at.type_inv c.nearest_at.ensures in
-    c.step_of.ensures ∙ ap (λ (z : ℤ). step_of (cut_to a.width) z a.bits a.sides a.own a.kept) constant
-
-pub nearest_at-requires : goal.nearest_at-requires
-nearest_at-requires c = (c.requires.0, c.requires.1)

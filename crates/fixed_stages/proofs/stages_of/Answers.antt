@@ -47,9 +47,6 @@ module _ (t : WidthTable) (l p : ℕ) (h : IsLevel t l × IsPass p) where
 pub node_place-at-requires : goal.node_place-at-requires
 node_place-at-requires c = omega (arith, c.requires.0.least, few c.args.table c.args.level c.args.pass c.requires, c.requires.1)
 
-pub product_place-from-requires : goal.product_place-from-requires
-product_place-from-requires c = omega (arith, c.requires.0.least, few c.args.table c.args.level c.args.pass c.requires, c.requires.1)
-
 pub stage-requires : goal.stage-requires
 stage-requires c =
     let a = c.args in

@@ -1,36 +1,24 @@
 -- `inverse_lifting::feed` meets its contract: past the last low nothing is done; else the low comes from the plane or from the work area.
-use mathlib.Core.Path.{refl}
-use Prim.Native.Nat.{◌*◌}
-use native.Mathlib.Omega.{arith}
+use Rattle.std.specs.Prelude.{◌≡◌, List, ℕ, ◌+◌, ◌*◌, ◌<◌, ◌≤◌, ℤ, pos, length, take, drop}
+use Rattle.std.proofs.Common.{ap, ◌∙◌, arith, get_or-take, get_or-drop, length-take-le, length-drop}
+use Rattle.slices.specs.Patch.{at, patch_in}
 use Rattle.inverse_lifting.specs.Strips.{fed_stored, fed_left}
 use Rattle.inverse_lifting.proofs.feed.Goals as goal
 
-pub returns-then-n-i : goal.returns-then-n-i
-returns-then-n-i c = record { low = λ j h g. absurd (omega arith); past = λ j h. refl; others = λ p h. refl }
+-- a part of the plane
+part_at : (plane low : List ℤ) (t n w j : ℕ) → t + w ≤ length plane → n ≡ w → ((k : ℕ) → k < length (take n (drop t plane)) → at low k ≡ at (take n (drop t plane)) k) → j < w → at low j ≡ at plane (t + j)
+part_at plane low t n w j fits e same h =
+    let long : length (take n (drop t plane)) ≡ n = length-take-le n (drop t plane) (omega (arith, length-drop t plane)) in
+    same j (omega arith) ∙ get_or-take n (drop t plane) j (pos 0) (omega arith) ∙ get_or-drop t plane j (pos 0)
 
-pub returns-then-a : goal.returns-then-a
-returns-then-a c = fed_stored c.args.plane.now c.args.work.now c.args.state.now _ c.args.a c.args.b c.args.i (omega arith) _ c.load.ensures c.if-a.true (λ j. refl)
+pub returns-then-s : goal.returns-then-s
+returns-then-s c =
+    let a = c.args in
+    fed_stored a.plane.now a.work.now a.next.now _ a.s.place a.s.size a.i (omega arith) c.if-s.true
+    (λ j h. part_at a.plane.now _ (a.s.place.from + a.i * a.s.place.width) _ a.s.size.columns j (c.requires.0.in_plane a.i (omega arith)) (omega arith) c.load.ensures h)
 
 pub returns : goal.returns
-returns c = fed_left c.args.plane.now c.args.work.now c.args.state.now _ c.args.a c.args.b c.args.i (omega arith) _ c.copy_run_wide.ensures c.if-a.false (λ j. refl)
-
-pub overflow_add-n : goal.overflow_add-n
-overflow_add-n c = omega (arith, c.requires.0.few)
-
-pub overflow_mul-i : goal.overflow_mul-i
-overflow_mul-i c = omega (arith, c.requires.0.in_plane c.args.i (omega arith))
-
-pub overflow_add-from : goal.overflow_add-from
-overflow_add-from c = omega (arith, c.requires.0.in_plane c.args.i (omega arith))
-
-pub load-requires : goal.load-requires
-load-requires c = (c.requires.0.in_plane c.args.i (omega arith), omega arith)
-
-pub overflow_mul-i-3 : goal.overflow_mul-i-3
-overflow_mul-i-3 c = omega (arith, c.requires.0.in_work (2 * c.args.i) (omega arith))
-
-pub overflow_add-from-2 : goal.overflow_add-from-2
-overflow_add-from-2 c = omega (arith, c.requires.0.in_work (2 * c.args.i) (omega arith))
-
-pub copy_run_wide-requires : goal.copy_run_wide-requires
-copy_run_wide-requires c = (c.requires.0.in_work (2 * c.args.i) (omega arith), omega arith)
+returns c =
+    let a = c.args in
+    fed_left a.plane.now a.work.now a.next.now _ a.s.place a.s.size a.i (omega arith) c.if-s.false
+    (λ j h. let e : j ≡ 0 + j = omega arith in ap (at c.copy_run.new.dst) e ∙ ap (λ (f : ℕ → ℤ). f (0 + j)) (c.copy_run.ensures (pos 0)) ∙ patch_in 0 a.s.size.columns _ (at a.next.now) j h)

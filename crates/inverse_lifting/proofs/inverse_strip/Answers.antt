@@ -1,63 +1,47 @@
 -- `inverse_lifting::inverse_strip` meets its contract. The loop's invariant: the steps before step i are taken.
-use mathlib.Core.Path.{◌≡◌, refl, subst}
-use Prim.Native.Nat.{ℕ, ◌+◌}
-use native.Mathlib.Omega.{arith}
-use lib.ListN.{length}
+use Rattle.std.specs.Prelude.{◌≡◌, ℕ, ◌+◌}
+use Rattle.std.proofs.Common.{subst, arith, length-drop, length-take-le}
 use Rattle.lines.specs.Lines.{lows}
-use Rattle.inverse_lifting.specs.Strips.{Placed}
+use Rattle.inverse_lifting.specs.Strips.{high_place}
+use Rattle.inverse_lifting.specs.StripSteps.{high_line_lem}
 use Rattle.inverse_lifting.specs.StripLoop.{StripDone, none_taken, column_ready, strip_more, strip_all, placed_as}
 use Rattle.inverse_lifting.proofs.inverse_strip.Goals as goal
 
 pub feed-requires : goal.feed-requires
 feed-requires c =
-    let placed : let t = c.loop-i in let a = c.args in Placed (length a.plane.now) (length t.work) (length t.state) (length t.line) a.a a.b =
-    let t = c.loop-i in placed_as c.requires.placed _ _ _ t.invariant.1 t.invariant.2 t.invariant.3 in
-    let q = placed in (q.lies, q.narrow, q.room)
+    let q = c.requires.0 in
+    (record { few = q.placed.few; narrow = q.placed.narrow; in_plane = q.in_plane; in_work = λ k h. omega (arith, q.placed.in_work k h) }, c.loop-i.invariant.0)
 
 pub strip_step-requires : goal.strip_step-requires
 strip_step-requires c =
-    let placed : let t = c.loop-i in let a = c.args in Placed (length a.plane.now) (length t.work) (length t.state) (length t.line) a.a a.b =
-    let t = c.loop-i in placed_as c.requires.placed _ _ _ t.invariant.1 t.invariant.2 t.invariant.3 in
+    let q = c.requires.0 in
     let t = c.loop-i in
-    let q = placed in
-    record {
-      placed = placed_as q _ _ _ refl (omega arith) refl;
-      within = c.loop-i-test.true;
-      y = _;
-      ready = column_ready c.requires t.invariant.4 c.loop-i-test.true c.feed.ensures;
-    }
+    let there = q.in_plane _ (high_line_lem c.args.s.size.lines t.i q.placed.two.least) in (
+      record {
+        placed = placed_as q.placed _ _ t.auto.work t.auto.line;
+        some_high = omega (arith, there, length-drop (high_place c.args.s.place c.args.s.size t.i) c.args.plane.now);
+        some_low = omega (arith, c.feed.auto.next);
+        room = t.invariant.1;
+        within = c.loop-i-test.true;
+        y = _;
+        ready = column_ready q t.invariant.2 c.loop-i-test.true c.feed.ensures;
+      },
+      there,
+    )
+
+pub loop-i-init : goal.loop-i-init
+loop-i-init c =
+    let s = c.split_at_mut-held.ensures in
+    (length-take-le c.args.s.size.columns c.split_at_mut-held.result.1.now (omega (arith, s.back_len, c.requires.1)), omega (arith, s.front_len, c.as_chunks_mut-held.ensures.front_len), none_taken _ _ _ _ _ _)
 
 pub loop-i-preserved : goal.loop-i-preserved
 loop-i-preserved c =
-    let t = c.loop-i in (
-      omega arith,
-      omega (arith, t.invariant.1),
-      omega (arith, t.invariant.2),
-      omega (arith, t.invariant.3),
-      strip_more c.requires t.invariant.4 c.loop-i-test.true c.feed.ensures c.strip_step.ensures,
-    )
+    let t = c.loop-i in
+    (omega (arith, c.feed.auto.next), omega (arith, c.strip_step.auto.held), strip_more c.requires.0 t.invariant.2 c.loop-i-test.true c.feed.ensures c.strip_step.ensures)
 
 pub returns : goal.returns
 returns c =
     let t = c.loop-i in
     let a = c.args in
-    let e : t.i ≡ lows a.b.lines + 2 = omega (arith, t.invariant.0) in
-    strip_all c.requires (subst (λ (i : ℕ). StripDone a.plane.now a.work.now t.work t.state a.a a.b i) e t.invariant.4)
-
-pub overflow_add-low : goal.overflow_add-low
-overflow_add-low c = omega (arith, c.requires.placed.lies.few)
-
-pub overflow_add-i-end : goal.overflow_add-i-end
-overflow_add-i-end c = omega (arith, c.requires.placed.lies.few)
-
-pub loop-i-init : goal.loop-i-init
-loop-i-init c = (omega arith, refl, refl, refl, none_taken _ _ _ _ _)
-
-pub shape_of-work : goal.shape_of-work
-shape_of-work c = omega (arith, c.loop-i.invariant.1)
-
-pub shape_of-state : goal.shape_of-state
-shape_of-state c = omega (arith, c.loop-i.invariant.2)
-
-pub shape_of-line : goal.shape_of-line
-shape_of-line c = omega (arith, c.loop-i.invariant.3)
+    let e : t.i ≡ lows a.s.size.lines + 2 = omega arith in
+    strip_all c.requires.0 (subst (λ (i : ℕ). StripDone a.plane.now a.work.now t.work t.low t.held a.s.place a.s.size i) e t.invariant.2)

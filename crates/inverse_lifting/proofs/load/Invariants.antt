@@ -1,10 +1,6 @@
-use Prim.Native.Nat.{◌+◌, ◌-◌}
+use Rattle.std.proofs.Common.{◌≡◌, ℕ, ◌<◌}
 use Rattle.slices.specs.Patch.{at}
-use Rattle.slices.specs.Filling.{Filling}
 use Rattle.inverse_lifting.proofs.load.Given as goal
 
 abbrev pub invariant-loop-j : goal.invariant-loop-j
-invariant-loop-j l = Filling l.to l.n (λ i. at l.plane (l.from + i)) l.initial.dst l.dst l.j
-
-abbrev pub decreases-loop-j : goal.decreases-loop-j
-decreases-loop-j l = l.n - l.j
+invariant-loop-j l = (k : ℕ) → k < l.j → at l.dst k ≡ at l.values k

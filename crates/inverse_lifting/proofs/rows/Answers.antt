@@ -2,6 +2,7 @@
 use mathlib.Core.Path.{refl, sym, subst, ◌∙◌}
 use Prim.Native.Nat.{◌*◌}
 use native.Mathlib.Omega.{arith}
+use lib.IntN.{pos}
 use Rattle.slices.specs.Patch.{at, patch_ext}
 use Rattle.slices.specs.PatchLines.{lines_none, lines_to}
 use Rattle.slices.specs.PartLaws.{row_kept, row_next}
@@ -20,8 +21,8 @@ row-requires c =
       safe = subst (Safe node_bits node_bits c.args.w) (sym (row_kept c.args.stride c.args.w c.loop-r.r (c.loop-r.r * c.args.stride) (omega (arith, part.narrow)) _ _ _ c.loop-r.invariant.3 (omega arith))) (c.requires.by_index c.loop-r.r c.loop-r-test.true);
     }
 
-pub copy_run_wide-requires : goal.copy_run_wide-requires
-copy_run_wide-requires c =
+pub copy_run-requires : goal.copy_run-requires
+copy_run-requires c =
     let there = c.requires.part.0.fits c.loop-r.r c.loop-r-test.true in
     (omega arith, omega arith)
 
@@ -31,7 +32,7 @@ loop-r-preserved c = (
   omega arith,
   omega arith,
   row_next (fixed_inverse node_bits node_bits) c.args.stride c.args.w c.loop-r.r (c.loop-r.r * c.args.stride) (omega (arith, c.requires.part.0.narrow)) (at c.args.work.now) _ _ c.loop-r.invariant.3 (omega arith)
-      (c.copy_run_wide.ensures ∙ patch_ext _ _ _ _ _ c.row.ensures.row),
+      ((c.copy_run.ensures (pos 0)) ∙ patch_ext _ _ _ _ _ c.row.ensures.row),
 )
 
 pub returns : goal.returns
@@ -48,9 +49,3 @@ returns-then-w-lt2 c = record {
 
 pub loop-r-init : goal.loop-r-init
 loop-r-init c = (omega arith, refl, refl, lines_none _ _ _ _)
-
-pub overflow_mul-r : goal.overflow_mul-r
-overflow_mul-r c = omega (arith, c.requires.part.0.fits c.loop-r.r c.loop-r-test.true)
-
-pub overflow_mul-r-in-loop-r : goal.overflow_mul-r-in-loop-r
-overflow_mul-r-in-loop-r c = omega (arith, c.requires.part.0.fits c.loop-r.r c.loop-r-test.true)

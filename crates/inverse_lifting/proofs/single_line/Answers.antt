@@ -41,17 +41,8 @@ loop-j-preserved c =
           (again c.scaled.result c.scaled.type_inv ∙ c.scaled.ensures ∙ ap (scaled_by at_one a.lowbits) (read c.single_low.result size ∙ low) ∙ scaled_one a.lowbits _ c.requires.lies.1),
     )
 
-pub loop-j-init : goal.loop-j-init
-loop-j-init c = (omega arith, refl, patch_none _ 0 _ _ refl)
-
-pub overflow_add-from : goal.overflow_add-from
-overflow_add-from c = omega (arith, c.requires.lies.0.in_work 0 (omega arith))
-
-pub offset_bounds-work-from : goal.offset_bounds-work-from
-offset_bounds-work-from c = omega (arith, c.requires.lies.0.in_work 0 (omega arith))
-
-pub bounds-work-from : goal.bounds-work-from
-bounds-work-from c = omega (arith, c.requires.lies.0.in_work 0 (omega arith))
-
 pub returns : goal.returns
 returns c = patch_to _ _ _ _ _ _ c.loop-j.invariant.2 (omega arith)
+
+pub loop-j-init : goal.loop-j-init
+loop-j-init c = (omega arith, refl, patch_none _ 0 _ _ refl)

@@ -27,8 +27,8 @@ returns-then-a c =
     let fits : SFits w32 (at a.plane.now (a.a.from + a.j)) = search rules in
     to_z-of_z (widened _ fits) ∙ to_z-of_z fits ∙ sym (source_stored a.a 1 (at a.plane.now) (at a.work.now) a.j 0 (lit< tt) c.if-a.true ∙ ap (at a.plane.now) (first a.a.from a.a.width a.j))
 
-pub returns : goal.returns
-returns c =
+pub returns-else-a : goal.returns-else-a
+returns-else-a c =
     let a = c.args in
     let fits : SFits w64 (at a.work.now (a.a.from + a.j)) = search rules in
     to_z-of_z fits ∙ sym (source_left a.a 1 (at a.plane.now) (at a.work.now) a.j 0 (lit< tt) c.if-a.false ∙ ap (at a.work.now) (first a.a.from a.a.stride a.j))

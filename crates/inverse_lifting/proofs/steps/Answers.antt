@@ -1,43 +1,39 @@
 -- `inverse_lifting::steps` meets its contract. The loop's invariant: the first j columns have taken their step.
-use mathlib.Core.Path.{◌≡◌, refl, subst}
-use Prim.Native.Nat.{ℕ}
 use native.Mathlib.Omega.{arith}
-use Rattle.inverse_lifting.specs.Columns.{StepsDone, none_done, ready_now, steps_more, steps_all, sized_as}
+use borrow.Author.Rules.{rules}
+use mathlib.Core.Path.{◌≡◌, sym}
+use mir.Syntax.{w32, w64}
+use Rattle.numbers.specs.Auto.{rd}
+use Rattle.slices.specs.Patch.{at}
+use Rattle.slices.specs.Runs.{as_type}
+use Rattle.inverse_lifting.specs.Columns.{pipeline_in, held_of, ColumnReady, ColumnStepped, none_done, ready_now, steps_more, steps_all}
 use Rattle.inverse_lifting.proofs.steps.Goals as goal
 
-pub column_step-requires : goal.column_step-requires
-column_step-requires c =
+pub column_step-t-requires : goal.column_step-t-requires
+column_step-t-requires g c =
+    let a = c.args in
     let t = c.loop-j in
-    let more = c.loop-j-test.true in
+    let low_is : rd w64 (at a.low.now t.j) ≡ at a.low.now t.j = search rules in
+    let high_is : rd w32 (at a.high.now t.j) ≡ at a.high.now t.j = search rules in
     record {
-      sized = sized_as c.requires.sized t.state _ t.invariant.1 t.invariant.2;
-      among = more;
+      sized = c.requires.sized;
       y = c.requires.y t.j;
-      ready = ready_now t.invariant.3 more c.requires.sized.narrow (c.requires.ready t.j more);
+      ready = as_type (λ u. ColumnReady a.b a.i (pipeline_in (held_of t.held t.j)) (sym low_is u) (sym high_is u) (c.requires.y t.j)) (ready_now t.invariant (c.requires.ready t.j c.loop-j-test.true));
     }
 
+pub loop-j-init : goal.loop-j-init
+loop-j-init g c = none_done _ _ _ _ _ _ _
+
 pub loop-j-preserved : goal.loop-j-preserved
-loop-j-preserved c =
+loop-j-preserved g c =
+    let a = c.args in
     let t = c.loop-j in
-    let more = c.loop-j-test.true in (
-      omega arith,
-      omega (arith, t.invariant.1),
-      omega (arith, t.invariant.2),
-      steps_more t.invariant.3 more c.requires.sized.narrow _ _ c.requires.sized.apart c.column_step.ensures,
-    )
+    let low_is : rd w64 (at a.low.now t.j) ≡ at a.low.now t.j = search rules in
+    let high_is : rd w32 (at a.high.now t.j) ≡ at a.high.now t.j = search rules in
+    let d : ColumnStepped (held_of t.held t.j) (at a.low.now t.j) (at a.high.now t.j) a.b a.i c.column_step-t.result =
+    as_type (λ u. ColumnStepped (held_of t.held t.j) (low_is u) (high_is u) a.b a.i c.column_step-t.result) c.column_step-t.ensures in
+    steps_more t.invariant (omega (arith, c.requires.room)) (omega (arith, c.requires.some_even)) (omega (arith, c.requires.some_odd)) d _ _ _
+    (record { g2 = search rules; u2 = search rules; p2 = search rules; u1 = search rules; even = λ h. search rules; odd = λ h k. search rules })
 
 pub returns : goal.returns
-returns c =
-    let t = c.loop-j in
-    let a = c.args in
-    let e : t.j ≡ a.b.columns = omega (arith, t.invariant.0) in
-    steps_all c.requires.sized.narrow (subst (λ (j : ℕ). StepsDone a.plane.now a.high a.state.now t.state a.out.now t.out a.to a.gap a.b a.i j) e t.invariant.3)
-
-pub loop-j-init : goal.loop-j-init
-loop-j-init c = (omega arith, refl, refl, none_done _ _ _ _ _ _ _ _)
-
-pub shape_of-state : goal.shape_of-state
-shape_of-state c = omega (arith, c.loop-j.invariant.1)
-
-pub shape_of-out : goal.shape_of-out
-shape_of-out c = omega (arith, c.loop-j.invariant.2)
+returns g c = steps_all c.loop-j.invariant (omega arith)

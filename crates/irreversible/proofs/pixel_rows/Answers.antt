@@ -1,8 +1,7 @@
 -- The rows of the pixels are those of the plane that holds them.
-use mathlib.Core.Path.{◌≡◌, sym, ap, ◌∙◌}
-use Prim.Native.Nat.{ℕ, ◌*◌, ◌-◌, ◌^◌, ◌≤◌}
+use mathlib.Core.Path.{◌≡◌, sym, ◌∙◌}
+use Prim.Native.Nat.{ℕ, ◌*◌, ◌-◌, ◌^◌}
 use native.Mathlib.Omega.{arith}
-use native.Mathlib.Nat.{mul-le-mul}
 use lib.IntN.{ℤ}
 use mathlib.Core.List.{List}
 use Rattle.width_table.specs.Nodes.{Rows}
@@ -18,7 +17,6 @@ use Rattle.precision.specs.Promise.{promise}
 use Rattle.fixed_stages.specs.Kernels.{kernel_of}
 use Rattle.fixed_stages.specs.KernelLaws.{kernel_line}
 use Rattle.fixed_stages.specs.Safe.{LineSafe}
-use Rattle.irreversible.specs.Memory.{rowed}
 use Rattle.irreversible.specs.CallSteps.{first_ready, part_of}
 use Rattle.irreversible.proofs.pixel_rows.Goals as goal
 
@@ -37,11 +35,6 @@ work_rows-requires c =
       across = f.across;
       safe = λ r i. as_type (λ u. LineSafe a.table 1 Rows a.w (row_of a.w 0 (sym held u) r)) (f.safe.on_rows r i);
     }
-
-pub returns-then-w-lt2 : goal.returns-then-w-lt2
-returns-then-w-lt2 c =
-    let a = c.args in
-    c.work_rows.ensures ∙ ap (rowed a.table 1 a.w a.w a.h) (put a.pixels.now a.w a.h a.plane.now c.put_pixels.new.plane c.middle-middle.result c.put_pixels.ensures c.middle-middle.ensures)
 
 pub pixel_rows-requires : goal.pixel_rows-requires
 unfolding kernel_of
@@ -64,15 +57,6 @@ returns c =
 
 pub middle-middle-requires : goal.middle-middle-requires
 middle-middle-requires c = form_depth c.args.table (promise c.args.table c.requires.accepted).form
-
-pub overflow_mul-w : goal.overflow_mul-w
-overflow_mul-w c =
-    let size : c.args.w * c.args.h ≤ 16777216 =
-    mul-le-mul c.requires.picture.width.1 c.requires.picture.height.1 in
-    omega (arith, size)
-
-pub put_pixels-requires : goal.put_pixels-requires
-put_pixels-requires c = (c.requires.first, c.requires.second)
 
 pub kernel_of-kernel-requires : goal.kernel_of-kernel-requires
 kernel_of-kernel-requires c = ((first_ready c.requires).is_level, (omega arith, omega arith))

@@ -8,4 +8,4 @@ use Rattle.irreversible.proofs.transform.Given as goal
 
 abbrev pub invariant-loop-k : goal.invariant-loop-k
 invariant-loop-k l =
-    (l.k ≤ l.levels) × (length l.plane ≡ length l.initial.plane) × (length l.buffer ≡ length l.initial.buffer) × (l.across ≡ side l.k l.w) × (l.down ≡ side l.k l.h) × After l.table l.pixels l.w l.h l.k (at l.initial.plane) (at l.plane)
+    (l.k ≤ l.table.levels) × (length l.plane ≡ length l.initial.plane) × (length l.buffer ≡ length l.initial.buffer) × (l.across ≡ side l.k l.w) × (l.down ≡ side l.k l.h) × After l.table l.pixels l.w l.h l.k (at l.initial.plane) (at l.plane)

@@ -8,32 +8,26 @@ use Rattle.fixed_stages.specs.KernelLaws.{kernel_line, factor_line}
 use Rattle.irreversible.proofs.work_rows.Goals as goal
 
 -- rows of one
-pub returns-then-w-lt2 : goal.returns-then-w-lt2
-returns-then-w-lt2 c =
+pub returns-then-front-lt2 : goal.returns-then-front-lt2
+returns-then-front-lt2 c =
     let a = c.args in
     let x = at a.plane.now in
-    let q = factor_line a.table a.level Rows a.w c.single_of-single.ensures (omega arith) in
-    c.scale_part.ensures ∙ (λ u. patch_lines (line_at 0 a.stride) a.w a.h (λ r. q u (row_of a.stride 0 x r)) x)
+    let q = factor_line a.table a.level Rows a.front.w c.single_of.ensures (omega arith) in
+    c.scale_part.ensures ∙ (λ u. patch_lines (line_at 0 a.front.stride) a.front.w a.front.h (λ r. q u (row_of a.front.stride 0 x r)) x)
 
 -- rows of two or more
 pub returns : goal.returns
 returns c =
     let a = c.args in
     let x = at a.plane.now in
-    let q = kernel_line a.table a.level Rows a.w c.kernel_of.ensures (record { least = omega arith }) in
-    c.rows.ensures.plane ∙ (λ u. patch_lines (line_at 0 a.stride) a.w a.h (λ c. q u (row_of a.stride 0 x c)) x)
-
-pub single_of-single-requires : goal.single_of-single-requires
-single_of-single-requires c = (c.requires.is_level, (omega arith, omega arith))
+    let q = kernel_line a.table a.level Rows a.front.w c.kernel_of.ensures (record { least = omega arith }) in
+    c.rows.ensures.plane ∙ (λ u. patch_lines (line_at 0 a.front.stride) a.front.w a.front.h (λ c. q u (row_of a.front.stride 0 x c)) x)
 
 pub scale_part-requires : goal.scale_part-requires
 scale_part-requires c = record {
   part = c.requires.part;
-  by_index = λ r j i k. c.single_of-single.ensures.safe _ ((c.requires.safe r i).single (omega arith) j k);
+  by_index = λ r j i k. c.single_of.ensures.safe _ ((c.requires.safe r i).single (omega arith) j k);
 }
-
-pub kernel_of-requires : goal.kernel_of-requires
-kernel_of-requires c = (c.requires.is_level, (omega arith, omega arith))
 
 pub rows-requires : goal.rows-requires
 rows-requires c = record {

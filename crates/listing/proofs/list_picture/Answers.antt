@@ -9,9 +9,6 @@ use Rattle.listing.specs.Writing.{put_same}
 use Rattle.listing.proofs.AnswerLaws.{area, refused_text, plane_text}
 use Rattle.listing.proofs.list_picture.Goals as goal
 
-pub overflow_mul-n : goal.overflow_mul-n
-overflow_mul-n c = omega (arith, area _ _ c.requires.0 c.requires.1)
-
 pub read_pixels-requires : goal.read_pixels-requires
 read_pixels-requires c = omega (arith, area _ _ c.requires.0 c.requires.1, c.requires.2.for_pixels)
 
@@ -24,15 +21,15 @@ slice_bounds-forward-end-2 c =
 pub put_plane-requires : goal.put_plane-requires
 put_plane-requires c = omega (arith, area _ _ c.requires.0 c.requires.1, c.requires.2.for_plane, c.requires.2.for_text, c.forward.auto.plane)
 
-pub returns-in-Refused : goal.returns-in-Refused
-returns-in-Refused c =
+pub returns-in-Err : goal.returns-in-Err
+returns-in-Err c =
     put_same _ _ c.put_refused.ensures
-    (refused_text _ _ c.requires.0 c.requires.1 _ _ _ _ _ c.read_pixels.ensures c.forward.ensures.answer c.requires.2.for_plane c.requires.2.for_work _ (ap told c.in-Refused.is))
+    (refused_text _ _ c.requires.0 c.requires.1 _ _ _ _ _ c.read_pixels.ensures c.forward.ensures.answer c.requires.2.for_plane c.requires.2.for_work _ (ap told c.in-Err.is))
 
-pub returns-in-Done : goal.returns-in-Done
-returns-in-Done c =
+pub returns-in-Ok : goal.returns-in-Ok
+returns-in-Ok c =
     put_same _ _ c.put_plane.ensures
-    (plane_text _ _ c.requires.0 c.requires.1 _ _ _ _ _ c.read_pixels.ensures c.forward.ensures.answer c.requires.2.for_plane c.requires.2.for_work _ c.forward.ensures.plane (ap told c.in-Done.is))
+    (plane_text _ _ c.requires.0 c.requires.1 _ _ _ _ _ c.read_pixels.ensures c.forward.ensures.answer c.requires.2.for_plane c.requires.2.for_work _ c.forward.ensures.plane (ap told c.in-Ok.is))
 
 pub slice_bounds-forward-end : goal.slice_bounds-forward-end
 slice_bounds-forward-end c =

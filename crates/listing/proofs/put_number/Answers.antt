@@ -22,22 +22,22 @@ size z fits n read =
     (e, natural_short 9 _ (omega (arith, e, size_of_mag z fits.sfits)))
 
 pub put_natural-requires : goal.put_natural-requires
-put_natural-requires c = omega (arith, (size c.args.z c.ranges.z _ c.magnitude-n.ensures).1, c.put-next.ensures.end, put_length c.put-next.ensures)
+put_natural-requires c = omega (arith, (size c.args.z c.ranges.z _ c.unsigned_abs-n.ensures.value).1, c.put-next.ensures.end, put_length c.put-next.ensures)
 
-pub put_natural-requires-else-z-lt0 : goal.put_natural-requires-else-z-lt0
-put_natural-requires-else-z-lt0 c = omega (arith, (size c.args.z c.ranges.z _ c.magnitude-n.ensures).1)
+pub put_natural-requires-2 : goal.put_natural-requires-2
+put_natural-requires-2 c = omega (arith, (size c.args.z c.ranges.z _ c.unsigned_abs-n.ensures.value).1)
 
 pub returns-then-z-lt0 : goal.returns-then-z-lt0
 returns-then-z-lt0 c =
-    let e = size c.args.z c.ranges.z _ c.magnitude-n.ensures in (
+    let e = size c.args.z c.ranges.z _ c.unsigned_abs-n.ensures.value in (
       put_same _ _ (put_then c.put-next.ensures c.put_natural.ensures)
           (ap (λ (k : ℕ). minus ∷ natural k) e.0 ∙ sym (decimal_below _ (ap (λ (z : ℤ). lt_z z (pos 0)) (sym (to_z-of_z c.ranges.z)) ∙ c.if-z-lt0.true))),
       omega (arith, e.1, c.put-next.ensures.end, c.put_natural.ensures.end),
     )
 
-pub returns-else-z-lt0 : goal.returns-else-z-lt0
-returns-else-z-lt0 c =
-    let e = size c.args.z c.ranges.z _ c.magnitude-n.ensures in (
-      put_same _ _ c.put_natural-else-z-lt0.ensures (ap natural e.0 ∙ sym (decimal_above _ (ap (λ (z : ℤ). lt_z z (pos 0)) (sym (to_z-of_z c.ranges.z)) ∙ c.if-z-lt0.false))),
-      omega (arith, e.1, c.put_natural-else-z-lt0.ensures.end),
+pub returns : goal.returns
+returns c =
+    let e = size c.args.z c.ranges.z _ c.unsigned_abs-n.ensures.value in (
+      put_same _ _ c.put_natural-2.ensures (ap natural e.0 ∙ sym (decimal_above _ (ap (λ (z : ℤ). lt_z z (pos 0)) (sym (to_z-of_z c.ranges.z)) ∙ c.if-z-lt0.false))),
+      omega (arith, e.1, c.put_natural-2.ensures.end),
     )

@@ -4,5 +4,5 @@ use Rattle.refusals.specs.Told.{told}
 use Rattle.pictures.specs.PixelLaws.{size_fits}
 use Rattle.listing.proofs.size_right.Goals as goal
 
-pub overflow_mul-w : goal.overflow_mul-w
-overflow_mul-w c = omega (arith, size_fits c.args.w c.args.h (sym c.sides_right.ensures ∙ ap told c.in-Done.is))
+pub overflow_mul-n : goal.overflow_mul-n
+overflow_mul-n c = omega (arith, size_fits c.args.w c.args.h (sym c.sides_right.ensures ∙ ap told c.in_ok-sides_right.was))

@@ -2,12 +2,13 @@
 use Rattle.std.proofs.Common.{sym, ◌∙◌}
 use Rattle.pictures.specs.PixelLaws.{wide_wrong, tall_wrong, both_right}
 use Rattle.pictures.proofs.sides_right.Goals as goal
+use Rattle.pictures.proofs.sides_right.Goals.{then-not-side_admitted-via-then-not-side_admitted, then-not-side_admitted-via-else-not-side_admitted+then-not-side_admitted-2}
 
-pub returns-else-side_admitted : goal.returns-else-side_admitted
-returns-else-side_admitted c = sym (wide_wrong _ _ (sym c.side_admitted.ensures ∙ c.if-side_admitted.false))
-
-pub returns-else-side_admitted-2 : goal.returns-else-side_admitted-2
-returns-else-side_admitted-2 c = sym (tall_wrong _ _ (sym c.side_admitted.ensures ∙ c.if-side_admitted.true) (sym c.side_admitted-2.ensures ∙ c.if-side_admitted-2.false))
+pub returns-then-not-side_admitted : goal.returns-then-not-side_admitted
+returns-then-not-side_admitted c = elim c.then-not-side_admitted.branch [
+  | then-not-side_admitted-via-then-not-side_admitted w ↦ sym (wide_wrong _ _ (cc))
+  | then-not-side_admitted-via-else-not-side_admitted+then-not-side_admitted-2 w ↦ sym (tall_wrong _ _ (cc) (cc))
+]
 
 pub returns : goal.returns
-returns c = sym (both_right _ _ (sym c.side_admitted.ensures ∙ c.if-side_admitted.true) (sym c.side_admitted-2.ensures ∙ c.if-side_admitted-2.true))
+returns c = sym (both_right _ _ (sym c.side_admitted.ensures ∙ c.if-not-side_admitted.false) (sym c.side_admitted-else-not-side_admitted.ensures ∙ c.if-not-side_admitted-2.false))

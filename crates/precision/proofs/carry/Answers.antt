@@ -1,12 +1,11 @@
-use Prim.Native.Nat.{ℕ, ◌+◌, ◌<◌, ◌≤◌}
+use Prim.Native.Nat.{ℕ, ◌+◌, ◌<◌}
 use mathlib.Core.List.{List}
-use mathlib.Core.Path.{◌≡◌, refl, sym, ◌∙◌, ap, subst}
+use mathlib.Core.Path.{◌≡◌, refl, ◌∙◌, ap, subst}
 use native.Mathlib.Omega.{arith}
 use native.Mathlib.Decide.{dec_lt}
 use lib.ListN.{length, get_or, set, length-set}
 use lib.Seq.{get_or-set_same, get_or-set_other}
 use Rattle.stages.specs.Rule.{times_gain}
-use Rattle.bounds_rule.specs.Carried.{most_gain}
 use Rattle.precision.specs.Places.{gain_at}
 use Rattle.precision.specs.PlaceLaws.{gain_most, times_small}
 use Rattle.precision.proofs.carry.Invariants.{Added}
@@ -26,30 +25,21 @@ added_next f l m k v h e a = (first, λ i j. get_or-set_other m k i v 0 (λ q. a
         go (yes b) = get_or-set_other m k i v 0 (λ q. absurd (omega (arith, q, b))) ∙ a.0 i b
         go (no b) = subst (λ (i : ℕ). get_or (set m k v) i 0 ≡ get_or l i 0 + f i) {x = k} {y = i} (omega arith) here
 
-pub gains_from-gains-requires : goal.gains_from-gains-requires
-gains_from-gains-requires c = omega arith
-
 pub loop-to-init : goal.loop-to-init
 loop-to-init c = (omega arith, omega (arith, c.well_formed), ((λ i j. absurd (omega (arith, j))), (λ i j. refl)))
 
-pub times_gain_once-requires : goal.times_gain_once-requires
-times_gain_once-requires c = (omega (arith, c.requires.0), subst (λ (l : List ℕ). get_or l c.loop-to.to 0 ≤ most_gain) (sym c.gains_from-gains.ensures) (gain_most c.args.from c.loop-to.to))
+pub times_gain-requires : goal.times_gain-requires
+times_gain-requires c = (omega (arith, c.requires.0), gain_most c.args.from c.loop-to.to)
 
--- what is added
-sum : (c : goal.After-times_gain_once) → let i = c in c.times_gain_once.result ≡ times_gain i.args.x (gain_at i.args.from i.loop-to.to)
-sum c =
-    let i = c in
-    c.times_gain_once.ensures ∙ ap (λ (l : List ℕ). times_gain i.args.x (get_or l i.loop-to.to 0)) i.gains_from-gains.ensures
-
-pub overflow_add-carried : goal.overflow_add-carried
-overflow_add-carried c = omega (arith, c.loop-to.invariant.2.1 c.loop-to.to (omega arith), c.requires.2 c.loop-to.to (omega arith), sum c, times_small c.args.x c.args.from c.loop-to.to c.requires.0)
+pub overflow_add-sum : goal.overflow_add-sum
+overflow_add-sum c = omega (arith, c.loop-to.invariant.2.1 c.loop-to.to (omega arith), c.requires.2 c.loop-to.to (omega arith), c.times_gain.ensures, times_small c.args.x c.args.from c.loop-to.to c.requires.0)
 
 pub loop-to-preserved : goal.loop-to-preserved
 loop-to-preserved c =
     let a = c.args in (
       omega arith,
       simp length-set c.loop-to.invariant.1,
-      added_next (λ j. times_gain a.x (gain_at a.from j)) a.sums c.loop-to.carried c.loop-to.to _ (omega arith) (ap (λ (x : ℕ). get_or c.loop-to.carried c.loop-to.to 0 + x) (sum c)) c.loop-to.invariant.2,
+      added_next (λ j. times_gain a.x (gain_at a.from j)) a.sums c.loop-to.sum-items c.loop-to.to _ (omega arith) (ap (λ (x : ℕ). get_or c.loop-to.sum-items c.loop-to.to 0 + x) c.times_gain.ensures) c.loop-to.invariant.2,
     )
 
 pub returns : goal.returns

@@ -11,4 +11,4 @@ abbrev pub Added : (ℕ → ℕ) → List ℕ → List ℕ → ℕ → Type 0
 Added f l m k = ((i : ℕ) → i < k → get_or m i 0 ≡ get_or l i 0 + f i) × ((i : ℕ) → k ≤ i → get_or m i 0 ≡ get_or l i 0)
 
 abbrev pub invariant-loop-to : goal.invariant-loop-to
-invariant-loop-to l = (l.to ≤ places) × (length l.carried ≡ places) × Added (λ i. times_gain l.x (gain_at l.from i)) l.initial.carried l.carried l.to
+invariant-loop-to l = (l.to ≤ places) × (length l.sum-items ≡ places) × Added (λ i. times_gain l.x (gain_at l.from i)) l.initial.sum-items l.sum-items l.to

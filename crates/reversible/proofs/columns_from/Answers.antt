@@ -8,12 +8,6 @@ use Rattle.reversible.proofs.columns_from.Goals as goal
 pub returns-then-h-lt2 : goal.returns-then-h-lt2
 returns-then-h-lt2 c = columns_one c.args.kernel c.args.stride c.args.w c.args.h (at c.args.plane.now) (omega (arith, c.requires.part.narrow)) (omega arith)
 
-pub columns-requires : goal.columns-requires
-columns-requires c = let p = c.requires in record {
-  part = (p.part, record { least = omega arith }, p.column);
-  by_index = p.safe (record { least = omega arith });
-}
-
 pub returns : goal.returns
 returns c = let a = c.args in
     c.columns.ensures.plane ∙ columns_more a.kernel a.stride a.w a.h (at a.plane.now) (record { least = omega arith })

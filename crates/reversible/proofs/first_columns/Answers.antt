@@ -11,9 +11,6 @@ use Rattle.reversible.specs.LevelLaws.{columns_from, columns_one, columns_more}
 use Rattle.reversible.specs.Preconditions.{first_columns_lem}
 use Rattle.reversible.proofs.first_columns.Goals as goal
 
-pub middle-middle-requires : goal.middle-middle-requires
-middle-middle-requires c = c.requires.depth
-
 pub pixel_columns-requires : goal.pixel_columns-requires
 pixel_columns-requires c = first_columns_lem c.requires (record { least = omega arith }) _ c.middle-middle.ensures
 

@@ -1,12 +1,9 @@
-use mathlib.Core.Path.{◌≡◌}
-use Prim.Native.Nat.{◌≤◌}
-use lib.ListN.{length}
+use Rattle.std.specs.Prelude.{◌≡◌, ℕ, ◌<◌}
 use Rattle.lifting.specs.declared.Step.TheVariants.{Predict}
 use Rattle.lifting.specs.Steps.{applied}
-use Rattle.slices.specs.Patch.{at, patch}
+use Rattle.slices.specs.Patch.{at}
 use Rattle.slices.specs.Pixels.{pixel_line}
 use Rattle.reversible.proofs.high_end.Given as goal
 
 abbrev pub invariant-loop-j : goal.invariant-loop-j
-invariant-loop-j l =
-    (l.j ≤ l.n) × (length l.plane ≡ length l.initial.plane) × (at l.plane ≡ patch l.to l.j (λ k. applied Predict (pixel_line l.pixels l.middle l.own k) (pixel_line l.pixels l.middle l.beside k) (pixel_line l.pixels l.middle l.beside k)) (at l.initial.plane))
+invariant-loop-j l = (k : ℕ) → k < l.j → at l.x-items k ≡ applied Predict (pixel_line l.pixels l.middle l.own k) (pixel_line l.pixels l.middle l.beside k) (pixel_line l.pixels l.middle l.beside k)

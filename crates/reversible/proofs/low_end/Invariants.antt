@@ -1,6 +1,5 @@
 use mathlib.Core.Path.{◌≡◌}
-use Prim.Native.Nat.{◌+◌, ◌≤◌}
-use lib.ListN.{length}
+use Prim.Native.Nat.{◌+◌}
 use Rattle.lifting.specs.declared.Step.TheVariants.{Update}
 use Rattle.lifting.specs.Steps.{applied}
 use Rattle.slices.specs.Patch.{at, patch}
@@ -9,4 +8,4 @@ use Rattle.reversible.proofs.low_end.Given as goal
 
 abbrev pub invariant-loop-j : goal.invariant-loop-j
 invariant-loop-j l =
-    (l.j ≤ l.n) × (length l.plane ≡ length l.initial.plane) × (at l.plane ≡ patch l.to l.j (λ k. applied Update (pixel_line l.pixels l.middle l.own k) (at l.initial.plane (l.beside + k)) (at l.initial.plane (l.beside + k))) (at l.initial.plane))
+    at l.plane ≡ patch l.to l.j (λ k. applied Update (pixel_line l.pixels l.middle l.own k) (at l.initial.plane (l.beside + k)) (at l.initial.plane (l.beside + k))) (at l.initial.plane)

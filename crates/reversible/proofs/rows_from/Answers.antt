@@ -8,12 +8,6 @@ use Rattle.reversible.proofs.rows_from.Goals as goal
 pub returns-then-w-lt2 : goal.returns-then-w-lt2
 returns-then-w-lt2 c = rows_one c.args.kernel c.args.stride c.args.w c.args.h (at c.args.plane.now) (omega (arith, c.requires.part.narrow)) (omega arith)
 
-pub rows-requires : goal.rows-requires
-rows-requires c = let p = c.requires in record {
-  part = (p.part, record { least = omega arith }, p.row);
-  by_index = p.safe (record { least = omega arith });
-}
-
 pub returns : goal.returns
 returns c = let a = c.args in
     c.rows.ensures.plane ∙ rows_more a.kernel a.stride a.w a.h (at a.plane.now) (record { least = omega arith })

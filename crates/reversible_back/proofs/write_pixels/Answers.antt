@@ -4,11 +4,10 @@ use Prim.Native.Nat.{ℕ, ◌-◌, ◌≤◌, ◌^◌}
 use native.Mathlib.Omega.{arith}
 use borrow.Author.Rules.{sfits_of}
 use lib.IntN.{ℤ, pos, nat_abs, neg_ℤ, ◌+ℤ◌, ◌-ℤ◌}
-use lib.ListN.{length-set}
 use lib.Pow.{pow_mono}
 use mir.Syntax.{w32}
 use mir.Facts.{to_z-of_z}
-use Rattle.slices.specs.Patch.{at, patch_none, patch_above, patch_to}
+use Rattle.slices.specs.Patch.{at, patch_none, patch_above}
 use Rattle.slices.specs.Runs.{as_type}
 use Rattle.slices.specs.FrontLaws.{patch_next, patch_zeroed}
 use Rattle.reversible_back.specs.FoundLaws.{signed_middle}
@@ -18,7 +17,7 @@ use Rattle.reversible_back.proofs.write_pixels.Goals as goal
 pub pixel_of-requires : goal.pixel_of-requires
 pixel_of-requires c =
     let t = c.loop-i in
-    let sample : at t.values t.i ≡ at c.args.values.now t.i = ap (λ (f : ℕ → ℤ). f t.i) t.invariant.4 ∙ patch_above 0 t.i _ _ t.i (omega arith) in
+    let sample : at t.values t.i ≡ at c.args.values.now t.i = ap (λ (f : ℕ → ℤ). f t.i) t.invariant.1 ∙ patch_above 0 t.i _ _ t.i (omega arith) in
     let m = c.middle-half in
     let half = signed_middle c.args.depth m.result c.requires.le_depth.0 c.requires.le_depth.1 m.ensures in
     let v = to_z-of_z {w = w32} (sfits_of c.pixel_of-arg-1.given) ∙ sample in
@@ -28,24 +27,16 @@ pixel_of-requires c =
 pub loop-i-preserved : goal.loop-i-preserved
 loop-i-preserved c =
     let t = c.loop-i in
-    let sample : at t.values t.i ≡ at c.args.values.now t.i = ap (λ (f : ℕ → ℤ). f t.i) t.invariant.4 ∙ patch_above 0 t.i _ _ t.i (omega arith) in
+    let sample : at t.values t.i ≡ at c.args.values.now t.i = ap (λ (f : ℕ → ℤ). f t.i) t.invariant.1 ∙ patch_above 0 t.i _ _ t.i (omega arith) in
     let m = c.middle-half in
     let half = signed_middle c.args.depth m.result c.requires.le_depth.0 c.requires.le_depth.1 m.ensures in
     let v = to_z-of_z {w = w32} {z = at t.values t.i} (sfits_of c.pixel_of-arg-1.given) ∙ sample in (
-      omega arith,
-      simp length-set t.invariant.1,
-      simp length-set t.invariant.2,
-      patch_next t.i _ _ t.pixels 0 t.invariant.3 (omega arith) _ (c.pixel_of.ensures ∙ (λ u. nat_abs (v u +ℤ half u))),
-      patch_next t.i _ _ t.values (pos 0) t.invariant.4 (omega arith) _ refl,
+      patch_next t.i _ _ t.pixels 0 t.invariant.0 (omega arith) _ (c.pixel_of.ensures ∙ (λ u. nat_abs (v u +ℤ half u))),
+      patch_next t.i _ _ t.values (pos 0) t.invariant.1 (omega arith) _ refl,
     )
 
-pub returns : goal.returns
-returns c =
-    let t = c.loop-i in
-    record {
-      k_after = patch_to _ _ _ _ _ _ t.invariant.3 (omega arith);
-      values_after = patch_zeroed t.i c.args.n c.args.values.now t.values t.invariant.4 t.invariant.2 (omega arith) (omega arith);
-    }
+pub returns-clause-values_after : goal.returns-clause-values_after
+returns-clause-values_after c = let t = c.loop-i in patch_zeroed t.i c.args.n c.args.values.now t.values t.invariant.1 (omega arith) (omega arith) (omega arith)
 
 pub loop-i-init : goal.loop-i-init
-loop-i-init c = (omega arith, refl, refl, patch_none 0 _ _ _ refl, patch_none 0 _ _ _ refl)
+loop-i-init c = (patch_none 0 _ _ _ refl, patch_none 0 _ _ _ refl)

@@ -30,6 +30,3 @@ returns c =
     let p1-there : at c.stage_line.new.held ≡ set_p1 c.args.columns.table c.args.w 6 0 5 (moved c.args.w 6 1 (at c.args.held.now)) =
     P1-done c.args.columns c.requires.1 c.args.w 6 0 5 _ _ c.move_line.ensures _ c.stage_line.ensures in
     U1-done c.args.columns c.requires.1 c.args.w 0 c.args.before 6 _ _ p1-there _ c.stage_line-2.ensures
-
-pub move_line-requires : goal.move_line-requires
-move_line-requires c = (c.requires.0, record { one = omega arith; other = omega arith; apart = λ e. absurd (omega arith) })

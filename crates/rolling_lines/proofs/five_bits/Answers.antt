@@ -9,8 +9,5 @@ returns c =
     let a = c.args in
     tells_five (at a.held.now) a.w a.from a.n a.lines a.bits _ c.part_of_bits.ensures
 
-pub overflow_add-bits : goal.overflow_add-bits
-overflow_add-bits c = omega (arith, c.requires.0)
-
 pub part_of_bits-requires : goal.part_of_bits-requires
 part_of_bits-requires c = (omega (arith, c.requires.0), c.requires.1)

@@ -24,6 +24,3 @@ returns c =
       held = c.keep_first.ensures ∙ ap (first_kept a.w) (c.move_line.ensures ∙ ap (moved a.w 4 2) stages-done);
       out = c.second_given.ensures.out ∙ ap (λ (m : ℕ → ℤ). two_given a.columns.table a.w 0 (second_done a.columns.table a.w 0 a.before m) (at a.out.now)) c.first_stages.ensures;
     }
-
-pub first_stages-requires : goal.first_stages-requires
-first_stages-requires c = (c.requires.0, c.requires.1, c.requires.2.first)

@@ -38,6 +38,3 @@ returns c k turn =
         works = λ sound. later_given a.table a.w row a.held.now some a.out.now _ c.requires.2 (search rules) turn (given ∙ ap (λ (m : ℕ → ℤ). two_given a.table a.w 0 (later_done a.table a.w a.before m) (at a.out.now)) (ready.same (sound (later_even turn))));
       },
     )
-
-pub columns_of-requires : goal.columns_of-requires
-columns_of-requires c = record { accepted = c.requires.0.accepted; least = omega arith; most = omega (arith, c.requires.0.one) }

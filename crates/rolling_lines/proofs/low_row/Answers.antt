@@ -24,6 +24,3 @@ returns c =
       enters = subst (λ (m : ℕ → ℤ). Enters a.table a.w (line_in a.w m 5)) (sym c.row_to.ensures) (low_enters a.table a.w row _ (row_enters a.table a.pixels.now a.w c.requires.0));
       same = λ whole. c.row_to.ensures ∙ ap (λ (l : List ℤ). set_line a.w 5 row (at l)) (made.kept whole);
     }
-
-pub make_sound-requires : goal.make_sound-requires
-make_sound-requires c = (record { accepted = c.requires.0.accepted; least = omega arith; most = omega (arith, c.requires.0.one) }, c.requires.1)

@@ -5,22 +5,16 @@ use native.Mathlib.Omega.{arith}
 use lib.IntN.{ℤ}
 use Rattle.width_table.specs.Limits.{form_depth}
 use Rattle.width_table.specs.Nodes.{Rows}
-use Rattle.lifting.specs.declared.Kernel.{Kernel}
 use Rattle.lifting.specs.declared.Kernel.TheVariants.{Two}
 use Rattle.slices.specs.Patch.{at, patch}
 use Rattle.lifting.specs.Kernels.{worked}
 use Rattle.pictures.specs.Pictures.{sample}
 use Rattle.precision.specs.Promise.{promise}
-use Rattle.fixed_stages.specs.declared.Stages.{Stages}
 use Rattle.fixed_stages.specs.KernelLaws.{kernel_line, stages_kernel}
 use Rattle.rolling_lines.specs.Memory.{set_line, Lent, in_lent}
 use Rattle.rolling_lines.specs.Rows.{LineRight, row_of, pixels_sampled}
 use Rattle.rolling_lines.specs.FiveBits.{row_safe}
 use Rattle.rolling_lines.proofs.row_to.Goals as goal
-
--- the kernel of a pair of stages
-abbrev kernel : Stages → Kernel
-kernel s = Two s.first s.second s.low s.high
 
 pub single_row-requires : goal.single_row-requires
 single_row-requires c =
@@ -56,11 +50,8 @@ returns c =
     let rows-kernel = stages_kernel a.table 1 Rows stages c.stages_of-stages.ensures in
     let samples = pixels_sampled a.table a.pixels.now a.w _ c.middle-middle.ensures in
     c.pixel_line.ensures
-    ∙ (λ u. patch (a.line * a.w) a.w (worked (kernel stages) a.w (samples u)) (at a.held.now))
+    ∙ (λ u. patch (a.line * a.w) a.w (worked (Two stages) a.w (samples u)) (at a.held.now))
     ∙ (λ u. patch (a.line * a.w) a.w (kernel_line a.table 1 Rows a.w rows-kernel (record { least = omega arith }) u (sample a.pixels.now a.table.depth a.w 0)) (at a.held.now))
 
 pub middle-middle-requires : goal.middle-middle-requires
 middle-middle-requires c = form_depth c.args.table (promise c.args.table c.requires.0.accepted).form
-
-pub overflow_mul-line : goal.overflow_mul-line
-overflow_mul-line c = omega (arith, in_lent c.requires.1 c.args.line c.requires.2)

@@ -1,5 +1,5 @@
 -- `rolling_lines::single_row` meets its contract: the sample is put, and cut where it stands.
-use mathlib.Core.Path.{◌≡◌, refl, sym, ◌∙◌, ap, subst}
+use mathlib.Core.Path.{◌≡◌, sym, ◌∙◌, ap, subst}
 use Prim.Native.Nat.{ℕ, ◌+◌, ◌*◌}
 use native.Mathlib.Omega.{arith}
 use borrow.Author.Rules.{sfits_of}
@@ -44,6 +44,3 @@ returns c =
 
 pub middle-middle-requires : goal.middle-middle-requires
 middle-middle-requires c = form_depth c.args.table (promise c.args.table c.requires.0.accepted).form
-
-pub shape_of-held : goal.shape_of-held
-shape_of-held c = c.scale_here.auto.buf ∙ simp length-set refl

@@ -1,7 +1,6 @@
 -- `rolling_lines::third_row` meets its contract.
 use mathlib.Core.Path.{sym, ◌∙◌, ap, subst}
 use Prim.Native.Nat.{ℕ, ◌*◌}
-use native.Mathlib.Omega.{arith}
 use borrow.Author.Rules.{rules}
 use lib.IntN.{ℤ}
 use Rattle.width_table.specs.declared.WidthTable.{WidthTable}
@@ -30,6 +29,3 @@ returns c =
           (kept_from (held_lines * a.w) _ _ (search rules) (λ p i. ap (λ (m : ℕ → ℤ). m p) done ∙ past_then a.w (past_first a.w a.table 6 (at c.low_row.new.held)) (past_kept a.w (first_done a.table a.w 6 (at c.low_row.new.held))) p i));
       works = λ sound. two_same a.table a.w row a.held.now _ (done ∙ ap (λ (m : ℕ → ℤ). first_kept a.w (first_done a.table a.w 6 m)) (ready.same (sound tt)));
     }
-
-pub columns_of-requires : goal.columns_of-requires
-columns_of-requires c = record { accepted = c.requires.0.accepted; least = omega arith; most = omega (arith, c.requires.0.one) }

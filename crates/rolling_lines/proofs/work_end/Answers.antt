@@ -141,12 +141,6 @@ returns-in-Zero c =
     let said = subst (Said a.table a.w a.held.now a.out.now 0 c.make_sound.new.held a.out.now) (sym c.in-Zero.is) (refl, quiet_end a.table a.w Zero a.held.now _ a.out.now (omega (arith, c.requires.1.0)) c.make_sound.ensures.past refl) in
     record { count = said.0; work = said.1 }
 
-pub make_sound-requires : goal.make_sound-requires
-make_sound-requires c = (c.requires.0, c.requires.2)
-
-pub columns_of-columns-requires : goal.columns_of-columns-requires
-columns_of-columns-requires c = c.requires.0
-
 pub end_two-requires : goal.end_two-requires
 end_two-requires c = (search rules, c.columns_of-columns.ensures.0, fits c.args.table c.args.w c.make_sound.new.held _ c.make_sound.ensures.sound c.columns_of-columns.ensures.1, c.requires.3)
 

@@ -74,30 +74,12 @@ unfolding line_gives
 returns-in-One c =
     let a = c.args in
     let row = row_of a.table a.pixels.now a.w in
-    let held = high_line_lem a.table a.w row a.held.now a.out.now (omega (arith, c.requires.0.side.0)) One {held' = c.row_to.new.held} (search rules) c.row_to.ensures (one_same a.table a.w row a.held.now _ c.row_to.ensures) refl in
-    let said = subst (Said a.table a.w row a.held.now a.out.now 0 _ _) (sym c.in-One.is) held in
+    let some : 1 ≤ a.w = omega (arith, c.requires.0.side.0) in
+    let long : length c.row_to.new.held ≡ length a.held.now = search rules in
+    let said : Said a.table a.w row a.held.now a.out.now 0 c.row_to.new.held a.out.now a.taken =
+    elim c.in-One.is [
+      | inl one ↦ subst (Said a.table a.w row a.held.now a.out.now 0 _ _) (sym one) (high_line_lem a.table a.w row a.held.now a.out.now some One long c.row_to.ensures (one_same a.table a.w row a.held.now _ c.row_to.ensures) refl)
+      | inr (inl three) ↦ subst (Said a.table a.w row a.held.now a.out.now 0 _ _) (sym three) (high_line_lem a.table a.w row a.held.now a.out.now some Three long c.row_to.ensures (three_same a.table a.w row a.held.now _ c.row_to.ensures) refl)
+      | inr (inr odd) ↦ subst (Said a.table a.w row a.held.now a.out.now 0 _ _) (sym odd) (high_line_lem a.table a.w row a.held.now a.out.now some OddMany long c.row_to.ensures (odd_same a.table a.w row a.held.now _ c.row_to.ensures) refl)
+    ] in
     record { count = said.0; work = said.1 }
-
-pub returns-in-Three : goal.returns-in-Three
-unfolding line_gives
-returns-in-Three c =
-    let a = c.args in
-    let row = row_of a.table a.pixels.now a.w in
-    let held = high_line_lem a.table a.w row a.held.now a.out.now (omega (arith, c.requires.0.side.0)) Three {held' = c.row_to-in-Three.new.held} (search rules) c.row_to-in-Three.ensures (three_same a.table a.w row a.held.now _ c.row_to-in-Three.ensures) refl in
-    let said = subst (Said a.table a.w row a.held.now a.out.now 0 _ _) (sym c.in-Three.is) held in
-    record { count = said.0; work = said.1 }
-
-pub returns-in-OddMany : goal.returns-in-OddMany
-unfolding line_gives
-returns-in-OddMany c =
-    let a = c.args in
-    let row = row_of a.table a.pixels.now a.w in
-    let held = high_line_lem a.table a.w row a.held.now a.out.now (omega (arith, c.requires.0.side.0)) OddMany {held' = c.row_to-in-OddMany.new.held} (search rules) c.row_to-in-OddMany.ensures (odd_same a.table a.w row a.held.now _ c.row_to-in-OddMany.ensures) refl in
-    let said = subst (Said a.table a.w row a.held.now a.out.now 0 _ _) (sym c.in-OddMany.is) held in
-    record { count = said.0; work = said.1 }
-
-pub later_row-requires : goal.later_row-requires
-later_row-requires c = (search rules, search rules, search rules, inl refl)
-
-pub later_row-requires-in-EvenMany : goal.later_row-requires-in-EvenMany
-later_row-requires-in-EvenMany c = (search rules, search rules, search rules, inr refl)

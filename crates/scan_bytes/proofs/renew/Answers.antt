@@ -1,28 +1,31 @@
-use Prim.Native.Nat.{ℕ, ◌+◌, ◌/◌, ◌%◌}
-use mathlib.Core.Path.{◌∙◌, ap₂}
-use native.Mathlib.Omega.{arith}
-use lib.ListN.{set, length-set}
-use Rattle.scan_bytes.specs.ScanBytes.{table_room}
-use Rattle.scan_bytes.specs.ByteLaws.{numbers_short, numbers_wide, numbers_put}
+-- `scan_bytes::renew` meets its contract: four bytes after the table's.
+use Rattle.std.proofs.Common.{◌≡◌, ◌+◌, ◌++◌, List, ℕ, Bool, true, false, arith, sym, ◌∙◌, refl, ap, take, drop, get_or, append_assoc, [], ◌∷◌, ◌/◌, ◌%◌, ◌<◌}
+use Rattle.std.proofs.Math.Seq.{drop-drop}
+use Rattle.std.specs.Int.{from_bool}
+use borrow.Rule.Slice.PartMut.{put_mid}
+use Rattle.scan_bytes.specs.ScanBytes.{table_room, scan_length, numbers_of, ended_number}
+use Rattle.scan_bytes.specs.ByteLaws.{numbers_are}
 use Rattle.scan_bytes.proofs.renew.Goals as goal
 
-pub returns-then-state-lt-SCAN_LENGTH : goal.returns-then-state-lt-SCAN_LENGTH
-returns-then-state-lt-SCAN_LENGTH c = let a = c.args in numbers_short a.width a.taken a.ended a.state.now (omega arith)
+high_lem : (w : ℕ) → w < 65536 → w / 256 % 256 ≡ w / 256
+high_lem w h = omega arith
 
-pub returns-then-width-gt65535 : goal.returns-then-width-gt65535
-returns-then-width-gt65535 c = let a = c.args in numbers_wide a.width a.taken a.ended a.state.now (omega arith)
+marked : (b : Bool) → from_bool b ≡ ended_number b
+marked true = refl
+marked false = refl
+
+stored : (old new : List ℕ) → put_mid table_room 4 old new ≡ take table_room old ++ new ++ drop scan_length old
+stored old new = sym (append_assoc (take table_room old) new _) ∙ ap (λ (l : List ℕ). take table_room old ++ new ++ l) (drop-drop 4 table_room old)
 
 pub returns : goal.returns
 returns c =
     let a = c.args in
-    ap₂ (λ (m n : ℕ). set (set (set (set a.state.now table_room (a.width / 256)) (table_room + 1) (a.width % 256)) (table_room + 2) m) (table_room + 3) n) c.taken_number.ensures c.ended_number.ensures
-    ∙ numbers_put a.width a.taken a.ended a.state.now (omega arith) (omega arith)
-
-pub bounds-state : goal.bounds-state
-bounds-state c = simp length-set (omega arith)
-
-pub bounds-state-2 : goal.bounds-state-2
-bounds-state-2 c = simp length-set (omega arith)
-
-pub bounds-state-3 : goal.bounds-state-3
-bounds-state-3 c = simp length-set (omega arith)
+    let high : a.width / 256 % 256 ≡ a.width / 256 = high_lem a.width (omega arith) in
+    let mark : c.from.result ≡ ended_number a.ended = c.from.ensures ∙ marked a.ended in
+    let new : c.copy_from_slice.new.self ≡ numbers_of a.width a.taken a.ended =
+    c.copy_from_slice.ensures.after
+    ∙ ap (λ (l : List ℕ). get_or l 0 0 ∷ get_or l 1 0 ∷ c.taken_number.result ∷ c.from.result ∷ []) c.to_be_bytes.ensures
+    ∙ (λ i. high i ∷ a.width % 256 ∷ c.taken_number.ensures i ∷ mark i ∷ []) in
+    ap (put_mid table_room 4 a.state.now) new
+    ∙ stored a.state.now (numbers_of a.width a.taken a.ended)
+    ∙ sym (numbers_are a.width a.taken a.ended a.state.now (omega arith) (omega arith))

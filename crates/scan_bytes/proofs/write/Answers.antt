@@ -1,17 +1,15 @@
-use mathlib.Core.Path.{sym, ◌∙◌, ap}
-use native.Mathlib.Omega.{arith}
+-- `scan_bytes::write` meets its contract: zeros in a table's room, the table's bytes over them, then the numbers.
+use Rattle.std.proofs.Common.{◌≡◌, ◌++◌, List, ℕ, arith, sym, ap, ◌∙◌, rules, drop, replicate}
+use Rattle.std.proofs.Math.Seq.{length-take-le}
+use Rattle.numbers.specs.Lists.{over}
 use Rattle.table_bytes.specs.Bytes.{bytes_after}
 use Rattle.width_table.specs.Lists.{FullLists}
-use Rattle.scan_bytes.specs.ScanBytes.{numbers_after}
-use Rattle.scan_bytes.specs.ByteLaws.{kept_is, not_kept, no_room, kept, all_written}
-use borrow.Author.Rules.{rules}
+use Rattle.scan_bytes.specs.ScanBytes.{table_room, numbers_after}
+use Rattle.scan_bytes.specs.ByteLaws.{kept_is, kept, all_written}
 use Rattle.scan_bytes.proofs.write.Goals as goal
 
-pub returns-else-keepable : goal.returns-else-keepable
-returns-else-keepable c = not_kept _ _ (sym c.keepable.ensures ∙ c.if-keepable.false)
-
-pub returns-then-state-lt-SCAN_LENGTH : goal.returns-then-state-lt-SCAN_LENGTH
-returns-then-state-lt-SCAN_LENGTH c = no_room _ _ (omega arith)
+pub slice_bounds-fill-end-2 : goal.slice_bounds-fill-end-2
+slice_bounds-fill-end-2 c = sym (length-take-le table_room c.args.state.now (omega arith))
 
 pub returns : goal.returns
 returns c =
@@ -19,8 +17,11 @@ returns c =
     -- what its type says of the table
     let sized : FullLists a.scan.table = record { constants = search rules; nodes = search rules; products = search rules } in
     -- the scan is one that bytes can hold
-    let can = kept_is a.scan sized (sym c.keepable.ensures ∙ c.if-keepable.true) in
+    let can = kept_is a.scan sized (sym c.keepable.ensures ∙ c.if-not-keepable.false) in
+    let cleared : c.fill.new.self ≡ replicate table_room 0 =
+    c.fill.ensures.after (λ y e. e) ∙ ap (λ (n : ℕ). replicate n 0) (length-take-le table_room a.state.now (omega arith)) in
+    let zeros : c.fill.new.self ++ drop table_room a.state.now ≡ over (replicate table_room 0) a.state.now = ap (λ (l : List ℕ). l ++ drop table_room a.state.now) cleared in
     c.renew.ensures
-    ∙ ap (numbers_after a.scan.width a.scan.taken a.scan.ended) (c.write.ensures.bytes ∙ ap (bytes_after a.scan.table) c.put_zeros.ensures)
+    ∙ ap (numbers_after a.scan.width a.scan.taken a.scan.ended) (c.write.ensures.bytes ∙ ap (bytes_after a.scan.table) zeros)
     ∙ all_written a.scan can a.state.now (omega arith)
-    ∙ kept a.scan a.state.now (sym c.keepable.ensures ∙ c.if-keepable.true) (omega arith)
+    ∙ kept a.scan a.state.now (sym c.keepable.ensures ∙ c.if-not-keepable.false) (omega arith)

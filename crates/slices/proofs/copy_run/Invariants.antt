@@ -1,10 +1,7 @@
-use Prim.Native.Nat.{◌+◌, ◌-◌}
-use Rattle.slices.specs.Patch.{at}
-use Rattle.slices.specs.Filling.{Filling}
+use Rattle.std.proofs.Common.{◌≡◌, ◌+◌, ◌≤◌, length, get_or}
+use Rattle.slices.specs.Patch.{patch}
 use Rattle.slices.proofs.copy_run.Given as goal
 
 abbrev pub invariant-loop-j : goal.invariant-loop-j
-invariant-loop-j l = Filling l.to l.n (λ i. at l.src (l.from + i)) l.initial.dst l.dst l.j
-
-abbrev pub decreases-loop-j : goal.decreases-loop-j
-decreases-loop-j l = l.n - l.j
+invariant-loop-j g l =
+    (l.j ≤ l.n) × (length l.dst ≡ length l.initial.dst) × ((d : _) → (λ k. get_or l.dst k d) ≡ patch l.to l.j (λ i. get_or l.src (l.from + i) d) (λ k. get_or l.initial.dst k d))

@@ -1,3 +1,4 @@
+use Rattle.std.proofs.Common.{rules}
 use Prim.Native.Nat.{ℕ, ◌+◌, ◌-◌, ◌≤◌}
 use mathlib.Core.Path.{◌≡◌, sym, ◌∙◌, ap}
 use mathlib.Core.Bool.{Bool, true, false}
@@ -8,6 +9,8 @@ use Rattle.refusals.specs.Answers.{passed, asks}
 use Rattle.refusals.specs.Told.{told}
 use Rattle.table_bytes.specs.Fields.{IsTag, head_bytes, Field, fields, field_of, value_length}
 use Rattle.table_bytes.specs.Bytes.{headed, field}
+use Rattle.numbers.specs.Lists.{rest_whole}
+use Rattle.table_bytes.specs.Tags.{number_of, is_tag}
 use Rattle.table_bytes.specs.ReadLaws.{tag_is, rule_is, head_holds, field_head, field_judged}
 use Rattle.table_bytes.proofs.field.Goals as goal
 
@@ -33,28 +36,39 @@ module _ (levels tag : ℕ) (h : IsTag tag) (len : ℕ) (e : len ≡ value_lengt
       ∙ ap (λ (k : ℕ). right (take k (drop head_bytes bytes))) part
       ∙ r))
 
-pub returns-in-Refused : goal.returns-in-Refused
-returns-in-Refused c =
+pub returns-in_err-head-clause-answer : goal.returns-in_err-head-clause-answer
+returns-in_err-head-clause-answer c =
     let a = c.args in
     let e = c.value_length-len.ensures in
-    sym (field_head (its a.levels a.tag) a.bytes.now _ (sym (judged a.levels a.tag c.requires _ e a.bytes.now) ∙ sym c.head.ensures ∙ ap told c.in-Refused.is))
-
-pub overflow_add-end : goal.overflow_add-end
-overflow_add-end c =
-    let a = c.args in
-    omega (arith, fits a.levels a.tag c.requires _ c.value_length-len.ensures a.bytes.now (sym c.head.ensures ∙ ap told c.in-Done.is))
+    let r = field_head (its a.levels (number_of a.tag)) a.bytes.now _ (sym (judged a.levels (number_of a.tag) (is_tag a.tag) _ e a.bytes.now) ∙ sym c.head.ensures ∙ ap told c.in_err-head.was) in
+    search rules
 
 pub slice_bounds-value_right-end : goal.slice_bounds-value_right-end
 slice_bounds-value_right-end c =
     let a = c.args in
-    omega (arith, fits a.levels a.tag c.requires _ c.value_length-len.ensures a.bytes.now (sym c.head.ensures ∙ ap told c.in-Done.is))
+    omega (arith, fits a.levels (number_of a.tag) (is_tag a.tag) _ c.value_length-len.ensures a.bytes.now (sym c.head.ensures ∙ ap told c.in_ok-head.was))
 
-pub returns-then-value_right : goal.returns-then-value_right
-returns-then-value_right c =
+pub returns-then-not-value_right-clause-answer : goal.returns-then-not-value_right-clause-answer
+returns-then-not-value_right-clause-answer c =
     let a = c.args in
-    decided a.levels a.tag c.requires _ c.value_length-len.ensures a.bytes.now (sym c.head.ensures ∙ ap told c.in-Done.is) true (sym c.value_right.ensures ∙ c.if-value_right.true)
+    decided a.levels (number_of a.tag) (is_tag a.tag) _ c.value_length-len.ensures a.bytes.now (sym c.head.ensures ∙ ap told c.in_ok-head.was) false (sym c.value_right.ensures ∙ c.if-not-value_right.true)
 
-pub returns-else-value_right : goal.returns-else-value_right
-returns-else-value_right c =
+pub returns-clause-answer : goal.returns-clause-answer
+returns-clause-answer c =
     let a = c.args in
-    decided a.levels a.tag c.requires _ c.value_length-len.ensures a.bytes.now (sym c.head.ensures ∙ ap told c.in-Done.is) false (sym c.value_right.ensures ∙ c.if-value_right.false)
+    decided a.levels (number_of a.tag) (is_tag a.tag) _ c.value_length-len.ensures a.bytes.now (sym c.head.ensures ∙ ap told c.in_ok-head.was) true (sym c.value_right.ensures ∙ c.if-not-value_right.false)
+
+pub returns-clause-rest : goal.returns-clause-rest
+returns-clause-rest c =
+    let b = c.args.bytes.now in
+    rest_whole (head_bytes + c.value_length-len.result) b ∙ ap (λ (n : ℕ). drop (head_bytes + n) b) c.value_length-len.ensures
+
+pub slice_bounds-result-count : goal.slice_bounds-result-count
+slice_bounds-result-count c =
+    let a = c.args in
+    omega (arith, fits a.levels (number_of a.tag) (is_tag a.tag) _ c.value_length-len.ensures a.bytes.now (sym c.head.ensures ∙ ap told c.in_ok-head.was))
+
+pub slice_bounds-result-start : goal.slice_bounds-result-start
+slice_bounds-result-start c =
+    let a = c.args in
+    omega (arith, fits a.levels (number_of a.tag) (is_tag a.tag) _ c.value_length-len.ensures a.bytes.now (sym c.head.ensures ∙ ap told c.in_ok-head.was))

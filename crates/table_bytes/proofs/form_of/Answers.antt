@@ -1,61 +1,62 @@
-use Prim.Native.Nat.{ℕ, ◌+◌, ◌-◌, ◌≤◌}
-use mathlib.Core.Path.{◌≡◌, sym, ◌∙◌, ap, ap₂}
-use mathlib.Core.Bool.{true}
-use mathlib.Core.List.{List}
-use native.Mathlib.Omega.{arith}
-use lib.ListN.{length, take, drop, length-drop}
-use lib.Seq.{drop-drop}
-use Rattle.numbers.specs.Lists.{rest_whole}
-use Rattle.refusals.specs.Answers.{Answer, passed}
-use Rattle.refusals.specs.Told.{told}
-use Rattle.table_bytes.specs.Fields.{head_bytes, Field, fields, field_of, value_length}
-use Rattle.table_bytes.specs.Bytes.{field, form, form_after}
-use Rattle.table_bytes.specs.ReadLaws.{field_holds, after_refused, after_read}
+use Rattle.std.proofs.Common.{ℕ, ◌+◌, ◌-◌, ◌≤◌, ◌≡◌, ◌∙◌, sym, ap, true, List, drop, arith, rules}
+use Rattle.refusals.specs.Answers.{passed}
+use Rattle.table_bytes.specs.declared.Tag.{Tag}
+use Rattle.table_bytes.specs.declared.Tag.TheVariants.{Depth, Levels, Constants, Nodes}
+use Rattle.table_bytes.specs.Fields.{nodes_tag, head_bytes, fields, field_of, value_length}
+use Rattle.table_bytes.specs.Bytes.{field, levels_in, form, form_after}
+use Rattle.table_bytes.specs.Tags.{number_of, is_tag}
+use Rattle.table_bytes.specs.ReadLaws.{after_refused, after_read}
 use Rattle.table_bytes.proofs.form_of.Goals as goal
 
--- a tag's field is judged at its place
-judged : (f : Field) (start : ℕ) (o : Answer Unit) (b : List ℕ) → o ≡ field f (take (length b - start) (drop start b)) → o ≡ field f (drop start b)
-judged f start o b e = e ∙ ap (field f) (rest_whole start b)
-
--- it is right, and there
-fits : (L tag start : ℕ) (o : Answer Unit) (b : List ℕ) → start ≤ length b → o ≡ field (field_of (fields true L) tag) (take (length b - start) (drop start b)) → o ≡ passed → start + head_bytes + value_length L tag ≤ length b
-fits L tag start o b h e done = omega (arith, h, field_holds (field_of (fields true L) tag) (drop start b) (sym (judged _ start o b e) ∙ done), length-drop start b)
-
-pub loop-tag-init : goal.loop-tag-init
+-- the form is that of what follows no field yet, and then of what follows the next one
+starts : (b : List ℕ) (L : ℕ) → L ≡ levels_in b → form b ≡ form_after L 0 b
 unfolding form form_after
-loop-tag-init c = (omega arith, omega arith, omega arith, ap (λ (L : ℕ). form_after L 0 c.args.bytes.now) (sym c.levels_in-levels.ensures))
+starts b L e = ap (λ (L : ℕ). form_after L 0 b) (sym e)
 
-pub returns-in-Refused : goal.returns-in-Refused
-returns-in-Refused c =
-    sym (c.loop-tag.invariant.3 ∙ after_refused c.levels_in-levels.result c.loop-tag.tag (omega arith, omega arith) (omega arith) _ _ (sym (judged _ c.loop-tag.start _ c.args.bytes.now c.field.ensures) ∙ ap told c.in-Refused.is))
+step : (L : ℕ) (tag : Tag) → number_of tag ≤ nodes_tag → (b rest : List ℕ) → passed ≡ field (field_of (fields true L) (number_of tag)) b
+    → rest ≡ drop (head_bytes + value_length L (number_of tag)) b → form_after L (number_of tag - 1) b ≡ form_after L (number_of tag) rest
+step L tag four b rest e f = after_read L (number_of tag) (is_tag tag) four b (sym e) ∙ ap (form_after L (number_of tag)) (sym f)
 
-pub loop-tag-preserved : goal.loop-tag-preserved
-loop-tag-preserved c =
+pub returns-in_err-after_depth : goal.returns-in_err-after_depth
+returns-in_err-after_depth c =
     let b = c.args.bytes.now in
     let L = c.levels_in-levels.result in
-    let n = c.loop-tag.start in
-    let t = c.loop-tag.tag in
-    let e : t ≡ t + 1 - 1 = omega arith in
-    let s : n + (head_bytes + value_length L t) ≡ n + head_bytes + c.value_length.result = omega (arith, c.value_length.ensures) in (
-      omega arith,
-      omega arith,
-      omega (arith, fits L t n _ b c.loop-tag.invariant.2 c.field.ensures (ap told c.in-Done.is), c.value_length.ensures),
-      c.loop-tag.invariant.3
-          ∙ after_read L t (omega arith, omega arith) (omega arith) (drop n b) (sym (judged _ n _ b c.field.ensures) ∙ ap told c.in-Done.is)
-          ∙ ap (form_after L t) (drop-drop (head_bytes + value_length L t) n b)
-          ∙ ap₂ (λ (k m : ℕ). form_after L k (drop m b)) e s,
-    )
+    let r = starts b L c.levels_in-levels.ensures ∙ after_refused L 1 (is_tag Depth) (omega arith) b _ (sym c.in_err-after_depth.ensures.answer) in
+    search rules
+
+pub returns-in_err-after_levels : goal.returns-in_err-after_levels
+returns-in_err-after_levels c =
+    let b = c.args.bytes.now in
+    let L = c.levels_in-levels.result in
+    let d = c.in_ok-after_depth.ensures in
+    let r = starts b L c.levels_in-levels.ensures ∙ step L Depth (omega arith) b _ d.answer d.rest ∙ after_refused L 2 (is_tag Levels) (omega arith) _ _ (sym c.in_err-after_levels.ensures.answer) in
+    search rules
+
+pub returns-in_err-after_constants : goal.returns-in_err-after_constants
+returns-in_err-after_constants c =
+    let b = c.args.bytes.now in
+    let L = c.levels_in-levels.result in
+    let d = c.in_ok-after_depth.ensures in
+    let l = c.in_ok-after_levels.ensures in
+    let r = starts b L c.levels_in-levels.ensures ∙ step L Depth (omega arith) b _ d.answer d.rest ∙ step L Levels (omega arith) _ _ l.answer l.rest ∙ after_refused L 3 (is_tag Constants) (omega arith) _ _ (sym c.in_err-after_constants.ensures.answer) in
+    search rules
+
+pub returns-in_err-field : goal.returns-in_err-field
+returns-in_err-field c =
+    let b = c.args.bytes.now in
+    let L = c.levels_in-levels.result in
+    let d = c.in_ok-after_depth.ensures in
+    let l = c.in_ok-after_levels.ensures in
+    let k = c.in_ok-after_constants.ensures in
+    let r = starts b L c.levels_in-levels.ensures ∙ step L Depth (omega arith) b _ d.answer d.rest ∙ step L Levels (omega arith) _ _ l.answer l.rest ∙ step L Constants (omega arith) _ _ k.answer k.rest ∙ after_refused L 4 (is_tag Nodes) (omega arith) _ _ (sym c.in_err-field.ensures.answer) in
+    search rules
 
 pub returns : goal.returns
 returns c =
     let b = c.args.bytes.now in
-    let e : 4 ≡ c.loop-tag.tag - 1 = omega arith in
-    c.after_fourth.ensures ∙ ap₂ (form_after c.levels_in-levels.result) e (rest_whole c.loop-tag.start b) ∙ sym c.loop-tag.invariant.3
-
-pub overflow_add-start : goal.overflow_add-start
-overflow_add-start c =
-    omega (arith, fits c.levels_in-levels.result c.loop-tag.tag c.loop-tag.start _ c.args.bytes.now c.loop-tag.invariant.2 c.field.ensures (ap told c.in-Done.is))
-
-pub overflow_add-start-in-loop-tag : goal.overflow_add-start-in-loop-tag
-overflow_add-start-in-loop-tag c =
-    omega (arith, fits c.levels_in-levels.result c.loop-tag.tag c.loop-tag.start _ c.args.bytes.now c.loop-tag.invariant.2 c.field.ensures (ap told c.in-Done.is), c.value_length.ensures)
+    let L = c.levels_in-levels.result in
+    let d = c.in_ok-after_depth.ensures in
+    let l = c.in_ok-after_levels.ensures in
+    let k = c.in_ok-after_constants.ensures in
+    let n = c.in_ok-field.ensures in
+    c.after_fourth.ensures ∙ sym (starts b L c.levels_in-levels.ensures ∙ step L Depth (omega arith) b _ d.answer d.rest ∙ step L Levels (omega arith) _ _ l.answer l.rest ∙ step L Constants (omega arith) _ _ k.answer k.rest ∙ step L Nodes (omega arith) _ _ n.answer n.rest)

@@ -6,8 +6,8 @@ use Rattle.table_bytes.proofs.head.Goals as goal
 pub returns-then-bytes-lt-HEAD_BYTES : goal.returns-then-bytes-lt-HEAD_BYTES
 returns-then-bytes-lt-HEAD_BYTES c = sym (no_head _ _ _ (omega arith))
 
-pub returns-then-found-tag : goal.returns-then-found-tag
-returns-then-found-tag c = sym (other_tag _ _ _ (omega arith) (omega arith))
+pub returns-then-found-number : goal.returns-then-found-number
+returns-then-found-number c = sym (other_tag _ _ _ (omega arith) (omega arith))
 
 pub returns-then-announced-len : goal.returns-then-announced-len
 returns-then-announced-len c = sym (other_length _ _ _ (omega arith) (omega arith) (omega (arith, c.two-announced.ensures)))

@@ -8,12 +8,6 @@ use Rattle.table_bytes.specs.BytesLaws.{levels_most}
 use Rattle.table_bytes.specs.ReadLaws.{over_zeros}
 use Rattle.table_bytes.proofs.products_in.Goals as goal
 
-pub returns-else-has_fifth : goal.returns-else-has_fifth
-returns-else-has_fifth c = sym (ap (λ (has_products : Bool). products_in has_products c.args.bytes.now) (sym c.has_fifth.ensures ∙ c.if-has_fifth.false))
-
-pub value_in-requires : goal.value_in-requires
-value_in-requires c = ((omega arith, omega arith), c.requires, sym c.has_fifth.ensures ∙ c.if-has_fifth.true)
-
 pub put-requires : goal.put-requires
 put-requires c = omega (arith, c.value_in.ensures.1, levels_most c.args.bytes.now c.requires)
 
@@ -21,7 +15,4 @@ pub returns : goal.returns
 returns c =
     let b = c.args.bytes.now in
     over_zeros (product_bytes max_levels) _ _ _ _ c.put.ensures c.value_in.ensures
-    ∙ sym (ap (λ (has_products : Bool). products_in has_products b) (sym c.has_fifth.ensures ∙ c.if-has_fifth.true))
-
-pub has_fifth-requires : goal.has_fifth-requires
-has_fifth-requires c = c.requires
+    ∙ sym (ap (λ (has_products : Bool). products_in has_products b) (sym c.has_fifth.ensures ∙ c.if-not-has_fifth.false))

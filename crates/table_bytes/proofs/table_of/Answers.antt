@@ -1,5 +1,5 @@
 use Prim.Native.Nat.{ℕ}
-use mathlib.Core.Path.{◌≡◌, refl, ◌∙◌, ap}
+use mathlib.Core.Path.{◌≡◌, ◌∙◌, ap}
 use mathlib.Core.Bool.{Bool}
 use mathlib.Core.List.{List, append-nil}
 use native.Mathlib.Omega.{arith}
@@ -28,20 +28,5 @@ returns c =
 pub bounds-bytes-value_start : goal.bounds-bytes-value_start
 bounds-bytes-value_start c = omega (arith, c.value_start.ensures, four_there c.args.bytes.now c.requires)
 
-pub value_in-requires : goal.value_in-requires
-value_in-requires c = ((omega arith, omega arith), c.requires, refl)
-
-pub put-requires : goal.put-requires
-put-requires c = omega (arith, c.value_in.ensures.1)
-
-pub value_in-requires-2 : goal.value_in-requires-2
-value_in-requires-2 c = ((omega arith, omega arith), c.requires, refl)
-
 pub put-requires-2 : goal.put-requires-2
 put-requires-2 c = omega (arith, c.value_in-2.ensures.1, levels_most c.args.bytes.now c.requires)
-
-pub has_fifth-has_products-requires : goal.has_fifth-has_products-requires
-has_fifth-has_products-requires c = c.requires
-
-pub products_in-products-requires : goal.products_in-products-requires
-products_in-products-requires c = c.requires

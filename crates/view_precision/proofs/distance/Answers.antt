@@ -1,30 +1,18 @@
-use mathlib.Core.Path.{◌≡◌, sym, ◌∙◌, ap}
+use mathlib.Core.Path.{◌≡◌, sym, ◌∙◌}
 use native.Mathlib.Omega.{arith}
-use Rattle.refusals.specs.Answers.{passed}
-use Rattle.refusals.specs.AnswerLaws.{answered_refused}
-use Rattle.refusals.specs.Told.{told}
-use Rattle.view_precision.specs.Bounds.{view_distance, view_verdict}
+use Rattle.std.proofs.Common.{rules}
+use Rattle.refusals.specs.Answers.{passed, refused, ◌then◌}
+use Rattle.refusals.specs.Told.{told, told_refusal}
 use Rattle.view_precision.specs.LevelLaws.{accepted_form, viewable_accepted, distance_told}
 use Rattle.view_precision.proofs.distance.Goals as goal
 
-pub returns-in-Refused : goal.returns-in-Refused
-returns-in-Refused c =
-    let e = sym c.judge.ensures ∙ ap told c.in-Refused.is in record {
-      outcome = sym e;
-      distance = sym (answered_refused (view_distance c.args.table) 0 e);
-    }
+pub returns-in_err-judge-clause-outcome : goal.returns-in_err-judge-clause-outcome
+returns-in_err-judge-clause-outcome c =
+    let e : told c.from_residual.result then passed ≡ refused (told_refusal c.in_err-judge.field-0.0) = search rules in
+    e ∙ c.in_err-judge.ensures
 
-pub returns : goal.returns
-returns c =
-    let passes : view_verdict c.args.table ≡ passed =
-    sym c.judge.ensures ∙ ap told c.in-Done.is in
-    let t = c.args.table in record {
-      outcome = sym passes;
-      distance = distance_told t passes _ c.work_levels-pixels.ensures.bound;
-    }
+pub invariant_of-work_levels : goal.invariant_of-work_levels
+invariant_of-work_levels c = record { form = accepted_form c.args.table (viewable_accepted c.args.table (sym c.in_ok-judge.ensures)); few = omega arith }
 
-pub work_levels-pixels-requires : goal.work_levels-pixels-requires
-work_levels-pixels-requires c =
-    let passes : view_verdict c.args.table ≡ passed =
-    sym c.judge.ensures ∙ ap told c.in-Done.is in
-    let t = c.args.table in (accepted_form t (viewable_accepted t passes), omega arith)
+pub returns-clause-distance : goal.returns-clause-distance
+returns-clause-distance c = distance_told c.args.table _ c.work_levels-pixels.ensures.bound

@@ -6,4 +6,4 @@ use Rattle.view_precision.proofs.larger_bound.Goals as goal
 
 pub returns : goal.returns
 unfolding larger
-returns c = ap₂ {C = Bound} (λ (r e : ℕ). record { range = r; error = e }) c.larger_of.ensures c.larger_of-2.ensures
+returns c = ap₂ {C = Bound} (λ (r e : ℕ). record { range = r; error = e }) c.max.ensures c.max-2.ensures

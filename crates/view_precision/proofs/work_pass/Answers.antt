@@ -1,42 +1,32 @@
-use mathlib.Core.Path.{sym, ◌∙◌, ap₂, subst}
-use native.Mathlib.Omega.{arith}
+use mathlib.Core.Path.{◌≡◌, sym, ◌∙◌, ap₂}
 use lib.Dec.{lit<}
-use Rattle.view_precision.specs.Bounds.{larger, inverse_bound, pass_gives}
-use Rattle.view_precision.specs.Places.{stages, AllSmall}
+use Rattle.bounds_rule.specs.declared.Bound.{Bound}
 use Rattle.bounds_rule.specs.Carried.{as_bound}
+use Rattle.view_precision.specs.declared.Pass.{Pass}
+use Rattle.view_precision.specs.Bounds.{larger, inverse_bound, pass_right, pass_gives}
+use Rattle.view_precision.specs.Places.{sources, owns_below}
 use Rattle.view_precision.specs.PlaceLaws.{node_bound_lem}
-use Rattle.view_precision.specs.SizeLaws.{owns_small}
 use Rattle.view_precision.proofs.work_pass.Goals as goal
+
+-- each source has what it has by the bounds that the pass holds
+own_is : (pass : Pass) (low high : Bound) → pass.low ≡ low → pass.high ≡ high → pass.own ≡ owns_below (as_bound low) (as_bound high) sources → pass.own ≡ owns_below (as_bound pass.low) (as_bound pass.high) sources
+own_is pass low high l h e = e ∙ sym (ap₂ (λ (x y : Bound). owns_below (as_bound x) (as_bound y) sources) l h)
+
+pub nodes_right-requires : goal.nodes_right-requires
+nodes_right-requires c =
+    let fed = c.fed-pass.ensures in
+    own_is c.fed-pass.result _ _ fed.low fed.high fed.own
 
 -- the larger of the even and the odd output
 pub returns : goal.returns
 unfolding pass_gives inverse_bound
 returns c =
-    let a = as_bound c.args.low in
-    let b = as_bound c.args.high in
-    let u = node_bound_lem a b 4 (lit< tt) c.own_errors-own.ensures c.node_at-even.ensures.0 in
-    let p = node_bound_lem a b 5 (lit< tt) c.own_errors-own.ensures c.node_at-odd.ensures.0 in record {
-      right = c.nodes_right.ensures;
-      bound = c.larger_bound.ensures ∙ ap₂ larger u p;
+    let pass = c.fed-pass.result in
+    let fed = c.fed-pass.ensures in
+    let own = own_is pass _ _ fed.low fed.high fed.own in
+    let even = node_bound_lem (as_bound pass.low) (as_bound pass.high) 4 (lit< tt) own c.node_at-even.ensures.0 in
+    let odd = node_bound_lem (as_bound pass.low) (as_bound pass.high) 5 (lit< tt) own c.node_at-odd.ensures.0 in
+    record {
+      right = c.nodes_right.ensures ∙ ap₂ (λ (x y : Bound). pass_right (inverse_bound (as_bound x) (as_bound y))) fed.low fed.high;
+      bound = c.larger_bound.ensures ∙ ap₂ larger even odd ∙ ap₂ (λ (x y : Bound). pass_gives (as_bound x) (as_bound y)) fed.low fed.high;
     }
-
-pub own_errors-own-requires : goal.own_errors-own-requires
-own_errors-own-requires c = c.requires
-
-pub node_at-even-requires : goal.node_at-even-requires
-node_at-even-requires c =
-    let all_small : AllSmall c.own_errors-own.result =
-    subst AllSmall (sym c.own_errors-own.ensures) (owns_small (as_bound c.args.low) (as_bound c.args.high) c.requires.0 c.requires.1 stages (omega arith)) in
-    (omega arith, all_small, c.requires.0, c.requires.1)
-
-pub node_at-odd-requires : goal.node_at-odd-requires
-node_at-odd-requires c =
-    let all_small : AllSmall c.own_errors-own.result =
-    subst AllSmall (sym c.own_errors-own.ensures) (owns_small (as_bound c.args.low) (as_bound c.args.high) c.requires.0 c.requires.1 stages (omega arith)) in
-    (omega arith, all_small, c.requires.0, c.requires.1)
-
-pub nodes_right-requires : goal.nodes_right-requires
-nodes_right-requires c = record {
-  small_fed = c.requires;
-  own_value = c.own_errors-own.ensures;
-}

@@ -9,8 +9,8 @@ use Rattle.viewing.proofs.coefficients_right.Goals as goal
 pub details_fit-requires : goal.details_fit-requires
 details_fit-requires c = look_ready c.args.table c.args.w c.args.h c.args.plane.now c.requires c.loop-k.k _ _ c.loop-k.invariant.1 c.loop-k.invariant.2 c.loop-k-test.true
 
-pub returns-else-details_fit : goal.returns-else-details_fit
-returns-else-details_fit c = details_wrong c.args.table c.args.w c.args.h c.args.plane.now c.requires c.loop-k.k _ _ c.loop-k.invariant.1 c.loop-k.invariant.2 c.loop-k-test.true _ c.details_fit.ensures c.if-details_fit.false
+pub returns-then-not-details_fit : goal.returns-then-not-details_fit
+returns-then-not-details_fit c = details_wrong c.args.table c.args.w c.args.h c.args.plane.now c.requires c.loop-k.k _ _ c.loop-k.invariant.1 c.loop-k.invariant.2 c.loop-k-test.true _ c.details_fit.ensures c.if-not-details_fit.true
 
 pub overflow_add-across : goal.overflow_add-across
 overflow_add-across c = omega (arith, (look_part c.args.table c.args.w c.args.h c.args.plane.now c.requires c.loop-k.k _ _ c.loop-k.invariant.1 c.loop-k.invariant.2).narrow, c.requires.width.1)
@@ -23,7 +23,7 @@ loop-k-preserved c = (
   omega arith,
   ap lows c.loop-k.invariant.1 ∙ side_more _ _,
   ap lows c.loop-k.invariant.2 ∙ side_more _ _,
-  right_next c.args.table c.args.w c.args.h c.args.plane.now c.requires c.loop-k.k _ _ c.loop-k.invariant.1 c.loop-k.invariant.2 c.loop-k-test.true _ c.details_fit.ensures c.if-details_fit.true c.loop-k.invariant.3,
+  right_next c.args.table c.args.w c.args.h c.args.plane.now c.requires c.loop-k.k _ _ c.loop-k.invariant.1 c.loop-k.invariant.2 c.loop-k-test.true _ c.details_fit.ensures c.if-not-details_fit.false c.loop-k.invariant.3,
 )
 
 pub part_fits-requires : goal.part_fits-requires
@@ -33,15 +33,15 @@ part_fits-requires c =
       by_index = (look_part c.args.table c.args.w c.args.h c.args.plane.now c.requires c.loop-k.k _ _ c.loop-k.invariant.1 c.loop-k.invariant.2).fits;
     }
 
-pub returns-then-part_fits : goal.returns-then-part_fits
-returns-then-part_fits c =
+pub returns : goal.returns
+returns c =
     let last : c.loop-k.k ≡ c.args.table.levels = omega arith in
-    low_low_done c.args.table c.args.w c.args.h c.args.plane.now c.requires c.loop-k.k _ _ c.loop-k.invariant.1 c.loop-k.invariant.2 last _ c.part_fits.ensures c.if-part_fits.true c.loop-k.invariant.3
+    low_low_done c.args.table c.args.w c.args.h c.args.plane.now c.requires c.loop-k.k _ _ c.loop-k.invariant.1 c.loop-k.invariant.2 last _ c.part_fits.ensures c.if-not-part_fits.false c.loop-k.invariant.3
 
-pub returns-else-part_fits : goal.returns-else-part_fits
-returns-else-part_fits c =
+pub returns-then-not-part_fits : goal.returns-then-not-part_fits
+returns-then-not-part_fits c =
     let last : c.loop-k.k ≡ c.args.table.levels = omega arith in
-    low_low_wrong c.args.table c.args.w c.args.h c.args.plane.now c.requires c.loop-k.k _ _ c.loop-k.invariant.1 c.loop-k.invariant.2 last _ c.part_fits.ensures c.if-part_fits.false
+    low_low_wrong c.args.table c.args.w c.args.h c.args.plane.now c.requires c.loop-k.k _ _ c.loop-k.invariant.1 c.loop-k.invariant.2 last _ c.part_fits.ensures c.if-not-part_fits.true
 
 pub loop-k-init : goal.loop-k-init
 loop-k-init c = (omega arith, sym (side_none _), sym (side_none _), right_none _ _ _ _)

@@ -1,8 +1,8 @@
--- `viewing::finish_row` meets its contract: what the row gives is small, and so it can be shown.
-use mathlib.Core.Path.{ap, ◌∙◌}
-use native.Mathlib.Omega.{arith}
-use lib.ListN.{get_or}
-use Rattle.slices.specs.Patch.{patch_ext}
+-- `viewing::finish_row` meets its contract: what the row gives is small, and so it can be shown; zeros put back into its place clear it.
+use Rattle.std.specs.Prelude.{ℕ, ◌≡◌, ◌<◌, ◌+◌, ◌-◌, List, ℤ, pos, get_or}
+use Rattle.std.proofs.Common.{ap, ◌∙◌, arith}
+use Rattle.std.proofs.lemmas.List.{get_or-replicate}
+use Rattle.slices.specs.Patch.{patch_ext, patch_part, patch_to}
 use Rattle.viewing.specs.View.{pixel}
 use Rattle.viewing.specs.RowSteps.{taken_small}
 use Rattle.viewing.proofs.finish_row.Goals as goal
@@ -16,13 +16,10 @@ show_row-requires c =
 
 pub returns : goal.returns
 returns c =
-    let a = c.args in record {
+    let a = c.args in
+    let zero : (j : ℕ) → j < a.from + a.w - a.from → get_or c.fill.new.self j (pos 0) ≡ pos 0 =
+    λ j h. ap (λ (l : List ℤ). get_or l j (pos 0)) (c.fill.ensures.after (λ y e. e)) ∙ get_or-replicate _ j (pos 0) (pos 0) (omega arith) in
+    record {
       pixels = c.show_row.ensures ∙ patch_ext a.from a.w _ _ (λ k. get_or a.pixels.now k 0) (λ j h. ap (pixel a.depth) (c.row.ensures.row j h));
-      work = c.clear_row.ensures;
+      work = patch_to _ _ _ _ _ _ (patch_part a.from (a.from + a.w - a.from) _ a.work.now c.fill.new.self (pos 0) (omega (arith, c.requires.row.held)) (omega arith) zero) (omega arith);
     }
-
-pub row-requires : goal.row-requires
-row-requires c = c.requires.row
-
-pub clear_row-requires : goal.clear_row-requires
-clear_row-requires c = omega (arith, c.requires.row.held)

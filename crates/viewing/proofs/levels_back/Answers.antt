@@ -23,7 +23,7 @@ level_back-requires c =
     let a = c.args in
     let t = c.loop-k in
     let j : ℕ = t.k - 1 in
-    as_type (λ u. LevelReady a.table (sym (add-one j) u) a.plane.now t.work (length t.state) (length t.line) a.w (sym c.spread.ensures u) (sym c.side_after-across.ensures u) (sym c.side_after-down.ensures u))
+    as_type (λ u. LevelReady a.table (sym (add-one j) u) a.plane.now t.work (length t.state) (length t.line) a.w (sym c.spread.ensures u) (sym c.side_after.ensures u) (sym c.side_after-in-loop-k.ensures u))
     (level_ready c.requires j (omega (arith, t.invariant.1)) _ _ (last-left t.k c.loop-k-test.true t.invariant.5) t.work _ _ (omega (arith, t.invariant.2)) (omega (arith, t.invariant.3)) (omega (arith, t.invariant.4)) refl)
 
 pub loop-k-preserved : goal.loop-k-preserved
@@ -38,32 +38,11 @@ loop-k-preserved c =
       omega (arith, t.invariant.3),
       omega (arith, t.invariant.4),
       left_less c.requires j (omega (arith, t.invariant.1)) _ _ (last-left t.k more t.invariant.5) _
-          (c.level_back.ensures ∙ (λ u. level_inverse a.table (add-one j u) a.w (c.spread.ensures u) (c.side_after-across.ensures u) (c.side_after-down.ensures u) (at a.plane.now) (at t.work))),
+          (c.level_back.ensures ∙ (λ u. level_inverse a.table (add-one j u) a.w (c.spread.ensures u) (c.side_after.ensures u) (c.side_after-in-loop-k.ensures u) (at a.plane.now) (at t.work))),
     )
-
-pub returns : goal.returns
-returns c =
-    let a = c.args in
-    let e : c.loop-k.k ≡ 1 = omega (arith, c.loop-k.invariant.0) in
-    subst (λ (k : ℕ). LevelsLeft a.table a.w a.h k (at a.plane.now) (at a.work.now) (at c.loop-k.work)) e c.loop-k.invariant.5
 
 pub loop-k-init : goal.loop-k-init
 loop-k-init c = (levels_some c.requires, omega arith, refl, refl, refl, left_all c.requires _)
 
-pub side_after-across-requires : goal.side_after-across-requires
-side_after-across-requires c = (omega (arith, c.requires.stored.width.0), c.requires.stored.width.1)
-
-pub side_after-down-requires : goal.side_after-down-requires
-side_after-down-requires c = (omega (arith, c.requires.stored.height.0), c.requires.stored.height.1)
-
 pub spread-requires : goal.spread-requires
 spread-requires c = (c.requires.stored.width.1, omega (arith, c.loop-k.invariant.1, levels_few c.requires))
-
-pub shape_of-work : goal.shape_of-work
-shape_of-work c = omega (arith, c.loop-k.invariant.2)
-
-pub shape_of-state : goal.shape_of-state
-shape_of-state c = omega (arith, c.loop-k.invariant.3)
-
-pub shape_of-line : goal.shape_of-line
-shape_of-line c = omega (arith, c.loop-k.invariant.4)

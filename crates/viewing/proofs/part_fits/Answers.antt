@@ -34,22 +34,22 @@ bits t l p n there ie fe =
 pub returns : goal.returns
 returns c =
     let a = c.args in
-    let b = bits a.table a.level a.pass a.node c.requires.level c.integer_bits.ensures c.fraction_bits.ensures in
+    let b = bits a.table a.level a.band.pass a.band.node c.requires.level c.integer_bits.ensures c.fraction_bits.ensures in
     let sum = ap₂ ◌+◌ b.integer b.fraction in
-    tells_fits a.table a.level (pass_of a.pass) (node_of a.node) (at a.plane.now) _ _ _ _ _
-    (subst (λ (n : ℕ). Tells ((i : ℕ) → i < a.h → (j : ℕ) → j < a.w → OfBits (n - 1) (row_of a.stride a.from (at a.plane.now) i j)) c.part_of_bits.result) sum c.part_of_bits.ensures)
+    tells_fits a.table a.level (pass_of a.band.pass) (node_of a.band.node) (at a.plane.now) _ _ _ _ _
+    (subst (λ (n : ℕ). Tells ((i : ℕ) → i < a.band.part.h → (j : ℕ) → j < a.band.part.w → OfBits (n - 1) (row_of a.band.part.stride a.band.part.from (at a.plane.now) i j)) c.part_of_bits.result) sum c.part_of_bits.ensures)
 
 pub overflow_add-bits : goal.overflow_add-bits
 overflow_add-bits c =
-    let b = bits c.args.table c.args.level c.args.pass c.args.node c.requires.level c.integer_bits.ensures c.fraction_bits.ensures in
+    let b = bits c.args.table c.args.level c.args.band.pass c.args.band.node c.requires.level c.integer_bits.ensures c.fraction_bits.ensures in
     omega (arith, b.few, b.short)
 
 pub overflow_sub-bits : goal.overflow_sub-bits
 overflow_sub-bits c =
-    let b = bits c.args.table c.args.level c.args.pass c.args.node c.requires.level c.integer_bits.ensures c.fraction_bits.ensures in
+    let b = bits c.args.table c.args.level c.args.band.pass c.args.band.node c.requires.level c.integer_bits.ensures c.fraction_bits.ensures in
     omega (arith, b.some)
 
 pub part_of_bits-requires : goal.part_of_bits-requires
 part_of_bits-requires c =
-    let b = bits c.args.table c.args.level c.args.pass c.args.node c.requires.level c.integer_bits.ensures c.fraction_bits.ensures in
+    let b = bits c.args.table c.args.level c.args.band.pass c.args.band.node c.requires.level c.integer_bits.ensures c.fraction_bits.ensures in
     (omega (arith, b.few, b.short), c.requires.by_index)

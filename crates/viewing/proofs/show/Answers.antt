@@ -16,6 +16,3 @@ returns c =
       pixels = pixels_shown c.requires.0 _ _ c.levels_back.ensures c.columns_back.new.work c.columns_back.ensures a.pixels.now _ c.requires.1 (omega (arith, c.finish_rows.auto)) c.finish_rows.ensures.pixels;
       work = work_cleared c.requires.0 _ _ c.levels_back.ensures c.columns_back.new.work c.columns_back.ensures a.work.now _ refl refl (omega (arith, c.finish_rows.auto, c.columns_back.auto, c.levels_back.auto)) c.finish_rows.ensures.work;
     }
-
-pub levels_back-requires : goal.levels_back-requires
-levels_back-requires c = c.requires.0

@@ -1,23 +1,11 @@
-use mathlib.Core.Path.{refl, ◌∙◌, sym}
-use native.Mathlib.Omega.{arith}
+use Rattle.std.proofs.Common.{rules, tests, ◌∙◌}
+use Rattle.std.proofs.lemmas.Iterator.{YieldsList-from_slice}
+use Rattle.std.proofs.lemmas.Iterator.Search.{all_from_yields_List}
 use Rattle.numbers.specs.Tests.{between}
-use Rattle.numbers.specs.Lists.{every_next, every_stops, every_ends}
+use Rattle.width_table.specs.FormLaws.{every_all}
 use Rattle.width_table.proofs.all_between.Goals as goal
-
-pub returns-else-in_between : goal.returns-else-in_between
-returns-else-in_between c =
-    let a = c.args in
-    sym (c.loop-i.invariant.1 ∙ every_stops (between a.least a.most) a.numbers.now 0 c.loop-i.i (omega arith) (sym c.in_between.ensures ∙ c.if-in_between.false))
-
-pub loop-i-preserved : goal.loop-i-preserved
-loop-i-preserved c =
-    let a = c.args in
-    (omega arith, c.loop-i.invariant.1 ∙ every_next (between a.least a.most) a.numbers.now 0 c.loop-i.i (omega arith) (sym c.in_between.ensures ∙ c.if-in_between.true))
 
 pub returns : goal.returns
 returns c =
     let a = c.args in
-    sym (c.loop-i.invariant.1 ∙ every_ends (between a.least a.most) a.numbers.now c.loop-i.i (omega arith))
-
-pub loop-i-init : goal.loop-i-init
-loop-i-init c = (omega arith, refl)
+    all_from_yields_List (between a.least a.most) _ _ c.all.result c.all.ensures.ran (YieldsList-from_slice a.numbers.now cc) (λ x b q k. search (rules, tests)) ∙ every_all (between a.least a.most) a.numbers.now

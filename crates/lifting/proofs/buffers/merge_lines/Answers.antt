@@ -2,6 +2,7 @@
 use mathlib.Core.Path.{refl}
 use Prim.Native.Nat.{◌*◌}
 use native.Mathlib.Omega.{arith}
+use lib.IntN.{pos}
 use Rattle.lines.specs.Lines.{highs}
 use Rattle.slices.specs.Patch.{at}
 use Rattle.slices.specs.PatchLines.{lines_none, lines_to}
@@ -10,7 +11,7 @@ use Rattle.lifting.specs.Strips.{two_lines_lem, last_line, woven_pair, woven_las
 use Rattle.lifting.proofs.buffers.merge_lines.Goals as goal
 
 pub overflow_mul-top : goal.overflow_mul-top
-overflow_mul-top c = omega (arith, c.requires.room, (sizes c.args.s c.args.n c.requires.two).all)
+overflow_mul-top c = omega (arith, c.requires.room, (sizes c.args.part.w c.args.part.h c.requires.two).all)
 
 pub loop-i-init : goal.loop-i-init
 loop-i-init c = (omega arith, refl, lines_none _ _ _ _)
@@ -19,7 +20,7 @@ pub loop-i-preserved : goal.loop-i-preserved
 loop-i-preserved c = (omega arith, omega arith, woven_pair _ _ _ _ (at c.args.buffer.now) _ _ _ _ c.loop-i.invariant.2 c.copy_pair.ensures)
 
 pub returns-then-high-low : goal.returns-then-high-low
-returns-then-high-low c = woven_last _ _ _ _ (at c.args.buffer.now) _ c.if-high-low.true _ _ (lines_to _ _ _ (2 * highs c.args.n) _ _ _ c.loop-i.invariant.2 (omega arith)) c.copy_run.ensures
+returns-then-high-low c = woven_last _ _ _ _ (at c.args.buffer.now) _ c.if-high-low.true _ _ (lines_to _ _ _ (2 * highs c.args.part.h) _ _ _ c.loop-i.invariant.2 (omega arith)) (c.copy_run.ensures (pos 0))
 
 pub returns-else-high-low : goal.returns-else-high-low
 returns-else-high-low c = lines_to _ _ _ _ _ _ _ c.loop-i.invariant.2 (omega arith)
@@ -57,8 +58,8 @@ overflow_mul-high-then-high-low c = omega (arith, (last_line c.requires c.if-hig
 pub overflow_mul-high-then-high-low-2 : goal.overflow_mul-high-then-high-low-2
 overflow_mul-high-then-high-low-2 c = omega (arith, (last_line c.requires c.if-high-low.true).there)
 
-pub overflow_add-from : goal.overflow_add-from
-overflow_add-from c = omega (arith, (last_line c.requires c.if-high-low.true).there)
+pub overflow_add-part : goal.overflow_add-part
+overflow_add-part c = omega (arith, (last_line c.requires c.if-high-low.true).there)
 
 pub copy_run-requires : goal.copy_run-requires
 copy_run-requires c = let z = last_line c.requires c.if-high-low.true in omega (arith, z.there, z.low, z.high)

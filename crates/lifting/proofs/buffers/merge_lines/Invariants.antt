@@ -9,4 +9,4 @@ use Rattle.lifting.proofs.buffers.merge_lines.Given as goal
 
 abbrev pub invariant-loop-i : goal.invariant-loop-i
 invariant-loop-i l =
-    (l.i ≤ highs l.n) × (length l.plane ≡ length l.initial.plane) × (at l.plane ≡ patch_lines (line_at l.from l.stride) l.s (2 * l.i) (woven l.s l.n (at l.buffer)) (at l.initial.plane))
+    (l.i ≤ highs l.part.h) × (length l.plane ≡ length l.initial.plane) × (at l.plane ≡ patch_lines (line_at l.part.from l.part.stride) l.part.w (2 * l.i) (woven l.part.w l.part.h (at l.buffer)) (at l.initial.plane))

@@ -1,6 +1,7 @@
 -- `lifting::buffers::split_lines` meets its contract. The loop's invariant: i lines of the lows and i of the highs are there.
 use mathlib.Core.Path.{refl, ap}
 use native.Mathlib.Omega.{arith}
+use lib.IntN.{pos}
 use Rattle.lines.specs.Lines.{highs}
 use Rattle.slices.specs.Patch.{at}
 use Rattle.lifting.specs.Buffers.{filled_none, filled_low, filled_high, filled_to, sizes}
@@ -8,7 +9,7 @@ use Rattle.lifting.specs.Strips.{two_lines_lem, last_line}
 use Rattle.lifting.proofs.buffers.split_lines.Goals as goal
 
 pub overflow_mul-top : goal.overflow_mul-top
-overflow_mul-top c = omega (arith, c.requires.room, (sizes c.args.s c.args.n c.requires.two).all)
+overflow_mul-top c = omega (arith, c.requires.room, (sizes c.args.part.w c.args.part.h c.requires.two).all)
 
 pub loop-i-init : goal.loop-i-init
 loop-i-init c = (omega arith, refl, filled_none _ _ _ _ _)
@@ -27,8 +28,8 @@ pub returns-then-high-low : goal.returns-then-high-low
 returns-then-high-low c =
     let z = last_line c.requires c.if-high-low.true in
     let x = at c.args.plane.now in
-    let n = c.args.n in
-    filled_to (filled_low {a = highs n} {b = highs n} (filled_to c.loop-i.invariant.2 (omega arith) (omega arith)) _ _ c.copy_run.ensures (λ j g. ap x (omega arith)) (omega (arith, z.low))) (omega arith) (omega arith)
+    let n = c.args.part.h in
+    filled_to (filled_low {a = highs n} {b = highs n} (filled_to c.loop-i.invariant.2 (omega arith) (omega arith)) _ _ (c.copy_run.ensures (pos 0)) (λ j g. ap x (omega arith)) (omega (arith, z.low))) (omega arith) (omega arith)
 
 pub returns-else-high-low : goal.returns-else-high-low
 returns-else-high-low c = filled_to c.loop-i.invariant.2 (omega arith) (omega arith)
@@ -63,8 +64,8 @@ overflow_mul-high c = omega (arith, (last_line c.requires c.if-high-low.true).th
 pub overflow_mul-high-then-high-low : goal.overflow_mul-high-then-high-low
 overflow_mul-high-then-high-low c = omega (arith, (last_line c.requires c.if-high-low.true).there)
 
-pub overflow_add-from : goal.overflow_add-from
-overflow_add-from c = omega (arith, (last_line c.requires c.if-high-low.true).there)
+pub overflow_add-part : goal.overflow_add-part
+overflow_add-part c = omega (arith, (last_line c.requires c.if-high-low.true).there)
 
 pub overflow_mul-high-then-high-low-2 : goal.overflow_mul-high-then-high-low-2
 overflow_mul-high-then-high-low-2 c = omega (arith, (last_line c.requires c.if-high-low.true).high, (last_line c.requires c.if-high-low.true).low)

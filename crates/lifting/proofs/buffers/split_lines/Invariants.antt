@@ -10,4 +10,4 @@ use Rattle.lifting.proofs.buffers.split_lines.Given as goal
 
 abbrev pub invariant-loop-i : goal.invariant-loop-i
 invariant-loop-i l =
-    (l.i ≤ highs l.n) × (length l.buffer ≡ length l.initial.buffer) × Filled l.s (lows l.n * l.s) l.i l.i (λ j. evens (column_of l.stride l.from (at l.plane) j)) (λ j. odds (column_of l.stride l.from (at l.plane) j)) (at l.buffer)
+    (l.i ≤ highs l.part.h) × (length l.buffer ≡ length l.initial.buffer) × Filled l.part.w (lows l.part.h * l.part.w) l.i l.i (λ j. evens (column_of l.part.stride l.part.from (at l.plane) j)) (λ j. odds (column_of l.part.stride l.part.from (at l.plane) j)) (at l.buffer)

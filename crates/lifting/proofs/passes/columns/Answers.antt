@@ -19,52 +19,52 @@ width t h most rest s some room e left is =
 pub loop-done-init : goal.loop-done-init
 loop-done-init c = (omega arith, refl, refl, columns_none (worked c.args.kernel) _ _ _ _)
 
-pub overflow_add-from : goal.overflow_add-from
-overflow_add-from c = omega (arith, c.requires.part.0.narrow)
+pub overflow_add-next : goal.overflow_add-next
+overflow_add-next c = omega (arith, c.requires.part.0.narrow)
 
 pub strip-requires : goal.strip-requires
 strip-requires c =
     let a = c.args in
-    let wide : (1 ≤ c.smaller-s.result) × (c.smaller-s.result ≤ a.w - c.loop-done.done) × (a.h * c.smaller-s.result ≤ length a.buffer.now) =
-    width (length a.buffer.now) a.h c.smaller-most.result (a.w - c.loop-done.done) c.smaller-s.result (omega arith) (omega arith) c.smaller-most.ensures (omega arith) c.smaller-s.ensures in
+    let wide : (1 ≤ c.min-s.result) × (c.min-s.result ≤ a.part.w - c.loop-done.done) × (a.part.h * c.min-s.result ≤ length a.buffer.now) =
+    width (length a.buffer.now) a.part.h c.min-most.result (a.part.w - c.loop-done.done) c.min-s.result (omega arith) (omega arith) c.min-most.ensures (omega arith) c.min-s.ensures in
     let p = c.requires.part.0 in
     record {
       strip_room = part_strip p c.requires.part.1 _ _ (omega arith) c.loop-done.done _ wide.0 (omega arith) (omega arith);
-      by_index = λ j g. subst (SafeKernel a.kernel a.h)
-          (sym (column_as_was (worked a.kernel) a.stride a.from c.loop-done.done c.smaller-s.result a.h (omega (arith, p.narrow)) (at a.plane.now) _ c.loop-done.invariant.3 j g))
+      by_index = λ j g. subst (SafeKernel a.kernel a.part.h)
+          (sym (column_as_was (worked a.kernel) a.part.stride a.part.from c.loop-done.done c.min-s.result a.part.h (omega (arith, p.narrow)) (at a.plane.now) _ c.loop-done.invariant.3 j g))
           (c.requires.by_index (c.loop-done.done + j) (omega arith));
     }
 
 pub overflow_add-done : goal.overflow_add-done
 overflow_add-done c =
     let a = c.args in
-    let wide : (1 ≤ c.smaller-s.result) × (c.smaller-s.result ≤ a.w - c.loop-done.done) × (a.h * c.smaller-s.result ≤ length a.buffer.now) =
-    width (length a.buffer.now) a.h c.smaller-most.result (a.w - c.loop-done.done) c.smaller-s.result (omega arith) (omega arith) c.smaller-most.ensures (omega arith) c.smaller-s.ensures in
+    let wide : (1 ≤ c.min-s.result) × (c.min-s.result ≤ a.part.w - c.loop-done.done) × (a.part.h * c.min-s.result ≤ length a.buffer.now) =
+    width (length a.buffer.now) a.part.h c.min-most.result (a.part.w - c.loop-done.done) c.min-s.result (omega arith) (omega arith) c.min-most.ensures (omega arith) c.min-s.ensures in
     omega arith
 
 pub loop-done-preserved : goal.loop-done-preserved
 loop-done-preserved c =
     let a = c.args in
-    let wide : (1 ≤ c.smaller-s.result) × (c.smaller-s.result ≤ a.w - c.loop-done.done) × (a.h * c.smaller-s.result ≤ length a.buffer.now) =
-    width (length a.buffer.now) a.h c.smaller-most.result (a.w - c.loop-done.done) c.smaller-s.result (omega arith) (omega arith) c.smaller-most.ensures (omega arith) c.smaller-s.ensures in (
+    let wide : (1 ≤ c.min-s.result) × (c.min-s.result ≤ a.part.w - c.loop-done.done) × (a.part.h * c.min-s.result ≤ length a.buffer.now) =
+    width (length a.buffer.now) a.part.h c.min-most.result (a.part.w - c.loop-done.done) c.min-s.result (omega arith) (omega arith) c.min-most.ensures (omega arith) c.min-s.ensures in (
       omega arith,
       omega arith,
       omega arith,
-      columns_more (worked a.kernel) a.stride a.from c.loop-done.done c.smaller-s.result a.h (omega (arith, c.requires.part.0.narrow)) (at a.plane.now) _ c.loop-done.invariant.3 _ c.strip.ensures,
+      columns_more (worked a.kernel) a.part.stride a.part.from c.loop-done.done c.min-s.result a.part.h (omega (arith, c.requires.part.0.narrow)) (at a.plane.now) _ c.loop-done.invariant.3 _ c.strip.ensures,
     )
 
 pub loop-done-smaller : goal.loop-done-smaller
 loop-done-smaller c =
     let a = c.args in
-    let wide : (1 ≤ c.smaller-s.result) × (c.smaller-s.result ≤ a.w - c.loop-done.done) × (a.h * c.smaller-s.result ≤ length a.buffer.now) =
-    width (length a.buffer.now) a.h c.smaller-most.result (a.w - c.loop-done.done) c.smaller-s.result (omega arith) (omega arith) c.smaller-most.ensures (omega arith) c.smaller-s.ensures in
+    let wide : (1 ≤ c.min-s.result) × (c.min-s.result ≤ a.part.w - c.loop-done.done) × (a.part.h * c.min-s.result ≤ length a.buffer.now) =
+    width (length a.buffer.now) a.part.h c.min-most.result (a.part.w - c.loop-done.done) c.min-s.result (omega arith) (omega arith) c.min-most.ensures (omega arith) c.min-s.ensures in
     omega arith
 
 pub returns : goal.returns
 returns c =
     let a = c.args in
-    let e : c.loop-done.done ≡ a.w = omega arith in
+    let e : c.loop-done.done ≡ a.part.w = omega arith in
     record {
-      plane = c.loop-done.invariant.3 ∙ ap (λ (w : ℕ). columns_worked a.kernel a.stride a.from w a.h (at a.plane.now)) e;
+      plane = c.loop-done.invariant.3 ∙ ap (λ (w : ℕ). columns_worked a.kernel a.part.stride a.part.from w a.part.h (at a.plane.now)) e;
       buffer = c.loop-done.invariant.2;
     }

@@ -10,44 +10,44 @@ pub lift-requires : goal.lift-requires
 lift-requires c =
     record {
       buffer = record { two = c.requires.w_bound.1; few = omega arith; room = omega arith };
-      lift_safe = lift_asked c.args.first c.requires.w_bound.1 c.split_pixels.ensures (λ j g. c.requires.safe_kernel.at_first);
+      lift_safe = lift_asked c.args.by.first c.requires.w_bound.1 c.split_pixels.ensures (λ j g. c.requires.safe_kernel.at_first);
     }
 
 pub lift-requires-2 : goal.lift-requires-2
 lift-requires-2 c =
     let two = c.requires.w_bound.1 in
-    let once = lift_held c.args.first two c.split_pixels.ensures _ c.lift.ensures in
+    let once = lift_held c.args.by.first two c.split_pixels.ensures _ c.lift.ensures in
     record {
       buffer = record { two = two; few = omega arith; room = omega arith };
-      lift_safe = lift_asked c.args.second two once (λ j g. c.requires.safe_kernel.at_second);
+      lift_safe = lift_asked c.args.by.second two once (λ j g. c.requires.safe_kernel.at_second);
     }
 
 pub scale_here-requires : goal.scale_here-requires
 scale_here-requires c =
     let two = c.requires.w_bound.1 in
-    let once = lift_held c.args.first two c.split_pixels.ensures _ c.lift.ensures in
-    let twice = lift_held c.args.second two once _ c.lift-2.ensures in
+    let once = lift_held c.args.by.first two c.split_pixels.ensures _ c.lift.ensures in
+    let twice = lift_held c.args.by.second two once _ c.lift-2.ensures in
     record {
       n_in_bounds = omega arith;
-      by_index = λ j h. subst (FactorSafe c.args.low) (sym (row_low c.args.w twice j h)) (c.requires.safe_kernel.at_lows j h);
+      by_index = λ j h. subst (FactorSafe c.args.by.low) (sym (row_low c.args.w twice j h)) (c.requires.safe_kernel.at_lows j h);
     }
 
 pub scale_here-requires-2 : goal.scale_here-requires-2
 scale_here-requires-2 c =
     let two = c.requires.w_bound.1 in
-    let once = lift_held c.args.first two c.split_pixels.ensures _ c.lift.ensures in
-    let twice = lift_held c.args.second two once _ c.lift-2.ensures in
-    let lows_scaled = lows_each c.args.w twice (scaled_by c.args.low) _ c.scale_here.ensures in
+    let once = lift_held c.args.by.first two c.split_pixels.ensures _ c.lift.ensures in
+    let twice = lift_held c.args.by.second two once _ c.lift-2.ensures in
+    let lows_scaled = lows_each c.args.w twice (scaled_by c.args.by.low) _ c.scale_here.ensures in
     record {
       n_in_bounds = omega arith;
-      by_index = λ j h. subst (FactorSafe c.args.high) (sym (row_high c.args.w lows_scaled j h)) (c.requires.safe_kernel.at_highs j h);
+      by_index = λ j h. subst (FactorSafe c.args.by.high) (sym (row_high c.args.w lows_scaled j h)) (c.requires.safe_kernel.at_highs j h);
     }
 
 pub returns : goal.returns
 unfolding worked
 returns c i h =
     let two = c.requires.w_bound.1 in
-    let once = lift_held c.args.first two c.split_pixels.ensures _ c.lift.ensures in
-    let twice = lift_held c.args.second two once _ c.lift-2.ensures in
-    let lows_scaled = lows_each c.args.w twice (scaled_by c.args.low) _ c.scale_here.ensures in
-    row_at c.args.w (highs_each c.args.w lows_scaled (scaled_by c.args.high) _ c.scale_here-2.ensures) i h
+    let once = lift_held c.args.by.first two c.split_pixels.ensures _ c.lift.ensures in
+    let twice = lift_held c.args.by.second two once _ c.lift-2.ensures in
+    let lows_scaled = lows_each c.args.w twice (scaled_by c.args.by.low) _ c.scale_here.ensures in
+    row_at c.args.w (highs_each c.args.w lows_scaled (scaled_by c.args.by.high) _ c.scale_here-2.ensures) i h

@@ -1,29 +1,31 @@
--- `lifting::runs::cut_run` meets its contract: in each branch the step is the one that is handed on.
+-- `lifting::runs::cut_run` meets its contract.
 use mathlib.Core.Path.{◌≡◌, refl}
 use mathlib.Core.Bool.{Bool}
 use Prim.Native.Nat.{ℕ}
+use borrow.Author.Rules.{rules}
 use Rattle.lifting.specs.declared.CutForm.{CutForm}
 use Rattle.lifting.specs.Forms.{cut_step}
 use Rattle.lifting.specs.declared.Step.TheVariants.{BiasedCut}
-use Rattle.slices.specs.Patch.{at}
-use Rattle.lifting.proofs.Turn.{run_asks, run_gives}
+use Rattle.lifting.proofs.Turn.{run_made}
 use Rattle.lifting.proofs.runs.cut_run.Goals as goal
 
-same : (down : Bool) (f : CutForm) {k cut : ℕ} → f.k ≡ k → f.cut ≡ cut → cut_step down f ≡ BiasedCut down k f.c f.offset f.first f.up f.base cut
-same down f d e = λ u. BiasedCut down (d u) f.c f.offset f.first f.up f.base (e u)
+same : (f : CutForm) {down down' : Bool} {k cut : ℕ} → down ≡ down' → f.k ≡ k → f.cut ≡ cut → cut_step down f ≡ BiasedCut down' k f.c f.offset f.first f.up f.base cut
+same f b d e = λ u. BiasedCut (b u) (d u) f.c f.offset f.first f.up f.base (e u)
 
-pub signed_cut_run-requires-clause-safe_run : goal.signed_cut_run-requires-clause-safe_run
-signed_cut_run-requires-clause-safe_run c =
-    run_asks c.args.t c.args.a c.args.b c.args.n (at c.args.buf.now) (same c.args.down c.args.form c.if-form-eq0-2.true c.if-form-eq0.true) c.requires.safe_run
+pub returns-then-down : goal.returns-then-down
+returns-then-down c = run_made _ _ (same c.args.form c.if-down.true c.if-form-eq0-2.true c.if-form-eq0.true) c.run.ensures (λ j v h p. search rules)
 
-pub signed_cut_run-requires-else-form-eq0-2-clause-safe_run : goal.signed_cut_run-requires-else-form-eq0-2-clause-safe_run
-signed_cut_run-requires-else-form-eq0-2-clause-safe_run c =
-    run_asks c.args.t c.args.a c.args.b c.args.n (at c.args.buf.now) (same c.args.down c.args.form refl c.if-form-eq0.true) c.requires.safe_run
+pub returns-else-down : goal.returns-else-down
+returns-else-down c = run_made _ _ (same c.args.form c.if-down.false c.if-form-eq0-2.true c.if-form-eq0.true) c.run-else-down.ensures (λ j v h p. search rules)
 
-pub returns-then-form-eq0-2 : goal.returns-then-form-eq0-2
-returns-then-form-eq0-2 c =
-    run_gives c.args.t c.args.a c.args.b c.args.n (at c.args.buf.now) (same c.args.down c.args.form c.if-form-eq0-2.true c.if-form-eq0.true) c.signed_cut_run.ensures
+pub returns-then-down-2 : goal.returns-then-down-2
+returns-then-down-2 c = run_made _ _ (same c.args.form c.if-down-2.true refl c.if-form-eq0.true) c.run-then-down-2.ensures (λ j v h p. search rules)
 
-pub returns-else-form-eq0-2 : goal.returns-else-form-eq0-2
-returns-else-form-eq0-2 c =
-    run_gives c.args.t c.args.a c.args.b c.args.n (at c.args.buf.now) (same c.args.down c.args.form refl c.if-form-eq0.true) c.signed_cut_run-else-form-eq0-2.ensures
+pub returns-else-down-2 : goal.returns-else-down-2
+returns-else-down-2 c = run_made _ _ (same c.args.form c.if-down-2.false refl c.if-form-eq0.true) c.run-else-down-2.ensures (λ j v h p. search rules)
+
+pub returns-then-down-3 : goal.returns-then-down-3
+returns-then-down-3 c = run_made _ _ (same c.args.form c.if-down-3.true refl refl) c.run-then-down-3.ensures (λ j v h p. search rules)
+
+pub returns-else-down-3 : goal.returns-else-down-3
+returns-else-down-3 c = run_made _ _ (same c.args.form c.if-down-3.false refl refl) c.run-else-down-3.ensures (λ j v h p. search rules)

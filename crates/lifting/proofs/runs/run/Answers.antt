@@ -1,17 +1,17 @@
 -- `lifting::runs::run` meets its contract.
 use native.Mathlib.Omega.{arith}
-use Rattle.lifting.specs.SafeRuns.{step_asks, step_done}
-use Rattle.slices.specs.Filling.{filling_none, filling_all}
+use Rattle.lifting.specs.Made.{made_none, made_more, turn_asks, turn_gives}
 use Rattle.lifting.proofs.runs.run.Goals as goal
 
 pub loop-j-init : goal.loop-j-init
-loop-j-init c = filling_none _ _ _ _
+loop-j-init g c = (omega arith, made_none _ _ _)
 
-pub apply-v-requires : goal.apply-v-requires
-apply-v-requires c = (c.requires.plain_step.0, step_asks c.args.step c.requires.plain_step.1 c.loop-j.invariant c.loop-j-test.true (omega arith) (omega arith) (omega arith) c.requires.safe_run)
+pub f-v-requires : goal.f-v-requires
+f-v-requires g c = turn_asks c.requires.runs _ c.loop-j.invariant.1 c.loop-j-test.true (omega arith) (omega arith) (omega arith) (goal.F-pre g c.args.f) c.requires.callable
 
 pub loop-j-preserved : goal.loop-j-preserved
-loop-j-preserved c = step_done c.args.step c.requires.plain_step.1 c.loop-j.invariant c.loop-j-test.true (omega arith) (omega arith) (omega arith) c.apply-v.type_inv c.apply-v.ensures
-
-pub returns : goal.returns
-returns c = filling_all c.loop-j.invariant (omega arith)
+loop-j-preserved g c = (
+  omega arith,
+  made_more c.loop-j.invariant.1 (omega (arith, c.requires.runs.own)) _
+      (turn_gives c.requires.runs _ c.loop-j.invariant.1 c.loop-j-test.true (omega arith) (omega arith) (omega arith) (goal.F-post g c.args.f) (omega arith) c.f-v.ensures),
+)

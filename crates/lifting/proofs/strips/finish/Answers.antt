@@ -9,19 +9,19 @@ use Rattle.lifting.proofs.strips.finish.Goals as goal
 
 pub finish_one-requires : goal.finish_one-requires
 finish_one-requires c =
-    record { strip_room = c.requires.strip_room.0; ready = subst (λ (k : Kernel). Ready k c.args.s c.args.n (at c.args.buffer.now)) c.in-One.is c.requires.ready }
+    record { strip_room = c.requires.strip_room.0; ready = subst (λ (k : Kernel). Ready k c.args.part.w c.args.part.h (at c.args.buffer.now)) c.in-One.is c.requires.ready }
 
 pub finish_two-requires : goal.finish_two-requires
 finish_two-requires c =
-    record { strip_room = c.requires.strip_room.0; ready = subst (λ (k : Kernel). Ready k c.args.s c.args.n (at c.args.buffer.now)) c.in-Two.is c.requires.ready }
+    record { strip_room = c.requires.strip_room.0; ready = subst (λ (k : Kernel). Ready k c.args.part.w c.args.part.h (at c.args.buffer.now)) c.in-Two.is c.requires.ready }
 
 pub returns-in-One : goal.returns-in-One
 returns-in-One c =
-    subst (λ (k : Kernel). Finished k c.args.stride c.args.from c.args.s c.args.n (at c.args.buffer.now) (at c.args.plane.now) (at c.finish_one.new.plane)) (sym c.in-One.is) c.finish_one.ensures
+    subst (λ (k : Kernel). Finished k c.args.part.stride c.args.part.from c.args.part.w c.args.part.h (at c.args.buffer.now) (at c.args.plane.now) (at c.finish_one.new.plane)) (sym c.in-One.is) c.finish_one.ensures
 
 pub returns-in-Two : goal.returns-in-Two
 returns-in-Two c =
-    subst (λ (k : Kernel). Finished k c.args.stride c.args.from c.args.s c.args.n (at c.args.buffer.now) (at c.args.plane.now) (at c.finish_two.new.plane)) (sym c.in-Two.is) c.finish_two.ensures
+    subst (λ (k : Kernel). Finished k c.args.part.stride c.args.part.from c.args.part.w c.args.part.h (at c.args.buffer.now) (at c.args.plane.now) (at c.finish_two.new.plane)) (sym c.in-Two.is) c.finish_two.ensures
 
 pub returns-in-Inverse : goal.returns-in-Inverse
 returns-in-Inverse c line held = absurd (subst (λ (k : Kernel). T (forwards k)) c.in-Inverse.is c.requires.strip_room.1)

@@ -20,4 +20,4 @@ copy_lines-requires c = (buffer_lines c.requires.strip_room _ (omega arith), pla
 pub returns : goal.returns
 unfolding worked
 returns c line held =
-    c.copy_lines.ensures ∙ lines_ext _ _ _ _ _ c.args.n (held_at (lift_held c.args.pair c.requires.strip_room.two held _ c.lift.ensures))
+    c.copy_lines.ensures ∙ lines_ext _ _ _ _ _ c.args.part.h (held_at (lift_held c.args.pair c.requires.strip_room.two held _ c.lift.ensures))

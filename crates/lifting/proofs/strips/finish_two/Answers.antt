@@ -41,29 +41,29 @@ pub scale_lines-requires : goal.scale_lines-requires
 scale_lines-requires c =
     let room = c.requires.strip_room in
     let two = room.two in
-    let n = c.args.n in
+    let n = c.args.part.h in
     let held = lift_held c.args.by.second two (lift_held c.args.by.first two c.requires.ready.held _ c.lift.ensures) _ c.lift-2.ensures in record {
       lying = (
         some_lines (buffer_lines room c.lift-2.new.buffer (omega arith)) 0 (lows n) 0 (omega arith) (omega arith) (omega arith),
-        some_lines (plane_lines room _ (omega arith)) 0 (lows n) c.args.from (omega arith) (omega arith) (omega arith),
+        some_lines (plane_lines room _ (omega arith)) 0 (lows n) c.args.part.from (omega arith) (omega arith) (omega arith),
       );
       by_index = λ i j p g. subst (FactorSafe c.args.by.low) (sym (low_at_lem n held i j p g)) ((c.requires.ready.safe j g).at_lows i p);
     }
 
 pub overflow_mul-half : goal.overflow_mul-half
-overflow_mul-half c = let room = c.requires.strip_room in omega (arith, room.room, (sizes c.args.s c.args.n room.two).all)
+overflow_mul-half c = let room = c.requires.strip_room in omega (arith, room.room, (sizes c.args.part.w c.args.part.h room.two).all)
 
 pub overflow_mul-half-2 : goal.overflow_mul-half-2
-overflow_mul-half-2 c = let room = c.requires.strip_room in omega (arith, room.lines.fits (lows c.args.n) (omega (arith, room.two)))
+overflow_mul-half-2 c = let room = c.requires.strip_room in omega (arith, room.lines.fits (lows c.args.part.h) (omega (arith, room.two)))
 
-pub overflow_add-from : goal.overflow_add-from
-overflow_add-from c = let room = c.requires.strip_room in omega (arith, room.lines.fits (lows c.args.n) (omega (arith, room.two)))
+pub overflow_add-part : goal.overflow_add-part
+overflow_add-part c = let room = c.requires.strip_room in omega (arith, room.lines.fits (lows c.args.part.h) (omega (arith, room.two)))
 
 pub scale_lines-requires-2 : goal.scale_lines-requires-2
 scale_lines-requires-2 c =
     let room = c.requires.strip_room in
     let two = room.two in
-    let n = c.args.n in
+    let n = c.args.part.h in
     let held = lift_held c.args.by.second two (lift_held c.args.by.first two c.requires.ready.held _ c.lift.ensures) _ c.lift-2.ensures in record {
       lying = (
         some_lines (buffer_lines room c.lift-2.new.buffer (omega arith)) (lows n) (highs n) _ (omega arith) (omega arith) (omega arith),
@@ -76,11 +76,11 @@ pub returns : goal.returns
 unfolding worked
 returns c line held =
     let by = c.args.by in
-    let n = c.args.n in
+    let n = c.args.part.h in
     let two = c.requires.strip_room.two in
     let low : ℕ → ℕ → ℤ = λ j i. scaled_by by.low (second_lows by.first by.second n (line j) i) in
     let high : ℕ → ℕ → ℤ = λ j i. scaled_by by.high (second_highs by.first by.second n (line j) i) in
     let lifted = lift_held by.second two (lift_held by.first two held _ c.lift.ensures) _ c.lift-2.ensures in
-    both_halves c.args.from c.args.stride c.args.s n _ _ _ _ _ _ c.scale_lines.ensures c.scale_lines-2.ensures
+    both_halves c.args.part.from c.args.part.stride c.args.part.w n _ _ _ _ _ _ c.scale_lines.ensures c.scale_lines-2.ensures
     (λ i j p g. ap (scaled_by by.low) (low_at_lem n lifted i j p g) ∙ sym (first_low_lem n (low j) (high j) i p))
     (λ i j p g. ap (scaled_by by.high) (high_at_lem n lifted i j p g) ∙ sym (first_high n (low j) (high j) i))

@@ -8,11 +8,11 @@ use Rattle.lifting.proofs.strips.strip.Goals as goal
 
 pub strip_inverse-requires-clause-by_index : goal.strip_inverse-requires-clause-by_index
 strip_inverse-requires-clause-by_index c j h =
-    subst (λ (k : Kernel). SafeKernel k c.args.n (column_of c.args.stride c.args.from (at c.args.plane.now) j)) c.in-Inverse.is (c.requires.by_index j h)
+    subst (λ (k : Kernel). SafeKernel k c.args.part.h (column_of c.args.part.stride c.args.part.from (at c.args.plane.now) j)) c.in-Inverse.is (c.requires.by_index j h)
 
 pub returns-in-Inverse : goal.returns-in-Inverse
 returns-in-Inverse c =
-    c.strip_inverse.ensures ∙ ap (λ (k : Kernel). columns_worked k c.args.stride c.args.from c.args.s c.args.n (at c.args.plane.now)) (sym c.in-Inverse.is)
+    c.strip_inverse.ensures ∙ ap (λ (k : Kernel). columns_worked k c.args.part.stride c.args.part.from c.args.part.w c.args.part.h (at c.args.plane.now)) (sym c.in-Inverse.is)
 
 pub strip_forward-requires-clause-strip_room : goal.strip_forward-requires-clause-strip_room
 strip_forward-requires-clause-strip_room c = (c.requires.strip_room, subst Forward (sym c.in-One.is) tt)

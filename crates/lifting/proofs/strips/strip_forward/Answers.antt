@@ -9,7 +9,7 @@ pub finish-requires : goal.finish-requires
 finish-requires c =
     record {
       strip_room = (strip_of c.requires.strip_room.0 _ _ (omega arith) (omega arith), c.requires.strip_room.1);
-      ready = record { line = column_of c.args.stride c.args.from (at c.args.plane.now); held = c.split.ensures; safe = c.requires.by_index };
+      ready = record { line = column_of c.args.part.stride c.args.part.from (at c.args.plane.now); held = c.split.ensures; safe = c.requires.by_index };
     }
 
 pub returns : goal.returns

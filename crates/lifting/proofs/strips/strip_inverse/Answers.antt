@@ -16,8 +16,8 @@ copy_lines-requires c = (plane_lines c.requires.strip_room _ (omega arith), buff
 
 pub inverse_lift-requires : goal.inverse_lift-requires
 inverse_lift-requires c =
-    let loaded : let col = column_of c.args.stride c.args.from (at c.args.plane.now) in
-    BufferHolds c.args.s c.args.n col (λ j i. col j (lows c.args.n + i)) (at c.copy_lines.new.dst) =
+    let loaded : let col = column_of c.args.part.stride c.args.part.from (at c.args.plane.now) in
+    BufferHolds c.args.part.w c.args.part.h col (λ j i. col j (lows c.args.part.h + i)) (at c.copy_lines.new.dst) =
     whole_held _ _ _ _ _ c.copy_lines.ensures in
     record {
       buffer = buffer_of c.requires.strip_room _ (omega arith);
@@ -30,7 +30,7 @@ merge-requires c = strip_of c.requires.strip_room _ _ (omega arith) (omega arith
 pub returns : goal.returns
 unfolding worked
 returns c =
-    let loaded : let col = column_of c.args.stride c.args.from (at c.args.plane.now) in
-    BufferHolds c.args.s c.args.n col (λ j i. col j (lows c.args.n + i)) (at c.copy_lines.new.dst) =
+    let loaded : let col = column_of c.args.part.stride c.args.part.from (at c.args.plane.now) in
+    BufferHolds c.args.part.w c.args.part.h col (λ j i. col j (lows c.args.part.h + i)) (at c.copy_lines.new.dst) =
     whole_held _ _ _ _ _ c.copy_lines.ensures in
-    c.merge.ensures ∙ lines_ext _ _ _ _ _ c.args.n (held_woven (inverse_lift_held c.args.pair c.requires.strip_room.two loaded _ c.inverse_lift.ensures))
+    c.merge.ensures ∙ lines_ext _ _ _ _ _ c.args.part.h (held_woven (inverse_lift_held c.args.pair c.requires.strip_room.two loaded _ c.inverse_lift.ensures))

@@ -7,10 +7,10 @@ use Rattle.width_table.specs.FormLaws.{pass_in}
 use Rattle.width_table.specs.Readers.{input_none, input_low, input_high, input_first, input_later}
 use Rattle.width_table.proofs.WidthTable.input_bits.Goals as goal
 
-pub returns-else-has_pass : goal.returns-else-has_pass
-returns-else-has_pass c =
+pub returns-then-not-has_pass : goal.returns-then-not-has_pass
+returns-then-not-has_pass c =
     let a = c.args in
-    sym (input_none a.self a.level a.pass (sym c.has_pass.ensures ∙ c.if-has_pass.false))
+    sym (input_none a.self a.level a.pass (sym c.has_pass.ensures ∙ c.if-not-has_pass.true))
 
 rows : (k : ℕ) → IsPass k → (k ≡ 2 → ⊥) → (k ≡ 3 → ⊥) → k ≡ 1
 rows k h x y = omega arith
@@ -19,21 +19,21 @@ pub returns-then-pass-eq-LOW_COLUMNS : goal.returns-then-pass-eq-LOW_COLUMNS
 returns-then-pass-eq-LOW_COLUMNS c =
     -- a level and a pass that there are
     let within : ((1 ≤ c.args.level) × (c.args.level ≤ max_levels)) × IsPass c.args.pass =
-    pass_in max_levels c.args.level c.args.pass (sym c.has_pass.ensures ∙ c.if-has_pass.true) in
+    pass_in max_levels c.args.level c.args.pass (sym c.has_pass.ensures ∙ c.if-not-has_pass.false) in
     let a = c.args in
     c.fraction_bits.ensures ∙ sym (input_low a.self a.level a.pass within.0.0 within.0.1 c.if-pass-eq-LOW_COLUMNS.true)
 
 pub returns-then-pass-eq-HIGH_COLUMNS : goal.returns-then-pass-eq-HIGH_COLUMNS
 returns-then-pass-eq-HIGH_COLUMNS c =
     let within : ((1 ≤ c.args.level) × (c.args.level ≤ max_levels)) × IsPass c.args.pass =
-    pass_in max_levels c.args.level c.args.pass (sym c.has_pass.ensures ∙ c.if-has_pass.true) in
+    pass_in max_levels c.args.level c.args.pass (sym c.has_pass.ensures ∙ c.if-not-has_pass.false) in
     let a = c.args in
     c.fraction_bits-then-pass-eq-HIGH_COLUMNS.ensures ∙ sym (input_high a.self a.level a.pass within.0.0 within.0.1 c.if-pass-eq-HIGH_COLUMNS.true)
 
 pub returns-then-level-eq1 : goal.returns-then-level-eq1
 returns-then-level-eq1 c =
     let within : ((1 ≤ c.args.level) × (c.args.level ≤ max_levels)) × IsPass c.args.pass =
-    pass_in max_levels c.args.level c.args.pass (sym c.has_pass.ensures ∙ c.if-has_pass.true) in
+    pass_in max_levels c.args.level c.args.pass (sym c.has_pass.ensures ∙ c.if-not-has_pass.false) in
     let first : c.args.pass ≡ 1 =
     rows _ within.1 c.if-pass-eq-LOW_COLUMNS.false c.if-pass-eq-HIGH_COLUMNS.false in
     let a = c.args in
@@ -42,7 +42,7 @@ returns-then-level-eq1 c =
 pub returns : goal.returns
 returns c =
     let within : ((1 ≤ c.args.level) × (c.args.level ≤ max_levels)) × IsPass c.args.pass =
-    pass_in max_levels c.args.level c.args.pass (sym c.has_pass.ensures ∙ c.if-has_pass.true) in
+    pass_in max_levels c.args.level c.args.pass (sym c.has_pass.ensures ∙ c.if-not-has_pass.false) in
     let first : c.args.pass ≡ 1 =
     rows _ within.1 c.if-pass-eq-LOW_COLUMNS.false c.if-pass-eq-HIGH_COLUMNS.false in
     let a = c.args in
@@ -51,5 +51,5 @@ returns c =
 pub overflow_sub-level : goal.overflow_sub-level
 overflow_sub-level c =
     let within : ((1 ≤ c.args.level) × (c.args.level ≤ max_levels)) × IsPass c.args.pass =
-    pass_in max_levels c.args.level c.args.pass (sym c.has_pass.ensures ∙ c.if-has_pass.true) in
+    pass_in max_levels c.args.level c.args.pass (sym c.has_pass.ensures ∙ c.if-not-has_pass.false) in
     omega (arith, within)

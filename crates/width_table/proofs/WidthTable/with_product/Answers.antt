@@ -1,52 +1,57 @@
-use Prim.Native.Nat.{ℕ}
-use mathlib.Core.Path.{sym, ◌∙◌, ap}
-use mathlib.Core.List.{List}
-use native.Mathlib.Omega.{arith}
-use lib.ListN.{set}
+use Rattle.std.proofs.Common.{ℕ, ◌≡◌, ◌∙◌, sym, ap, Bool, true, false, ◌&&◌, List, refl, set, arith}
+use Rattle.std.proofs.lemmas.Grind.{common_steps}
+use Rattle.refusals.specs.Answers.{passed, asks}
+use Rattle.refusals.specs.AnswerLaws.{answered_done}
 use Rattle.width_table.specs.declared.WidthTable.{WidthTable}
-use Rattle.width_table.specs.FormLaws.{gives_back, product_not_formed, no_products_lem, no_product, no_product_width, product_changes, product_in, few_levels}
+use Rattle.width_table.specs.Table.{product_right, form_right}
+use Rattle.width_table.specs.Changes.{has_product, product_answer, with_product, table_after_product}
+use Rattle.width_table.specs.FormLaws.{product_place_lem}
+use Rattle.width_table.proofs.WidthTable.with_product.Goals.{then-self, else-self}
 use Rattle.width_table.proofs.WidthTable.with_product.Goals as goal
 
-pub returns-else-form_right : goal.returns-else-form_right
-returns-else-form_right c =
-    let a = c.args in
-    let e = c.not_changed.ensures in
-    let w = gives_back (e.outcome, e.table) (product_not_formed a.self a.level a.pass a.product a.bits (sym c.form_right.ensures ∙ c.if-form_right.false)) in
-    record { outcome = w.0; table = w.1 }
+-- the table's own rule and the place's are one rule of the change
+grouped : (t : WidthTable) (level pass product fp : ℕ) (v : Bool) → v ≡ (t.has_products && has_product t.levels level pass product)
+    → asks (form_right t && v && product_right fp) 4 passed ≡ product_answer t level pass product fp
+unfolding product_answer
+grouped t level pass product fp v e =
+    ap (λ (x : Bool). asks (x && product_right fp) 4 passed) (ap (λ (x : Bool). form_right t && x) e ∙ and_groups (form_right t) t.has_products (has_product t.levels level pass product))
+  where
+    and_groups : (x y z : Bool) → x && (y && z) ≡ x && y && z
+    and_groups true y z = refl
+    and_groups false y z = refl
 
-pub returns-else-self : goal.returns-else-self
-returns-else-self c =
+pub returns-in_err-takes-clause-outcome : goal.returns-in_err-takes-clause-outcome
+returns-in_err-takes-clause-outcome c =
     let a = c.args in
-    let e = c.not_changed-else-self.ensures in
-    let w = gives_back (e.outcome, e.table) (no_products_lem a.self a.level a.pass a.product a.bits c.if-self.false) in
-    record { outcome = w.0; table = w.1 }
+    let place = elim c.if-self.branch as (λ _. c.if-self.takes ≡ (a.self.has_products && has_product a.self.levels a.level a.pass a.product)) [ then-self w ↦ grind arith | else-self w ↦ grind arith ] in
+    let e = grouped a.self a.level a.pass a.product a.bits c.if-self.takes place in
+    grind (arith, common_steps)
 
-pub returns-else-has_product : goal.returns-else-has_product
-returns-else-has_product c =
+pub product_place-requires : goal.product_place-requires
+product_place-requires c =
     let a = c.args in
-    let e = c.not_changed-else-has_product.ensures in
-    let w = gives_back (e.outcome, e.table) (no_product a.self a.level a.pass a.product a.bits (sym c.has_product.ensures ∙ c.if-has_product.false)) in
-    record { outcome = w.0; table = w.1 }
+    let place = elim c.if-self.branch as (λ _. c.if-self.takes ≡ (a.self.has_products && has_product a.self.levels a.level a.pass a.product)) [ then-self w ↦ grind arith | else-self w ↦ grind arith ] in
+    let e = grouped a.self a.level a.pass a.product a.bits c.if-self.takes place in
+    let taken : product_answer a.self a.level a.pass a.product a.bits ≡ passed = grind (arith, common_steps) in
+    let n = product_place_lem a.self a.level a.pass a.product a.bits taken in
+    omega arith
 
-pub returns-else-in_between : goal.returns-else-in_between
-returns-else-in_between c =
+pub returns-clause-outcome : goal.returns-clause-outcome
+returns-clause-outcome c =
     let a = c.args in
-    let e = c.not_changed-else-in_between.ensures in
-    let w = gives_back (e.outcome, e.table) (no_product_width a.self a.level a.pass a.product a.bits (sym c.in_between.ensures ∙ c.if-in_between.false)) in
-    record { outcome = w.0; table = w.1 }
+    let place = elim c.if-self.branch as (λ _. c.if-self.takes ≡ (a.self.has_products && has_product a.self.levels a.level a.pass a.product)) [ then-self w ↦ grind arith | else-self w ↦ grind arith ] in
+    let e = grouped a.self a.level a.pass a.product a.bits c.if-self.takes place in
+    grind (arith, common_steps)
 
-pub product_place-at-requires : goal.product_place-at-requires
-product_place-at-requires c =
+pub returns-clause-table : goal.returns-clause-table
+unfolding table_after_product
+returns-clause-table c =
     let a = c.args in
-    let few = few_levels a.self (sym c.form_right.ensures ∙ c.if-form_right.true) in
-    let n = product_in a.self.levels a.level a.pass a.product (sym c.has_product.ensures ∙ c.if-has_product.true) in
-    omega (arith, few, n.0.0, n.0.1, n.1.0, n.1.1, n.2.0, n.2.1)
-
-pub returns : goal.returns
-returns c =
-    let a = c.args in
-    let w = product_changes a.self a.level a.pass a.product a.bits (sym c.form_right.ensures ∙ c.if-form_right.true) c.if-self.true (sym c.has_product.ensures ∙ c.if-has_product.true) (sym c.in_between.ensures ∙ c.if-in_between.true) in
-    record { outcome = w.0; table = ap (λ (n : ℕ). changed a.self (set a.self.products n a.bits)) c.product_place-at.ensures.0 ∙ w.1 }
+    let place = elim c.if-self.branch as (λ _. c.if-self.takes ≡ (a.self.has_products && has_product a.self.levels a.level a.pass a.product)) [ then-self w ↦ grind arith | else-self w ↦ grind arith ] in
+    let e = grouped a.self a.level a.pass a.product a.bits c.if-self.takes place in
+    let taken : product_answer a.self a.level a.pass a.product a.bits ≡ passed = grind (arith, common_steps) in
+    ap (λ (n : ℕ). changed a.self (set a.self.products n a.bits)) c.product_place.ensures.0
+    ∙ sym (answered_done (with_product a.self a.level a.pass a.product a.bits) a.self taken)
   where
     changed : WidthTable → List ℕ → WidthTable
-    changed t c = record { depth = t.depth; levels = t.levels; constants = t.constants; nodes = t.nodes; has_products = t.has_products; products = c }
+    changed t l = record { depth = t.depth; levels = t.levels; constants = t.constants; nodes = t.nodes; has_products = t.has_products; products = l }

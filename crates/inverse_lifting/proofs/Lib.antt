@@ -1,0 +1,3 @@
+-- Proved of what several functions do:
+--   Chain   the stages of a step, one after the other
+pub mod Chain

@@ -10,6 +10,8 @@ use Rattle.refusals.specs.Answers.{Reason, Answer, done, refused, passed, asks, 
 use Rattle.refusals.specs.AnswerLaws.{gives_done, gives_refused, then_right, then_refused, answered_done, answered_refused}
 use Rattle.refusals.specs.Told.{told_refusal, told}
 use Rattle.width_table.specs.declared.WidthTable.{WidthTable}
+use Rattle.width_table.specs.declared.NotChanged.{NotChanged}
+use Rattle.width_table.specs.Told.{told_change, table_back}
 use Rattle.width_table.specs.Table.{form_right}
 use Rattle.table_bytes.specs.Fields.{table_size, value_start, value_length}
 use Rattle.table_bytes.specs.Bytes.{levels_in, has_fifth, form, table_in, write_answer, writing, bytes_of_table, bytes_after, table_read}
@@ -79,20 +81,25 @@ read_then bytes (Err why) reads call a gives = ap (λ (a : Result Unit Refusal).
 
 -- ---- a new table from the old one
 
+-- the table that comes back is the new one where the change is made
+pub made_is_back : (made : Result WidthTable NotChanged) {new : WidthTable} → table_back made ≡ new → IfOk made (λ t. t ≡ new)
+made_is_back (Ok t) e = e
+made_is_back (Err kept) e = tt
+
 -- a change on the table that the bytes hold
-module _ (change : WidthTable → Result WidthTable Refusal → Type 0) (bytes out : List ℕ) {held : WidthTable} {made : Result WidthTable Refusal} (right : form bytes ≡ passed) (held_is : held ≡ table_in bytes) (gives : change held made) where
+module _ (change : WidthTable → Result WidthTable NotChanged → Type 0) (bytes out : List ℕ) {held : WidthTable} {made : Result WidthTable NotChanged} (right : form bytes ≡ passed) (held_is : held ≡ table_in bytes) (gives : change held made) where
   here : change (table_in bytes) made
   here = subst (λ (t : WidthTable). change t made) held_is gives
 
-  pub refused_change : {why : Refusal} → made ≡ Err why → Changed change bytes out (refused (told_refusal why)) out
+  pub refused_change : {kept : NotChanged} → made ≡ Err kept → Changed change bytes out (refused (told_refusal kept.why)) out
   refused_change e answer new given =
-      let own = sym (own_refused (given made right here).0 e) in
+      let own = sym (given made right here).0 ∙ ap (λ (r : Result WidthTable NotChanged). told_change r) e in
       (sym (then_right (form bytes) _ right ∙ then_refused answer _ _ own), sym (answered_refused (bytes_after new out) out (then_right (form bytes) answer right ∙ own)))
 
   pub made_change : {t : WidthTable} → made ≡ Ok t → Changed change bytes out (write_answer t out) (bytes_after t out)
   made_change e answer new given =
       let h = given made right here in
-      let own = sym (own_done h.0 e) in
+      let own = sym h.0 ∙ ap (λ (r : Result WidthTable NotChanged). told_change r) e in
       let t_is = IfOk-at_ok (λ (t : WidthTable). t ≡ new) e h.1 in
       (ap (λ (t : WidthTable). write_answer t out) t_is ∙ sym (then_right (form bytes) _ right ∙ then_right answer _ own), ap (λ (t : WidthTable). bytes_after t out) t_is ∙ sym (answered_done (bytes_after new out) out (then_right (form bytes) answer right ∙ own)))
 

@@ -2,14 +2,14 @@
 -- `form_then`, `after_form`); the judge and 9/7 forward are those of table_calls.
 use Rattle.std.specs.Prelude.{ℕ, not, List, ◌≡◌, leb, eqb, length, replicate, ℤ, Result, IfOk}
 use Rattle.numbers.specs.Lists.{over}
-use Rattle.refusals.specs.declared.Refusal.{Refusal}
 use Rattle.refusals.specs.Answers.{Answer, passed, asks, ◌then◌, answered}
-use Rattle.refusals.specs.Told.{told}
 use Rattle.width_table.specs.declared.WidthTable.{WidthTable}
+use Rattle.width_table.specs.declared.NotChanged.{NotChanged}
 use Rattle.width_table.specs.Table.{max_levels}
 use Rattle.width_table.specs.Lists.{product_bytes}
 use Rattle.table_bytes.specs.Fields.{table_size, value_start, value_length}
 use Rattle.table_bytes.specs.Bytes.{levels_in, has_fifth, form, table_in, bytes_of_table, write_answer, bytes_after}
+use Rattle.width_table.specs.Told.{told_change}
 use Rattle.width_table.specs.Changes.{width_answer, with_width, constant_answer, with_constant, product_answer, with_product}
 use Rattle.table_bytes.specs.Names.{name_answer}
 use Rattle.stages.specs.Rule.{Bound}
@@ -55,10 +55,10 @@ module _ (bytes : List ℕ) (change : Answer Unit) (out : List ℕ) where
 
 -- What a change leaves, which gives a table or a refusal by `change`: where what it gives for the table of the bytes is that answer and
 -- that table, the answer and the lent bytes are those above; the new table is written as any other.
-abbrev pub Changed : (WidthTable → Result WidthTable Refusal → Type 0) → List ℕ → List ℕ → Answer Unit → List ℕ → Type 0
+abbrev pub Changed : (WidthTable → Result WidthTable NotChanged → Type 0) → List ℕ → List ℕ → Answer Unit → List ℕ → Type 0
 Changed change bytes out left out' =
     (answer : Answer Unit) (new : WidthTable)
-    → ((made : Result WidthTable Refusal) → form bytes ≡ passed → change (table_in bytes) made → (told made then passed ≡ answer) × IfOk made (λ t. t ≡ new))
+    → ((made : Result WidthTable NotChanged) → form bytes ≡ passed → change (table_in bytes) made → (told_change made ≡ answer) × IfOk made (λ t. t ≡ new))
     → (left ≡ form bytes then answer then write_answer new out) × (out' ≡ answered (form bytes then answer) (bytes_after new out) out)
 
 -- with another width of a node

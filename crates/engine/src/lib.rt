@@ -17,7 +17,7 @@ ghost use Rattle.engine.specs.ScanAnswers.{scan_begin_answer, scan_begin_state, 
 
 use refusals::Refusal;
 use rolling::Scan;
-use width_table::WidthTable;
+use width_table::{NotChanged, WidthTable};
 
 // Whether bytes are those of a width table: 0, or 1 to 5.
 pub fn suz_table_form(table: &[u8]) -> u32
@@ -99,7 +99,7 @@ fn table_written(table: WidthTable, out: &mut [u8]) -> Result<(), Refusal>
 }
 
 // Reads a table, changes it, and writes the new table to out.
-fn change_to<F: FnOnce(WidthTable) -> Result<WidthTable, Refusal>>(
+fn change_to<F: FnOnce(WidthTable) -> Result<WidthTable, NotChanged>>(
     table: &[u8],
     change: F,
     out: &mut [u8],

@@ -6,6 +6,7 @@
 --   Table      limits, widths, and when the form is right (refusal 4)
 --   Lists      a table's numbers as lists, and the form by them
 --   Changes    changes of a width, of a constant's bits or of a product's width (4)
+--   Told       what a change says, and the table that comes back
 --   Readers    widths by the numbers of level, pass and node, with their laws
 --   WorkedTables  the tables that document 01 names, and some with widths of products, for the crates above
 -- Proved of them:
@@ -18,6 +19,7 @@ pub mod Numbered
 pub mod Table
 pub mod Lists
 pub mod Changes
+pub mod Told
 pub mod Readers
 pub mod Limits
 pub mod FormLists

@@ -1,15 +1,15 @@
 // Width tables (document 01: books) in memory. Every definition that the contracts cite is in specs/.
 #![tactic(auto)]
 
-ghost use Rattle.std.specs.Prelude.{◌≡◌, ◌+◌, ◌*◌, ◌-◌, ◌<◌, ◌≤◌, ◌&&◌, get_or, IfOk};
-ghost use Rattle.refusals.specs.Answers.{passed, asks, ◌then◌};
-ghost use Rattle.refusals.specs.Told.{told};
+ghost use Rattle.std.specs.Prelude.{◌≡◌, ◌+◌, ◌*◌, ◌-◌, ◌<◌, ◌≤◌, ◌&&◌, get_or, IfErr};
+ghost use Rattle.refusals.specs.Answers.{passed, asks};
 ghost use Rattle.numbers.specs.Tests.{between, every};
 ghost use Rattle.width_table.specs.Nodes.{passes_per_level};
 ghost use Rattle.width_table.specs.Numbered.{IsNode, IsPass, IsProduct};
 ghost use Rattle.width_table.specs.Table.{max_levels, depth_right, levels_right, width_right, form_right, width_bytes, node_place, product_place};
 ghost use Rattle.width_table.specs.Lists.{node_bytes, product_bytes, widths_right, used_products};
 ghost use Rattle.width_table.specs.Changes.{has_node, width_answer, table_after_width, constant_answer, table_after_constant, has_product, product_answer, table_after_product};
+ghost use Rattle.width_table.specs.Told.{told_change, table_back};
 ghost use Rattle.width_table.specs.Readers.{or_zero, integer_bits_at, fraction_bits_at, input_bits_at};
 
 use refusals::Refusal;
@@ -85,6 +85,21 @@ impl WidthTable {
         * (WidthTable::PRODUCTS as usize);
 
     pub const PRODUCT_BYTES: usize = WidthTable::LEVEL_PRODUCTS * (WidthTable::MAX_LEVELS as usize);
+}
+
+// A change that is refused: why, and the old table, which comes back.
+#[derive(Clone, Copy)]
+pub struct NotChanged {
+    pub why: Refusal,
+    pub table: WidthTable,
+}
+
+impl From<NotChanged> for Refusal {
+    ghost from_gives = { λ refused why. why ≡ refused.why };
+
+    fn from(refused: NotChanged) -> Refusal {
+        refused.why
+    }
 }
 
 // Depth and levels are within their limits.
@@ -219,18 +234,22 @@ pub fn product_place(level: u8, pass: u8, product: u8) -> usize
 }
 
 impl WidthTable {
-    // Whether a change may be made, else refusal 4: the form is right, the table has the place that changes, and its new numbers are right.
-    fn takes(&self, has_place: bool, numbers_right: bool) -> Result<(), Refusal>
-        ensures { told result ≡ asks (form_right self.now && has_place && numbers_right) 4 passed }
+    // Whether a change may be made, else refusal 4 and the table as it is: the form is right, the table has the place that changes, and its new numbers are right.
+    fn takes(&self, has_place: bool, numbers_right: bool) -> Result<(), NotChanged>
+        ensures outcome { told_change result ≡ asks (form_right self.now && has_place && numbers_right) 4 passed }
+        ensures table { IfErr result (λ refused. refused.table ≡ self.now) }
     {
         if self.form_right() && has_place && numbers_right {
             Ok(())
         } else {
-            Err(Refusal::OutsideLimits)
+            Err(NotChanged {
+                why: Refusal::OutsideLimits,
+                table: *self,
+            })
         }
     }
 
-    // The table with one node's width changed (else refusal 4).
+    // The table with one node's width changed (else refusal 4, and the old table comes back).
     pub fn with_width(
         mut self,
         level: u8,
@@ -238,9 +257,9 @@ impl WidthTable {
         node: u8,
         integer: u8,
         fraction: u8,
-    ) -> Result<WidthTable, Refusal>
-        ensures outcome { told result then passed ≡ width_answer self level pass node integer fraction }
-        ensures table { IfOk result (λ t. t ≡ table_after_width self level pass node integer fraction) }
+    ) -> Result<WidthTable, NotChanged>
+        ensures outcome { told_change result ≡ width_answer self level pass node integer fraction }
+        ensures table { table_back result ≡ table_after_width self level pass node integer fraction }
     {
         self.takes(
             has_node(self.levels, level, pass, node),
@@ -252,10 +271,10 @@ impl WidthTable {
         Ok(self)
     }
 
-    // The table with one constant's bits changed (else refusal 4).
-    pub fn with_constant(mut self, node: u8, bits: u8) -> Result<WidthTable, Refusal>
-        ensures outcome { told result then passed ≡ constant_answer self node bits }
-        ensures table { IfOk result (λ t. t ≡ table_after_constant self node bits) }
+    // The table with one constant's bits changed (else refusal 4, and the old table comes back).
+    pub fn with_constant(mut self, node: u8, bits: u8) -> Result<WidthTable, NotChanged>
+        ensures outcome { told_change result ≡ constant_answer self node bits }
+        ensures table { table_back result ≡ table_after_constant self node bits }
     {
         self.takes(
             (1..=WidthTable::NODES).contains(&node),
@@ -265,16 +284,16 @@ impl WidthTable {
         Ok(self)
     }
 
-    // The table with one product's width changed (refusal 4, as without tag 5).
+    // The table with one product's width changed (else refusal 4, as without tag 5, and the old table comes back).
     pub fn with_product(
         mut self,
         level: u8,
         pass: u8,
         product: u8,
         bits: u8,
-    ) -> Result<WidthTable, Refusal>
-        ensures outcome { told result then passed ≡ product_answer self level pass product bits }
-        ensures table { IfOk result (λ t. t ≡ table_after_product self level pass product bits) }
+    ) -> Result<WidthTable, NotChanged>
+        ensures outcome { told_change result ≡ product_answer self level pass product bits }
+        ensures table { table_back result ≡ table_after_product self level pass product bits }
     {
         self.takes(
             self.has_products && has_product(self.levels, level, pass, product),

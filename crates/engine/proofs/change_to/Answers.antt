@@ -1,4 +1,6 @@
-use Rattle.std.proofs.Common.{rules, ◌≡◌, ◌∙◌}
+use Rattle.std.proofs.Common.{◌≡◌, ◌∙◌, ap}
+use Rattle.std.proofs.lemmas.Result.{err_from_is_err_and}
+use Rattle.refusals.specs.declared.Refusal.{Refusal}
 use Rattle.refusals.specs.Answers.{refused}
 use Rattle.refusals.specs.Told.{told_refusal, told}
 use Rattle.table_calls.specs.CallLaws.{form_right_lem, table_held}
@@ -7,7 +9,8 @@ use Rattle.engine.proofs.change_to.Goals as goal
 
 pub returns-in_err-change : goal.returns-in_err-change
 returns-in_err-change g c =
-    let e : told c.from_residual-in_err-change.result ≡ refused (told_refusal c.in_err-change.field-0.0) = search rules in
+    let (why, is_err, is_why) = err_from_is_err_and c.from_residual-in_err-change.result c.from_residual-in_err-change.ensures.1 in
+    let e : told c.from_residual-in_err-change.result ≡ refused (told_refusal c.in_err-change.field-0.0.why) = ap told is_err ∙ ap (λ (r : Refusal). refused (told_refusal r)) is_why in
     let r = c.read.ensures in
     let h = c.in_ok-read.was in
     λ answer new given.

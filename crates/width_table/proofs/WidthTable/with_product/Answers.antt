@@ -1,10 +1,12 @@
-use Rattle.std.proofs.Common.{ℕ, ◌≡◌, ◌∙◌, sym, ap, Bool, true, false, ◌&&◌, List, refl, set, arith}
+use Rattle.std.proofs.Common.{ℕ, ◌≡◌, ◌∙◌, sym, ap, Bool, true, false, ◌&&◌, List, refl, set, arith, rules}
 use Rattle.std.proofs.lemmas.Grind.{common_steps}
-use Rattle.refusals.specs.Answers.{passed, asks}
-use Rattle.refusals.specs.AnswerLaws.{answered_done}
+use Rattle.refusals.specs.Answers.{passed, refused, asks}
+use Rattle.refusals.specs.AnswerLaws.{answered_done, answered_refused}
+use Rattle.refusals.specs.Told.{told_refusal}
 use Rattle.width_table.specs.declared.WidthTable.{WidthTable}
 use Rattle.width_table.specs.Table.{product_right, form_right}
 use Rattle.width_table.specs.Changes.{has_product, product_answer, with_product, table_after_product}
+use Rattle.width_table.specs.Told.{table_back}
 use Rattle.width_table.specs.FormLaws.{product_place_lem}
 use Rattle.width_table.proofs.WidthTable.with_product.Goals.{then-self, else-self}
 use Rattle.width_table.proofs.WidthTable.with_product.Goals as goal
@@ -26,6 +28,16 @@ returns-in_err-takes-clause-outcome c =
     let place = elim c.if-self.branch as (λ _. c.if-self.takes ≡ (a.self.has_products && has_product a.self.levels a.level a.pass a.product)) [ then-self w ↦ grind arith | else-self w ↦ grind arith ] in
     let e = grouped a.self a.level a.pass a.product a.bits c.if-self.takes place in
     grind (arith, common_steps)
+
+pub returns-in_err-takes-clause-table : goal.returns-in_err-takes-clause-table
+unfolding table_after_product
+returns-in_err-takes-clause-table c =
+    let a = c.args in
+    let place = elim c.if-self.branch as (λ _. c.if-self.takes ≡ (a.self.has_products && has_product a.self.levels a.level a.pass a.product)) [ then-self w ↦ grind arith | else-self w ↦ grind arith ] in
+    let e = grouped a.self a.level a.pass a.product a.bits c.if-self.takes place in
+    let not_taken : product_answer a.self a.level a.pass a.product a.bits ≡ refused (told_refusal c.in_err-takes.field-0.0.why) = grind (arith, common_steps) in
+    let back : table_back c.from_residual.result ≡ a.self = search rules in
+    back ∙ sym (answered_refused (with_product a.self a.level a.pass a.product a.bits) a.self not_taken)
 
 pub product_place-requires : goal.product_place-requires
 product_place-requires c =

@@ -1,9 +1,13 @@
 -- The form of a table in memory, rule by rule.
-use Rattle.std.specs.Prelude.{ℕ, zero, suc, ◌+◌, ◌*◌, ◌≤◌, Bool, true, false, ◌&&◌, List, [], ◌∷◌, ◌≡◌, refl, T, eqb, length, get_or, ◌-◌, ◌<◌, take, drop}
+use Rattle.std.specs.Prelude.{ℕ, zero, suc, ◌+◌, ◌*◌, ◌≤◌, Bool, true, false, ◌&&◌, List, [], ◌∷◌, ◌≡◌, refl, T, eqb, length, get_or, ◌-◌, ◌<◌, take, drop, ◌++◌}
 use Rattle.std.specs.List.{list_all}
 use Rattle.std.specs.Simd.{first_chunks}
 use Rattle.std.proofs.Common.{sym, ◌∙◌, ap₂, subst, arith, drop_of_length-le, drop-cons}
 use Rattle.std.proofs.Math.Path.{ap}
+use Rattle.std.proofs.Math.Bool.{and_assoc}
+use Rattle.std.proofs.Math.Nat.{zero-mul, suc-mul, add_comm}
+use Rattle.std.proofs.lemmas.List.{drop-drop, take-append-drop}
+use Rattle.std.proofs.lemmas.List.Folds.{list_all-append}
 use Rattle.std.proofs.Math.Dec.{leb-zero, leb-suc-zero, eqb-zero-suc}
 use Rattle.width_table.specs.declared.WidthTable.{WidthTable}
 use Rattle.refusals.specs.Answers.{refused, passed, asks, Answer, answered}
@@ -32,6 +36,19 @@ pub every_all : {A : Type 0} (test : A → Bool) (l : List A) → list_all test 
 unfolding every
 every_all test [] = refl
 every_all test (a ∷ l) = ap (λ (t : Bool). test a && t) (every_all test l)
+
+-- the chunks of n elements, and the rest
+pub every_chunks : {A : Type 0} (test : A → Bool) (n k : ℕ) (l : List A) → list_all (every test) (first_chunks n k l) && every test (drop (k * n) l) ≡ every test l
+every_chunks test n zero l = ap (λ (m : ℕ). every test (drop m l)) (zero-mul n)
+every_chunks {A = A} test n (suc k) l =
+    ap (λ (m : List A). every test (take n l) && list_all (every test) (first_chunks n k (drop n l)) && every test m) (ap (λ (m : ℕ). drop m l) (suc-mul k n ∙ add_comm (k * n) n) ∙ sym (drop-drop (k * n) n l))
+    ∙ and_assoc (every test (take n l)) _ _
+    ∙ ap (λ (t : Bool). every test (take n l) && t) (every_chunks test n k (drop n l))
+    ∙ joined (take n l) (drop n l)
+    ∙ ap (every test) (take-append-drop n l)
+  where
+    joined : (l m : List A) → every test l && every test m ≡ every test (l ++ m)
+    joined l m = ap₂ ◌&&◌ (sym (every_all test l)) (sym (every_all test m)) ∙ sym (list_all-append test l m) ∙ every_all test (l ++ m)
 
 -- the width that two numbers are
 abbrev pub pair_width_right : List ℕ → Bool

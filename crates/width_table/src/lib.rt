@@ -117,11 +117,19 @@ fn width_right(integer: u8, fraction: u8) -> bool
         && fraction <= WidthTable::MAX_FRACTION_BITS
 }
 
-// Every number lies between least and most.
-pub fn all_between(numbers: &[u8], least: u8, most: u8) -> bool
+// Every number lies between least and most, by a test a turn.
+fn each_between(numbers: &[u8], least: u8, most: u8) -> bool
     ensures { result ≡ every (between least most) numbers.now }
 {
     numbers.iter().all(|n| least <= *n && *n <= most)
+}
+
+// Every number lies between least and most, by four tests a turn and those of the rest.
+pub fn all_between(numbers: &[u8], least: u8, most: u8) -> bool
+    ensures { result ≡ every (between least most) numbers.now }
+{
+    let (fours, rest) = numbers.as_chunks::<4>();
+    fours.iter().all(|four| each_between(four, least, most)) && each_between(rest, least, most)
 }
 
 // Integer bits, then fractional bits, of each node of some levels.

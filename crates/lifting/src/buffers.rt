@@ -49,20 +49,20 @@ fn on_lows(buffer: &mut [i32], s: usize, n: usize, step: Step)
 }
 
 // A pair: the highs, then the lows.
-pub fn lift(buffer: &mut [i32], s: usize, n: usize, pair: Pair)
+pub fn lift(buffer: &mut [i32], s: usize, n: usize, pair: &Pair)
     requires buffer { Buffer buffer.old s n }
-    requires lift_safe { LiftSafe pair s n (at buffer.old) }
-    ensures { at buffer.new ≡ lifted_buffer pair s n (at buffer.old) }
+    requires lift_safe { LiftSafe pair.now s n (at buffer.old) }
+    ensures { at buffer.new ≡ lifted_buffer pair.now s n (at buffer.old) }
 {
     on_highs(buffer, s, n, pair.highs);
     on_lows(buffer, s, n, pair.lows);
 }
 
 // A pair inverted: the lows, then the highs.
-pub fn inverse_lift(buffer: &mut [i32], s: usize, n: usize, pair: Pair)
+pub fn inverse_lift(buffer: &mut [i32], s: usize, n: usize, pair: &Pair)
     requires buffer { Buffer buffer.old s n }
-    requires inverse_lift_safe { InverseLiftSafe pair s n (at buffer.old) }
-    ensures { at buffer.new ≡ inverse_lifted_buffer pair s n (at buffer.old) }
+    requires inverse_lift_safe { InverseLiftSafe pair.now s n (at buffer.old) }
+    ensures { at buffer.new ≡ inverse_lifted_buffer pair.now s n (at buffer.old) }
 {
     on_lows(buffer, s, n, pair.lows);
     on_highs(buffer, s, n, pair.highs);

@@ -195,6 +195,7 @@ fn merge_lines(buffer: &[i32], plane: &mut [i32], part: slices::Part)
 }
 
 // The same two, with a loop of its own for a row.
+#[inline(always)]
 pub fn split(plane: &[i32], buffer: &mut [i32], part: slices::Part)
     requires { StripRoom plane.now buffer.old part.stride part.from part.w part.h }
     ensures { BufferHolds part.w part.h (λ j. evens (column_of part.stride part.from (at plane.now) j)) (λ j. odds (column_of part.stride part.from (at plane.now) j)) (at buffer.new) }

@@ -1,4 +1,6 @@
 // A strip: a part of a plane with a few neighbouring columns, worked as columns. A row is a strip of one column whose stride is 1.
+// Kernels are lent, since for a short row a copy costs as much as the work. What goes forward is compiled into the loops over rows and over
+// strips, so that a row's stride and width are constants there.
 ghost use Rattle.std.specs.Prelude.{◌≡◌, ℕ, ◌<◌};
 ghost use Rattle.slices.specs.Patch.{at};
 ghost use Rattle.lifting.specs.Kernels.{Forward, SafeKernel, columns_worked};
@@ -73,6 +75,7 @@ pub fn finish(plane: &mut [i32], buffer: &mut [i32], part: Part, kernel: &Kernel
 }
 
 // The strip, worked forward through the line buffer.
+#[inline(always)]
 pub fn strip_forward(plane: &mut [i32], buffer: &mut [i32], part: Part, kernel: &Kernel)
     requires strip_room { StripRoom plane.old buffer.old part.stride part.from part.w part.h × Forward kernel.now }
     requires by_index { (j : ℕ) → j < part.w → SafeKernel kernel.now part.h (column_of part.stride part.from (at plane.old) j) }
@@ -83,6 +86,7 @@ pub fn strip_forward(plane: &mut [i32], buffer: &mut [i32], part: Part, kernel: 
 }
 
 // The strip, a pair inverted.
+#[inline(never)]
 pub fn strip_inverse(plane: &mut [i32], buffer: &mut [i32], part: Part, pair: &Pair)
     requires strip_room { StripRoom plane.old buffer.old part.stride part.from part.w part.h }
     requires by_index { (j : ℕ) → j < part.w → SafeKernel (Kernel.Inverse pair.now) part.h (column_of part.stride part.from (at plane.old) j) }
@@ -103,6 +107,7 @@ pub fn strip_inverse(plane: &mut [i32], buffer: &mut [i32], part: Part, pair: &P
 }
 
 // The strip, worked through the line buffer. By cases of the kernel, which a table decides: each hands its own steps to the loops.
+#[inline(always)]
 pub fn strip(plane: &mut [i32], buffer: &mut [i32], part: Part, kernel: &Kernel)
     requires strip_room { StripRoom plane.old buffer.old part.stride part.from part.w part.h }
     requires by_index { (j : ℕ) → j < part.w → SafeKernel kernel.now part.h (column_of part.stride part.from (at plane.old) j) }

@@ -49,20 +49,20 @@ fn on_lows(buffer: &mut [i32], s: usize, n: usize, step: Step)
 }
 
 // A pair: the highs, then the lows.
-pub fn lift(buffer: &mut [i32], s: usize, n: usize, pair: Pair)
+pub fn lift(buffer: &mut [i32], s: usize, n: usize, pair: &Pair)
     requires buffer { Buffer buffer.old s n }
-    requires lift_safe { LiftSafe pair s n (at buffer.old) }
-    ensures { at buffer.new ≡ lifted_buffer pair s n (at buffer.old) }
+    requires lift_safe { LiftSafe pair.now s n (at buffer.old) }
+    ensures { at buffer.new ≡ lifted_buffer pair.now s n (at buffer.old) }
 {
     on_highs(buffer, s, n, pair.highs);
     on_lows(buffer, s, n, pair.lows);
 }
 
 // A pair inverted: the lows, then the highs.
-pub fn inverse_lift(buffer: &mut [i32], s: usize, n: usize, pair: Pair)
+pub fn inverse_lift(buffer: &mut [i32], s: usize, n: usize, pair: &Pair)
     requires buffer { Buffer buffer.old s n }
-    requires inverse_lift_safe { InverseLiftSafe pair s n (at buffer.old) }
-    ensures { at buffer.new ≡ inverse_lifted_buffer pair s n (at buffer.old) }
+    requires inverse_lift_safe { InverseLiftSafe pair.now s n (at buffer.old) }
+    ensures { at buffer.new ≡ inverse_lifted_buffer pair.now s n (at buffer.old) }
 {
     on_lows(buffer, s, n, pair.lows);
     on_highs(buffer, s, n, pair.highs);
@@ -195,6 +195,7 @@ fn merge_lines(buffer: &[i32], plane: &mut [i32], part: slices::Part)
 }
 
 // The same two, with a loop of its own for a row.
+#[inline(always)]
 pub fn split(plane: &[i32], buffer: &mut [i32], part: slices::Part)
     requires { StripRoom plane.now buffer.old part.stride part.from part.w part.h }
     ensures { BufferHolds part.w part.h (λ j. evens (column_of part.stride part.from (at plane.now) j)) (λ j. odds (column_of part.stride part.from (at plane.now) j)) (at buffer.new) }

@@ -64,8 +64,8 @@ fn pixel_row(pixels: &[u16], middle: u16, row: &mut [i32], w: usize, by: TwoPair
     ensures { (i : ℕ) → i < w → at row.new i ≡ worked (Kernel.Two by) w (pixel_line pixels.now middle 0) i }
 {
     split_pixels(pixels, 0, row, w, middle);
-    lift(row, 1, w, by.first);
-    lift(row, 1, w, by.second);
+    lift(row, 1, w, &by.first);
+    lift(row, 1, w, &by.second);
     let half = (w + 1) / 2;
     scale_here(row, 0, half, by.low);
     scale_here(row, half, w / 2, by.high);
@@ -113,7 +113,7 @@ pub fn pixel_rows(
             w: 1,
             h: w,
         };
-        finish(plane, buffer, row, kernel);
+        finish(plane, buffer, row, &kernel);
     }
 }
 
@@ -132,7 +132,7 @@ pub fn rows(plane: &mut [i32], buffer: &mut [i32], part: slices::Part, kernel: K
             w: 1,
             h: part.w,
         };
-        strip(plane, buffer, row, kernel);
+        strip(plane, buffer, row, &kernel);
     }
 }
 
@@ -156,7 +156,7 @@ pub fn columns(plane: &mut [i32], buffer: &mut [i32], part: slices::Part, kernel
             w: s,
             ..part
         };
-        strip(plane, buffer, next, kernel);
+        strip(plane, buffer, next, &kernel);
         done += s;
     }
 }

@@ -1,4 +1,6 @@
 // A strip: a part of a plane with a few neighbouring columns, worked as columns. A row is a strip of one column whose stride is 1.
+// Kernels are lent, since for a short row a copy costs as much as the work. What goes forward is compiled into the loops over rows and over
+// strips, so that a row's stride and width are constants there.
 ghost use Rattle.std.specs.Prelude.{◌≡◌, ℕ, ◌<◌};
 ghost use Rattle.slices.specs.Patch.{at};
 ghost use Rattle.lifting.specs.Kernels.{Forward, SafeKernel, columns_worked};
@@ -10,10 +12,10 @@ use crate::{Kernel, Pair, TwoPairs};
 use slices::Part;
 
 // A line buffer that holds lines, worked by a pair on their way into the plane.
-fn finish_one(plane: &mut [i32], buffer: &mut [i32], part: Part, pair: Pair)
+fn finish_one(plane: &mut [i32], buffer: &mut [i32], part: Part, pair: &Pair)
     requires strip_room { StripRoom plane.old buffer.old part.stride part.from part.w part.h }
-    requires ready { Ready (Kernel.One pair) part.w part.h (at buffer.old) }
-    ensures { Finished (Kernel.One pair) part.stride part.from part.w part.h (at buffer.old) (at plane.old) (at plane.new) }
+    requires ready { Ready (Kernel.One pair.now) part.w part.h (at buffer.old) }
+    ensures { Finished (Kernel.One pair.now) part.stride part.from part.w part.h (at buffer.old) (at plane.old) (at plane.new) }
 {
     lift(buffer, part.w, part.h, pair);
     copy_lines(
@@ -29,13 +31,13 @@ fn finish_one(plane: &mut [i32], buffer: &mut [i32], part: Part, pair: Pair)
 }
 
 // The same, by two pairs and a scaling.
-fn finish_two(plane: &mut [i32], buffer: &mut [i32], part: Part, by: TwoPairs)
+fn finish_two(plane: &mut [i32], buffer: &mut [i32], part: Part, by: &TwoPairs)
     requires strip_room { StripRoom plane.old buffer.old part.stride part.from part.w part.h }
-    requires ready { Ready (Kernel.Two by) part.w part.h (at buffer.old) }
-    ensures { Finished (Kernel.Two by) part.stride part.from part.w part.h (at buffer.old) (at plane.old) (at plane.new) }
+    requires ready { Ready (Kernel.Two by.now) part.w part.h (at buffer.old) }
+    ensures { Finished (Kernel.Two by.now) part.stride part.from part.w part.h (at buffer.old) (at plane.old) (at plane.new) }
 {
-    lift(buffer, part.w, part.h, by.first);
-    lift(buffer, part.w, part.h, by.second);
+    lift(buffer, part.w, part.h, &by.first);
+    lift(buffer, part.w, part.h, &by.second);
     let half = (part.h + 1) / 2;
     scale_lines(
         buffer,
@@ -60,10 +62,10 @@ fn finish_two(plane: &mut [i32], buffer: &mut [i32], part: Part, by: TwoPairs)
 }
 
 // The same, by a kernel that is worked forward.
-pub fn finish(plane: &mut [i32], buffer: &mut [i32], part: Part, kernel: Kernel)
-    requires strip_room { StripRoom plane.old buffer.old part.stride part.from part.w part.h × Forward kernel }
-    requires ready { Ready kernel part.w part.h (at buffer.old) }
-    ensures { Finished kernel part.stride part.from part.w part.h (at buffer.old) (at plane.old) (at plane.new) }
+pub fn finish(plane: &mut [i32], buffer: &mut [i32], part: Part, kernel: &Kernel)
+    requires strip_room { StripRoom plane.old buffer.old part.stride part.from part.w part.h × Forward kernel.now }
+    requires ready { Ready kernel.now part.w part.h (at buffer.old) }
+    ensures { Finished kernel.now part.stride part.from part.w part.h (at buffer.old) (at plane.old) (at plane.new) }
 {
     match kernel {
         Kernel::One(pair) => finish_one(plane, buffer, part, pair),
@@ -73,20 +75,22 @@ pub fn finish(plane: &mut [i32], buffer: &mut [i32], part: Part, kernel: Kernel)
 }
 
 // The strip, worked forward through the line buffer.
-pub fn strip_forward(plane: &mut [i32], buffer: &mut [i32], part: Part, kernel: Kernel)
-    requires strip_room { StripRoom plane.old buffer.old part.stride part.from part.w part.h × Forward kernel }
-    requires by_index { (j : ℕ) → j < part.w → SafeKernel kernel part.h (column_of part.stride part.from (at plane.old) j) }
-    ensures { at plane.new ≡ columns_worked kernel part.stride part.from part.w part.h (at plane.old) }
+#[inline(always)]
+pub fn strip_forward(plane: &mut [i32], buffer: &mut [i32], part: Part, kernel: &Kernel)
+    requires strip_room { StripRoom plane.old buffer.old part.stride part.from part.w part.h × Forward kernel.now }
+    requires by_index { (j : ℕ) → j < part.w → SafeKernel kernel.now part.h (column_of part.stride part.from (at plane.old) j) }
+    ensures { at plane.new ≡ columns_worked kernel.now part.stride part.from part.w part.h (at plane.old) }
 {
     split(plane, buffer, part);
     finish(plane, buffer, part, kernel);
 }
 
 // The strip, a pair inverted.
-pub fn strip_inverse(plane: &mut [i32], buffer: &mut [i32], part: Part, pair: Pair)
+#[inline(never)]
+pub fn strip_inverse(plane: &mut [i32], buffer: &mut [i32], part: Part, pair: &Pair)
     requires strip_room { StripRoom plane.old buffer.old part.stride part.from part.w part.h }
-    requires by_index { (j : ℕ) → j < part.w → SafeKernel (Kernel.Inverse pair) part.h (column_of part.stride part.from (at plane.old) j) }
-    ensures { at plane.new ≡ columns_worked (Kernel.Inverse pair) part.stride part.from part.w part.h (at plane.old) }
+    requires by_index { (j : ℕ) → j < part.w → SafeKernel (Kernel.Inverse pair.now) part.h (column_of part.stride part.from (at plane.old) j) }
+    ensures { at plane.new ≡ columns_worked (Kernel.Inverse pair.now) part.stride part.from part.w part.h (at plane.old) }
 {
     copy_lines(
         plane,
@@ -103,10 +107,11 @@ pub fn strip_inverse(plane: &mut [i32], buffer: &mut [i32], part: Part, pair: Pa
 }
 
 // The strip, worked through the line buffer. By cases of the kernel, which a table decides: each hands its own steps to the loops.
-pub fn strip(plane: &mut [i32], buffer: &mut [i32], part: Part, kernel: Kernel)
+#[inline(always)]
+pub fn strip(plane: &mut [i32], buffer: &mut [i32], part: Part, kernel: &Kernel)
     requires strip_room { StripRoom plane.old buffer.old part.stride part.from part.w part.h }
-    requires by_index { (j : ℕ) → j < part.w → SafeKernel kernel part.h (column_of part.stride part.from (at plane.old) j) }
-    ensures { at plane.new ≡ columns_worked kernel part.stride part.from part.w part.h (at plane.old) }
+    requires by_index { (j : ℕ) → j < part.w → SafeKernel kernel.now part.h (column_of part.stride part.from (at plane.old) j) }
+    ensures { at plane.new ≡ columns_worked kernel.now part.stride part.from part.w part.h (at plane.old) }
 {
     match kernel {
         Kernel::Inverse(pair) => strip_inverse(plane, buffer, part, pair),

@@ -14,8 +14,8 @@ on_lows-requires c = record {
 pub on_highs-requires : goal.on_highs-requires
 on_highs-requires c = record {
   buffer = buffer_as c.requires.buffer _ (omega arith);
-  at_highs = subst (AtHighs (Safe c.args.pair.highs) c.args.s c.args.n) (sym c.on_lows.ensures) c.requires.inverse_lift_safe.on_highs_lem;
+  at_highs = subst (AtHighs (Safe c.args.pair.now.highs) c.args.s c.args.n) (sym c.on_lows.ensures) c.requires.inverse_lift_safe.on_highs_lem;
 }
 
 pub returns : goal.returns
-returns c = c.on_highs.ensures ∙ ap (highs_done (applied c.args.pair.highs) c.args.s c.args.n) c.on_lows.ensures
+returns c = c.on_highs.ensures ∙ ap (highs_done (applied c.args.pair.now.highs) c.args.s c.args.n) c.on_lows.ensures

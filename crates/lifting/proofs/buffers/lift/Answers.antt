@@ -14,8 +14,8 @@ on_highs-requires c = record {
 pub on_lows-requires : goal.on_lows-requires
 on_lows-requires c = record {
   buffer = buffer_as c.requires.buffer _ (omega arith);
-  at_lows = subst (AtLows (Safe c.args.pair.lows) c.args.s c.args.n) (sym c.on_highs.ensures) c.requires.lift_safe.on_lows_lem;
+  at_lows = subst (AtLows (Safe c.args.pair.now.lows) c.args.s c.args.n) (sym c.on_highs.ensures) c.requires.lift_safe.on_lows_lem;
 }
 
 pub returns : goal.returns
-returns c = c.on_lows.ensures ∙ ap (lows_done (applied c.args.pair.lows) c.args.s c.args.n) c.on_highs.ensures
+returns c = c.on_lows.ensures ∙ ap (lows_done (applied c.args.pair.now.lows) c.args.s c.args.n) c.on_highs.ensures

@@ -1,5 +1,5 @@
 -- `lifting::passes::put_pixels` meets its contract: the places passed hold their pixels.
-use Rattle.std.specs.Prelude.{◌+◌, ◌-◌, pos}
+use Rattle.std.specs.Prelude.{pos}
 use Rattle.std.proofs.Common.{arith, length-take-le}
 use Rattle.slices.specs.Patch.{patch_part}
 use Rattle.lifting.proofs.passes.put_pixels.Goals as goal

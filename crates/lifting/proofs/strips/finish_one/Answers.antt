@@ -11,7 +11,7 @@ pub lift-requires : goal.lift-requires
 lift-requires c =
     record {
       buffer = buffer_of c.requires.strip_room _ (omega arith);
-      lift_safe = lift_asked c.args.pair c.requires.strip_room.two c.requires.ready.held c.requires.ready.safe;
+      lift_safe = lift_asked c.args.pair.now c.requires.strip_room.two c.requires.ready.held c.requires.ready.safe;
     }
 
 pub copy_lines-requires : goal.copy_lines-requires
@@ -20,4 +20,4 @@ copy_lines-requires c = (buffer_lines c.requires.strip_room _ (omega arith), pla
 pub returns : goal.returns
 unfolding worked
 returns c line held =
-    c.copy_lines.ensures ∙ lines_ext _ _ _ _ _ c.args.part.h (held_at (lift_held c.args.pair c.requires.strip_room.two held _ c.lift.ensures))
+    c.copy_lines.ensures ∙ lines_ext _ _ _ _ _ c.args.part.h (held_at (lift_held c.args.pair.now c.requires.strip_room.two held _ c.lift.ensures))

@@ -24,14 +24,14 @@ pub lift-requires : goal.lift-requires
 lift-requires c =
     record {
       buffer = buffer_of c.requires.strip_room _ (omega arith);
-      lift_safe = lift_asked c.args.by.first c.requires.strip_room.two c.requires.ready.held (λ j g. (c.requires.ready.safe j g).at_first);
+      lift_safe = lift_asked c.args.by.now.first c.requires.strip_room.two c.requires.ready.held (λ j g. (c.requires.ready.safe j g).at_first);
     }
 
 pub lift-requires-2 : goal.lift-requires-2
 lift-requires-2 c =
-    let held = lift_held c.args.by.first c.requires.strip_room.two c.requires.ready.held _ c.lift.ensures in record {
+    let held = lift_held c.args.by.now.first c.requires.strip_room.two c.requires.ready.held _ c.lift.ensures in record {
       buffer = buffer_of c.requires.strip_room _ (omega arith);
-      lift_safe = lift_asked c.args.by.second c.requires.strip_room.two held (λ j g. (c.requires.ready.safe j g).at_second);
+      lift_safe = lift_asked c.args.by.now.second c.requires.strip_room.two held (λ j g. (c.requires.ready.safe j g).at_second);
     }
 
 pub overflow_add-half : goal.overflow_add-half
@@ -42,12 +42,12 @@ scale_lines-requires c =
     let room = c.requires.strip_room in
     let two = room.two in
     let n = c.args.part.h in
-    let held = lift_held c.args.by.second two (lift_held c.args.by.first two c.requires.ready.held _ c.lift.ensures) _ c.lift-2.ensures in record {
+    let held = lift_held c.args.by.now.second two (lift_held c.args.by.now.first two c.requires.ready.held _ c.lift.ensures) _ c.lift-2.ensures in record {
       lying = (
         some_lines (buffer_lines room c.lift-2.new.buffer (omega arith)) 0 (lows n) 0 (omega arith) (omega arith) (omega arith),
         some_lines (plane_lines room _ (omega arith)) 0 (lows n) c.args.part.from (omega arith) (omega arith) (omega arith),
       );
-      by_index = λ i j p g. subst (FactorSafe c.args.by.low) (sym (low_at_lem n held i j p g)) ((c.requires.ready.safe j g).at_lows i p);
+      by_index = λ i j p g. subst (FactorSafe c.args.by.now.low) (sym (low_at_lem n held i j p g)) ((c.requires.ready.safe j g).at_lows i p);
     }
 
 pub overflow_mul-half : goal.overflow_mul-half
@@ -64,18 +64,18 @@ scale_lines-requires-2 c =
     let room = c.requires.strip_room in
     let two = room.two in
     let n = c.args.part.h in
-    let held = lift_held c.args.by.second two (lift_held c.args.by.first two c.requires.ready.held _ c.lift.ensures) _ c.lift-2.ensures in record {
+    let held = lift_held c.args.by.now.second two (lift_held c.args.by.now.first two c.requires.ready.held _ c.lift.ensures) _ c.lift-2.ensures in record {
       lying = (
         some_lines (buffer_lines room c.lift-2.new.buffer (omega arith)) (lows n) (highs n) _ (omega arith) (omega arith) (omega arith),
         some_lines (plane_lines room _ (omega arith)) (lows n) (highs n) _ (omega arith) (omega arith) (omega arith),
       );
-      by_index = λ i j p g. subst (FactorSafe c.args.by.high) (sym (high_at_lem n held i j p g)) ((c.requires.ready.safe j g).at_highs i p);
+      by_index = λ i j p g. subst (FactorSafe c.args.by.now.high) (sym (high_at_lem n held i j p g)) ((c.requires.ready.safe j g).at_highs i p);
     }
 
 pub returns : goal.returns
 unfolding worked
 returns c line held =
-    let by = c.args.by in
+    let by = c.args.by.now in
     let n = c.args.part.h in
     let two = c.requires.strip_room.two in
     let low : ℕ → ℕ → ℤ = λ j i. scaled_by by.low (second_lows by.first by.second n (line j) i) in

@@ -21,7 +21,7 @@ inverse_lift-requires c =
     whole_held _ _ _ _ _ c.copy_lines.ensures in
     record {
       buffer = buffer_of c.requires.strip_room _ (omega arith);
-      inverse_lift_safe = inverse_lift_asked c.args.pair c.requires.strip_room.two loaded (λ i j p g. (c.requires.by_index j g).on_lows_lem i p) (λ i j p g. (c.requires.by_index j g).on_highs_lem i p);
+      inverse_lift_safe = inverse_lift_asked c.args.pair.now c.requires.strip_room.two loaded (λ i j p g. (c.requires.by_index j g).on_lows_lem i p) (λ i j p g. (c.requires.by_index j g).on_highs_lem i p);
     }
 
 pub merge-requires : goal.merge-requires
@@ -33,4 +33,4 @@ returns c =
     let loaded : let col = column_of c.args.part.stride c.args.part.from (at c.args.plane.now) in
     BufferHolds c.args.part.w c.args.part.h col (λ j i. col j (lows c.args.part.h + i)) (at c.copy_lines.new.dst) =
     whole_held _ _ _ _ _ c.copy_lines.ensures in
-    c.merge.ensures ∙ lines_ext _ _ _ _ _ c.args.part.h (held_woven (inverse_lift_held c.args.pair c.requires.strip_room.two loaded _ c.inverse_lift.ensures))
+    c.merge.ensures ∙ lines_ext _ _ _ _ _ c.args.part.h (held_woven (inverse_lift_held c.args.pair.now c.requires.strip_room.two loaded _ c.inverse_lift.ensures))

@@ -267,7 +267,8 @@ pub fn empty() -> WidthTable
     )
 }
 
-// The table that bytes hold: refusals 1 to 5.
+// The table that bytes hold: refusals 1 to 5. A frame of its own keeps what reading holds off the stack while the table is worked with.
+#[inline(never)]
 pub fn read(bytes: &[u8]) -> Result<WidthTable, Refusal>
     ensures outcome { told result then passed ≡ form bytes.now }
     ensures table { IfOk result (λ t. t ≡ table_read bytes.now) }

@@ -1,5 +1,5 @@
 // A strip: a part of a plane with a few neighbouring columns, worked as columns. A row is a strip of one column whose stride is 1.
-// Kernels are lent, since for a short row a copy costs as much as the work. What goes forward is compiled into the loops over rows and over
+// Kernels are lent: for a short row a copy is a large part of the work. What goes forward is compiled into the loops over rows and over
 // strips, so that a row's stride and width are constants there.
 ghost use Rattle.std.specs.Prelude.{◌≡◌, ℕ, ◌<◌};
 ghost use Rattle.slices.specs.Patch.{at};

@@ -1,6 +1,6 @@
 // A strip: a part of a plane with a few neighbouring columns, worked as columns. A row is a strip of one column whose stride is 1.
-// Kernels are lent: for a short row a copy is a large part of the work. What goes forward is compiled into the loops over rows and over
-// strips, so that a row's stride and width are constants there.
+// Kernels are lent: for a short row a copy is a large part of the work. `strip`, `strip_forward` and `split` are compiled into the loops over
+// rows and over strips, so that a row's stride and width are constants there; the way back is a function of its own, which they call.
 ghost use Rattle.std.specs.Prelude.{◌≡◌, ℕ, ◌<◌};
 ghost use Rattle.slices.specs.Patch.{at};
 ghost use Rattle.lifting.specs.Kernels.{Forward, SafeKernel, columns_worked};
